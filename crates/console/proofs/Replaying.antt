@@ -11,7 +11,7 @@ use Rattle.traces.specs.declared.line.Line.{Line}
 use Rattle.console.specs.declared.replay.Comparer.{Comparer}
 use Rattle.console.specs.declared.replay.Verdict.{Verdict}
 use Rattle.console.specs.declared.replay.Verdict.TheVariants.{Same, Differs}
-use Rattle.console.specs.inside.Replay.{is_text, texts_of, verdict_by, Says, Compares}
+use Rattle.console.specs.inside.Replay.{is_text, texts_of, verdict_by, IsVerdict, Compares}
 
 abbrev this_or : {X : Type 0} → X → Option X → X
 this_or x None = x
@@ -72,21 +72,21 @@ verdict_is false true same P other equal = other refl refl
 verdict_is false false same P other equal = equal refl refl
 
 -- a comparer that was told the replies of a run from its first entry on
-pub verdict_says : (old : Comparer) (replies : List Reply) (new : Comparer) → old.same ≡ 0 → old.differs ≡ false → old.refused ≡ false → HasListened Compares (length old.entries.now) old replies new
-    → IfSome (verdict_by new.refused new.differs new.same) (Says (texts_of old.entries.now) replies)
-verdict_says old replies new none equal given (inl (heard, all)) =
+pub verdict_follows : (old : Comparer) (replies : List Reply) (new : Comparer) → old.same ≡ 0 → old.differs ≡ false → old.refused ≡ false → HasListened Compares (length old.entries.now) old replies new
+    → IfSome (verdict_by new.refused new.differs new.same) (IsVerdict (texts_of old.entries.now) replies)
+verdict_follows old replies new none equal given (inl (heard, all)) =
     let is = matched old replies new heard in
     let texts = texts_of old.entries.now in
     let count : new.same ≡ length texts = omega (arith, is.same, none, all, length-map old.entries.now (λ line. string_bytes line.reply)) in
-    verdict_is new.refused new.differs new.same (Says texts replies)
+    verdict_is new.refused new.differs new.same (IsVerdict texts replies)
     (λ r d. absurd (true≢false (sym d ∙ is.differs ∙ equal)))
     (λ r d. (ap (λ n. take n texts ++ map reply_text replies) (sym none) ∙ is.texts ∙ take_all new.same texts (omega (arith, count)), count))
-verdict_says old replies new none equal given (inr stopped) =
+verdict_follows old replies new none equal given (inr stopped) =
     let is = matched old stopped.earlier stopped.before stopped.heard in
     let texts = texts_of old.entries.now in
     let end = stopped.stopped in
     let count : stopped.before.same ≡ length stopped.earlier = omega (arith, is.same, none) in
-    verdict_is new.refused new.differs new.same (Says texts replies)
+    verdict_is new.refused new.differs new.same (IsVerdict texts replies)
     (λ r d. record {
       earlier = stopped.earlier;
       last = stopped.last;

@@ -19,15 +19,15 @@ is_device Device = true
 is_device _ = false
 
 -- a reply that the device failed
-abbrev pub tells_failure : Reply → Bool
-tells_failure (Refused refusal) = is_device refusal
-tells_failure _ = false
+abbrev pub reports_failure : Reply → Bool
+reports_failure (Refused refusal) = is_device refusal
+reports_failure _ = false
 
 -- the number of the first reply that tells it, counted from n + 1, where none before it did
 abbrev pub failure_after : ℕ → Option ℕ → List Reply → Option ℕ
 failure_after n found [] = found
 failure_after n None (reply ∷ replies) =
-    failure_after (n + 1) (if tells_failure reply then Some (n + 1) else None) replies
+    failure_after (n + 1) (if reports_failure reply then Some (n + 1) else None) replies
 failure_after n (Some first) (reply ∷ replies) = Some first
 
 -- Its line was printed and counted, and the first failure remembered.

@@ -8,11 +8,11 @@ mod look;
 mod printer;
 mod program;
 mod replay;
+mod reporting;
 mod run;
 mod scripted;
 mod serve;
 mod shape;
 mod threads;
-mod told;
 
 pub use program::perform;

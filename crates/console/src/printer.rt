@@ -1,7 +1,7 @@
 // Printing the replies of a run as they come.
 ghost use Rattle.std.specs.Prelude.{◌≡◌, ◌+◌, ◌<◌, ◌^◌, [], ◌∷◌, OnOk, OnErr, Some, None};
 ghost use Rattle.std.specs.Io.KnownBytes.{Appends};
-ghost use Rattle.console.specs.Replies.{line_of, tells_failure, failure_after, Prints};
+ghost use Rattle.console.specs.Replies.{line_of, reports_failure, failure_after, Prints};
 
 use engine::Listener;
 use machine::Reply;
@@ -78,7 +78,7 @@ fn print_flushed<W: io::Write>(out: &mut W, reply: &Reply) -> io::Result<()>
 
 /// Whether a reply says that the device failed.
 pub fn is_failure(reply: &Reply) -> bool
-    ensures { result ≡ tells_failure reply.now }
+    ensures { result ≡ reports_failure reply.now }
 {
     matches!(reply, Reply::Refused(Refusal::Device))
 }

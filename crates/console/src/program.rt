@@ -5,10 +5,12 @@ use crate::crashes::crashes;
 use crate::failure::Failure;
 use crate::look::{check, dump_lines, info};
 use crate::replay::replay;
+use crate::reporting::{
+    asks_for_json, report_export, report_failure, report_format, report_migrate,
+};
 use crate::run::run;
 use crate::serve::serve;
 use crate::threads::threads;
-use crate::told::{asks_for_json, tell_export, tell_failure, tell_format, tell_migrate};
 use command_line::{Job, read_words};
 use std::alloc::Allocator;
 use std::convert::AsStr;
@@ -44,7 +46,7 @@ where
         Ok(status) => status,
         Err(failure) => {
             // Where this can't be written either, the status is all that is left to say.
-            let _ = tell_failure(rt.alloc(), asks_for_json(words), &failure, &note, err);
+            let _ = report_failure(rt.alloc(), asks_for_json(words), &failure, &note, err);
             let _ = err.flush();
             failure.status()
         }
@@ -101,7 +103,7 @@ where
                 slots,
             };
             let blocks = format(rt, alloc, disk, plan)?;
-            tell_format(rt.alloc(), json, blocks, out)?;
+            report_format(rt.alloc(), json, blocks, out)?;
             Ok(0)
         }
         Job::Migrate(asked) => {
@@ -111,7 +113,7 @@ where
                 slots: asked.slots,
             };
             let blocks = migrate(rt, alloc, plan, asked.trust, note)?;
-            tell_migrate(rt.alloc(), asked.json, blocks, out)?;
+            report_migrate(rt.alloc(), asked.json, blocks, out)?;
             Ok(0)
         }
         Job::Run {
@@ -158,7 +160,7 @@ where
                 out: asked.out,
             };
             let bytes = export(rt, alloc, plan, asked.trust, note)?;
-            tell_export(rt.alloc(), asked.json, bytes, out)?;
+            report_export(rt.alloc(), asked.json, bytes, out)?;
             Ok(0)
         }
         Job::Crashes {

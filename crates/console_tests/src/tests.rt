@@ -387,14 +387,14 @@ fn steps_are_refused(rt: HostRuntime) {
 
 // Whether a script is refused whose second step of two is this, and this is said of it.
 fn refuses_step<R: Host>(rt: &R, step: &str, found: &str, cause: &str) -> bool {
-    let told = "famsync: script \"refused_steps.json\": step 2, ";
+    let observed = "famsync: script \"refused_steps.json\": step 2, ";
     writes_script(rt, "refused_steps.json", &["[0,\"create\"],", step])
         && prints(
             rt,
             "run|refused_steps.img|refused_steps.json",
             1,
             &[],
-            &[told, found, ": ", cause, "\n"],
+            &[observed, found, ": ", cause, "\n"],
         )
 }
 
@@ -689,12 +689,12 @@ fn shapes_are_refused(rt: HostRuntime) {
 
 // Whether no machine of this shape is made, and this is said of it.
 fn refuses_shape<R: Host>(rt: &R, shape: &str, cause: &str) -> bool {
-    let told = ["famsync: disk \"shape.img\": badshape: ", cause, "\n"];
+    let observed = ["famsync: disk \"shape.img\": badshape: ", cause, "\n"];
     writes(
         rt,
         "shape.json",
         &["{", shape, ",\"steps\":[[0,\"create\"]]}"],
-    ) && prints(rt, "run|shape.img|shape.json", 3, &[], &told)
+    ) && prints(rt, "run|shape.img|shape.json", 3, &[], &observed)
 }
 
 // An image of the volume of layout 2 with the same files and as many slots, and with these bytes at these offsets changed.
@@ -954,10 +954,10 @@ const SPOILT_JOURNAL: &str =
 
 // Whether an image is refused with status 3 and for this cause, to print and to run, and isn't written to.
 fn is_refused<R: Host>(rt: &R, image: &[u8], cause: &str) -> bool {
-    let told = ["famsync: disk \"images.img\": ", cause, "\n"];
+    let observed = ["famsync: disk \"images.img\": ", cause, "\n"];
     fs::write(rt, "images.img", image).is_ok()
-        && prints(rt, "dump|images.img", 3, &[], &told)
-        && prints(rt, "run|images.img|images.json", 3, &[], &told)
+        && prints(rt, "dump|images.img", 3, &[], &observed)
+        && prints(rt, "run|images.img|images.json", 3, &[], &observed)
         && holds(rt, "images.img", image)
 }
 
@@ -1101,8 +1101,8 @@ fn a_failed_device_call_is_told(rt: HostRuntime) {
     assert!(rt; writes_script(&rt, "failing.json", &[steps]));
     let mut watch = watching(&rt, "failing.img", "switched\n", true);
     let replies = "space 1\nmapped\nswitched\nfault 4\ndevice\nfault 4\ndevice\nnothing\n";
-    let told = "famsync: script \"failing.json\": step 5: the device failed\n";
-    assert!(rt; is_watched(&rt, "failing.json", &mut watch, 3, replies, told));
+    let observed = "famsync: script \"failing.json\": step 5: the device failed\n";
+    assert!(rt; is_watched(&rt, "failing.json", &mut watch, 3, replies, observed));
     assert!(rt; removes(&rt, &["failing.img", "failing.json"]));
 }
 

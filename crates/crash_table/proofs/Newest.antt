@@ -12,13 +12,13 @@ use Rattle.machine.specs.declared.act.Reply.TheVariants.{Marked}
 use Rattle.machine.specs.declared.act.Shape.{Shape}
 use Rattle.machine.specs.declared.act.Step.{Step}
 use Rattle.machine.specs.History.{Event, Mark, files_after, IsDurablePrefix}
-use Rattle.machine.specs.Laws.{ReadsBack, told_at_start}
-use Rattle.machine.specs.Told.{tell_all}
+use Rattle.machine.specs.Laws.{ReadsBack, observed_at_start}
+use Rattle.machine.specs.Observed.{observe_all}
 use Rattle.crash_table.specs.Crashes.{history_of, IsAtMark}
 use Rattle.crash_table.specs.declared.found.MarkFiles.{MarkFiles}
 use Rattle.crash_table.specs.inside.Kept.{up_to_mark, bytes_at, contents_of, IsKept, AreKept, NoneFrom, IsNewest}
 use Rattle.crash_table.proofs.Histories.{up_to_begins}
-use Rattle.crash_table.proofs.Marks.{IsOneReading, stands, no_later}
+use Rattle.crash_table.proofs.Marks.{IsOneReading, ends_at_mark, no_later}
 use Rattle.crash_table.proofs.Bytes.{same_files}
 
 -- ---- looking for the newest mark
@@ -63,7 +63,7 @@ kept_alike files shape steps first replies at kept same is =
     sym (get_take replies at (at + 1) (omega arith)) ∙ ap (λ (l : List Reply). slice_get l at) (sym same) ∙ get_take first at (at + 1) (omega arith) in
     let before : take at first ≡ take at replies =
     sym (take-take at (at + 1) first (omega arith)) ∙ ap (take at) same ∙ take-take at (at + 1) replies (omega arith) in
-    let B : List Reply → List (List ℕ) = λ told. contents_of (files_after files (history_of files shape (take at steps) told ++ Mark is.0 ∷ [])) in
+    let B : List Reply → List (List ℕ) = λ replied. contents_of (files_after files (history_of files shape (take at steps) replied ++ Mark is.0 ∷ [])) in
     (is.0, here ∙ is.1, is.2, is.3 ∙ ap B before)
 
 -- the mark at this index has these files
@@ -98,8 +98,8 @@ module _ (one : IsOneReading) (files : List File) (shape : Shape) (steps : List 
   abbrev whole : List Event
   whole = history_of files shape cut replies
 
-  up_to_cut : (i number : ℕ) → i ≤ length replies → (tell_all (told_at_start files shape.cpus) (take i cut) (take i replies)).history ++ Mark number ∷ [] ≡ up_to_mark files shape steps replies i number
-  up_to_cut i number few = ap (λ (l : List Step). (tell_all (told_at_start files shape.cpus) l (take i replies)).history ++ Mark number ∷ []) (take-take i (length replies) steps few)
+  up_to_cut : (i number : ℕ) → i ≤ length replies → (observe_all (observed_at_start files shape.cpus) (take i cut) (take i replies)).history ++ Mark number ∷ [] ≡ up_to_mark files shape steps replies i number
+  up_to_cut i number few = ap (λ (l : List Step). (observe_all (observed_at_start files shape.cpus) l (take i replies)).history ++ Mark number ∷ []) (take-take i (length replies) steps few)
 
   abbrev bytes_of_all : List File → List (List ℕ)
   bytes_of_all = map (λ (f : File). f.bytes)
@@ -118,7 +118,7 @@ module _ (one : IsOneReading) (files : List File) (shape : Shape) (steps : List 
 
       empty : (p : List Event) → IsDurablePrefix p whole → found ≡ files_after files p → p ≡ []
       empty p durable is =
-          elim (stands (told_at_start files shape.cpus) cut replies p durable.rest refl durable.begins durable.marked) [
+          elim (ends_at_mark (observed_at_start files shape.cpus) cut replies p durable.rest refl durable.begins durable.marked) [
             | inl e ↦ e
             | inr s ↦ (
                 let within = slice_get_within replies s.at (Marked s.n) s.here in
@@ -146,8 +146,8 @@ module _ (one : IsOneReading) (files : List File) (shape : Shape) (steps : List 
       cut_long : length cut ≡ length replies
       cut_long = length-take-le (length replies) steps long
 
-      begins : (rest : List Event) × (((tell_all (told_at_start files shape.cpus) (take at cut) (take at replies)).history ++ Mark number ∷ []) ++ rest ≡ whole)
-      begins = up_to_begins (told_at_start files shape.cpus) cut replies at number (omega (arith, inside, cut_long)) here
+      begins : (rest : List Event) × (((observe_all (observed_at_start files shape.cpus) (take at cut) (take at replies)).history ++ Mark number ∷ []) ++ rest ≡ whole)
+      begins = up_to_begins (observed_at_start files shape.cpus) cut replies at number (omega (arith, inside, cut_long)) here
 
       same : found ≡ files_after files read.prefix
       same = one seen found (files_after files read.prefix) recovers read.recovers
@@ -155,14 +155,14 @@ module _ (one : IsOneReading) (files : List File) (shape : Shape) (steps : List 
       -- each durable prefix with these files begins this one
       part : (p : List Event) → IsDurablePrefix p whole → found ≡ files_after files p → (rest : List Event) × (p ++ rest ≡ prefix)
       part p durable is =
-          elim (stands (told_at_start files shape.cpus) cut replies p durable.rest refl durable.begins durable.marked) [
+          elim (ends_at_mark (observed_at_start files shape.cpus) cut replies p durable.rest refl durable.begins durable.marked) [
             | inl e ↦ (prefix, ap (λ (l : List Event). l ++ prefix) e)
             | inr s ↦ (
                 let within = slice_get_within replies s.at (Marked s.n) s.here in
                 elim (cases_lt at s.at) [
                   | inl later ↦ absurd (none s.at s.n (omega (arith, later)) s.here (ap bytes_of_all is ∙ ap (λ (e : List Event). bytes_of_all (files_after files e)) (s.is ∙ up_to_cut s.at s.n (omega (arith, within)))))
                   | inr early ↦ (
-                      let w = no_later (told_at_start files shape.cpus) cut replies s.at s.n at number early (omega (arith, inside, cut_long)) s.here here in
+                      let w = no_later (observed_at_start files shape.cpus) cut replies s.at s.n at number early (omega (arith, inside, cut_long)) s.here here in
                       (w.0, ap (λ (l : List Event). l ++ w.0) s.is ∙ w.1 ∙ up_to_cut at number (omega (arith, inside))))
                 ])
           ]

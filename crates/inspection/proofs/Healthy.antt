@@ -44,14 +44,14 @@ all_closed g bytes j (journal ∷ journals) are closed =
 
 -- how a volume is of which this was found
 pub health_of_found : {Z : Type 0} (bytes : List ℕ) (found : Found Z) → IsFound bytes found → IsHealth bytes (health_by (list_any is_open found.journals.items))
-health_of_found {Z} bytes found is = told is.batches is.volume
+health_of_found {Z} bytes found is = derived is.batches is.volume
   where
-    told : (batches : List Batch) → IsVolume found.table batches bytes → IsHealth bytes (health_by (list_any is_open found.journals.items))
-    told [] volume =
+    derived : (batches : List Batch) → IsVolume found.table batches bytes → IsHealth bytes (health_by (list_any is_open found.journals.items))
+    derived [] volume =
         let none : list_any is_open found.journals.items ≡ false = all_closed (geometry_of found.table) bytes 0 found.journals.items is.journals.1 (λ k below o.
         let no : false ≡ true = volume.journals.all k (omega (arith, is.journals.0)) o in cc) in
         rw none (record { table = found.table; volume = volume; files = _; recovers = is.files })
-    told (newest ∷ older) volume =
+    derived (newest ∷ older) volume =
         let o = volume.journals.each.0 in
         let some : list_any is_open found.journals.items ≡ true = any_open (geometry_of found.table) bytes 0 newest.journal found.journals.items is.journals.1 (omega arith) (omega (arith, is.journals.0, o.there)) o.gate in
         rw some (newest, older, record { table = found.table; volume = volume; files = _; recovers = is.files })

@@ -4,7 +4,7 @@ use Rattle.std.specs.List.{AllByRecursion}
 use Rattle.std.proofs.lemmas.Bool.{ltb-true, ltb-false, eqb-true, eqb-false, eq-eqb}
 use Rattle.volume_codec.specs.Layout.{GeometryValue, IsGeometry, journals_of, descriptor_block, first_home, block_at}
 use Rattle.volume_codec.specs.Descriptor.{DescriptorValue, IsDescriptor, RiseWithin}
-use Rattle.volume_codec.specs.Recovery.{Batch, IsOpenBatch, IsOpen, has_journal, AreOpen, standing_block}
+use Rattle.volume_codec.specs.Recovery.{Batch, IsOpenBatch, IsOpen, has_journal, AreOpen, recovered_block}
 use Rattle.volume_codec.proofs.Public.{few_journals}
 use Rattle.recovery.specs.inside.Reading.{AreRead}
 use Rattle.recovery.proofs.FoundJournals.{one_mark_refused}
@@ -13,20 +13,20 @@ use Rattle.inspection.specs.Found.{AreJournals}
 use Rattle.inspection.specs.inside.Order.{descriptor_at, batch_by, is_below, have_one_mark, batches_by, finishing}
 
 -- what is said of journal i, of which this descriptor was read, or none
-abbrev pub Says : GeometryValue → List ℕ → ℕ → Option DescriptorValue → Type 0
-Says g bytes i o = MatchOption o (i < journals_of g.layout → IsOpen bytes g.slots i → ⊥)
+abbrev pub Describes : GeometryValue → List ℕ → ℕ → Option DescriptorValue → Type 0
+Describes g bytes i o = MatchOption o (i < journals_of g.layout → IsOpen bytes g.slots i → ⊥)
     (λ d. IsOpenBatch g bytes (record { journal = i; mark = d.mark; homes = d.homes }))
 
 say_of : (g : GeometryValue) (bytes : List ℕ) (i : ℕ) (o : Option DescriptorValue) → i < journals_of g.layout
-    → MatchOption o (¬ (IsOpen bytes g.slots i)) (λ d. IsOpen bytes g.slots i × IsDescriptor g d (block_at bytes (descriptor_block g.slots i))) → Says g bytes i o
+    → MatchOption o (¬ (IsOpen bytes g.slots i)) (λ d. IsOpen bytes g.slots i × IsDescriptor g d (block_at bytes (descriptor_block g.slots i))) → Describes g bytes i o
 say_of g bytes i None there is = λ _. is
 say_of g bytes i (Some d) there is = record { there = there; gate = is.0; descriptor = is.1 }
 
-pub says_of : {Z : Type 0} (g : GeometryValue) (bytes : List ℕ) (journals : List (Journal Z)) → AreJournals g bytes journals → Says g bytes 0 (descriptor_at 0 journals) × Says g bytes 1 (descriptor_at 1 journals)
-says_of g bytes [] are = absurd (omega (arith, are.0, (few_journals g.layout).0, (few_journals g.layout).1))
-says_of g bytes (a ∷ []) are = (say_of g bytes 0 a.descriptor (omega (arith, are.0)) are.1.0.descriptor, λ there. absurd (omega (arith, are.0)))
-says_of g bytes (a ∷ b ∷ []) are = (say_of g bytes 0 a.descriptor (omega (arith, are.0)) are.1.0.descriptor, say_of g bytes 1 b.descriptor (omega (arith, are.0)) are.1.1.0.descriptor)
-says_of g bytes (a ∷ b ∷ c ∷ journals) are = absurd (omega (arith, are.0, (few_journals g.layout).0, (few_journals g.layout).1))
+pub describes_of : {Z : Type 0} (g : GeometryValue) (bytes : List ℕ) (journals : List (Journal Z)) → AreJournals g bytes journals → Describes g bytes 0 (descriptor_at 0 journals) × Describes g bytes 1 (descriptor_at 1 journals)
+describes_of g bytes [] are = absurd (omega (arith, are.0, (few_journals g.layout).0, (few_journals g.layout).1))
+describes_of g bytes (a ∷ []) are = (say_of g bytes 0 a.descriptor (omega (arith, are.0)) are.1.0.descriptor, λ there. absurd (omega (arith, are.0)))
+describes_of g bytes (a ∷ b ∷ []) are = (say_of g bytes 0 a.descriptor (omega (arith, are.0)) are.1.0.descriptor, say_of g bytes 1 b.descriptor (omega (arith, are.0)) are.1.1.0.descriptor)
+describes_of g bytes (a ∷ b ∷ c ∷ journals) are = absurd (omega (arith, are.0, (few_journals g.layout).0, (few_journals g.layout).1))
 
 -- what holds of two journals holds of all
 of_two : (P : ℕ → Type 0) (n j : ℕ) → n ≤ 2 → (0 < n → P 0) → (1 < n → P 1) → j < n → P j
@@ -60,7 +60,7 @@ both_open g bytes x y false less other first second is_x is_y =
     }
 
 -- the open journals of a volume are these
-pub open_of : (g : GeometryValue) (bytes : List ℕ) (d e : Option DescriptorValue) → Says g bytes 0 d → Says g bytes 1 e → have_one_mark d e ≡ false → AreOpen g (batches_by d e) bytes
+pub open_of : (g : GeometryValue) (bytes : List ℕ) (d e : Option DescriptorValue) → Describes g bytes 0 d → Describes g bytes 1 e → have_one_mark d e ≡ false → AreOpen g (batches_by d e) bytes
 open_of g bytes None None first second other = record {
   each = tt;
   all = λ j there o. absurd (of_two (λ j. IsOpen bytes g.slots j → ⊥) (journals_of g.layout) j (few_journals g.layout).1 first second there o);
@@ -81,7 +81,7 @@ open_of g bytes (Some d) (Some e) first second other =
     both_open g bytes (record { journal = 0; mark = d.mark; homes = d.homes }) (record { journal = 1; mark = e.mark; homes = e.homes }) (nat_lt d.mark e.mark) refl apart refl refl first second
 
 -- two with one mark are no open journals of a volume
-pub one_mark : (g : GeometryValue) (bytes : List ℕ) (d e : Option DescriptorValue) → IsGeometry g → Says g bytes 0 d → Says g bytes 1 e → have_one_mark d e ≡ true → (batches : List Batch) → AreOpen g batches bytes → ⊥
+pub one_mark : (g : GeometryValue) (bytes : List ℕ) (d e : Option DescriptorValue) → IsGeometry g → Describes g bytes 0 d → Describes g bytes 1 e → have_one_mark d e ≡ true → (batches : List Batch) → AreOpen g batches bytes → ⊥
 one_mark g bytes None None is first second same = absurd cc
 one_mark g bytes (Some d) None is first second same = absurd cc
 one_mark g bytes None (Some e) is first second same = absurd cc
@@ -113,7 +113,7 @@ pub calls_of : (d e : Option DescriptorValue) → sum_by (λ (batch : Batch). 2 
 calls_of d e = sum_of d e (is_below d e)
 
 -- the homes of a descriptor rise
-pub rises : (g : GeometryValue) (bytes : List ℕ) (i : ℕ) (o : Option DescriptorValue) → Says g bytes i o
+pub rises : (g : GeometryValue) (bytes : List ℕ) (i : ℕ) (o : Option DescriptorValue) → Describes g bytes i o
     → MatchOption o (Unit {0}) (λ d. RiseWithin (first_home g.layout g.slots) g.blocks d.homes)
 rises g bytes i None says = tt
 rises g bytes i (Some d) says = says.descriptor.described.homes.rising
@@ -135,37 +135,37 @@ first_here (n ∷ ns) home here = (omega arith, let same : Some n ≡ Some home 
 -- what a block is that has the first home block's bytes, with a journal and without it
 abbrev pub IsWith : GeometryValue → ℕ → Option DescriptorValue → ℕ → ℕ → Type 0
 IsWith g j o other result = (older : List Batch) → MatchOption o (Unit {0}) (λ d. RiseWithin (first_home g.layout g.slots) g.blocks d.homes)
-    → other ≡ standing_block g.slots older (first_home g.layout g.slots) → result ≡ standing_block g.slots (batch_by j o ++ older) (first_home g.layout g.slots)
+    → other ≡ recovered_block g.slots older (first_home g.layout g.slots) → result ≡ recovered_block g.slots (batch_by j o ++ older) (first_home g.layout g.slots)
 
 module _ {Z : Type 0} (g : GeometryValue) (bytes : List ℕ) (journals : List (Journal Z)) (are : AreJournals g bytes journals) (x y : Option DescriptorValue) (first : x ≡ descriptor_at 0 journals) (second : y ≡ descriptor_at 1 journals) where
   rises_x : MatchOption x (Unit {0}) (λ d. RiseWithin (first_home g.layout g.slots) g.blocks d.homes)
   rises_x = let P : Option DescriptorValue → Type 0 = λ o. MatchOption o (Unit {0}) (λ d. RiseWithin (first_home g.layout g.slots) g.blocks d.homes) in
-      subst P (sym first) (rises g bytes 0 (descriptor_at 0 journals) (says_of g bytes journals are).0)
+      subst P (sym first) (rises g bytes 0 (descriptor_at 0 journals) (describes_of g bytes journals are).0)
 
   rises_y : MatchOption y (Unit {0}) (λ d. RiseWithin (first_home g.layout g.slots) g.blocks d.homes)
   rises_y = let P : Option DescriptorValue → Type 0 = λ o. MatchOption o (Unit {0}) (λ d. RiseWithin (first_home g.layout g.slots) g.blocks d.homes) in
-      subst P (sym second) (rises g bytes 1 (descriptor_at 1 journals) (says_of g bytes journals are).1)
+      subst P (sym second) (rises g bytes 1 (descriptor_at 1 journals) (describes_of g bytes journals are).1)
 
   all_same : batches_by x y ≡ batches_by (descriptor_at 0 journals) (descriptor_at 1 journals)
   all_same = ap (λ o. batches_by o y) first ∙ ap (batches_by (descriptor_at 0 journals)) second
 
   -- the second journal is the newer one
-  pub standing_second : (home other result : ℕ) → home ≡ first_home g.layout g.slots → is_below x y ≡ true → IsWith g 0 x home other → IsWith g 1 y other result → result ≡ standing_block g.slots (batches_by (descriptor_at 0 journals) (descriptor_at 1 journals)) (first_home g.layout g.slots)
-  standing_second home other result at below older newer =
+  pub recovered_second : (home other result : ℕ) → home ≡ first_home g.layout g.slots → is_below x y ≡ true → IsWith g 0 x home other → IsWith g 1 y other result → result ≡ recovered_block g.slots (batches_by (descriptor_at 0 journals) (descriptor_at 1 journals)) (first_home g.layout g.slots)
+  recovered_second home other result at below older newer =
       let b = first_home g.layout g.slots in
       newer (batch_by 0 x ++ []) rises_y (older [] rises_x at)
-      ∙ ap (λ (l : List Batch). standing_block g.slots (batch_by 1 y ++ l) b) (append-nil (batch_by 0 x))
-      ∙ ap (λ (t : Bool). standing_block g.slots (if t then batch_by 1 y ++ batch_by 0 x else batch_by 0 x ++ batch_by 1 y) b) (sym below)
-      ∙ ap (λ (l : List Batch). standing_block g.slots l b) all_same
+      ∙ ap (λ (l : List Batch). recovered_block g.slots (batch_by 1 y ++ l) b) (append-nil (batch_by 0 x))
+      ∙ ap (λ (t : Bool). recovered_block g.slots (if t then batch_by 1 y ++ batch_by 0 x else batch_by 0 x ++ batch_by 1 y) b) (sym below)
+      ∙ ap (λ (l : List Batch). recovered_block g.slots l b) all_same
 
   -- or it isn't
-  pub standing_first : (home other result : ℕ) → home ≡ first_home g.layout g.slots → is_below x y ≡ false → IsWith g 1 y home other → IsWith g 0 x other result → result ≡ standing_block g.slots (batches_by (descriptor_at 0 journals) (descriptor_at 1 journals)) (first_home g.layout g.slots)
-  standing_first home other result at below older newer =
+  pub recovered_first : (home other result : ℕ) → home ≡ first_home g.layout g.slots → is_below x y ≡ false → IsWith g 1 y home other → IsWith g 0 x other result → result ≡ recovered_block g.slots (batches_by (descriptor_at 0 journals) (descriptor_at 1 journals)) (first_home g.layout g.slots)
+  recovered_first home other result at below older newer =
       let b = first_home g.layout g.slots in
       newer (batch_by 1 y ++ []) rises_x (older [] rises_y at)
-      ∙ ap (λ (l : List Batch). standing_block g.slots (batch_by 0 x ++ l) b) (append-nil (batch_by 1 y))
-      ∙ ap (λ (t : Bool). standing_block g.slots (if t then batch_by 1 y ++ batch_by 0 x else batch_by 0 x ++ batch_by 1 y) b) (sym below)
-      ∙ ap (λ (l : List Batch). standing_block g.slots l b) all_same
+      ∙ ap (λ (l : List Batch). recovered_block g.slots (batch_by 0 x ++ l) b) (append-nil (batch_by 1 y))
+      ∙ ap (λ (t : Bool). recovered_block g.slots (if t then batch_by 1 y ++ batch_by 0 x else batch_by 0 x ++ batch_by 1 y) b) (sym below)
+      ∙ ap (λ (l : List Batch). recovered_block g.slots l b) all_same
 
 -- whether two journals have one mark, of equal journals
 pub marks_as : {Z : Type 0} {first second journals : List (Journal Z)} {x y : Option DescriptorValue} {result : Bool} → first ≡ journals → second ≡ journals → x ≡ descriptor_at 0 first → y ≡ descriptor_at 1 second

@@ -23,7 +23,7 @@ use Rattle.volume_codec.proofs.TableLemmas.{one_asked}
 use Rattle.recovery.specs.Format.{HasShape, IsEmptied}
 use Rattle.recovery.specs.Migration.{asked_again, asked_of, AreZeroPast, IsFilled, IsPartlyMigrated, LeftByMigration, HasMigrated}
 use Rattle.recovery.specs.Openings.{IsMade}
-use Rattle.recovery.specs.Volume.{VolumeState, IsSettled, files_of, bytes_of}
+use Rattle.recovery.specs.Volume.{VolumeState, IsWellFormed, files_of, bytes_of}
 use Rattle.recovery.specs.inside.Copying.{LeftByLaying, Copies, AreCopied}
 use Rattle.recovery.specs.inside.Writing.{HasFinished}
 use Rattle.recovery.proofs.BlockRanges.{block_at-before, block_at-after}
@@ -183,28 +183,28 @@ module _ (table : SuperValue) (lengths laid copied final : List ℕ) (fits : Fit
   }
 
 -- what is asked for of a volume
-module _ {D : Type 0} (disk : Ghosts D) (volume : VolumeState D) (settled : IsSettled disk volume) (slots : ℕ) (table : SuperValue) (asked : IsAsked 3 (asked_of volume) slots table) where
+module _ {D : Type 0} (disk : Ghosts D) (volume : VolumeState D) (well_formed : IsWellFormed disk volume) (slots : ℕ) (table : SuperValue) (asked : IsAsked 3 (asked_of volume) slots table) where
   pub asked_files : table.files ≡ volume.table.files
-  asked_files = asked.files_are ∙ again_files volume.table.files volume.lengths settled.lengths.count
+  asked_files = asked.files_are ∙ again_files volume.table.files volume.lengths well_formed.lengths.count
 
   pub asked_lengths : lengths_asked (asked_of volume) ≡ volume.lengths
-  asked_lengths = again_lengths volume.table.files volume.lengths settled.lengths.count
+  asked_lengths = again_lengths volume.table.files volume.lengths well_formed.lengths.count
 
   pub asked_lengths_are : AreLengths table volume.lengths
   asked_lengths_are = let P : List ℕ → Type 0 = λ l. AreLengths table l in subst P asked_lengths (asked_are 3 slots (asked_of volume) table asked)
 
 -- all of it but its block 0
-module _ {D : Type 0} (disk : Ghosts D) (volume : VolumeState D) (settled : IsSettled disk volume) (slots : ℕ) (table : SuperValue) (asked : IsAsked 3 (asked_of volume) slots table)
+module _ {D : Type 0} (disk : Ghosts D) (volume : VolumeState D) (well_formed : IsWellFormed disk volume) (slots : ℕ) (table : SuperValue) (asked : IsAsked 3 (asked_of volume) slots table)
     (laid copied final : List ℕ) (rest : IsEmptied table volume.lengths laid) (torn : Torn (4096 * first_file_home table.layout table.slots) (4096 * total_pages table.files) laid copied) (first : Torn 0 4096 copied final)
     (each : disk.is_honest volume.device → AreCopied table volume.lengths (bytes_of (files_of volume.table (disk.seen volume.device))) (length table.files) laid copied) where
   abbrev named : table.files ≡ volume.table.files
-  named = asked_files disk volume settled slots table asked
+  named = asked_files disk volume well_formed slots table asked
 
   abbrev are : AreLengths table volume.lengths
-  are = asked_lengths_are disk volume settled slots table asked
+  are = asked_lengths_are disk volume well_formed slots table asked
 
   pub spelled : 0 < lengths_blocks table.layout → block_at final (first_home table.layout table.slots) ≡ lengths_text (lengths_asked (asked_of volume))
-  spelled some = says_lengths table volume.lengths laid copied final are rest torn first some ∙ ap lengths_text (sym (asked_lengths disk volume settled slots table asked))
+  spelled some = says_lengths table volume.lengths laid copied final are rest torn first some ∙ ap lengths_text (sym (asked_lengths disk volume well_formed slots table asked))
 
   pub filled : IsFilled disk volume table final
   filled = record {
@@ -212,24 +212,24 @@ module _ {D : Type 0} (disk : Ghosts D) (volume : VolumeState D) (settled : IsSe
     lengths_block = says_lengths table volume.lengths laid copied final are rest torn first;
     files = λ honest.
         same_files table volume.table volume.lengths final (disk.seen volume.device) are named
-        (sym (asked_lengths_in 3 slots (asked_of volume) table (block_at final) asked spelled ∙ asked_lengths disk volume settled slots table asked))
-        (settled.at_rest honest).lengths_are
+        (sym (asked_lengths_in 3 slots (asked_of volume) table (block_at final) asked spelled ∙ asked_lengths disk volume well_formed slots table asked))
+        (well_formed.at_rest honest).lengths_are
         (λ file there. part_there table volume.lengths laid copied final are rest torn first _ (each honest) file there
-        ∙ file_bytes volume.table volume.lengths settled.lengths (disk.seen volume.device) file (omega (arith, there, ap length named)) (settled.at_rest honest).lengths_are);
+        ∙ file_bytes volume.table volume.lengths well_formed.lengths (disk.seen volume.device) file (omega (arith, there, ap length named)) (well_formed.at_rest honest).lengths_are);
     tails = λ honest. tails table volume.lengths laid copied final are rest torn first _ (each honest);
   }
 
 pub migrated : {D E : Type 0} (disk : Ghosts D) (other : Ghosts E) (slots : ℕ) (volume : VolumeState D) (before laid copied after : E) (table : SuperValue) → HasShape 3 (asked_of volume) slots (length (other.seen before)) table
-    → IsSettled disk volume → disk.is_honest volume.device → IsEmptied table volume.lengths (other.seen laid) → Torn 4096 (4096 * block_count table - 4096) (other.seen before) (other.seen laid)
+    → IsWellFormed disk volume → disk.is_honest volume.device → IsEmptied table volume.lengths (other.seen laid) → Torn 4096 (4096 * block_count table - 4096) (other.seen before) (other.seen laid)
     → Torn (4096 * first_file_home table.layout table.slots) (4096 * total_pages table.files) (other.seen laid) (other.seen copied)
     → AreCopied table volume.lengths (bytes_of (files_of volume.table (disk.seen volume.device))) (length table.files) (other.seen laid) (other.seen copied)
     → other.seen after ≡ written (other.seen copied) 0 (super_text table) → Only (other.may_leave after) (other.seen after) → HasMigrated disk other slots volume before after
-migrated disk other slots volume before laid copied after table shape settled honest rest laying torn each is only = record {
+migrated disk other slots volume before laid copied after table shape well_formed honest rest laying torn each is only = record {
   table = table;
   shape = shape;
-  holds = held table volume.lengths (other.seen laid) (other.seen copied) (other.seen after) shape.asked.fits (asked_lengths_are disk volume settled slots table shape.asked) rest torn is;
+  holds = held table volume.lengths (other.seen laid) (other.seen copied) (other.seen after) shape.asked.fits (asked_lengths_are disk volume well_formed slots table shape.asked) rest torn is;
   lengths_fit = asked_has_lengths 3 slots (asked_of volume) table (block_at (other.seen after)) shape.asked
-      (spelled disk volume settled slots table shape.asked (other.seen laid) (other.seen copied) (other.seen after) rest torn zeroth (λ h. each));
+      (spelled disk volume well_formed slots table shape.asked (other.seen laid) (other.seen copied) (other.seen after) rest torn zeroth (λ h. each));
   files = rests.files honest;
   tails = rests.tails honest;
   synced = only;
@@ -240,7 +240,7 @@ migrated disk other slots volume before laid copied after table shape settled ho
     zeroth = (first_block table (other.seen copied) (other.seen after) shape.asked.fits (omega (arith, rest.long, torn.same_length)) is).1
 
     rests : IsFilled disk volume table (other.seen after)
-    rests = filled disk volume settled slots table shape.asked (other.seen laid) (other.seen copied) (other.seen after) rest torn zeroth (λ h. each)
+    rests = filled disk volume well_formed slots table shape.asked (other.seen laid) (other.seen copied) (other.seen after) rest torn zeroth (λ h. each)
 
 -- ---- what a crash leaves of it
 
@@ -288,10 +288,10 @@ module _ {D E : Type 0} (disk : Ghosts D) (other : Ghosts E) (slots : ℕ) (volu
     time_of_copying = leaves_on (leaves_weaker time laying_left) copies.time (λ c torn. filling_left c (copied_within c torn))
 
     -- while the table is written
-    pub time_of_filling : {Y : Type 0} {last : Result Y Refusal} {final : E} {block : List ℕ} → IsSettled disk volume → IsEmptied table volume.lengths (other.seen laid)
+    pub time_of_filling : {Y : Type 0} {last : Result Y Refusal} {final : E} {block : List ℕ} → IsWellFormed disk volume → IsEmptied table volume.lengths (other.seen laid)
         → (disk.is_honest volume.device → AreCopied table volume.lengths (bytes_of (files_of volume.table (disk.seen volume.device))) (length table.files) (other.seen laid) (other.seen copied))
         → other.is_honest laid → other.is_honest copied → HasFinished other block copied last final → LeavesOnly other.moment other.left_since before final (LeftByMigration disk other slots volume before)
-    time_of_filling {Y} {last} {final} {block} settled rest each honest honest_1 finishing = leaves_on time_of_copying (finishing.time honest_1) by
+    time_of_filling {Y} {last} {final} {block} well_formed rest each honest honest_1 finishing = leaves_on time_of_copying (finishing.time honest_1) by
       where
         by : (c : List ℕ) → other.may_leave copied c ⊎ (other.may_leave copied (other.seen copied) × Torn 0 4096 (other.seen copied) c) → LeftByMigration disk other slots volume before c
         by c (inl may) = filling_left c (copied_within c (copies.left c may))
@@ -299,7 +299,7 @@ module _ {D E : Type 0} (disk : Ghosts D) (other : Ghosts E) (slots : ℕ) (volu
           table,
           shape,
           partly_filled disk volume table (omega arith) (other.may_leave before) (other.seen copied) c (copied_within (other.seen copied) (copies.left (other.seen copied) torn.0)) torn.1
-              (filled disk volume settled slots table shape.asked (other.seen laid) (other.seen copied) c rest (copies.torn honest) torn.1 each),
+              (filled disk volume well_formed slots table shape.asked (other.seen laid) (other.seen copied) c rest (copies.torn honest) torn.1 each),
         )
 
 -- what was migrated was made
@@ -339,7 +339,7 @@ one_again slots asked others table other same is is_other = let P : List AskedFi
 pub shape_again : (slots bytes size : ℕ) (asked others : List AskedFile) (table : SuperValue) → asked ≡ others → bytes ≡ size → HasShape 3 asked slots bytes table → HasShape 3 others slots size table
 shape_again slots bytes size asked others table same long shape = let P : List AskedFile → Type 0 = λ files. IsAsked 3 files slots table in record { asked = subst P same shape.asked; long = omega (arith, long, shape.long) }
 
-pub laid_again : {D : Type 0} (disk : Ghosts D) (volume : VolumeState D) → IsSettled disk volume → (asked : List AskedFile) (table : SuperValue) (bytes : List ℕ) → asked ≡ asked_of volume → IsEmptied table (lengths_asked asked) bytes → IsEmptied table volume.lengths bytes
-laid_again disk volume settled asked table bytes same laid =
+pub laid_again : {D : Type 0} (disk : Ghosts D) (volume : VolumeState D) → IsWellFormed disk volume → (asked : List AskedFile) (table : SuperValue) (bytes : List ℕ) → asked ≡ asked_of volume → IsEmptied table (lengths_asked asked) bytes → IsEmptied table volume.lengths bytes
+laid_again disk volume well_formed asked table bytes same laid =
     let P : List ℕ → Type 0 = λ lengths. IsEmptied table lengths bytes in
-    subst P (ap (λ (files : List AskedFile). lengths_asked files) same ∙ again_lengths volume.table.files volume.lengths settled.lengths.count) laid
+    subst P (ap (λ (files : List AskedFile). lengths_asked files) same ∙ again_lengths volume.table.files volume.lengths well_formed.lengths.count) laid

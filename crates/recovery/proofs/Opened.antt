@@ -13,7 +13,7 @@ use Rattle.volume_codec.specs.Recovery.{Batch, IsVolume, contents_in}
 use Rattle.volume_codec.specs.Lengths.{AreLengths, HasLengths}
 use Rattle.volume_codec.proofs.Lengths.{has_lengths-same, lengths_in-same, same_lengths_block}
 use Rattle.recovery.specs.Counts.{Rises, RisesWithin}
-use Rattle.recovery.specs.Volume.{IsSettled}
+use Rattle.recovery.specs.Volume.{IsWellFormed}
 use Rattle.journal.specs.Recovered.{RecoversBy}
 use Rattle.journal.specs.Finished.{HoldsVolume, RecoversSame}
 use Rattle.recovery.specs.Opening.{IsUnwritten, LeftByOpening, opening_calls, HasOpened, HasRefused, RefusesOpening}
@@ -91,11 +91,11 @@ module _ {D : Type 0} (disk : Ghosts D) (before mid : D) (table : SuperValue) (b
       }
 
 -- an opened volume is settled
-pub is_settled : {D : Type 0} (disk : Ghosts D) (before after : D) (table : SuperValue) (batches : List Batch) (lengths : List ℕ) → Fits table → 4096 * block_count table ≤ length (disk.seen after) → AreLengths table lengths
+pub is_well_formed : {D : Type 0} (disk : Ghosts D) (before after : D) (table : SuperValue) (batches : List Batch) (lengths : List ℕ) → Fits table → 4096 * block_count table ≤ length (disk.seen after) → AreLengths table lengths
     → (lengths_blocks table.layout ≡ 0 → lengths ≡ capacities_in table)
     → (disk.is_honest after → HoldsVolume disk table [] (contents_in table.slots batches (disk.seen before)) after × AreFound table batches (disk.seen before) lengths)
-    → IsSettled disk (record { table = table; lengths = lengths; device = after })
-is_settled disk before after table batches lengths fits long are fixed rests = record {
+    → IsWellFormed disk (record { table = table; lengths = lengths; device = after })
+is_well_formed disk before after table batches lengths fits long are fixed rests = record {
   fits = fits;
   long = long;
   lengths = are;

@@ -9,12 +9,12 @@ use Rattle.volume_codec.specs.Files.{File}
 use Rattle.machine.specs.declared.act.Reply.{Reply}
 use Rattle.machine.specs.declared.act.Step.{Step}
 use Rattle.machine.specs.Crashes.{StepIsSafe}
-use Rattle.machine.specs.OnTrack.{IsOnTrack}
+use Rattle.machine.specs.Reached.{IsReached}
 use Rattle.machine.specs.Runs.{StepTaken, StepsTaken}
 use Rattle.machine.specs.State.{Whole}
 use Rattle.service.specs.declared.entry.Entry.{Entry}
 use Rattle.service.specs.Trace.{is_progress, steps_of, replies_of}
-use Rattle.service.specs.Serving.{SharedState, IsServing, HasEntered, told_by, max_entries}
+use Rattle.service.specs.Serving.{SharedState, IsServing, HasEntered, observed_by, max_entries}
 
 count_one_more : {X : Type 0} (p : X → Bool) (xs : List X) (x : X) → count_by p (xs ++ x ∷ []) ≡ count_by p xs + (if p x then 1 else 0)
 count_one_more {X} p xs x = omega (arith, sum_by-append (λ (y : X). if p y then 1 else 0) xs (x ∷ []))
@@ -47,7 +47,7 @@ pub has_entered : {D : Type 0} (disk : Ghosts D) (old : SharedState D) (entry : 
     → progress ≡ old.progress + (if is_progress entry.step.act entry.reply then 1 else 0)
     → StepTaken disk old.machine entry.step entry.reply machine
     → ((start : Whole D) (steps : List Step) (replies : List Reply) → StepsTaken disk start steps replies old.machine → StepsTaken disk start (steps ++ entry.step ∷ []) (replies ++ entry.reply ∷ []) machine)
-    → ((files : List File) (start : Whole D) → IsOnTrack disk files start (steps_of old.trace) (replies_of old.trace) old.machine → StepIsSafe disk files (told_by files start old.trace) old.machine entry.step entry.reply machine)
+    → ((files : List File) (start : Whole D) → IsReached disk files start (steps_of old.trace) (replies_of old.trace) old.machine → StepIsSafe disk files (observed_by files start old.trace) old.machine entry.step entry.reply machine)
     → HasEntered disk old entry.step entry.reply (record { machine = machine; trace = old.trace ++ entry ∷ []; capacity = old.capacity; progress = progress })
 has_entered disk old entry machine progress room counted taken longer safe = record {
   room = room;

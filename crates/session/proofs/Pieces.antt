@@ -11,17 +11,17 @@ use Rattle.session.specs.declared.notes.Notes.{Notes}
 use Rattle.session.specs.declared.ranges.Reached.TheVariants.{All, Refused, NoMemory}
 use Rattle.session.specs.Ends.{EndsRange}
 use Rattle.session.specs.Ranges.{MakesStepsThat, LoadsRange, LoadsReached, StoresRange, StoresReached}
-use Rattle.session.specs.Steps.{Makes, AreAside, behind, AreLoads, AreStores}
-use Rattle.session.specs.inside.Aside.{AnswersAfter, StopsAt}
+use Rattle.session.specs.Steps.{Makes, ArePaging, behind, AreLoads, AreStores}
+use Rattle.session.specs.inside.Paging.{AnswersAfter, StopsAt}
 use Rattle.session.specs.inside.Made.{HasMade}
 use Rattle.session.proofs.Stretches.{makes_none, makes_then}
 
 -- steps that read and store nothing
-pub loads_none : (p va at : ℕ) (steps : List Step) (replies : List Reply) → AreAside p steps replies → AreLoads p va at at steps replies []
-loads_none p va at [] [] aside = (refl, refl)
-loads_none p va at (step ∷ steps) (reply ∷ replies) aside = inl (aside.0, loads_none p va at steps replies aside.1)
-loads_none p va at [] (reply ∷ replies) aside = absurd aside
-loads_none p va at (step ∷ steps) [] aside = absurd aside
+pub loads_none : (p va at : ℕ) (steps : List Step) (replies : List Reply) → ArePaging p steps replies → AreLoads p va at at steps replies []
+loads_none p va at [] [] paging = (refl, refl)
+loads_none p va at (step ∷ steps) (reply ∷ replies) paging = inl (paging.0, loads_none p va at steps replies paging.1)
+loads_none p va at [] (reply ∷ replies) paging = absurd paging
+loads_none p va at (step ∷ steps) [] paging = absurd paging
 
 -- one piece
 pub loads_one : (p va from count : ℕ) (few : List ℕ) → AreLoads p va from (from + count) (record { p = p; act = Load (behind va from) count } ∷ []) (Bytes few ∷ []) few
@@ -33,19 +33,19 @@ loads_then p va from mid to [] [] bytes steps' replies' bytes' first later =
     let P : ℕ → Type 0 = λ n. AreLoads p va n to steps' replies' bytes' in
     let Q : List ℕ → Type 0 = λ b. AreLoads p va from to steps' replies' (b ++ bytes') in
     subst Q (sym first.1) (subst P (sym first.0) later)
-loads_then p va from mid to (step ∷ steps) (reply ∷ replies) bytes steps' replies' bytes' (inl aside) later =
-    inl (aside.0, loads_then p va from mid to steps replies bytes steps' replies' bytes' aside.1 later)
+loads_then p va from mid to (step ∷ steps) (reply ∷ replies) bytes steps' replies' bytes' (inl paging) later =
+    inl (paging.0, loads_then p va from mid to steps replies bytes steps' replies' bytes' paging.1 later)
 loads_then p va from mid to (step ∷ steps) (reply ∷ replies) bytes steps' replies' bytes' (inr (count, few, rest, step-is, reply-is, bytes-are, more)) later =
     inr (count, few, rest ++ bytes', step-is, reply-is, ap (λ b. b ++ bytes') bytes-are ∙ append_assoc few rest bytes', loads_then p va (from + count) mid to steps replies rest steps' replies' bytes' more later)
 loads_then p va from mid to [] (reply ∷ replies) bytes steps' replies' bytes' first later = absurd first
 loads_then p va from mid to (step ∷ steps) [] bytes steps' replies' bytes' first later = absurd first
 
 -- steps that read and store nothing
-pub stores_none : (p va at : ℕ) (steps : List Step) (replies : List Reply) → AreAside p steps replies → AreStores p va at steps replies []
-stores_none p va at [] [] aside = refl
-stores_none p va at (step ∷ steps) (reply ∷ replies) aside = inl (aside.0, stores_none p va at steps replies aside.1)
-stores_none p va at [] (reply ∷ replies) aside = absurd aside
-stores_none p va at (step ∷ steps) [] aside = absurd aside
+pub stores_none : (p va at : ℕ) (steps : List Step) (replies : List Reply) → ArePaging p steps replies → AreStores p va at steps replies []
+stores_none p va at [] [] paging = refl
+stores_none p va at (step ∷ steps) (reply ∷ replies) paging = inl (paging.0, stores_none p va at steps replies paging.1)
+stores_none p va at [] (reply ∷ replies) paging = absurd paging
+stores_none p va at (step ∷ steps) [] paging = absurd paging
 
 -- one piece
 pub stores_one : (p va from : ℕ) (few : List ℕ) → AreStores p va from (record { p = p; act = Store (behind va from) few } ∷ []) (Stored ∷ []) few
@@ -58,8 +58,8 @@ stores_then p va from [] [] bytes steps' replies' bytes' first later =
     let Q : List ℕ → Type 0 = λ b. AreStores p va from steps' replies' (b ++ bytes') in
     let here : from + length bytes ≡ from = omega (arith, ap (λ (b : List ℕ). length b) first) in
     subst Q (sym first) (subst P here later)
-stores_then p va from (step ∷ steps) (reply ∷ replies) bytes steps' replies' bytes' (inl aside) later =
-    inl (aside.0, stores_then p va from steps replies bytes steps' replies' bytes' aside.1 later)
+stores_then p va from (step ∷ steps) (reply ∷ replies) bytes steps' replies' bytes' (inl paging) later =
+    inl (paging.0, stores_then p va from steps replies bytes steps' replies' bytes' paging.1 later)
 stores_then p va from (step ∷ steps) (reply ∷ replies) bytes steps' replies' bytes' (inr (few, rest, step-is, reply-is, bytes-are, more)) later =
     let P : ℕ → Type 0 = λ n. AreStores p va n steps' replies' bytes' in
     let here : from + length bytes ≡ from + length few + length rest = omega (arith, ap (λ (b : List ℕ). length b) bytes-are, length-append few rest) in
@@ -71,7 +71,7 @@ stores_then p va from (step ∷ steps) [] bytes steps' replies' bytes' first lat
 loads_ended : (p va from to : ℕ) (steps : List Step) (replies : List Reply) (bytes : List ℕ) (at : ℕ) (reply : Reply) (steps' : List Step) (replies' : List Reply)
     → AreLoads p va from to steps replies bytes → EndsRange p at reply steps' replies' → EndsRange p at reply (steps ++ steps') (replies ++ replies')
 loads_ended p va from to [] [] bytes at reply steps' replies' first ended = ended
-loads_ended p va from to (step ∷ steps) (other ∷ replies) bytes at reply steps' replies' (inl aside) ended = inl (loads_ended p va from to steps replies bytes at reply steps' replies' aside.1 ended)
+loads_ended p va from to (step ∷ steps) (other ∷ replies) bytes at reply steps' replies' (inl paging) ended = inl (loads_ended p va from to steps replies bytes at reply steps' replies' paging.1 ended)
 loads_ended p va from to (step ∷ steps) (other ∷ replies) bytes at reply steps' replies' (inr (count, few, rest, step-is, reply-is, bytes-are, more)) ended = inl (loads_ended p va (from + count) to steps replies rest at reply steps' replies' more ended)
 loads_ended p va from to [] (other ∷ replies) bytes at reply steps' replies' first ended = absurd first
 loads_ended p va from to (step ∷ steps) [] bytes at reply steps' replies' first ended = absurd first
@@ -79,7 +79,7 @@ loads_ended p va from to (step ∷ steps) [] bytes at reply steps' replies' firs
 stores_ended : (p va from : ℕ) (steps : List Step) (replies : List Reply) (bytes : List ℕ) (at : ℕ) (reply : Reply) (steps' : List Step) (replies' : List Reply)
     → AreStores p va from steps replies bytes → EndsRange p at reply steps' replies' → EndsRange p at reply (steps ++ steps') (replies ++ replies')
 stores_ended p va from [] [] bytes at reply steps' replies' first ended = ended
-stores_ended p va from (step ∷ steps) (other ∷ replies) bytes at reply steps' replies' (inl aside) ended = inl (stores_ended p va from steps replies bytes at reply steps' replies' aside.1 ended)
+stores_ended p va from (step ∷ steps) (other ∷ replies) bytes at reply steps' replies' (inl paging) ended = inl (stores_ended p va from steps replies bytes at reply steps' replies' paging.1 ended)
 stores_ended p va from (step ∷ steps) (other ∷ replies) bytes at reply steps' replies' (inr (few, rest, step-is, reply-is, bytes-are, more)) ended = inl (stores_ended p va (from + length few) steps replies rest at reply steps' replies' more ended)
 stores_ended p va from [] (other ∷ replies) bytes at reply steps' replies' first ended = absurd first
 stores_ended p va from (step ∷ steps) [] bytes at reply steps' replies' first ended = absurd first
@@ -94,22 +94,22 @@ loads_more disk old mid new before between after p va done count bytes few first
       replies = first.replies ++ (answer.replies ++ Bytes few ∷ []);
       makes = makes_then disk old mid new before between after first.steps first.replies (answer.steps ++ step ∷ []) (answer.replies ++ Bytes few ∷ []) first.makes answer.makes;
       holds = loads_then p va 0 done (done + count) first.steps first.replies bytes (answer.steps ++ step ∷ []) (answer.replies ++ Bytes few ∷ []) few first.holds
-          (loads_then p va done done (done + count) answer.steps answer.replies [] (step ∷ []) (Bytes few ∷ []) few (loads_none p va done answer.steps answer.replies answer.aside) (loads_one p va done count few));
+          (loads_then p va done done (done + count) answer.steps answer.replies [] (step ∷ []) (Bytes few ∷ []) few (loads_none p va done answer.steps answer.replies answer.paging) (loads_one p va done count few));
     }
 
 -- and no further one
 pub loads_refused : {D : Type 0} (disk : Ghosts D) (old mid new : Whole D) (before between after : Notes) (p va count done : ℕ) (bytes : List ℕ) (reply : Reply) → done < count → MakesStepsThat disk old before (LoadsRange p va done bytes) mid between
     → StopsAt disk mid between p (behind va done) reply new after → MakesStepsThat disk old before (LoadsReached p va count bytes (Refused done reply)) new after
-loads_refused disk old mid new before between after p va count done bytes reply fewer first told =
-    let P : List ℕ → Type 0 = λ b. AreLoads p va 0 done (first.steps ++ told.steps) (first.replies ++ told.replies) b in
+loads_refused disk old mid new before between after p va count done bytes reply fewer first replied =
+    let P : List ℕ → Type 0 = λ b. AreLoads p va 0 done (first.steps ++ replied.steps) (first.replies ++ replied.replies) b in
     record {
-      steps = first.steps ++ told.steps;
-      replies = first.replies ++ told.replies;
-      makes = makes_then disk old mid new before between after first.steps first.replies told.steps told.replies first.makes told.makes;
+      steps = first.steps ++ replied.steps;
+      replies = first.replies ++ replied.replies;
+      makes = makes_then disk old mid new before between after first.steps first.replies replied.steps replied.replies first.makes replied.makes;
       holds = (
         fewer,
-        subst P (append-nil bytes) (loads_then p va 0 done done first.steps first.replies bytes told.steps told.replies [] first.holds (loads_none p va done told.steps told.replies told.aside)),
-        loads_ended p va 0 done first.steps first.replies bytes (behind va done) reply told.steps told.replies first.holds told.ends,
+        subst P (append-nil bytes) (loads_then p va 0 done done first.steps first.replies bytes replied.steps replied.replies [] first.holds (loads_none p va done replied.steps replied.replies replied.paging)),
+        loads_ended p va 0 done first.steps first.replies bytes (behind va done) reply replied.steps replied.replies first.holds replied.ends,
       );
     }
 
@@ -124,7 +124,7 @@ stores_more disk old mid new before between after p va done bytes few now long a
     let here : done ≡ 0 + length bytes = omega (arith, long) in
     let R : ℕ → Type 0 = λ n. AreStores p va n (step ∷ []) (Stored ∷ []) few in
     let piece : AreStores p va done (answer.steps ++ step ∷ []) (answer.replies ++ Stored ∷ []) few =
-    stores_then p va done answer.steps answer.replies [] (step ∷ []) (Stored ∷ []) few (stores_none p va done answer.steps answer.replies answer.aside) (subst R (sym nothing) (stores_one p va done few)) in
+    stores_then p va done answer.steps answer.replies [] (step ∷ []) (Stored ∷ []) few (stores_none p va done answer.steps answer.replies answer.paging) (subst R (sym nothing) (stores_one p va done few)) in
     record {
       steps = first.steps ++ (answer.steps ++ step ∷ []);
       replies = first.replies ++ (answer.replies ++ Stored ∷ []);
@@ -135,16 +135,16 @@ stores_more disk old mid new before between after p va done bytes few now long a
 -- and no further one
 pub stores_refused : {D : Type 0} (disk : Ghosts D) (old mid new : Whole D) (before between after : Notes) (p va done : ℕ) (bytes : List ℕ) (reply : Reply) → done < length bytes → MakesStepsThat disk old before (StoresRange p va (take done bytes)) mid between
     → StopsAt disk mid between p (behind va done) reply new after → MakesStepsThat disk old before (StoresReached p va bytes (Refused done reply)) new after
-stores_refused disk old mid new before between after p va done bytes reply fewer first told =
-    let P : List ℕ → Type 0 = λ b. AreStores p va 0 (first.steps ++ told.steps) (first.replies ++ told.replies) b in
+stores_refused disk old mid new before between after p va done bytes reply fewer first replied =
+    let P : List ℕ → Type 0 = λ b. AreStores p va 0 (first.steps ++ replied.steps) (first.replies ++ replied.replies) b in
     record {
-      steps = first.steps ++ told.steps;
-      replies = first.replies ++ told.replies;
-      makes = makes_then disk old mid new before between after first.steps first.replies told.steps told.replies first.makes told.makes;
+      steps = first.steps ++ replied.steps;
+      replies = first.replies ++ replied.replies;
+      makes = makes_then disk old mid new before between after first.steps first.replies replied.steps replied.replies first.makes replied.makes;
       holds = (
         fewer,
-        subst P (append-nil (take done bytes)) (stores_then p va 0 first.steps first.replies (take done bytes) told.steps told.replies [] first.holds (stores_none p va (0 + length (take done bytes)) told.steps told.replies told.aside)),
-        stores_ended p va 0 first.steps first.replies (take done bytes) (behind va done) reply told.steps told.replies first.holds told.ends,
+        subst P (append-nil (take done bytes)) (stores_then p va 0 first.steps first.replies (take done bytes) replied.steps replied.replies [] first.holds (stores_none p va (0 + length (take done bytes)) replied.steps replied.replies replied.paging)),
+        stores_ended p va 0 first.steps first.replies (take done bytes) (behind va done) reply replied.steps replied.replies first.holds replied.ends,
       );
     }
 

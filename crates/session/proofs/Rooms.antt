@@ -15,30 +15,30 @@ use Rattle.machine.specs.Rules.{Acts}
 use Rattle.machine.specs.Runs.{StepsTaken}
 use Rattle.machine.specs.State.{State, Whole}
 use Rattle.session.specs.declared.notes.Notes.{Notes}
-use Rattle.session.specs.Ends.{tells_fault, tells_kept, tells_reclaimed, is_access, is_access_at, is_served, is_for_room, AreForRoom, is_fruitless, AreFruitless, MakesRoom, IsUnserved, EndsRange}
+use Rattle.session.specs.Ends.{reports_fault, reports_kept, reports_reclaimed, is_access, is_access_at, is_served, is_for_room, AreForRoom, is_fruitless, AreFruitless, MakesRoom, IsUnserved, EndsRange}
 use Rattle.session.specs.Lengths.{AnswersChange, AreOthers, change_steps, change_replies, flush_by}
 use Rattle.session.specs.Ranges.{MakesStepsThat}
-use Rattle.session.specs.Steps.{Makes, is_aside, Passes, IsAside, IsMadeFor, AreAside, tells_bytes, tells_stored, tells_fixed, tells_reclaim}
-use Rattle.session.specs.inside.Aside.{IsAccessFor, LoadsOrStores, Serves, IsUnservedAside, AnswersAfter, StopsAt}
+use Rattle.session.specs.Steps.{Makes, is_paging, Passes, IsPaging, IsMadeFor, ArePaging, reports_bytes, reports_stored, reports_fixed, reports_reclaim}
+use Rattle.session.specs.inside.Paging.{IsAccessFor, LoadsOrStores, Serves, IsUnservedPaging, AnswersAfter, StopsAt}
 use Rattle.session.proofs.Each.{each_of_change, each_so, each_then}
 use Rattle.session.proofs.Stretches.{makes_then}
 
 -- ---- single steps
 
-kept_reclaim : (reply : Reply) → tells_kept reply ≡ true → tells_reclaim reply ≡ true
+kept_reclaim : (reply : Reply) → reports_kept reply ≡ true → reports_reclaim reply ≡ true
 kept_reclaim replies.Kept is = refl
 kept_reclaim reply is = absurd (false≢true is)
 
-reclaim_kept : (reply : Reply) → tells_reclaim reply ≡ true → tells_reclaimed reply ≡ false → tells_kept reply ≡ true
+reclaim_kept : (reply : Reply) → reports_reclaim reply ≡ true → reports_reclaimed reply ≡ false → reports_kept reply ≡ true
 reclaim_kept replies.Reclaimed is other = absurd (false≢true (sym other))
 reclaim_kept replies.Kept is other = refl
 reclaim_kept reply is other = absurd (false≢true is)
 
-reclaimed_is : (reply : Reply) → tells_reclaimed reply ≡ true → reply ≡ replies.Reclaimed
+reclaimed_is : (reply : Reply) → reports_reclaimed reply ≡ true → reply ≡ replies.Reclaimed
 reclaimed_is replies.Reclaimed is = refl
 reclaimed_is reply is = absurd (false≢true is)
 
-fixed_is : (reply : Reply) → tells_fixed reply ≡ true → reply ≡ replies.Fixed
+fixed_is : (reply : Reply) → reports_fixed reply ≡ true → reply ≡ replies.Fixed
 fixed_is replies.Fixed is = refl
 fixed_is reply is = absurd (false≢true is)
 
@@ -46,13 +46,13 @@ fruitless_room : (act : Act) (reply : Reply) → is_fruitless act reply ≡ true
 fruitless_room acts.Change reply is = kept_reclaim reply is
 fruitless_room act reply is = is
 
-room_aside : (act : Act) (reply : Reply) → is_for_room act reply ≡ true → is_aside act reply ≡ true
-room_aside (acts.Reclaim file page) reply is = refl
-room_aside acts.Ack reply is = is
-room_aside acts.Change reply is = is
-room_aside acts.Resume reply is = is
-room_aside acts.Flush reply is = refl
-room_aside act reply is = absurd (false≢true is)
+room_paging : (act : Act) (reply : Reply) → is_for_room act reply ≡ true → is_paging act reply ≡ true
+room_paging (acts.Reclaim file page) reply is = refl
+room_paging acts.Ack reply is = is
+room_paging acts.Change reply is = is
+room_paging acts.Resume reply is = is
+room_paging acts.Flush reply is = refl
+room_paging act reply is = absurd (false≢true is)
 
 room_no_access : (act : Act) (reply : Reply) → is_for_room act reply ≡ true → is_access act ≡ false
 room_no_access (acts.Load va count) reply is = absurd (false≢true is)
@@ -63,26 +63,26 @@ room_not_served : (act : Act) (reply : Reply) → is_for_room act reply ≡ true
 room_not_served (acts.Fix va write) reply is = absurd (false≢true is)
 room_not_served act reply is = refl
 
-pub not_fault : (reply : Reply) → tells_fault reply ≡ true → (tells_bytes reply ≡ false) × (tells_stored reply ≡ false)
+pub not_fault : (reply : Reply) → reports_fault reply ≡ true → (reports_bytes reply ≡ false) × (reports_stored reply ≡ false)
 not_fault (replies.Refused why) is = (refl, refl)
 not_fault reply is = absurd (false≢true is)
 
 -- ---- one after the other
 
-vain_room : (p : ℕ) (steps : List Step) (told : List Reply) → AreFruitless p steps told → AreForRoom p steps told
+vain_room : (p : ℕ) (steps : List Step) (replied : List Reply) → AreFruitless p steps replied → AreForRoom p steps replied
 vain_room p = each_so (Passes is_fruitless p) (Passes is_for_room p)
     (λ step reply is. (fruitless_room step.act reply is.0, is.1))
 
-pub are_aside : (p : ℕ) (steps : List Step) (told : List Reply) → AreForRoom p steps told → AreAside p steps told
-are_aside p = each_so (Passes is_for_room p) (IsAside p) (λ step reply is. (room_aside step.act reply is.0, is.1))
+pub are_paging : (p : ℕ) (steps : List Step) (replied : List Reply) → AreForRoom p steps replied → ArePaging p steps replied
+are_paging p = each_so (Passes is_for_room p) (IsPaging p) (λ step reply is. (room_paging step.act reply is.0, is.1))
 
-pub vain_aside : (p : ℕ) (steps : List Step) (told : List Reply) → AreFruitless p steps told → AreAside p steps told
-vain_aside p steps told vain = are_aside p steps told (vain_room p steps told vain)
+pub vain_paging : (p : ℕ) (steps : List Step) (replied : List Reply) → AreFruitless p steps replied → ArePaging p steps replied
+vain_paging p steps replied vain = are_paging p steps replied (vain_room p steps replied vain)
 
 -- no frame became free, and then one did or didn't
-pub makes_room_then : (p : ℕ) (made : Bool) (steps : List Step) (told : List Reply) (steps' : List Step) (told' : List Reply) → AreFruitless p steps told → MakesRoom p made steps' told' → MakesRoom p made (steps ++ steps') (told ++ told')
-makes_room_then p true steps told steps' told' first later = (each_then (Passes is_for_room p) steps told steps' told' (vain_room p steps told first) later.0, Contains-append_right told told' replies.Reclaimed later.1)
-makes_room_then p false steps told steps' told' first later = each_then (Passes is_fruitless p) steps told steps' told' first later
+pub makes_room_then : (p : ℕ) (made : Bool) (steps : List Step) (replied : List Reply) (steps' : List Step) (replied' : List Reply) → AreFruitless p steps replied → MakesRoom p made steps' replied' → MakesRoom p made (steps ++ steps') (replied ++ replied')
+makes_room_then p true steps replied steps' replied' first later = (each_then (Passes is_for_room p) steps replied steps' replied' (vain_room p steps replied first) later.0, Contains-append_right replied replied' replies.Reclaimed later.1)
+makes_room_then p false steps replied steps' replied' first later = each_then (Passes is_fruitless p) steps replied steps' replied' first later
 
 pub flush_vain : (p : ℕ) (reply : Reply) → AreFruitless p (flush_by p ∷ []) (reply ∷ [])
 flush_vain p reply = ((refl, refl), tt)
@@ -97,32 +97,32 @@ pub change_has : (P : List Step → List Reply → Type 0) (p : ℕ) (answer : R
 change_has P p answer steps replies it holds = subst (P steps) (sym it.replies_are) (subst (λ (l : List Step). P l (change_replies answer it.others)) (sym it.steps_are) holds)
 
 -- the change of a reclaim, which is answered so
-change_vain : (p : ℕ) (answer : Reply) (others : List ℕ) → AreOthers p others → tells_kept answer ≡ true
+change_vain : (p : ℕ) (answer : Reply) (others : List ℕ) → AreOthers p others → reports_kept answer ≡ true
     → AreFruitless p (change_steps p others) (change_replies answer others)
 change_vain p answer others differ is = each_of_change (Passes is_fruitless p) p answer others differ (is, refl)
     (λ other not. (refl, not)) (λ other not. (refl, not))
 
-change_room : (p : ℕ) (answer : Reply) (others : List ℕ) → AreOthers p others → tells_reclaim answer ≡ true
+change_room : (p : ℕ) (answer : Reply) (others : List ℕ) → AreOthers p others → reports_reclaim answer ≡ true
     → AreForRoom p (change_steps p others) (change_replies answer others)
 change_room p answer others differ is = each_of_change (Passes is_for_room p) p answer others differ (is, refl)
     (λ other not. (refl, not)) (λ other not. (refl, not))
 
 -- the answer is one of the replies
-change_told : (answer : Reply) (others : List ℕ) → Contains (change_replies answer others) answer
-change_told answer [] = Contains-push [] answer
-change_told answer (other ∷ others) =
-    Contains-append_right (replies.Acked ∷ []) (change_replies answer others ++ replies.Resumed ∷ []) answer (Contains-append_left (change_replies answer others) (replies.Resumed ∷ []) answer (change_told answer others))
+change_replied : (answer : Reply) (others : List ℕ) → Contains (change_replies answer others) answer
+change_replied answer [] = Contains-push [] answer
+change_replied answer (other ∷ others) =
+    Contains-append_right (replies.Acked ∷ []) (change_replies answer others ++ replies.Resumed ∷ []) answer (Contains-append_left (change_replies answer others) (replies.Resumed ∷ []) answer (change_replied answer others))
 
-pub reclaim_room : (p file page : ℕ) (begun answer : Reply) (steps : List Step) (told : List Reply) → tells_reclaim answer ≡ true → AnswersChange p answer steps told
-    → MakesRoom p (tells_reclaimed answer) (record { p = p; act = acts.Reclaim file page } ∷ steps) (begun ∷ told)
-reclaim_room p file page begun answer steps told is change = go (tells_reclaimed answer) refl
+pub reclaim_room : (p file page : ℕ) (begun answer : Reply) (steps : List Step) (replied : List Reply) → reports_reclaim answer ≡ true → AnswersChange p answer steps replied
+    → MakesRoom p (reports_reclaimed answer) (record { p = p; act = acts.Reclaim file page } ∷ steps) (begun ∷ replied)
+reclaim_room p file page begun answer steps replied is change = go (reports_reclaimed answer) refl
   where
-    has : Contains told answer
-    has = change_has (λ steps told. Contains told answer) p answer steps told change (change_told answer change.others)
+    has : Contains replied answer
+    has = change_has (λ steps replied. Contains replied answer) p answer steps replied change (change_replied answer change.others)
 
-    go : (b : Bool) → tells_reclaimed answer ≡ b → MakesRoom p b (record { p = p; act = acts.Reclaim file page } ∷ steps) (begun ∷ told)
-    go true made = (((refl, refl), change_has (AreForRoom p) p answer steps told change (change_room p answer change.others change.differ is)), Contains-append_right (begun ∷ []) told replies.Reclaimed (subst (Contains told) (reclaimed_is answer made) has))
-    go false kept = ((refl, refl), change_has (AreFruitless p) p answer steps told change (change_vain p answer change.others change.differ (reclaim_kept answer is kept)))
+    go : (b : Bool) → reports_reclaimed answer ≡ b → MakesRoom p b (record { p = p; act = acts.Reclaim file page } ∷ steps) (begun ∷ replied)
+    go true made = (((refl, refl), change_has (AreForRoom p) p answer steps replied change (change_room p answer change.others change.differ is)), Contains-append_right (begun ∷ []) replied replies.Reclaimed (subst (Contains replied) (reclaimed_is answer made) has))
+    go false kept = ((refl, refl), change_has (AreFruitless p) p answer steps replied change (change_vain p answer change.others change.differ (reclaim_kept answer is kept)))
 
 -- ---- a fault is served, or isn't
 
@@ -133,36 +133,36 @@ module _ (p at : ℕ) (write : Bool) where
   abbrev pub fix_by : Step
   fix_by = record { p = p; act = acts.Fix at write }
 
-  pub serves_one : (reply : Reply) → tells_fixed reply ≡ true → Serves p at write (fix_by ∷ []) (reply ∷ [])
-  serves_one reply is = record { front = []; told = []; aside = tt; steps_are = refl; replies_are = ap (λ r. r ∷ []) (fixed_is reply is) }
+  pub serves_one : (reply : Reply) → reports_fixed reply ≡ true → Serves p at write (fix_by ∷ []) (reply ∷ [])
+  serves_one reply is = record { front = []; replied = []; paging = tt; steps_are = refl; replies_are = ap (λ r. r ∷ []) (fixed_is reply is) }
 
-  pub serves_later : (reply : Reply) → tells_fixed reply ≡ true → (steps : List Step) (told : List Reply) → AreAside p steps told → Serves p at write (steps ++ fix_by ∷ []) (told ++ reply ∷ [])
-  serves_later reply is steps told aside = record { front = steps; told = told; aside = aside; steps_are = refl; replies_are = ap (λ r. told ++ r ∷ []) (fixed_is reply is) }
+  pub serves_later : (reply : Reply) → reports_fixed reply ≡ true → (steps : List Step) (replied : List Reply) → ArePaging p steps replied → Serves p at write (steps ++ fix_by ∷ []) (replied ++ reply ∷ [])
+  serves_later reply is steps replied paging = record { front = steps; replied = replied; paging = paging; steps_are = refl; replies_are = ap (λ r. replied ++ r ∷ []) (fixed_is reply is) }
 
-  pub unserved_one : (answer : Reply) → tells_fixed answer ≡ false → (steps : List Step) (told : List Reply) → AreFruitless p steps told → IsUnservedAside p at answer (fix_by ∷ steps) (answer ∷ told)
-  unserved_one answer not steps told vain = (((refl, refl), vain_aside p steps told vain), inr (refl, same at, refl, not, vain))
+  pub unserved_one : (answer : Reply) → reports_fixed answer ≡ false → (steps : List Step) (replied : List Reply) → AreFruitless p steps replied → IsUnservedPaging p at answer (fix_by ∷ steps) (answer ∷ replied)
+  unserved_one answer not steps replied vain = (((refl, refl), vain_paging p steps replied vain), inr (refl, same at, refl, not, vain))
 
-  unserved_after : (answer : Reply) (steps : List Step) (told : List Reply) (steps' : List Step) (told' : List Reply) → AreForRoom p steps told → IsUnserved p at answer steps' told' → IsUnserved p at answer (steps ++ steps') (told ++ told')
-  unserved_after answer [] [] steps' told' room later = later
-  unserved_after answer (step ∷ steps) (reply ∷ told) steps' told' ((is, mine), more) later = inl (room_no_access step.act reply is, room_not_served step.act reply is, unserved_after answer steps told steps' told' more later)
-  unserved_after answer [] (reply ∷ told) steps' told' room later = absurd room
-  unserved_after answer (step ∷ steps) [] steps' told' room later = absurd room
+  unserved_after : (answer : Reply) (steps : List Step) (replied : List Reply) (steps' : List Step) (replied' : List Reply) → AreForRoom p steps replied → IsUnserved p at answer steps' replied' → IsUnserved p at answer (steps ++ steps') (replied ++ replied')
+  unserved_after answer [] [] steps' replied' room later = later
+  unserved_after answer (step ∷ steps) (reply ∷ replied) steps' replied' ((is, mine), more) later = inl (room_no_access step.act reply is, room_not_served step.act reply is, unserved_after answer steps replied steps' replied' more later)
+  unserved_after answer [] (reply ∷ replied) steps' replied' room later = absurd room
+  unserved_after answer (step ∷ steps) [] steps' replied' room later = absurd room
 
   -- a second attempt, after a frame was made free
-  pub unserved_again : (first answer : Reply) → tells_fixed first ≡ false → tells_fixed answer ≡ false → (steps : List Step) (told : List Reply) → AreForRoom p steps told
-      → IsUnservedAside p at answer (fix_by ∷ (steps ++ fix_by ∷ [])) (first ∷ (told ++ answer ∷ []))
-  unserved_again first answer one not steps told room =
+  pub unserved_again : (first answer : Reply) → reports_fixed first ≡ false → reports_fixed answer ≡ false → (steps : List Step) (replied : List Reply) → AreForRoom p steps replied
+      → IsUnservedPaging p at answer (fix_by ∷ (steps ++ fix_by ∷ [])) (first ∷ (replied ++ answer ∷ []))
+  unserved_again first answer one not steps replied room =
       let last = unserved_one answer not [] [] tt in (
-        ((refl, refl), each_then (IsAside p) steps told (fix_by ∷ []) (answer ∷ []) (are_aside p steps told room) last.0),
-        inl (refl, one, unserved_after answer steps told (fix_by ∷ []) (answer ∷ []) room last.1),
+        ((refl, refl), each_then (IsPaging p) steps replied (fix_by ∷ []) (answer ∷ []) (are_paging p steps replied room) last.0),
+        inl (refl, one, unserved_after answer steps replied (fix_by ∷ []) (answer ∷ []) room last.1),
       )
 
 -- ---- accesses
 
-pub access_aside : (at : ℕ) (write : Bool) (act : Act) (reply : Reply) → IsAccessFor at write act → tells_fault reply ≡ true → is_aside act reply ≡ true
-access_aside at write (acts.Load va count) reply is fault = ap not (not_fault reply fault).0
-access_aside at write (acts.Store va bytes) reply is fault = ap not (not_fault reply fault).1
-access_aside at write act reply is fault = absurd is
+pub access_paging : (at : ℕ) (write : Bool) (act : Act) (reply : Reply) → IsAccessFor at write act → reports_fault reply ≡ true → is_paging act reply ≡ true
+access_paging at write (acts.Load va count) reply is fault = ap not (not_fault reply fault).0
+access_paging at write (acts.Store va bytes) reply is fault = ap not (not_fault reply fault).1
+access_paging at write act reply is fault = absurd is
 
 -- whose it is
 pub access_own : (at : ℕ) (write : Bool) (p : ℕ) (act : Act) → IsAccessFor at write act → IsMadeFor p p act
@@ -181,40 +181,40 @@ access_loads at write (acts.Store va bytes) is = tt
 access_loads at write act is = absurd is
 
 -- what ends a range comes after other steps
-pub ends_after : (p at : ℕ) (answer : Reply) (steps : List Step) (told : List Reply) (steps' : List Step) (told' : List Reply) → AreAside p steps told → EndsRange p at answer steps' told' → EndsRange p at answer (steps ++ steps') (told ++ told')
-ends_after p at answer [] [] steps' told' aside ended = ended
-ends_after p at answer (step ∷ steps) (reply ∷ told) steps' told' aside ended = inl (ends_after p at answer steps told steps' told' aside.1 ended)
-ends_after p at answer [] (reply ∷ told) steps' told' aside ended = absurd aside
-ends_after p at answer (step ∷ steps) [] steps' told' aside ended = absurd aside
+pub ends_after : (p at : ℕ) (answer : Reply) (steps : List Step) (replied : List Reply) (steps' : List Step) (replied' : List Reply) → ArePaging p steps replied → EndsRange p at answer steps' replied' → EndsRange p at answer (steps ++ steps') (replied ++ replied')
+ends_after p at answer [] [] steps' replied' paging ended = ended
+ends_after p at answer (step ∷ steps) (reply ∷ replied) steps' replied' paging ended = inl (ends_after p at answer steps replied steps' replied' paging.1 ended)
+ends_after p at answer [] (reply ∷ replied) steps' replied' paging ended = absurd paging
+ends_after p at answer (step ∷ steps) [] steps' replied' paging ended = absurd paging
 
 module _ {D : Type 0} (disk : Ghosts D) (old mid new : Whole D) (before between after : Notes) where
   -- an access that met a fault, which isn't served
-  pub stops_unserved : (step : Step) (at : ℕ) (fault answer : Reply) → IsAside step.p step fault → is_access_at at step.act ≡ true → tells_fault fault ≡ true → Makes disk old before (step ∷ []) (fault ∷ []) mid between
-      → MakesStepsThat disk mid between (IsUnservedAside step.p at answer) new after → StopsAt disk old before step.p at answer new after
-  stops_unserved step at fault answer (aside, mine) here met first later = record {
+  pub stops_unserved : (step : Step) (at : ℕ) (fault answer : Reply) → IsPaging step.p step fault → is_access_at at step.act ≡ true → reports_fault fault ≡ true → Makes disk old before (step ∷ []) (fault ∷ []) mid between
+      → MakesStepsThat disk mid between (IsUnservedPaging step.p at answer) new after → StopsAt disk old before step.p at answer new after
+  stops_unserved step at fault answer (paging, mine) here met first later = record {
     steps = step ∷ later.steps;
     replies = fault ∷ later.replies;
     makes = makes_then disk old mid new before between after (step ∷ []) (fault ∷ []) later.steps later.replies first later.makes;
-    aside = ((aside, mine), later.holds.0);
+    paging = ((paging, mine), later.holds.0);
     ends = inr (inr (refl, here, met, later.holds.1));
   }
 
 -- an access that isn't made, and meets no fault
-pub stops_answered : {D : Type 0} (disk : Ghosts D) (old new : Whole D) (before after : Notes) (step : Step) (at : ℕ) (answer : Reply) → IsAside step.p step answer → is_access_at at step.act ≡ true → tells_fault answer ≡ false
+pub stops_answered : {D : Type 0} (disk : Ghosts D) (old new : Whole D) (before after : Notes) (step : Step) (at : ℕ) (answer : Reply) → IsPaging step.p step answer → is_access_at at step.act ≡ true → reports_fault answer ≡ false
     → AnswersAfter disk old before step answer new after → StopsAt disk old before step.p at answer new after
-stops_answered disk old new before after step at answer (aside, mine) here no-fault it = record {
+stops_answered disk old new before after step at answer (paging, mine) here no-fault it = record {
   steps = it.steps ++ step ∷ [];
   replies = it.replies ++ answer ∷ [];
   makes = it.makes;
-  aside = each_then (IsAside step.p) it.steps it.replies (step ∷ []) (answer ∷ []) it.aside ((aside, mine), tt);
-  ends = ends_after step.p at answer it.steps it.replies (step ∷ []) (answer ∷ []) it.aside (inr (inl (refl, here, aside, refl, no-fault, refl, refl)));
+  paging = each_then (IsPaging step.p) it.steps it.replies (step ∷ []) (answer ∷ []) it.paging ((paging, mine), tt);
+  ends = ends_after step.p at answer it.steps it.replies (step ∷ []) (answer ∷ []) it.paging (inr (inl (refl, here, paging, refl, no-fault, refl, refl)));
 }
 
 -- ---- a fault that was served doesn't come again
 
 -- a fault is met only by an access inside a page
 no_fault : (s : State) (d : List ℕ) (p at : ℕ) (write : Bool) (act : Act) (reply : Reply) (new : State) (d' : List ℕ) → IsAccessFor at write act → Acts s d p act reply new d'
-    → (IsAccessOf at write act → IsAnswered act reply) → tells_fault reply ≡ false
+    → (IsAccessOf at write act → IsAnswered act reply) → reports_fault reply ≡ false
 no_fault s d p at write (acts.Load va count) (replies.Refused (refusals.Fault code)) new d' is rule answered = absurd (answered (rule.0.1.access, ap (λ n. n / 4096) is))
 no_fault s d p at write (acts.Store va bytes) (replies.Refused (refusals.Fault code)) new d' is rule answered = absurd (answered (rule.0.1.access, ap (λ n. n / 4096) is.0, is.1))
 no_fault s d p at write (acts.Load va count) (replies.Refused why) new d' is rule answered = refl
@@ -225,47 +225,47 @@ no_fault s d p at write act reply new d' is rule answered = absurd is
 
 module _ {D : Type 0} (disk : Ghosts D) where
   -- the last of the steps
-  served_last : (p at : ℕ) (write : Bool) (step : Step) (reply : Reply) → step.p ≡ p → IsAccessFor at write step.act → (old new : Whole D) (front : List Step) (told : List Reply) → AreAside p front told
-      → StepsTaken disk old ((front ++ record { p = p; act = acts.Fix at write } ∷ []) ++ step ∷ []) ((told ++ replies.Fixed ∷ []) ++ reply ∷ []) new
-      → FaultsAreServed ((front ++ record { p = p; act = acts.Fix at write } ∷ []) ++ step ∷ []) ((told ++ replies.Fixed ∷ []) ++ reply ∷ []) → tells_fault reply ≡ false
-  served_last p at write step reply mine is old new [] [] aside (mid, fixed, (last, here, ends)) served =
+  served_last : (p at : ℕ) (write : Bool) (step : Step) (reply : Reply) → step.p ≡ p → IsAccessFor at write step.act → (old new : Whole D) (front : List Step) (replied : List Reply) → ArePaging p front replied
+      → StepsTaken disk old ((front ++ record { p = p; act = acts.Fix at write } ∷ []) ++ step ∷ []) ((replied ++ replies.Fixed ∷ []) ++ reply ∷ []) new
+      → FaultsAreServed ((front ++ record { p = p; act = acts.Fix at write } ∷ []) ++ step ∷ []) ((replied ++ replies.Fixed ∷ []) ++ reply ∷ []) → reports_fault reply ≡ false
+  served_last p at write step reply mine is old new [] [] paging (mid, fixed, (last, here, ends)) served =
       no_fault mid.state here.answered.0 step.p at write step.act reply last.state here.answered.1 is here.answered.2 (served.0 mine)
-  served_last p at write step reply mine is old new (first ∷ front) (other ∷ told) aside (mid, here, rest) served =
-      served_last p at write step reply mine is mid new front told aside.1 rest served.1
-  served_last p at write step reply mine is old new [] (other ∷ told) aside taken served = absurd aside
-  served_last p at write step reply mine is old new (first ∷ front) [] aside taken served = absurd aside
+  served_last p at write step reply mine is old new (first ∷ front) (other ∷ replied) paging (mid, here, rest) served =
+      served_last p at write step reply mine is mid new front replied paging.1 rest served.1
+  served_last p at write step reply mine is old new [] (other ∷ replied) paging taken served = absurd paging
+  served_last p at write step reply mine is old new (first ∷ front) [] paging taken served = absurd paging
 
   pub answered_no_fault : (old mid new : Whole D) (before between after : Notes) (at : ℕ) (write : Bool) (step : Step) (reply : Reply) → IsAccessFor at write step.act
-      → ((from to : Whole D) (steps : List Step) (told : List Reply) → StepsTaken disk from steps told to → FaultsAreServed steps told)
-      → MakesStepsThat disk old before (Serves step.p at write) mid between → Makes disk mid between (step ∷ []) (reply ∷ []) new after → tells_fault reply ≡ false
+      → ((from to : Whole D) (steps : List Step) (replied : List Reply) → StepsTaken disk from steps replied to → FaultsAreServed steps replied)
+      → MakesStepsThat disk old before (Serves step.p at write) mid between → Makes disk mid between (step ∷ []) (reply ∷ []) new after → reports_fault reply ≡ false
   answered_no_fault old mid new before between after at write step reply is law it made =
       let S : List Step → Type 0 = λ l. StepsTaken disk old (l ++ step ∷ []) (it.replies ++ reply ∷ []) new in
       let T : List Reply → Type 0 = λ l. StepsTaken disk old ((it.holds.front ++ record { p = step.p; act = acts.Fix at write } ∷ []) ++ step ∷ []) (l ++ reply ∷ []) new in
       let all = makes_then disk old mid new before between after it.steps it.replies (step ∷ []) (reply ∷ []) it.makes made in
       let taken = subst T it.holds.replies_are (subst S it.holds.steps_are all.taken) in
-      served_last step.p at write step reply refl is old new it.holds.front it.holds.told it.holds.aside taken (law old new _ _ taken)
+      served_last step.p at write step reply refl is old new it.holds.front it.holds.replied it.holds.paging taken (law old new _ _ taken)
 
   -- an access after its fault was served
-  pub answers_served : (old mid last new : Whole D) (before between next after : Notes) (at : ℕ) (write : Bool) (step : Step) (fault reply : Reply) → IsAside step.p step fault
+  pub answers_served : (old mid last new : Whole D) (before between next after : Notes) (at : ℕ) (write : Bool) (step : Step) (fault reply : Reply) → IsPaging step.p step fault
       → Makes disk old before (step ∷ []) (fault ∷ []) mid between → MakesStepsThat disk mid between (Serves step.p at write) last next → Makes disk last next (step ∷ []) (reply ∷ []) new after → AnswersAfter disk old before step reply new after
-  answers_served old mid last new before between next after at write step fault reply aside first it made =
-      let S : List Step → Type 0 = λ l. AreAside step.p l it.replies in
-      let T : List Reply → Type 0 = λ l. AreAside step.p (it.holds.front ++ record { p = step.p; act = acts.Fix at write } ∷ []) l in
-      let front = each_then (IsAside step.p) it.holds.front it.holds.told (record { p = step.p; act = acts.Fix at write } ∷ []) (replies.Fixed ∷ []) it.holds.aside ((refl, refl), tt) in
+  answers_served old mid last new before between next after at write step fault reply paging first it made =
+      let S : List Step → Type 0 = λ l. ArePaging step.p l it.replies in
+      let T : List Reply → Type 0 = λ l. ArePaging step.p (it.holds.front ++ record { p = step.p; act = acts.Fix at write } ∷ []) l in
+      let front = each_then (IsPaging step.p) it.holds.front it.holds.replied (record { p = step.p; act = acts.Fix at write } ∷ []) (replies.Fixed ∷ []) it.holds.paging ((refl, refl), tt) in
       record {
         steps = step ∷ it.steps;
         replies = fault ∷ it.replies;
         makes = makes_then disk old last new before next after (step ∷ it.steps) (fault ∷ it.replies) (step ∷ []) (reply ∷ [])
             (makes_then disk old mid last before between next (step ∷ []) (fault ∷ []) it.steps it.replies first it.makes) made;
-        aside = (aside, subst S (sym it.holds.steps_are) (subst T (sym it.holds.replies_are) front));
+        paging = (paging, subst S (sym it.holds.steps_are) (subst T (sym it.holds.replies_are) front));
       }
 
 -- ---- attempts to serve a fault
 
 module _ {D : Type 0} (disk : Ghosts D) where
   -- no frame could be made free for it
-  pub unserved_vain : (old mid new : Whole D) (before between after : Notes) (p at : ℕ) (write : Bool) (answer : Reply) → tells_fixed answer ≡ false → Makes disk old before (fix_by p at write ∷ []) (answer ∷ []) mid between
-      → MakesStepsThat disk mid between (MakesRoom p false) new after → MakesStepsThat disk old before (IsUnservedAside p at answer) new after
+  pub unserved_vain : (old mid new : Whole D) (before between after : Notes) (p at : ℕ) (write : Bool) (answer : Reply) → reports_fixed answer ≡ false → Makes disk old before (fix_by p at write ∷ []) (answer ∷ []) mid between
+      → MakesStepsThat disk mid between (MakesRoom p false) new after → MakesStepsThat disk old before (IsUnservedPaging p at answer) new after
   unserved_vain old mid new before between after p at write answer not made room = record {
     steps = fix_by p at write ∷ room.steps;
     replies = answer ∷ room.replies;
@@ -280,18 +280,18 @@ module _ {D : Type 0} (disk : Ghosts D) where
         (makes_then disk mid last new between next after room.steps room.replies (fix_by p at write ∷ []) (answer ∷ []) room.makes again)
 
     -- one was, and it was served
-    pub serves_again : tells_fixed answer ≡ true → Makes disk old before (fix_by p at write ∷ []) (first ∷ []) mid between → MakesStepsThat disk mid between (MakesRoom p true) last next → Makes disk last next (fix_by p at write ∷ []) (answer ∷ []) new after
+    pub serves_again : reports_fixed answer ≡ true → Makes disk old before (fix_by p at write ∷ []) (first ∷ []) mid between → MakesStepsThat disk mid between (MakesRoom p true) last next → Makes disk last next (fix_by p at write ∷ []) (answer ∷ []) new after
         → MakesStepsThat disk old before (Serves p at write) new after
     serves_again is made room again = record {
       steps = fix_by p at write ∷ (room.steps ++ fix_by p at write ∷ []);
       replies = first ∷ (room.replies ++ answer ∷ []);
       makes = all_made made room again;
-      holds = serves_later p at write answer is (fix_by p at write ∷ room.steps) (first ∷ room.replies) ((refl, refl), are_aside p room.steps room.replies room.holds.0);
+      holds = serves_later p at write answer is (fix_by p at write ∷ room.steps) (first ∷ room.replies) ((refl, refl), are_paging p room.steps room.replies room.holds.0);
     }
 
     -- and it wasn't
-    pub unserved_after_room : tells_fixed first ≡ false → tells_fixed answer ≡ false → Makes disk old before (fix_by p at write ∷ []) (first ∷ []) mid between → MakesStepsThat disk mid between (MakesRoom p true) last next
-        → Makes disk last next (fix_by p at write ∷ []) (answer ∷ []) new after → MakesStepsThat disk old before (IsUnservedAside p at answer) new after
+    pub unserved_after_room : reports_fixed first ≡ false → reports_fixed answer ≡ false → Makes disk old before (fix_by p at write ∷ []) (first ∷ []) mid between → MakesStepsThat disk mid between (MakesRoom p true) last next
+        → Makes disk last next (fix_by p at write ∷ []) (answer ∷ []) new after → MakesStepsThat disk old before (IsUnservedPaging p at answer) new after
     unserved_after_room one not made room again = record {
       steps = fix_by p at write ∷ (room.steps ++ fix_by p at write ∷ []);
       replies = first ∷ (room.replies ++ answer ∷ []);

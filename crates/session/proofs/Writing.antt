@@ -15,7 +15,7 @@ use Rattle.std.specs.declared.alloc.AllocError.{AllocError}
 use Rattle.session.specs.declared.request_fault.RequestFault.{RequestFault}
 use Rattle.session.specs.declared.request_fault.RequestFault.TheVariants as fault
 use Rattle.session.specs.Notes.{noted_after, noted_all}
-use Rattle.session.specs.Answers.{steps_text, reply_after, refusal_text, reached_text, text_after_space, digits_text, TellsLoaded, stored_text, committed_text, AsksNothing, WritesAnswer, WritesAnswerOf, AnswersLines, WritesAnswers, AnswersInput}
+use Rattle.session.specs.Answers.{steps_text, reply_after, refusal_text, reached_text, text_after_space, digits_text, ReportsLoaded, stored_text, committed_text, AsksNothing, WritesAnswer, WritesAnswerOf, AnswersLines, WritesAnswers, AnswersInput}
 use Rattle.session.specs.Commits.{AnswersCommit}
 use Rattle.session.specs.Lines.{HasNoFeed, ReadsLines}
 use Rattle.session.specs.Asked.{AreFirst, IsMemory}
@@ -111,17 +111,17 @@ digits_after_space [] = refl
 digits_after_space (byte ∷ bytes) = refl
 
 -- what is written of a range that was loaded as far as memory lasted
-pub tells_reached : (old new : Option (List ℕ)) (reached : Reached) (bytes digits : List ℕ) → (reached ≡ NoMemory → ⊥) → digits ≡ encode_lower bytes
-    → Appends old new (reached_text reached ++ text_after_space digits ++ 10 ∷ []) → ((answer : List ℕ) × TellsLoaded reached bytes answer × Appends old new (answer ++ 10 ∷ []))
-tells_reached old new All bytes digits some are wrote =
+pub reports_reached : (old new : Option (List ℕ)) (reached : Reached) (bytes digits : List ℕ) → (reached ≡ NoMemory → ⊥) → digits ≡ encode_lower bytes
+    → Appends old new (reached_text reached ++ text_after_space digits ++ 10 ∷ []) → ((answer : List ℕ) × ReportsLoaded reached bytes answer × Appends old new (answer ++ 10 ∷ []))
+reports_reached old new All bytes digits some are wrote =
     (codes "loaded" ++ text_after_space digits, ap (λ text. codes "loaded" ++ text) (ap text_after_space are ∙ digits_after_space bytes), wrote)
-tells_reached old new (Refused count reply) bytes digits some are wrote =
+reports_reached old new (Refused count reply) bytes digits some are wrote =
     (refusal_text reply count ++ text_after_space digits, ap (λ text. refusal_text reply count ++ text) (ap text_after_space are ∙ digits_after_space bytes), wrote)
-tells_reached old new NoMemory bytes digits some are wrote = absurd (some refl)
+reports_reached old new NoMemory bytes digits some are wrote = absurd (some refl)
 
 -- a range was loaded
 pub load_answered : {D : Type 0} (disk : Ghosts D) (old new : Whole D) (before after : Notes) (p va count : ℕ) (bytes : List ℕ) (reached : Reached) (a b : Option (List ℕ)) → MakesStepsThat disk old before (LoadsReached p va count bytes reached) new after
-    → ((answer : List ℕ) × TellsLoaded reached bytes answer × Appends a b (answer ++ 10 ∷ [])) → MakesStepsThat disk old before (WritesAnswer before (asks_load p va count) a b) new after
+    → ((answer : List ℕ) × ReportsLoaded reached bytes answer × Appends a b (answer ++ 10 ∷ [])) → MakesStepsThat disk old before (WritesAnswer before (asks_load p va count) a b) new after
 load_answered disk old new before after p va count bytes reached a b it wrote =
     record { steps = it.steps; replies = it.replies; makes = it.makes; holds = (wrote.0, (bytes, reached, it.holds, wrote.1), wrote.2) }
 
@@ -197,20 +197,20 @@ are_answered_then before [] text steps replies lines' text' steps' replies' (no-
     let S : List Reply → Type 0 = λ r. AnswersLines (noted_all before r) lines' text' steps' replies' in
     let here : AnswersLines before lines' text' steps' replies' = subst S no-replies later in
     subst P (sym no-text) (subst Q (sym no-steps) (subst R (sym no-replies) here))
-are_answered_then before (line ∷ lines) text steps replies lines' text' steps' replies' (answer, rest, first, after, told, more, is, are, text-is, steps-are, replies-are) later =
+are_answered_then before (line ∷ lines) text steps replies lines' text' steps' replies' (answer, rest, first, after, replied, more, is, are, text-is, steps-are, replies-are) later =
     let S : Notes → Type 0 = λ n. AnswersLines n lines' text' steps' replies' in
-    let noted : noted_all before replies ≡ noted_all (noted_all before told) more = ap (noted_all before) replies-are ∙ noted_then before told more in (
+    let noted : noted_all before replies ≡ noted_all (noted_all before replied) more = ap (noted_all before) replies-are ∙ noted_then before replied more in (
       answer,
       rest ++ text',
       first,
       after ++ steps',
-      told,
+      replied,
       more ++ replies',
       is,
-      are_answered_then (noted_all before told) lines rest after more lines' text' steps' replies' are (subst S noted later),
+      are_answered_then (noted_all before replied) lines rest after more lines' text' steps' replies' are (subst S noted later),
       ap (λ t. t ++ text') text-is ∙ append_assoc answer (10 ∷ rest) text',
       ap (λ s. s ++ steps') steps-are ∙ append_assoc first after steps',
-      ap (λ r. r ++ replies') replies-are ∙ append_assoc told more replies',
+      ap (λ r. r ++ replies') replies-are ∙ append_assoc replied more replies',
     )
 
 -- no line
@@ -261,15 +261,15 @@ WritesNext disk old new before after input rest a c more = MakesStepsThat disk o
 -- and the output was flushed after it
 pub line_flushed : {D S E F : Type 0} (disk : Ghosts D) (old new : Whole D) (before after : Notes) (line : List ℕ) (input rest a b c : Option (List ℕ)) (written : Result S E) (flushed : Result Bool F) → ReadsLines input rest (Some line ∷ [])
     → OnOk written (MakesStepsThat disk old before (WritesAnswerOf before line a b) new after) → IfOk flushed (λ more. (more ≡ true) × IsOk written × Keeps b c) → IfOk flushed (WritesNext disk old new before after input rest a c)
-line_flushed disk old new before after line input rest a b c written (Err cause) read told is = tt
-line_flushed disk old new before after line input rest a b c written (Ok more) read told (was, wrote, kept) =
-    subst (WritesNext disk old new before after input rest a c) (sym was) (answers_one disk old new before after line input rest a b c read (on_ok_at written wrote told) kept)
+line_flushed disk old new before after line input rest a b c written (Err cause) read replied is = tt
+line_flushed disk old new before after line input rest a b c written (Ok more) read replied (was, wrote, kept) =
+    subst (WritesNext disk old new before after input rest a c) (sym was) (answers_one disk old new before after line input rest a b c read (on_ok_at written wrote replied) kept)
 
 pub bad_flushed : {D S E F : Type 0} (disk : Ghosts D) (old : Whole D) (before : Notes) (cause : RequestFault) (input rest a b c : Option (List ℕ)) (written : Result S E) (flushed : Result Bool F) → ReadsLines input rest (None ∷ [])
     → OnOk written (¬ (IsMemory cause) × ((text : List ℕ) × HasNoFeed text × Appends a b (codes "badline " ++ text ++ 10 ∷ []))) → IfOk flushed (λ more. (more ≡ true) × IsOk written × Keeps b c) → IfOk flushed (WritesNext disk old old before before input rest a c)
-bad_flushed disk old before cause input rest a b c written (Err fault) read told is = tt
-bad_flushed disk old before cause input rest a b c written (Ok more) read told (was, wrote, kept) =
-    subst (WritesNext disk old old before before input rest a c) (sym was) (answers_bad disk old before input rest a b c read (on_ok_at written wrote told).1 kept)
+bad_flushed disk old before cause input rest a b c written (Err fault) read replied is = tt
+bad_flushed disk old before cause input rest a b c written (Ok more) read replied (was, wrote, kept) =
+    subst (WritesNext disk old old before before input rest a c) (sym was) (answers_bad disk old before input rest a b c read (on_ok_at written wrote replied).1 kept)
 
 -- an answer that was flushed was of a line
 pub flushed_line : {S E F : Type 0} (b c : Option (List ℕ)) (written : Result S E) (flushed : Result Bool F) → IfOk flushed (λ more. (more ≡ true) × IsOk written × Keeps b c) → flushed ≡ Ok false → ⊥

@@ -10,7 +10,7 @@ use Rattle.volume_codec.specs.Lengths.{lengths_in}
 use Rattle.volume_codec.specs.Recovery.{files_from}
 use Rattle.volume_codec.proofs.Blocks.{length-block_at}
 use Rattle.volume_codec.proofs.Recovered.{length-file}
-use Rattle.recovery.specs.Volume.{VolumeState, IsSettled, files_of, bytes_of}
+use Rattle.recovery.specs.Volume.{VolumeState, IsWellFormed, files_of, bytes_of}
 use Rattle.std.specs.Io.KnownBytes.{Appends}
 use Rattle.volume_files.specs.Dump.{file_text, dump_text}
 use Rattle.volume_files.specs.inside.Reading.{IsOnlyRead, AreFilesOf}
@@ -33,12 +33,12 @@ lengths_from contents b (f ∷ fs) (n ∷ ns) count within whole =
     λ i. first i ∷ rest i
 
 -- a volume as it was opened
-pub files_of_settled : {D : Type 0} (disk : Ghosts D) (volume : VolumeState D) → IsSettled disk volume → disk.is_honest volume.device → AreFilesOf volume (disk.seen volume.device)
-files_of_settled disk volume settled honest =
+pub files_of_well_formed : {D : Type 0} (disk : Ghosts D) (volume : VolumeState D) → IsWellFormed disk volume → disk.is_honest volume.device → AreFilesOf volume (disk.seen volume.device)
+files_of_well_formed disk volume well_formed honest =
     let bytes = disk.seen volume.device in
     let b = first_file_home volume.table.layout volume.table.slots in
-    let rest = settled.at_rest honest in
-    let whole : (i : ℕ) → i < b + total_pages volume.table.files → length (block_at bytes i) ≡ 4096 = λ i high. length-block_at bytes i (let long = settled.long in omega arith) in
+    let rest = well_formed.at_rest honest in
+    let whole : (i : ℕ) → i < b + total_pages volume.table.files → length (block_at bytes i) ≡ 4096 = λ i high. length-block_at bytes i (let long = well_formed.long in omega arith) in
     record {
       names = named_from (block_at bytes) b volume.table.files (lengths_in volume.table (block_at bytes)) rest.lengths_fit.are.count;
       lengths = lengths_from (block_at bytes) b volume.table.files (lengths_in volume.table (block_at bytes)) rest.lengths_fit.are.count rest.lengths_fit.are.within whole ∙ sym rest.lengths_are;

@@ -55,8 +55,9 @@ module _ (s : State) (sound : IsSound s) where
         sources = all_after (λ (b : Batch). All source b.homes) answer batches still;
         marked = all_after (λ (b : Batch). (0 < b.mark) × (b.mark ≤ s.marks)) answer batches is.marked;
         few_marks = is.few_marks;
-        settled =
-            λ set. (ap (batches_after answer) (is.settled set).0 ∙ none_after answer, unset set, (is.settled set).2);
+        quiescent =
+            λ set.
+            (ap (batches_after answer) (is.quiescent set).0 ∙ none_after answer, unset set, (is.quiescent set).2);
         frozen = frozen;
       }
 
@@ -67,7 +68,7 @@ module _ (s : State) (sound : IsSound s) where
       → (s.write_outs.broken ≡ false → s.write_outs.batches ≡ [] → (outs.broken ≡ false) × (outs.batches ≡ []))
       → AreSpacesSound
       (record s { hardware = record s.hardware { memory = memory }; checkpoint = checkpoint; write_outs = outs })
-  stepped_spaces memory checkpoint outs same free settled =
+  stepped_spaces memory checkpoint outs same free quiescent =
       let is = sound.spaces in
       record {
         spaces = is.spaces;
@@ -86,7 +87,7 @@ module _ (s : State) (sound : IsSound s) where
           in_memory = λ owner there.
               ap (λ (frames : List (Option Frame)). list_any (is_of_page owner) frames) same ∙ there;
           lengths = refl;
-          settled = settled;
+          quiescent = quiescent;
           room = ap (λ (frames : List (Option Frame)). count_by is_none frames) same;
           marks = refl;
           free = free;

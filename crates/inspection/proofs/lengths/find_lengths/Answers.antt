@@ -1,19 +1,19 @@
 use Rattle.std.proofs.Common.{◌≡◌, ◌<◌, ap, subst, sym, ◌∙◌, arith}
 use Rattle.std.proofs.lemmas.Result.{err_from_is_err_and}
 use Rattle.volume_codec.specs.Layout.{GeometryValue, journals_of, lengths_blocks, first_home}
-use Rattle.volume_codec.specs.Recovery.{standing_block}
+use Rattle.volume_codec.specs.Recovery.{recovered_block}
 use Rattle.inspection.specs.Found.{AreJournals}
 use Rattle.inspection.specs.inside.Order.{batches_of}
 use Rattle.inspection.proofs.Looked.{found_fixed, found_said, refuses_stored}
 use Rattle.inspection.proofs.lengths.find_lengths.Goals as goal
 
-pub standing_first-requires : goal.standing_first-requires
-standing_first-requires g c = c.requires.count ∙ sym (ap (λ (h : GeometryValue). journals_of h.layout) c.geometry-geometry.ensures.value)
+pub recovered_first-requires : goal.recovered_first-requires
+recovered_first-requires g c = c.requires.count ∙ sym (ap (λ (h : GeometryValue). journals_of h.layout) c.geometry-geometry.ensures.value)
 
 pub read_lengths_at-requires : goal.read_lengths_at-requires
 read_lengths_at-requires g c =
     let blocks = ap (λ (h : GeometryValue). h.blocks) c.geometry-geometry.ensures.value in
-    omega (arith, blocks, c.standing_first.ensures.within, c.requires.long)
+    omega (arith, blocks, c.recovered_first.ensures.within, c.requires.long)
 
 pub returns-in_err-lengths-clause-refused : goal.returns-in_err-lengths-clause-refused
 returns-in_err-lengths-clause-refused g c = λ honest volume.
@@ -23,7 +23,7 @@ returns-in_err-lengths-clause-refused g c = λ honest volume.
     let block = ap (λ (h : GeometryValue). lengths_blocks h.layout) c.geometry-geometry.ensures.value in
     let some : 0 < lengths_blocks c.args.table.now.layout = omega (arith, block, ap lengths_blocks c.layout.ensures.value, c.lengths_blocks.ensures.value) in
     let say = subst (λ (h : GeometryValue). AreJournals h seen journals) (sym c.geometry-geometry.ensures.value) (c.requires.say honest) in
-    let at = c.standing_first.ensures.value seen say ∙ ap (λ (h : GeometryValue). standing_block h.slots (batches_of journals) (first_home h.layout h.slots)) c.geometry-geometry.ensures.value in
+    let at = c.recovered_first.ensures.value seen say ∙ ap (λ (h : GeometryValue). recovered_block h.slots (batches_of journals) (first_home h.layout h.slots)) c.geometry-geometry.ensures.value in
     rw (p.1, p.2) (refuses_stored c.one_reading.ensures.contents c.args.table.now (batches_of journals) _ _ _ (omega (arith, c.requires.long)) some at volume (c.in_err-lengths.ensures.refused honest))
 
 pub returns-clause-lengths : goal.returns-clause-lengths
@@ -33,7 +33,7 @@ returns-clause-lengths g c = λ honest.
     let block = ap (λ (h : GeometryValue). lengths_blocks h.layout) c.geometry-geometry.ensures.value in
     let some : 0 < lengths_blocks c.args.table.now.layout = omega (arith, block, ap lengths_blocks c.layout.ensures.value, c.lengths_blocks.ensures.value) in
     let say = subst (λ (h : GeometryValue). AreJournals h seen journals) (sym c.geometry-geometry.ensures.value) (c.requires.say honest) in
-    let at = c.standing_first.ensures.value seen say ∙ ap (λ (h : GeometryValue). standing_block h.slots (batches_of journals) (first_home h.layout h.slots)) c.geometry-geometry.ensures.value in
+    let at = c.recovered_first.ensures.value seen say ∙ ap (λ (h : GeometryValue). recovered_block h.slots (batches_of journals) (first_home h.layout h.slots)) c.geometry-geometry.ensures.value in
     found_said c.args.table.now (batches_of journals) _ _ _ c.geometry-geometry.ensures.fits some at (c.in_ok-lengths.ensures.said honest)
 
 pub returns-then-lengths_blocks-eq0-clause-lengths : goal.returns-then-lengths_blocks-eq0-clause-lengths

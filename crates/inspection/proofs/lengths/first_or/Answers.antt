@@ -1,6 +1,6 @@
 use Rattle.std.proofs.Common.{◌∷◌, Some, true≢false, sym, ap, ◌∙◌}
 use Rattle.volume_codec.specs.Layout.{first_home}
-use Rattle.volume_codec.specs.Recovery.{Batch, standing_block}
+use Rattle.volume_codec.specs.Recovery.{Batch, recovered_block}
 use Rattle.inspection.proofs.Newest.{first_here, others_above}
 use Rattle.inspection.proofs.lengths.first_or.Goals as goal
 
@@ -11,7 +11,7 @@ returns-then-begins_with-clause-value g c = λ older rise other.
     let batch : Batch = record { journal = c.args.journal; mark = d.mark; homes = d.homes } in
     let here = first_here d.homes c.first_home.result (c.begins_with.ensures.0 c.if-begins_with.true) in
     let law = c.recovered_from.ensures.record_of_newest geometry.slots (first_home geometry.layout geometry.slots) geometry.blocks batch older 0 rise here.0 in
-    c.record_block.ensures.value ∙ sym law ∙ ap (standing_block geometry.slots (batch ∷ older)) (here.1 ∙ c.first_home.ensures.value)
+    c.record_block.ensures.value ∙ sym law ∙ ap (recovered_block geometry.slots (batch ∷ older)) (here.1 ∙ c.first_home.ensures.value)
 
 pub returns-else-begins_with-clause-value : goal.returns-else-begins_with-clause-value
 returns-else-begins_with-clause-value g c = λ older rise other.

@@ -34,7 +34,7 @@ returns-in_err-lay_out-clause-refused g c =
 pub returns-clause-emptied : goal.returns-clause-emptied
 returns-clause-emptied g c = λ honest.
     let same = ap (λ n. asked_by (take n c.specs_of-specs.result)) c.file_count.ensures.value ∙ c.specs_of-specs.ensures.specs in
-    laid_again g.D.Device c.args.old.now c.specs_of-specs.ensures.settled _ c.in_ok-table.table _ same (c.in_ok-lay_out.ensures.emptied honest)
+    laid_again g.D.Device c.args.old.now c.specs_of-specs.ensures.well_formed _ c.in_ok-table.table _ same (c.in_ok-lay_out.ensures.emptied honest)
 
 pub returns-clause-torn : goal.returns-clause-torn
 returns-clause-torn g c = λ honest table asked.

@@ -1,10 +1,10 @@
 use Rattle.std.proofs.Common.{refl, sym, ◌∙◌, ap}
 use Rattle.std.proofs.lemmas.Bool.{false≢true}
-use Rattle.session.specs.Lengths.{IsTry, tells_begun, tells_later}
-use Rattle.session.proofs.Lengths.{IsAttempt, attempts_first, attempts_later, attempts_one, tries_aside, tries_one}
+use Rattle.session.specs.Lengths.{IsTry, reports_begun, reports_later}
+use Rattle.session.proofs.Lengths.{IsAttempt, attempts_first, attempts_later, attempts_one, tries_paging, tries_one}
 use Rattle.session.proofs.Phases.{begins_kept, keeps_none, keeps_then, length_begins, lengths_keep}
 use Rattle.session.proofs.Pieces.{does_more, does_nothing}
-use Rattle.session.proofs.Rooms.{are_aside}
+use Rattle.session.proofs.Rooms.{are_paging}
 use Rattle.session.proofs.Each.{each_then}
 use Rattle.session.proofs.Stretches.{does_one, does_then}
 use Rattle.session.proofs.requests.Requests.begin_in_room.Goals as goal
@@ -35,7 +35,7 @@ returns-then-not-make_room-clause-attempts g c =
     (does_one g.D.Device _ _ _ _ (IsAttempt p file to c.make-begun.result) _ _ (refl, refl) c.make-begun.ensures) c.if-not-make_room.ensures.room)
 
 pub returns-then-not-make_room-clause-held : goal.returns-then-not-make_room-clause-held
-returns-then-not-make_room-clause-held g c = λ is. absurd (false≢true (ap tells_begun (sym (c.if-not-is_no_frame.ensures.0 refl)) ∙ is))
+returns-then-not-make_room-clause-held g c = λ is. absurd (false≢true (ap reports_begun (sym (c.if-not-is_no_frame.ensures.0 refl)) ∙ is))
 
 pub returns-then-not-make_room-clause-phases : goal.returns-then-not-make_room-clause-phases
 returns-then-not-make_room-clause-phases g c = λ not. keeps_then _ _ _ (keeps_then _ _ _ c.loop.invariant.1 (lengths_keep g.D.Device _ _ _ _ _ _ _ _ not c.make-begun.ensures)) c.if-not-make_room.ensures.phases
@@ -45,9 +45,9 @@ loop-preserved g c =
     let p = c.args.p in
     let file = c.args.file in
     let to = c.args.length in
-    let vain = does_one g.D.Device _ _ _ _ _ _ _ (tries_one p file to _ (ap tells_later (c.if-not-is_no_frame.ensures.0 refl))) c.make-begun.ensures in
-    let room = does_more g.D.Device _ _ _ _ _ _ (λ steps replies room. tries_aside p file to steps replies (are_aside p steps replies room.0)) c.if-not-make_room.ensures.room in
-    let kept = keeps_then _ _ _ (keeps_then _ _ _ c.loop.invariant.1 (lengths_keep g.D.Device _ _ _ _ _ _ _ _ (ap tells_begun (c.if-not-is_no_frame.ensures.0 refl)) c.make-begun.ensures)) c.if-not-make_room.ensures.phases in
+    let vain = does_one g.D.Device _ _ _ _ _ _ _ (tries_one p file to _ (ap reports_later (c.if-not-is_no_frame.ensures.0 refl))) c.make-begun.ensures in
+    let room = does_more g.D.Device _ _ _ _ _ _ (λ steps replies room. tries_paging p file to steps replies (are_paging p steps replies room.0)) c.if-not-make_room.ensures.room in
+    let kept = keeps_then _ _ _ (keeps_then _ _ _ c.loop.invariant.1 (lengths_keep g.D.Device _ _ _ _ _ _ _ _ (ap reports_begun (c.if-not-is_no_frame.ensures.0 refl)) c.make-begun.ensures)) c.if-not-make_room.ensures.phases in
     (does_then g.D.Device _ _ _ _ _ _ _ _ _ (each_then (IsTry p file to)) (does_then g.D.Device _ _ _ _ _ _ _ _ _ (each_then (IsTry p file to)) c.loop.invariant.0 vain) room, kept)
 
 pub returns-clause-attempts : goal.returns-clause-attempts

@@ -2,10 +2,10 @@ use Rattle.std.proofs.Common.{inl, inr, [], ◌∷◌, refl, sym, ◌∙◌, ap,
 use Rattle.std.proofs.lemmas.Bool.{false≢true}
 use Rattle.machine.specs.declared.act.Reply.{Reply}
 use Rattle.session.specs.Commits.{msync_by}
-use Rattle.session.specs.Lengths.{tells_begun}
+use Rattle.session.specs.Lengths.{reports_begun}
 use Rattle.session.specs.Steps.{Makes}
 use Rattle.session.proofs.Changes.{flush_is_other}
-use Rattle.session.proofs.Commits.{attempt_then, begin_refused, both_told, begins_later, refused_is, refused_later, step_unmade, waits_one, waits_then}
+use Rattle.session.proofs.Commits.{attempt_then, begin_refused, both_replied, begins_later, refused_is, refused_later, step_unmade, waits_one, waits_then}
 use Rattle.session.proofs.Left.{busy_keeps, flushed_fewer}
 use Rattle.session.proofs.Phases.{begins_kept, flushes_keep, keeps_none, keeps_then, mark_begins, marks_keep}
 use Rattle.session.proofs.Pieces.{does_nothing}
@@ -24,12 +24,12 @@ returns-then-not-is_busy-clause-refuses g c = λ vain.
     (does_one g.D.Device _ _ _ _ _ _ _ (inl (refl, refl, begin_refused g.D.Device _ _ _ _ c.args.p _ c.make-begun.ensures vain, λ is. false≢true (c.if-not-is_busy.ensures.1 is))) c.make-begun.ensures)
 
 pub returns-then-is_nothing-clause-begins : goal.returns-then-is_nothing-clause-begins
-returns-then-is_nothing-clause-begins g c = λ is. absurd (false≢true (ap tells_begun (sym (c.if-not-is_busy.ensures.0 refl)) ∙ is))
+returns-then-is_nothing-clause-begins g c = λ is. absurd (false≢true (ap reports_begun (sym (c.if-not-is_busy.ensures.0 refl)) ∙ is))
 
 pub returns-then-is_nothing-clause-refuses : goal.returns-then-is_nothing-clause-refuses
 returns-then-is_nothing-clause-refuses g c = λ vain.
     does_then g.D.Device _ _ _ _ _ _ _ _ _ (refused_later c.args.p _) c.loop-msync.invariant.0
-    (attempt_then g.D.Device _ _ _ _ _ _ c.args.p _ _ _ (inr (inl (refl, both_told (c.if-not-is_busy.ensures.0 refl) (c.if-is_nothing.ensures.0 refl), c.if-not-is_busy.ensures.0 refl))) c.make-begun.ensures c.flush-flushed.ensures)
+    (attempt_then g.D.Device _ _ _ _ _ _ c.args.p _ _ _ (inr (inl (refl, both_replied (c.if-not-is_busy.ensures.0 refl) (c.if-is_nothing.ensures.0 refl), c.if-not-is_busy.ensures.0 refl))) c.make-begun.ensures c.flush-flushed.ensures)
 
 pub returns-then-not-is_flushed-clause-begins : goal.returns-then-not-is_flushed-clause-begins
 returns-then-not-is_flushed-clause-begins g c = λ is. flush_is_other g.D.Device _ _ _ _ _ _ c.flush-flushed.ensures is
@@ -45,7 +45,7 @@ pub loop-msync-preserved : goal.loop-msync-preserved
 loop-msync-preserved g c = (
   does_then g.D.Device _ _ _ _ _ _ _ _ _ (waits_then c.args.p) c.loop-msync.invariant.0
       (attempt_then g.D.Device _ _ _ _ _ _ c.args.p _ _ _ (waits_one c.args.p _ _ (c.if-not-is_busy.ensures.0 refl) (sym c.if-not-is_flushed.ensures)) c.make-begun.ensures c.flush-flushed.ensures),
-  keeps_then _ _ _ (keeps_then _ _ _ c.loop-msync.invariant.1 (marks_keep g.D.Device _ _ _ _ _ _ _ _ _ (ap tells_begun (c.if-not-is_busy.ensures.0 refl)) c.make-begun.ensures)) (flushes_keep g.D.Device _ _ _ _ _ _ c.flush-flushed.ensures),
+  keeps_then _ _ _ (keeps_then _ _ _ c.loop-msync.invariant.1 (marks_keep g.D.Device _ _ _ _ _ _ _ _ _ (ap reports_begun (c.if-not-is_busy.ensures.0 refl)) c.make-begun.ensures)) (flushes_keep g.D.Device _ _ _ _ _ _ c.flush-flushed.ensures),
 )
 
 pub loop-msync-smaller : goal.loop-msync-smaller
@@ -60,7 +60,7 @@ pub returns-then-not-is_busy-clause-phases : goal.returns-then-not-is_busy-claus
 returns-then-not-is_busy-clause-phases g c = λ not. keeps_then _ _ _ c.loop-msync.invariant.1 (marks_keep g.D.Device _ _ _ _ _ _ _ _ _ not c.make-begun.ensures)
 
 pub returns-then-is_nothing-clause-held : goal.returns-then-is_nothing-clause-held
-returns-then-is_nothing-clause-held g c = λ is. absurd (false≢true (ap tells_begun (sym (c.if-not-is_busy.ensures.0 refl)) ∙ is))
+returns-then-is_nothing-clause-held g c = λ is. absurd (false≢true (ap reports_begun (sym (c.if-not-is_busy.ensures.0 refl)) ∙ is))
 
 pub returns-then-is_nothing-clause-phases : goal.returns-then-is_nothing-clause-phases
 returns-then-is_nothing-clause-phases g c = λ not. keeps_then _ _ _ (keeps_then _ _ _ c.loop-msync.invariant.1 (marks_keep g.D.Device _ _ _ _ _ _ _ _ _ not c.make-begun.ensures)) (flushes_keep g.D.Device _ _ _ _ _ _ c.flush-flushed.ensures)
@@ -70,4 +70,4 @@ returns-then-not-is_flushed-clause-held g c = λ is. flush_is_other g.D.Device _
 
 pub returns-then-not-is_flushed-clause-phases : goal.returns-then-not-is_flushed-clause-phases
 returns-then-not-is_flushed-clause-phases g c = λ not.
-    keeps_then _ _ _ (keeps_then _ _ _ c.loop-msync.invariant.1 (marks_keep g.D.Device _ _ _ _ _ _ _ _ _ (ap tells_begun (c.if-not-is_busy.ensures.0 refl)) c.make-begun.ensures)) (flushes_keep g.D.Device _ _ _ _ _ _ c.flush-flushed.ensures)
+    keeps_then _ _ _ (keeps_then _ _ _ c.loop-msync.invariant.1 (marks_keep g.D.Device _ _ _ _ _ _ _ _ _ (ap reports_begun (c.if-not-is_busy.ensures.0 refl)) c.make-begun.ensures)) (flushes_keep g.D.Device _ _ _ _ _ _ c.flush-flushed.ensures)

@@ -5,7 +5,7 @@ use Rattle.session.specs.declared.notes.Notes.{Notes}
 use Rattle.session.specs.Commits.{WritesUntil}
 use Rattle.session.specs.Lengths.{AnswersChange}
 use Rattle.session.specs.Ranges.{MakesStepsThat}
-use Rattle.session.proofs.Commits.{came_to, commits_at_once, commits_later, mark_refuses_is, mark_stops, mark_told, stops_writing, unmade_refused}
+use Rattle.session.proofs.Commits.{came_to, commits_at_once, commits_later, mark_refuses_is, mark_stops, mark_replied, stops_writing, unmade_refused}
 use Rattle.session.proofs.Phases.{begun_over, keeps_then}
 use Rattle.session.proofs.Stretches.{not_false, not_true}
 use Rattle.session.proofs.requests.Requests.commit.Goals as goal
@@ -30,7 +30,7 @@ change-changed-requires g c = (_, (c.begin_mark-begun.ensures.held (sym c.if-not
 pub returns-in_default : goal.returns-in_default
 returns-in_default g c =
     let held = c.begin_mark-begun.ensures.held (sym c.if-not-is_begun.ensures) in
-    mark_told _ (c.change-changed.ensures.made _ held.held) c.in_default.ensures.none
+    mark_replied _ (c.change-changed.ensures.made _ held.held) c.in_default.ensures.none
 
 pub returns-then-not-before : goal.returns-then-not-before
 returns-then-not-before g c =

@@ -1,0 +1,97 @@
+// What is said of a command that is done, or of its failure, as text or as JSON.
+
+use crate::failure::Failure;
+use crate::look::print_value;
+use serde_json::{Value, json};
+use std::alloc::{AllocError, Global};
+use std::convert::AsStr;
+use std::io;
+use volume_files::SyncNote;
+
+/// The word that asks for JSON.
+const JSON: &str = "--json";
+
+/// Whether one of the words asks for JSON.
+pub fn asks_for_json<S: AsStr>(words: &[S]) -> bool {
+    words.iter().any(|word| word.as_str() == JSON)
+}
+
+/// Says how many blocks a volume has that was made.
+pub fn report_format<'a, W: io::Write>(
+    global: Global,
+    json: bool,
+    blocks: u64,
+    out: &mut W,
+) -> Result<(), Failure<'a>> {
+    report_blocks(global, json, "formatted", blocks, out)
+}
+
+/// Says how many blocks the volume has that another was migrated to.
+pub fn report_migrate<'a, W: io::Write>(
+    global: Global,
+    json: bool,
+    blocks: u64,
+    out: &mut W,
+) -> Result<(), Failure<'a>> {
+    report_blocks(global, json, "migrated", blocks, out)
+}
+
+fn report_blocks<'a, W: io::Write>(
+    global: Global,
+    json: bool,
+    done: &str,
+    blocks: u64,
+    out: &mut W,
+) -> Result<(), Failure<'a>> {
+    if json {
+        let value = json!(in global; {"blocks": blocks})?;
+        return print_value(global, &value, out);
+    }
+    writeln!(out, "{done} {blocks} blocks")?;
+    Ok(())
+}
+
+/// Says how many bytes a file has that was copied.
+pub fn report_export<'a, W: io::Write>(
+    global: Global,
+    json: bool,
+    bytes: u64,
+    out: &mut W,
+) -> Result<(), Failure<'a>> {
+    if json {
+        let value = json!(in global; {"bytes": bytes})?;
+        return print_value(global, &value, out);
+    }
+    writeln!(out, "exported {bytes} bytes")?;
+    Ok(())
+}
+
+/// Says why a command failed. Where memory is refused for JSON it is said as text.
+pub fn report_failure<W: io::Write>(
+    global: Global,
+    json: bool,
+    failure: &Failure<'_>,
+    note: &SyncNote,
+    err: &mut W,
+) -> io::Result<()> {
+    if json {
+        if let Ok(line) = failure_line(global, failure, note) {
+            return writeln!(err, "{line}");
+        }
+    }
+    writeln!(err, "famsync: {failure}{note}")
+}
+
+fn failure_line(
+    global: Global,
+    failure: &Failure<'_>,
+    note: &SyncNote,
+) -> Result<String, AllocError> {
+    let fault = format!(in global; "{failure}{note}")?;
+    let value = failure_value(global, fault.as_str(), failure.status())?;
+    value.to_string(global)
+}
+
+fn failure_value(global: Global, fault: &str, status: u8) -> Result<Value, AllocError> {
+    json!(in global; {"fault": fault, "status": status})
+}
