@@ -1,4 +1,4 @@
-# For who installs famsync, and for who works on the repository. The gate is `.ci/run`.
+# For who installs famsync, and for who works on the repository. The merge check is `.ci/run`.
 #
 #   make              the C library, in clients/c/out
 #   make install      everything that users need; PREFIX, DESTDIR, PYTHONDIR say where (packaging/install.sh)

@@ -43,7 +43,7 @@ where
         Ok(status) => status,
         Err(failure) => {
             // Where this can't be written either, the status is all that is left to say.
-            let _ = tell_failure(rt.alloc(), asks_for_json(words), &failure, &note, err);
+            let _ = report_failure(rt.alloc(), asks_for_json(words), &failure, &note, err);
             let _ = err.flush();
             failure.status()
         }

@@ -20,9 +20,9 @@ th, td { text-align: left; padding: .25rem .6rem; vertical-align: baseline; }
 thead th { border-bottom: 2px solid #57606a; }
 tbody tr { border-top: 1px solid #d8dee4; }
 .n { text-align: right; font-variant-numeric: tabular-nums; }
-.told td { color: #57606a; font: 13px/1.3 ui-monospace, monospace; padding-top: 0; padding-bottom: 0; border: 0; }
-tr.told { border: 0; }
-tr.sure td { color: #116329; font-weight: 600; }
+.reply td { color: #57606a; font: 13px/1.3 ui-monospace, monospace; padding-top: 0; padding-bottom: 0; border: 0; }
+tr.reply { border: 0; }
+tr.durable td { color: #116329; font-weight: 600; }
 .m { display: inline-block; padding: 0 .5rem; margin: .1rem .4rem .1rem 0; border-radius: .3rem; border: 1px solid; }
 .m0 { background: #f6f8fa; border-color: #8c959f; color: #1b1f24; }
 .m1 { background: #dafbe1; border-color: #2da44e; color: #0b4a1c; }
@@ -54,7 +54,7 @@ pub fn begin_page<W: io::Write>(out: &mut W) -> io::Result<()> {
 /// A row for a reply.
 pub fn reply_on_page<W: io::Write>(reply: &Reply, out: &mut W) -> io::Result<()> {
     let class = match reply {
-        Reply::Committed(_) | Reply::Marked(_) => "told sure",
+        Reply::Committed(_) | Reply::Marked(_) => "reply durable",
         Reply::Bytes(_)
         | Reply::Stored
         | Reply::Filled
@@ -78,7 +78,7 @@ pub fn reply_on_page<W: io::Write>(reply: &Reply, out: &mut W) -> io::Result<()>
         | Reply::Going
         | Reply::Done(_)
         | Reply::Nothing
-        | Reply::Refused(_) => "told",
+        | Reply::Refused(_) => "reply",
     };
     writeln!(
         out,

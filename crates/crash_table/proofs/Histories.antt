@@ -13,7 +13,7 @@ use Rattle.machine.specs.declared.act.Reply.{Reply}
 use Rattle.machine.specs.declared.act.Reply.TheVariants as replies
 use Rattle.machine.specs.declared.act.Step.{Step}
 use Rattle.machine.specs.History.{Event, Mark, Acknowledge, has_unmarked, since_mark, with_event, is_change}
-use Rattle.machine.specs.Told.{Told, Pending, Resizing, tell, tell_all, events_of, store_at, resized_at, place_told}
+use Rattle.machine.specs.Observed.{Observed, Pending, Resizing, observe, observe_all, events_of, store_at, resized_at, place_observed}
 use Rattle.machine.specs.Unmarked.{unmarked_by}
 use Rattle.crash_table.specs.inside.Kept.{unmarked_after}
 
@@ -89,7 +89,7 @@ pub record IsUpToStep (told : Told) (steps : List Step) (answers : List Reply)
     (front : List Event) (n : ℕ) : Type 0 where
   pub at : ℕ
   pub here : slice_get answers at ≡ Some (replies.Marked n)
-  pub front_is : front ≡ (tell_all told (take at steps) (take at answers)).history
+  pub front_is : front ≡ (observe_all observed (take at steps) (take at answers)).history
 
 -- where a mark stands in the history of a run
 pub mark_at : (told : Told) (steps : List Step) (answers : List Reply) (front back : List Event) (n : ℕ)
@@ -119,8 +119,8 @@ mark_at told (step ∷ steps) (reply ∷ answers) front back n same =
         let first : e ≡ Mark n = cc in
         inl (c, ap (λ h. front ++ h ∷ c) (sym first) ∙ sym is)
     by more (inr (c, is, rest)) =
-        let found = mark_in_events told step.p step.act reply c more n rest in
-        inr (here_is found.0 (is ∙ ap (λ l. told.history ++ l) found.1 ∙ append-nil told.history))
+        let found = mark_in_events observed step.p step.act reply c more n rest in
+        inr (here_is found.0 (is ∙ ap (λ l. observed.history ++ l) found.1 ∙ append-nil observed.history))
 
 -- what was told first stays
 pub history_grows : (told : Told) (steps : List Step) (answers : List Reply)
@@ -159,13 +159,13 @@ up_to_begins told (step ∷ steps) (reply ∷ answers) zero n below here =
     let events : events_of told step.p step.act reply ≡ Mark n ∷ tail =
     ap (λ r. events_of told step.p step.act r) marked ∙ events_of_mark told step.p step.act n in (
       tail ++ later.0,
-      append_assoc told.history (Mark n ∷ []) (tail ++ later.0)
-          ∙ sym (append_assoc told.history (Mark n ∷ tail) later.0)
-          ∙ ap (λ l. (told.history ++ l) ++ later.0) (sym events)
+      append_assoc observed.history (Mark n ∷ []) (tail ++ later.0)
+          ∙ sym (append_assoc observed.history (Mark n ∷ tail) later.0)
+          ∙ ap (λ l. (observed.history ++ l) ++ later.0) (sym events)
           ∙ sym later.1,
     )
-up_to_begins told (step ∷ steps) (reply ∷ answers) (suc at) n below here =
-    up_to_begins (tell told step reply) steps answers at n (omega (arith, below)) here
+up_to_begins observed (step ∷ steps) (reply ∷ answers) (suc at) n below here =
+    up_to_begins (observe observed step reply) steps answers at n (omega (arith, below)) here
 
 -- a run and a later part of it
 pub tell_then : (told : Told) (steps : List Step) (answers : List Reply) (later : List Step) (more : List Reply)

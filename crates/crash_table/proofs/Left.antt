@@ -17,13 +17,13 @@ use Rattle.machine.specs.History.{files_after}
 use Rattle.machine.specs.Laws.{ReadsBack}
 use Rattle.machine.specs.Runs.{StepsTaken}
 use Rattle.machine.specs.State.{Whole}
-use Rattle.machine.specs.Told.{Told, tell_all}
+use Rattle.machine.specs.Observed.{Observed, observe_all}
 use Rattle.engine.specs.Engine.{HasStarted}
 use Rattle.crash_table.specs.Disks.{failing_memory}
 use Rattle.crash_table.specs.Crashes.{history_of, HasEnded, IsUpTo, LeavesMark}
 use Rattle.crash_table.specs.declared.found.MarkFiles.{MarkFiles}
 use Rattle.crash_table.specs.inside.Kept.{contents_of, AreKept, IsNewest, HasKept}
-use Rattle.crash_table.proofs.Marks.{IsOneReading, OpensAsRecovered, ReadsBackLater, on_track, told_is, taken_length}
+use Rattle.crash_table.proofs.Marks.{IsOneReading, OpensAsRecovered, ReadsBackLater, is_reached, observed_is, taken_length}
 use Rattle.crash_table.proofs.Newest.{at_mark}
 
 -- as many steps were made as there are replies

@@ -20,13 +20,13 @@ use Rattle.machine.specs.declared.act.Shape.{Shape}
 use Rattle.machine.specs.declared.act.Step.{Step}
 use Rattle.machine.specs.Crashes.{Begins}
 use Rattle.machine.specs.History.{Event, Mark, Acknowledge, has_unmarked, files_after, IsMarked}
-use Rattle.machine.specs.Laws.{ReadsBack, told_at_start}
-use Rattle.machine.specs.OnTrack.{IsOnTrack}
+use Rattle.machine.specs.Laws.{ReadsBack, observed_at_start}
+use Rattle.machine.specs.Reached.{IsReached}
 use Rattle.machine.specs.Fresh.{IsShape, fresh}
 use Rattle.machine.specs.Runs.{StepsTaken}
 use Rattle.machine.specs.State.{Whole}
-use Rattle.machine.specs.Steps.{told_first}
-use Rattle.machine.specs.Told.{Told, tell, tell_all, events_of}
+use Rattle.machine.specs.Steps.{observed_first}
+use Rattle.machine.specs.Observed.{Observed, observe, observe_all, events_of}
 use Rattle.engine.specs.Engine.{HasStarted}
 use Rattle.engine.proofs.Runs.{taken_kept}
 use Rattle.crash_table.specs.inside.Kept.{up_to_mark, bytes_at, unmarked_after, IsAcknowledged}
@@ -41,8 +41,8 @@ if_ok_always (Err e) p = tt
 
 -- ---- events up to a mark
 
-abbrev up_to : Told → List Step → List Reply → ℕ → ℕ → List Event
-up_to told steps answers at n = (tell_all told (take at steps) (take at answers)).history ++ Mark n ∷ []
+abbrev up_to : Observed → List Step → List Reply → ℕ → ℕ → List Event
+up_to observed steps answers at n = (observe_all observed (take at steps) (take at answers)).history ++ Mark n ∷ []
 
 -- those up to an earlier mark begin those up to a later one
 pub no_later : (told : Told) (steps : List Step) (answers : List Reply) (early m late n : ℕ) → early ≤ late
@@ -83,11 +83,11 @@ no_later told steps answers early m late n order below here there =
     slice_get_take xs i zero less = absurd (omega (arith, less))
 
 -- a durable prefix is empty, or stands at the mark of a step
-pub record StandsAt (told : Told) (steps : List Step) (answers : List Reply) (prefix : List Event) : Type 0 where
+pub record EndsAtMark (observed : Observed) (steps : List Step) (answers : List Reply) (prefix : List Event) : Type 0 where
   pub at : ℕ
   pub n : ℕ
   pub here : slice_get answers at ≡ Some (replies.Marked n)
-  pub is : prefix ≡ up_to told steps answers at n
+  pub is : prefix ≡ up_to observed steps answers at n
 
 pub stands : (told : Told) (steps : List Step) (answers : List Reply) (prefix rest : List Event) → told.history ≡ []
     → prefix ++ rest ≡ (tell_all told steps answers).history → IsMarked prefix
@@ -113,7 +113,7 @@ abbrev pub OpensAsRecovered : {D : Type 0} → Ghosts D → Type 0
 OpensAsRecovered {D} disk = (before after : D) (table : SuperValue) → HasOpened disk before table after
     → RecoversTo (disk.seen before) (files_of table (disk.seen after))
 
--- what a crash may leave of a machine on the track of a run reads back by its history (`Machine::keeps_the_laws`)
+-- what a crash may leave of a machine that a run reached reads back by its history (`Machine::keeps_the_laws`)
 abbrev pub ReadsBackLater : {D : Type 0} → Ghosts D → Whole D → Type 0
 ReadsBackLater {D} disk now = (files : List File) (start : Whole D) (steps : List Step) (replies : List Reply)
     (c : List ℕ) → IsOnTrack disk files start steps replies now → disk.may_leave now.device c
@@ -222,7 +222,7 @@ module _ (one : IsOneReading) (files : List File) (shape : Shape)
   all_answers = take (suc at) answers ++ more
 
   abbrev whole : List Event
-  whole = (tell_all told all_steps all_answers).history
+  whole = (observe_all observed all_steps all_answers).history
 
   within : at < length answers
   within = slice_get_within answers at (replies.Marked n) here
@@ -241,16 +241,16 @@ module _ (one : IsOneReading) (files : List File) (shape : Shape)
   first_answers i few = take-append-le i (take (suc at) answers) more (omega (arith, few, answers_long))
       ∙ take-take i (suc at) answers (omega (arith, few))
 
-  same_up_to : (i k : ℕ) → i ≤ at → up_to told all_steps all_answers i k ≡ up_to told steps answers i k
+  same_up_to : (i k : ℕ) → i ≤ at → up_to observed all_steps all_answers i k ≡ up_to observed steps answers i k
   same_up_to i k few =
-      ap (λ (l : List Step). (tell_all told l (take i all_answers)).history ++ Mark k ∷ []) (first_steps i few)
-      ∙ ap (λ (l : List Reply). (tell_all told (take i steps) l).history ++ Mark k ∷ []) (first_answers i few)
+      ap (λ (l : List Step). (observe_all observed l (take i all_answers)).history ++ Mark k ∷ []) (first_steps i few)
+      ∙ ap (λ (l : List Reply). (observe_all observed (take i steps) l).history ++ Mark k ∷ []) (first_answers i few)
 
   -- no step before made this mark
-  mark_is_new : Contains (tell_all told (take at steps) (take at answers)).history (Mark n) → ⊥
+  mark_is_new : Contains (observe_all observed (take at steps) (take at answers)).history (Mark n) → ⊥
   mark_is_new has =
-      let split = split_from (tell_all told (take at steps) (take at answers)).history (Mark n) has.0 has.1 has.2 in
-      elim (mark_at told (take at steps) (take at answers) split.0 split.1 n (sym split.2)) [
+      let split = split_from (observe_all observed (take at steps) (take at answers)).history (Mark n) has.0 has.1 has.2 in
+      elim (mark_at observed (take at steps) (take at answers) split.0 split.1 n (sym split.2)) [
         | inl (wider, within) ↦ nothing_in split.0 wider (Mark n) (sym within)
         | inr up ↦ is_new up.at up.here
       ]
@@ -342,7 +342,7 @@ module _ (one : IsOneReading) (files : List File) (shape : Shape)
       last_of t (s ∷ ss) (r ∷ rs) zero less is =
           let r_is : r ≡ replies.Marked n = cc in
           ap (λ x. t.history ++ events_of t s.p s.act x) r_is ∙ ap (λ l. t.history ++ l) (events_of_mark t s.p s.act n)
-      last_of t (s ∷ ss) (r ∷ rs) (suc i) less is = last_of (tell t s r) ss rs i (omega (arith, less)) is
+      last_of t (s ∷ ss) (r ∷ rs) (suc i) less is = last_of (observe t s r) ss rs i (omega (arith, less)) is
 
   -- at once, where no store was answered since the mark before it
   pub acked_at_once : flushes ≡ [] → more ≡ [] → unmarked_after false (take at answers) ≡ false
@@ -373,7 +373,7 @@ module _ (one : IsOneReading) (files : List File) (shape : Shape)
   acked_by_commit step earlier going made told_so same =
       let front_steps = take (suc at) steps ++ earlier in
       let front_answers = take (suc at) answers ++ going in
-      let before_it = tell_all told front_steps front_answers in
+      let before_it = observe_all observed front_steps front_answers in
       let long : length front_answers ≡ length front_steps =
       length-append (take (suc at) answers) going
       ∙ omega (arith, steps_long, answers_long, same, length-append (take (suc at) steps) earlier) in
@@ -425,7 +425,7 @@ module _ {D : Type 0} (disk : Ghosts D) (seen_is_left : (device : D) → disk.is
   next : at + 1 ≡ suc at
   next = omega arith
 
-  count : length told ≡ suc at
+  count : length observed ≡ suc at
   count = ap length same ∙ ap (λ (i : ℕ). length (take i answers)) next ∙ long
 
   first : StepsTaken disk start (take (suc at) steps) (take (suc at) answers) marked

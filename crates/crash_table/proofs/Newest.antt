@@ -13,13 +13,13 @@ use Rattle.machine.specs.declared.act.Reply.TheVariants.{Marked}
 use Rattle.machine.specs.declared.act.Shape.{Shape}
 use Rattle.machine.specs.declared.act.Step.{Step}
 use Rattle.machine.specs.History.{Event, Mark, files_after, IsDurablePrefix}
-use Rattle.machine.specs.Laws.{ReadsBack, told_at_start}
-use Rattle.machine.specs.Told.{tell_all}
+use Rattle.machine.specs.Laws.{ReadsBack, observed_at_start}
+use Rattle.machine.specs.Observed.{observe_all}
 use Rattle.crash_table.specs.Crashes.{history_of, IsAtMark}
 use Rattle.crash_table.specs.declared.found.MarkFiles.{MarkFiles}
 use Rattle.crash_table.specs.inside.Kept.{up_to_mark, bytes_at, contents_of, IsKept, AreKept, NoneFrom, IsNewest}
 use Rattle.crash_table.proofs.Histories.{up_to_begins}
-use Rattle.crash_table.proofs.Marks.{IsOneReading, stands, no_later}
+use Rattle.crash_table.proofs.Marks.{IsOneReading, ends_at_mark, no_later}
 use Rattle.crash_table.proofs.Bytes.{same_files}
 
 -- ---- looking for the newest mark
@@ -144,7 +144,7 @@ module _ (one : IsOneReading) (files : List File) (shape : Shape) (steps : List 
 
       empty : (p : List Event) → IsDurablePrefix p whole → found ≡ files_after files p → p ≡ []
       empty p durable is =
-          elim (stands (told_at_start files shape.cpus) cut replies p durable.rest refl durable.begins durable.marked) [
+          elim (ends_at_mark (observed_at_start files shape.cpus) cut replies p durable.rest refl durable.begins durable.marked) [
             | inl e ↦ e
             | inr s ↦ (
                 let within = slice_get_within replies s.at (Marked s.n) s.here in
@@ -188,7 +188,7 @@ module _ (one : IsOneReading) (files : List File) (shape : Shape) (steps : List 
       part : (p : List Event) → IsDurablePrefix p whole → found ≡ files_after files p
           → (rest : List Event) × (p ++ rest ≡ prefix)
       part p durable is =
-          elim (stands (told_at_start files shape.cpus) cut replies p durable.rest refl durable.begins durable.marked) [
+          elim (ends_at_mark (observed_at_start files shape.cpus) cut replies p durable.rest refl durable.begins durable.marked) [
             | inl e ↦ (prefix, ap (λ (l : List Event). l ++ prefix) e)
             | inr s ↦ (
                 let within = slice_get_within replies s.at (Marked s.n) s.here in

@@ -10,7 +10,7 @@ use Rattle.volume_codec.specs.Lengths.{lengths_in}
 use Rattle.volume_codec.specs.Recovery.{files_from}
 use Rattle.volume_codec.proofs.Blocks.{length-block_at}
 use Rattle.volume_codec.proofs.Recovered.{length-file}
-use Rattle.recovery.specs.Volume.{VolumeState, IsSettled, files_of, bytes_of}
+use Rattle.recovery.specs.Volume.{VolumeState, IsWellFormed, files_of, bytes_of}
 use Rattle.crash_table.specs.inside.Kept.{contents_of}
 use Rattle.crash_table.specs.inside.Reading.{IsOnlyRead, HasLengthsOf}
 

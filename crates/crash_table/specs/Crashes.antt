@@ -10,15 +10,15 @@ use Rattle.machine.specs.declared.act.Reply.{Reply}
 use Rattle.machine.specs.declared.act.Shape.{Shape}
 use Rattle.machine.specs.declared.act.Step.{Step}
 use Rattle.machine.specs.History.{Event, Mark, files_after, IsDurablePrefix}
-use Rattle.machine.specs.Laws.{told_at_start}
-use Rattle.machine.specs.Told.{tell_all}
+use Rattle.machine.specs.Laws.{observed_at_start}
+use Rattle.machine.specs.Observed.{observe_all}
 use Rattle.engine.specs.Engine.{HasRun, HasNotStarted}
 use Rattle.crash_table.specs.Disks.{failing_memory}
 
 -- what can be read off steps and replies of a machine of this shape, over a volume with these files: what was stored,
 -- marked and acknowledged
 abbrev pub history_of : List File → Shape → List Step → List Reply → List Event
-history_of files shape steps replies = (tell_all (told_at_start files shape.cpus) steps replies).history
+history_of files shape steps replies = (observe_all (observed_at_start files shape.cpus) steps replies).history
 
 -- A run ended so, after as many steps as there are replies; or a device call failed as the volume was opened, and no
 -- step was made.

@@ -2,7 +2,7 @@
 ghost use Rattle.std.specs.Prelude.{◌≡◌, ◌<◌, ◌↔◌, List, Some, length, map, slice_get, IfOk, OnOk, IsTrue};
 ghost use Rattle.volume_codec.specs.Files.{File};
 ghost use Rattle.volume_codec.specs.Recovery.{RecoversTo};
-ghost use Rattle.recovery.specs.Volume.{IsSettled, files_of, bytes_of};
+ghost use Rattle.recovery.specs.Volume.{IsWellFormed, files_of, bytes_of};
 ghost use Rattle.crash_table.specs.inside.Reading.{IsOnlyRead, HasLengthsOf};
 
 use crate::crash_fault::CrashFault;
@@ -44,7 +44,7 @@ fn read_files<D: Device + Drop, A: Allocator + Copy>(
     alloc: A,
     volume: &mut Volume<D, A>,
 ) -> Result<Files<A>, CrashFault>
-    requires { IsSettled D.Device volume.old }
+    requires { IsWellFormed D.Device volume.old }
     ensures { D.is_honest volume.old.device → IfOk result (λ read.
         map (λ v. v.items) read.items
         ≡ map (λ f. f.bytes) (files_of volume.old.table (D.seen volume.old.device))) }

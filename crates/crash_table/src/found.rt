@@ -76,15 +76,15 @@ fn write_out<D: Device, A: Allocator + Copy>(
     if !is_first_mark(steps, replies, at, number) {
         return Err(CrashFault::Otherwise);
     }
-    let told = make(alloc, machine, &steps[..=at])?;
-    if !are_same_replies(&told, &replies[..=at]) {
+    let replied = make(alloc, machine, &steps[..=at])?;
+    if !are_same_replies(&replied, &replies[..=at]) {
         return Err(CrashFault::Otherwise);
     }
     acknowledge(machine, steps[at].p, number, &replies[..at])
 }
 
-// Whether there is a step of this index, and no reply before its own tells a mark of this number: a machine numbers its
-// marks one by one.
+// Whether there is a step of this index, and no reply before its own reports a mark of this number: a machine numbers
+// its marks one by one.
 fn is_first_mark(steps: &[Step], replies: &[Reply], at: usize, number: u32) -> bool
     requires { at < length replies.now }
     ensures { IsTrue result → (at < length steps.now)
@@ -93,7 +93,7 @@ fn is_first_mark(steps: &[Step], replies: &[Reply], at: usize, number: u32) -> b
     at < steps.len() && !has_mark(&replies[..at], number)
 }
 
-// Whether one of these replies tells a mark of this number.
+// Whether one of these replies reports a mark of this number.
 fn has_mark(replies: &[Reply], number: u32) -> bool
     ensures { (i : ℕ) → slice_get replies.now i ≡ Some (Marked number) → IsTrue result }
 {
@@ -105,7 +105,7 @@ fn has_mark(replies: &[Reply], number: u32) -> bool
     false
 }
 
-// Whether a reply tells the mark of this number.
+// Whether a reply reports the mark of this number.
 fn is_mark(reply: &Reply, number: u32) -> bool
     ensures { IsTrue result ↔ (reply.now ≡ Marked number) }
 {

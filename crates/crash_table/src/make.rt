@@ -3,7 +3,7 @@ ghost use Rattle.std.specs.Prelude.{◌≡◌, ℕ, List, [], length, take, fals
 ghost use Rattle.device.specs.Device.{Only};
 ghost use Rattle.volume_codec.specs.Files.{File};
 ghost use Rattle.volume_codec.specs.Recovery.{RecoversTo};
-ghost use Rattle.machine.specs.declared.act.Reply.TheVariants as told;
+ghost use Rattle.machine.specs.declared.act.Reply.TheVariants as replied;
 ghost use Rattle.machine.specs.Laws.{ReadsBack};
 ghost use Rattle.machine.specs.Runs.{StepsTaken};
 ghost use Rattle.crash_table.specs.Crashes.{history_of, HasEnded};
@@ -132,14 +132,14 @@ fn commit<D: Device, A: Allocator + Copy>(
 
 // Whether a reply says that this mark is durable.
 fn is_committed(reply: &Reply, number: u32) -> bool
-    ensures { IsTrue result ↔ (reply.now ≡ told.Committed number) }
+    ensures { IsTrue result ↔ (reply.now ≡ replied.Committed number) }
 {
     reply.is_same(&Reply::Committed(number))
 }
 
 // Whether a reply says that a write-out goes on.
 fn is_going(reply: &Reply) -> bool
-    ensures { IsTrue result ↔ (reply.now ≡ told.Going) }
+    ensures { IsTrue result ↔ (reply.now ≡ replied.Going) }
 {
     matches!(reply, Reply::Going)
 }

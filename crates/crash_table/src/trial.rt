@@ -30,13 +30,13 @@ use volume_codec::one_reading;
 pub struct Trial<'a, A: Allocator + Copy> {
     alloc: A,
     plan: Plan<'a>,
-    listed: Listed<A>,
+    listed: FirstRun<A>,
     marks: Vec<MarkFiles<A>, A>,
 }
 
 // A run that was made once: its replies, and its device calls.
 #[derive(Drop)]
-struct Listed<A: Allocator + Copy> {
+struct FirstRun<A: Allocator + Copy> {
     replies: Vec<Reply, A>,
     // How many device calls were made up to each reply, and with its step.
     made: Vec<u64, A>,
@@ -209,7 +209,7 @@ impl<'a, A: Allocator + Copy> Trial<'a, A> {
 }
 
 // Makes a run on a copy of a disk once. A machine was started on it, so its bytes recover to files.
-fn list<A: Allocator + Copy>(alloc: A, plan: &Plan<'_>) -> Result<Listed<A>, CrashFault>
+fn list<A: Allocator + Copy>(alloc: A, plan: &Plan<'_>) -> Result<FirstRun<A>, CrashFault>
     ensures files { IfOk result (λ listed. (files : List File) × RecoversTo plan.now.image.now files) }
     ensures calls { IfOk result (λ listed.
         AreCallsOf plan.now.image.now plan.now.shape plan.now.steps.now (calls_of listed.calls.items)) }
@@ -228,7 +228,7 @@ fn list_steps<A: Allocator + Copy>(
     alloc: A,
     mut machine: Machine<Listing<MemDisk<A>, A>, A>,
     steps: &[Step],
-) -> Result<Listed<A>, CrashFault>
+) -> Result<FirstRun<A>, CrashFault>
     ensures { (before : ListedDisk Recorded) (shape : Shape) → HasStarted listing_memory before shape machine
         → IfOk result (λ listed. AreMade before shape steps.now (calls_of listed.calls.items)) }
 {
@@ -245,7 +245,7 @@ fn list_steps<A: Allocator + Copy>(
         return Err(CrashFault::Memory(AllocError));
     }
     let calls = device.into_calls()?;
-    Ok(Listed {
+    Ok(FirstRun {
         replies,
         made,
         opening,

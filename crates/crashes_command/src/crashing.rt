@@ -150,7 +150,7 @@ fn print_rows<'a, A: Allocator + Copy, W: io::Write>(
         calls: trial.calls().len() as u64,
         states: 0,
     };
-    let mut told = 0;
+    let mut shown = 0;
     for _ in 0..u64::MAX {
         let row = match rows.next() {
             Ok(Some(row)) => row,
@@ -158,8 +158,8 @@ fn print_rows<'a, A: Allocator + Copy, W: io::Write>(
             Err(fault) => return Err(failure_of(script, fault)),
         };
         let before = trial.replies_before(row.number);
-        let replies = between(trial.replies(), told, before);
-        told = before;
+        let replies = between(trial.replies(), shown, before);
+        shown = before;
         let call = call_of(trial.calls(), row.number);
         print_row(alloc, places, call, replies, &row, form, out)?;
         printed.states = printed.states.saturating_add(row.found.len() as u64);

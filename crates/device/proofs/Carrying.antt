@@ -222,7 +222,7 @@ module _ {D : Type 0} (device : Ghosts D) (old : D) (disk : Deferred) (few : dis
             let same : device.seen mid ≡ content =
             subst (λ o. TornByWork (work_of o) content (device.seen mid)) got now.seen_torn in
             exact sync got (did.honest.1 now.honest) (done_seen did now.honest refl ∙ same)
-            (λ c left. let is = did.sure now.honest refl refl c left ∙ same in record {
+            (λ c left. let is = did.durable now.honest refl refl c left ∙ same in record {
               same_length = ap length is;
               synced = λ i unmarked. ap (λ (l : List ℕ). Rattle.std.specs.Prelude.slice_index l i) is;
             })

@@ -36,9 +36,9 @@ torn_fitted n m at count old new size long kept torn =
 
 pub durable_fitted : {T E : Type 0} (result : Result T E) (lists : List ℕ → Type 0) (n : ℕ) (seen : List ℕ)
     → length seen ≡ n → OnOk result (Only lists seen) → OnOk result (Only lists (fitted n seen))
-durable_fitted result lists n seen long sure =
+durable_fitted result lists n seen long durable =
     let P : List ℕ → Type 0 = λ l. OnOk result (Only lists l) in
-    subst P (sym (whole_fitted n seen long)) sure
+    subst P (sym (whole_fitted n seen long)) durable
 
 -- A disk over a file that stays honest and as long is as honest as before.
 pub honest_over : {F : Type 0} (is_honest : F → Type 0) (seen : F → List ℕ) (old new : Opened F) → new.size ≡ old.size

@@ -46,11 +46,11 @@ pub length_after_write : {T E : Type 0} (result : Result T E) (old new : Recorde
 length_after_write (Ok x) old new at bytes fits done refused = rw done (length-written (seen_of old) at bytes fits)
 length_after_write (Err e) old new at bytes fits done refused = rw refused refl
 
-pub sure_after_sync : {T E : Type 0} (result : Result T E) (old new : Recorded)
+pub durable_after_sync : {T E : Type 0} (result : Result T E) (old new : Recorded)
     → OnOk result (new ≡ memory.after_change old sync) → OnOk result (Only (may_leave_of new) (seen_of old))
-sure_after_sync (Ok x) old new done =
+durable_after_sync (Ok x) old new done =
     rw done (λ c left. ext_get_or 0 c (seen_of old) left.same_length (λ i lt. left.synced i refl))
-sure_after_sync (Err e) old new done = tt
+durable_after_sync (Err e) old new done = tt
 
 -- It is as long as the disk under it, as its fields say: its writes are within that.
 pub length_of_overlay : {D : Type 0} (seen : D → List ℕ) (disk : Overlaid D) (inner : D) (changes : List DiskChange)

@@ -289,7 +289,7 @@ sync_time result disk new done refused = ⊎_elim
     (time_of_none disk (raised disk.calls) (raised disk.faults) (may_leave_of disk) (λ c left. left)))
     (either result done refused)
 
--- a write, done or refused, makes nothing surer
+-- a write, done or refused, makes nothing durabler
 pub write_keeps : {T E : Type 0} (result : Result T E) (disk new : Recorded) (at : ℕ) (bytes : List ℕ)
     → at + length bytes ≤ length (seen_of disk) → OnOk result (new ≡ after_change disk (write at bytes))
     → OnErr result (new ≡ after_refusal disk) → (c : List ℕ) → may_leave_of disk c → may_leave_of new c

@@ -19,7 +19,7 @@ pub record Did {D : Type 0} (disk : Ghosts D) (old : D) (work : Work) (done : Bo
   -- what a crash may leave, now and at any moment since old
   pub left : (c : List ℕ) → disk.may_leave new c → TornFromWork work (disk.may_leave old) c
   pub keeps : disk.is_honest old → work ≢ Sync → (c : List ℕ) → disk.may_leave old c → disk.may_leave new c
-  pub sure : disk.is_honest old → done ≡ true → work ≡ Sync → Only (disk.may_leave new) (disk.seen old)
+  pub durable : disk.is_honest old → done ≡ true → work ≡ Sync → Only (disk.may_leave new) (disk.seen old)
   pub time : LeavesOnly disk.moment disk.left_since old new (TornFromWork work (disk.may_leave old))
   pub honest : disk.is_honest new ↔ disk.is_honest old
   pub same_length : length (disk.seen new) ≡ length (disk.seen old)

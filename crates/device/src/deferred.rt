@@ -13,7 +13,7 @@ ghost use Rattle.device.specs.inside.Replay.{AreWithin};
 
 use crate::blocks::{BLOCK, Blocks};
 use crate::count::raise;
-use crate::doing::{make_sure, write_at};
+use crate::doing::{make_durable, write_at};
 use crate::log::Logged;
 use crate::past::Past;
 use crate::{Device, DeviceFault};
@@ -446,7 +446,7 @@ fn make_call<A: Allocator + Copy, D: Device>(
 {
     match call {
         Logged::Write(at, bytes) => write_at(device, *at, bytes),
-        Logged::Sync => make_sure(device),
+        Logged::Sync => make_durable(device),
     }
 }
 

@@ -56,7 +56,8 @@ pub trait Device {
         ensures done { IsOk result → faults_met self.new ≡ faults_met self.old };
 
     /// Writes bytes from an offset on. Whether it succeeds or not, a crash before the next sync that succeeds may leave
-    /// any bytes in the range; where it fails, a read too may give any bytes there. Nothing is surer than before.
+    /// any bytes in the range; where it fails, a read too may give any bytes there. Nothing more is durable than
+    /// before.
     fn write(&mut self, at: u64, bytes: &[u8]) -> Result<(), DeviceFault>
         requires { at + length bytes.now ≤ length (seen self.old) }
 

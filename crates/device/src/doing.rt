@@ -16,8 +16,8 @@ pub fn write_at<D: Device>(device: &mut D, at: u64, bytes: &[u8]) -> Result<(), 
     }
 }
 
-/// Makes sure of what was written.
-pub fn make_sure<D: Device>(device: &mut D) -> Result<(), DeviceFault>
+/// Makes durable what was written.
+pub fn make_durable<D: Device>(device: &mut D) -> Result<(), DeviceFault>
     ensures { Did D.Device device.old Sync (is_ok result) device.new }
 {
     match device.sync() {

@@ -13,8 +13,8 @@ use std::marker::Model;
 const PIECE: u64 = 4096;
 
 /// A disk over another: one of its calls of `read`, `write` and `sync` fails, and each other is the inner disk's call.
-/// Where a read fails, the buffer stays as it is; where a sync fails, nothing is surer than before; where a write
-/// fails, each byte of its range is left as 0xEE. It takes no memory.
+/// Where a read fails, the buffer stays as it is; where a sync fails, nothing more is durable than before; where a
+/// write fails, each byte of its range is left as 0xEE. It takes no memory.
 #[derive(Drop)]
 pub struct FailingDisk<D: Device> {
     inner: D,

@@ -21,7 +21,7 @@ mod past;
 pub use block_file::BlockFile;
 pub use deferred::{DeferredCall, DeferredDisk};
 pub use device::Device;
-pub use doing::{copy_block, make_sure, write_at};
+pub use doing::{copy_block, make_durable, write_at};
 pub use failing::FailingDisk;
 pub use fault::DeviceFault;
 pub use file::FileDisk;

@@ -11,11 +11,11 @@ use Rattle.machine.specs.History.{Acknowledge}
 use Rattle.machine.specs.Laws.{ReadsBack, ReadsBackSince}
 use Rattle.machine.specs.Runs.{StepsTaken}
 use Rattle.machine.specs.State.{Whole}
-use Rattle.machine.specs.Steps.{told_first}
-use Rattle.machine.specs.Told.{Told, tell, tell_all}
+use Rattle.machine.specs.Steps.{observed_first}
+use Rattle.machine.specs.Observed.{Observed, observe, observe_all}
 use Rattle.session.specs.declared.notes.Notes.{Notes}
 use Rattle.embedded.specs.Embedded.{HasCommitted}
-use Rattle.embedded.specs.Hosting.{KeepsMark, told_with_later}
+use Rattle.embedded.specs.Hosting.{KeepsMark, observed_with_later}
 use Rattle.embedded.specs.Recorded.{recorded_disk}
 
 -- what has one property has another
@@ -39,38 +39,42 @@ pub sooner : (disk : Deferred) (t : ℕ) (c : List ℕ) → t ≤ carried_moment
 sooner disk t c le (newer, most, time, left) = (newer, most, omega (arith, le, time), left)
 
 -- what steps and further steps tell
-pub told_then : (told : Told) (old mid : Whole Recorded) (steps later : List Step) (replies more : List Reply)
+pub observed_then : (observed : Observed) (old mid : Whole Recorded) (steps later : List Step)
+    (replies more : List Reply)
     → StepsTaken recorded_disk old steps replies mid
-    → tell_all told (steps ++ later) (replies ++ more) ≡ tell_all (tell_all told steps replies) later more
-told_then told old mid [] later [] more taken = refl
-told_then told old mid (step ∷ steps) later (reply ∷ replies) more (next, here, rest) =
-    told_then (tell told step reply) next mid steps later replies more rest
-told_then told old mid [] later (reply ∷ replies) more taken = absurd taken
-told_then told old mid (step ∷ steps) later [] more taken = absurd taken
+    → observe_all observed (steps ++ later) (replies ++ more)
+    ≡ observe_all (observe_all observed steps replies) later more
+observed_then observed old mid [] later [] more taken = refl
+observed_then observed old mid (step ∷ steps) later (reply ∷ replies) more (next, here, rest) =
+    observed_then (observe observed step reply) next mid steps later replies more rest
+observed_then observed old mid [] later (reply ∷ replies) more taken = absurd taken
+observed_then observed old mid (step ∷ steps) later [] more taken = absurd taken
 
 -- A mark that is acknowledged whatever comes later is kept.
 module _ (files : List File) (mark : ℕ) (machine : Whole Recorded) (notes : Notes)
     (it : HasCommitted mark machine notes)
-    (has : (n : ℕ) → Contains (told_with_later files mark machine notes it n) (Acknowledge mark)) where
-  abbrev first : Told
-  first = told_first files it.start.state
+    (has : (n : ℕ) → Contains (observed_with_later files mark machine notes it n) (Acknowledge mark)) where
+  abbrev first : Observed
+  first = observed_first files it.start.state
 
   both : (n : ℕ)
-      → tell_all first (it.earlier ++ (it.steps ++ take n it.later)) (it.told ++ (it.replies ++ take n it.more))
-      ≡ tell_all (tell_all first (it.earlier ++ it.steps) (it.told ++ it.replies)) (take n it.later) (take n it.more)
+      → observe_all first (it.earlier ++ (it.steps ++ take n it.later)) (it.replied ++ (it.replies ++ take n it.more))
+      ≡ observe_all (observe_all first (it.earlier ++ it.steps) (it.replied ++ it.replies))
+      (take n it.later) (take n it.more)
   both n =
-      told_then first it.start it.old it.earlier (it.steps ++ take n it.later) it.told
+      observed_then first it.start it.old it.earlier (it.steps ++ take n it.later) it.replied
       (it.replies ++ take n it.more) it.makes_earlier.taken
-      ∙ told_then (tell_all first it.earlier it.told) it.old it.new it.steps (take n it.later) it.replies
+      ∙ observed_then (observe_all first it.earlier it.replied) it.old it.new it.steps (take n it.later) it.replies
       (take n it.more) it.makes.taken
-      ∙ ap (λ (x : Told). tell_all x (take n it.later) (take n it.more))
-      (sym (told_then first it.start it.old it.earlier it.steps it.told it.replies it.makes_earlier.taken))
+      ∙ ap (λ (x : Observed). observe_all x (take n it.later) (take n it.more))
+      (sym (observed_then first it.start it.old it.earlier it.steps it.replied it.replies it.makes_earlier.taken))
 
   pub kept : (c : List ℕ) → ReadsBackSince files
-      (tell_all (told_first files it.start.state) (it.earlier ++ it.steps) (it.told ++ it.replies)) it.later it.more c
+      (observe_all (observed_first files it.start.state) (it.earlier ++ it.steps) (it.replied ++ it.replies)) it.later
+      it.more c
       → KeepsMark files mark machine notes it c
   kept c (n, back) = record {
     later = n;
-    back = subst (λ (x : Told). ReadsBack files x.history c) (sym (both n)) back;
+    back = subst (λ (x : Observed). ReadsBack files x.history c) (sym (both n)) back;
     acknowledged = has n;
   }

@@ -65,7 +65,7 @@ module _ (mark : ℕ) (old new : Whole Recorded) (before after : Notes) (steps :
     start = c.start;
     started = c.started;
     earlier = c.earlier;
-    told = c.told;
+    replied = c.replied;
     old = c.old;
     between = c.between;
     makes_earlier = c.makes_earlier;
@@ -109,8 +109,8 @@ serves_more committed needed made acknowledged old new before after what served 
       serving = served_does recorded_disk (recorded old) (recorded new) before after what had.serving seen;
       commits = needs_more (recorded old)
           (recorded new) before after seen.steps seen.replies seen.makes needed committed had.commits;
-      sure = made_more (recorded old)
-          (recorded new) before after seen.steps seen.replies seen.makes made acknowledged had.sure;
+      durable = made_more (recorded old)
+          (recorded new) before after seen.steps seen.replies seen.makes made acknowledged had.durable;
     }
 
 -- a start
@@ -122,7 +122,7 @@ serves_none before shape start needed made it = λ well.
       serving = served_none recorded_disk (as_recorded before) shape (recorded start)
           (start_recorded before shape start first it);
       commits = tt;
-      sure = tt;
+      durable = tt;
     }
 
 -- a commit
@@ -134,7 +134,7 @@ serves_commit committed needed made acknowledged p mark old new before after ser
     let first = does_well old new before after (CommitsMark p before mark) it well in
     let seen = does_recorded old new before after (CommitsMark p before mark) first it in
     let had = served first in
-    let (start, earlier, told, was) = had.serving in
+    let (start, earlier, replied, was) = had.serving in
     record {
       serving = served_does recorded_disk (recorded old) (recorded new) before after
           (CommitsMark p before mark) had.serving seen;
@@ -145,7 +145,7 @@ serves_commit committed needed made acknowledged p mark old new before after ser
           start = start;
           started = was.started;
           earlier = earlier;
-          told = told;
+          replied = replied;
           old = recorded old;
           between = before;
           makes_earlier = was.makes;
@@ -162,8 +162,8 @@ serves_commit committed needed made acknowledged p mark old new before after ser
         },
         counted_moments new.device,
       );
-      sure = made_more (recorded old)
-          (recorded new) before after seen.steps seen.replies seen.makes made acknowledged had.sure;
+      durable = made_more (recorded old)
+          (recorded new) before after seen.steps seen.replies seen.makes made acknowledged had.durable;
     }
 
 -- a commit, whatever it came to

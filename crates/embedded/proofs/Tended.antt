@@ -119,44 +119,45 @@ module _ (needed made counted : ℕ) (machine : Whole Deferred) (notes : Notes)
   abbrev now : ℕ
   now = made_of machine.device counted
 
-  sure_before : (acknowledged : Option ℕ) → IfSome acknowledged (λ mark. HasMade made mark (recorded machine) notes)
+  durable_before : (acknowledged : Option ℕ) → IfSome acknowledged (λ mark. HasMade made mark (recorded machine) notes)
       → IfSome acknowledged (λ mark. HasMade now mark (recorded machine) notes)
-  sure_before None c = tt
-  sure_before (Some mark) c = (
+  durable_before None c = tt
+  durable_before (Some mark) c = (
     c.0,
     still_made (machine.device.waiting == 0) (moment_of c.0.new.device) made counted
         (length machine.device.changes) more (later_calls mark c.0) c.1,
   )
 
-  sure_now : (committed : Option ℕ) → are_made machine.device.waiting needed now ≡ true
+  durable_now : (committed : Option ℕ) → are_made machine.device.waiting needed now ≡ true
       → IfSome committed (λ mark. HasNeeded needed mark (recorded machine) notes)
       → IfSome committed (λ mark. HasMade now mark (recorded machine) notes)
-  sure_now None enough c = tt
-  sure_now (Some mark) enough c = (
+  durable_now None enough c = tt
+  durable_now (Some mark) enough c = (
     c.0,
     needs_made (machine.device.waiting == 0) (moment_of c.0.new.device) needed counted
         (length machine.device.changes) c.1 (later_calls mark c.0) enough,
   )
 
-  sure_if : (committed acknowledged : Option ℕ) (sure : Bool) → are_made machine.device.waiting needed now ≡ sure
+  durable_if : (committed acknowledged : Option ℕ) (durable : Bool)
+      → are_made machine.device.waiting needed now ≡ durable
       → IfSome committed (λ mark. HasNeeded needed mark (recorded machine) notes)
       → IfSome acknowledged (λ mark. HasMade made mark (recorded machine) notes)
-      → IfSome (if sure then committed else acknowledged) (λ mark. HasMade now mark (recorded machine) notes)
-  sure_if committed acknowledged true enough commits sure = sure_now committed enough commits
-  sure_if committed acknowledged false enough commits sure = sure_before acknowledged sure
+      → IfSome (if durable then committed else acknowledged) (λ mark. HasMade now mark (recorded machine) notes)
+  durable_if committed acknowledged true enough commits durable = durable_now committed enough commits
+  durable_if committed acknowledged false enough commits durable = durable_before acknowledged durable
 
-  pub serves_settled : (committed acknowledged settled : Option ℕ) (is : ℕ) (sure : Bool) → is ≡ now
-      → sure ≡ are_made machine.device.waiting needed is → settled ≡ (if sure then committed else acknowledged)
+  pub serves_confirmed : (committed acknowledged confirmed : Option ℕ) (is : ℕ) (durable : Bool) → is ≡ now
+      → durable ≡ are_made machine.device.waiting needed is → confirmed ≡ (if durable then committed else acknowledged)
       → ServesWell machine notes committed needed made acknowledged
-      → ServesWell machine notes committed needed is settled
-  serves_settled committed acknowledged settled is sure same tests settles served = λ well.
+      → ServesWell machine notes committed needed is confirmed
+  serves_confirmed committed acknowledged confirmed is durable same tests confirms served = λ well.
       let had = served well in
-      let enough : are_made machine.device.waiting needed now ≡ sure =
+      let enough : are_made machine.device.waiting needed now ≡ durable =
       sym (tests ∙ ap (are_made machine.device.waiting needed) same) in
       let P : Option ℕ → Type 0 = λ a. IfSome a (λ mark. HasMade now mark (recorded machine) notes) in
-      let Q : ℕ → Type 0 = λ n. HasServed (recorded machine) notes committed needed n settled in
+      let Q : ℕ → Type 0 = λ n. HasServed (recorded machine) notes committed needed n confirmed in
       subst Q (sym same) (record {
         serving = had.serving;
         commits = had.commits;
-        sure = subst P (sym settles) (sure_if committed acknowledged sure enough had.commits had.sure);
+        durable = subst P (sym confirms) (durable_if committed acknowledged durable enough had.commits had.durable);
       })

@@ -6,7 +6,7 @@ use Rattle.page_entry.specs.declared.refusal.Refusal.{Refusal}
 use Rattle.fault.specs.Fixing.{ReadsOnce}
 use Rattle.volume_codec.specs.Super.{SuperValue}
 use Rattle.recovery.specs.Opening.{Opens, HasOpened}
-use Rattle.recovery.specs.Volume.{VolumeState, IsAtRest, IsSettled}
+use Rattle.recovery.specs.Volume.{VolumeState, IsAtRest, IsWellFormed}
 use Rattle.machine.specs.declared.act.Act.{Act}
 use Rattle.machine.specs.declared.act.Act.TheVariants as acts
 use Rattle.machine.specs.declared.act.Reply.{Reply}
@@ -69,7 +69,7 @@ module _ {D E : Type 0} (image : D → E) (model : Ghosts E) (honest : D → Typ
   made old new step reply it = record {
     answered = it.answered;
     left = it.left;
-    sure = it.sure;
+    durable = it.durable;
     within = leaves old.device new.device _ it.within;
     unread = it.unread;
   }
@@ -164,12 +164,12 @@ module _ {D E : Type 0} (image : D → E) (model : Ghosts E) (honest : D → Typ
       record {
         volume = record { table = volume.table; lengths = volume.lengths; device = image volume.device };
         opened = opened before volume.table volume.device well it.opened;
-        settled = record {
-          fits = it.settled.fits;
-          long = it.settled.long;
-          lengths = it.settled.lengths;
-          fixed = it.settled.fixed;
-          at_rest = λ _. at_rest volume (it.settled.at_rest (it.opened.kept.honest.1 well));
+        well_formed = record {
+          fits = it.well_formed.fits;
+          long = it.well_formed.long;
+          lengths = it.well_formed.lengths;
+          fixed = it.well_formed.fixed;
+          at_rest = λ _. at_rest volume (it.well_formed.at_rest (it.opened.kept.honest.1 well));
         };
         shaped = it.shaped;
         booted = ap over it.booted;

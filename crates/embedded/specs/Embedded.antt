@@ -16,8 +16,8 @@ use Rattle.session.specs.Steps.{Makes}
 use Rattle.embedded.specs.Recorded.{recorded_disk, recorded}
 
 -- what an embedded volume is to its users: its machine, what is noted of the steps that were made, the volume's files,
--- the mark of the last commit, how many device calls were recorded when it was told, how many the host has made, and
--- the last mark that is acknowledged
+-- the mark of the last commit, how many device calls were recorded when it was reported, how many the host has made,
+-- and the last mark that is acknowledged
 pub record EmbeddedState (A : Type 0) : Type 0 where
   pub machine : Whole Deferred
   pub notes : Notes
@@ -53,10 +53,10 @@ pub record HasCommitted (mark : ℕ) (machine : Whole Recorded) (notes : Notes) 
   pub start : Whole Recorded
   pub started : HasStarted recorded_disk before shape start
   pub earlier : List Step
-  pub told : List Reply
+  pub replied : List Reply
   pub old : Whole Recorded
   pub between : Notes
-  pub makes_earlier : Makes recorded_disk start no_notes earlier told old between
+  pub makes_earlier : Makes recorded_disk start no_notes earlier replied old between
   pub p : ℕ
   pub steps : List Step
   pub replies : List Reply
@@ -88,7 +88,7 @@ pub record HasServed (machine : Whole Recorded) (notes : Notes) (committed : Opt
     (acknowledged : Option ℕ) : Type 0 where
   pub serving : IsServing recorded_disk machine notes
   pub commits : IfSome committed (λ mark. HasNeeded needed mark machine notes)
-  pub sure : IfSome acknowledged (λ mark. HasMade made mark machine notes)
+  pub durable : IfSome acknowledged (λ mark. HasMade made mark machine notes)
 
 -- So it is as long as the host supplied each block as it was.
 abbrev pub ServesWell : Whole Deferred → Notes → Option ℕ → ℕ → ℕ → Option ℕ → Type 0

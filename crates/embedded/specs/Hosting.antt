@@ -14,16 +14,16 @@ use Rattle.embedded.specs.Embedded.{HasCommitted}
 abbrev pub with_made : Deferred → ℕ → Deferred
 with_made disk made = with_waiting disk (length disk.changes - made)
 
--- what was told by the steps up to the end of a commit, and by the first n after it
-abbrev pub told_with_later : (files : List File) (mark : ℕ) (machine : Whole Recorded) (notes : Notes)
+-- what was observed by the steps up to the end of a commit, and by the first n after it
+abbrev pub observed_with_later : (files : List File) (mark : ℕ) (machine : Whole Recorded) (notes : Notes)
     → HasCommitted mark machine notes → ℕ → List Event
-told_with_later files mark machine notes it n = history_of files it.start
-    (it.earlier ++ (it.steps ++ take n it.later)) (it.told ++ (it.replies ++ take n it.more))
+observed_with_later files mark machine notes it n = history_of files it.start
+    (it.earlier ++ (it.steps ++ take n it.later)) (it.replied ++ (it.replies ++ take n it.more))
 
--- These bytes read back as the files after a durable prefix of what was told by the steps up to the end of a commit,
--- and by some after it. The mark of the commit is acknowledged in that; so the prefix has it.
+-- These bytes read back as the files after a durable prefix of what was observed by the steps up to the end of a
+-- commit, and by some after it. The mark of the commit is acknowledged in that; so the prefix has it.
 pub record KeepsMark (files : List File) (mark : ℕ) (machine : Whole Recorded) (notes : Notes)
     (committed : HasCommitted mark machine notes) (disk : List ℕ) : Type 0 where
   pub later : ℕ
-  pub back : ReadsBack files (told_with_later files mark machine notes committed later) disk
-  pub acknowledged : Contains (told_with_later files mark machine notes committed later) (Acknowledge mark)
+  pub back : ReadsBack files (observed_with_later files mark machine notes committed later) disk
+  pub acknowledged : Contains (observed_with_later files mark machine notes committed later) (Acknowledge mark)

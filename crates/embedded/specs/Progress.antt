@@ -16,9 +16,9 @@ reached_by NoMemory = reached.NoMemory
 
 -- The block that was lacking is the one that the disk says; and where it is said that a device call failed, the disk
 -- lacked no block that a number of 32 bits names.
-abbrev pub TellsWanted : Option ℕ → Progress → Type 0
-TellsWanted wanted (Wanted block count) = wanted ≡ Some block
-TellsWanted wanted (Refused count reply) =
+abbrev pub ReportsWanted : Option ℕ → Progress → Type 0
+ReportsWanted wanted (Wanted block count) = wanted ≡ Some block
+ReportsWanted wanted (Refused count reply) =
     reply ≡ replies.Refused refusals.Device → (block : ℕ) → wanted ≡ Some block → 2 ^ 32 ≤ block
-TellsWanted wanted Done = ⊤
-TellsWanted wanted NoMemory = ⊤
+ReportsWanted wanted Done = ⊤
+ReportsWanted wanted NoMemory = ⊤

@@ -23,7 +23,7 @@ pub struct Embedded<A: Allocator + Copy> {
     pub(crate) requests: Requests<DeferredDisk<A>, A>,
     // The mark of the last commit.
     pub(crate) committed: Option<u32>,
-    // How many device calls were recorded when it was told.
+    // How many device calls were recorded when it was reported.
     pub(crate) needed: u64,
     // How many the host has made.
     pub(crate) made: u64,
@@ -119,7 +119,7 @@ impl<A: Allocator + Copy> Embedded<A> {
     }
 
     /// The mark that is acknowledged: that of the last commit of which the device calls were made that were recorded
-    /// when it was told. Later calls may wait. It is told by `commit` and by `carried_out`.
+    /// when it was reported. Later calls may wait. It is told by `commit` and by `carried_out`.
     pub fn acknowledged(&self) -> Option<u32>
         ensures { result ≡ self.now.acknowledged }
     {

@@ -7,7 +7,7 @@ ghost use Rattle.embedded.specs.Recorded.{recorded};
 ghost use Rattle.embedded.specs.Supplying.{may_forget, with_supplied, with_device};
 
 use crate::embedded::Embedded;
-use crate::requesting::{is_made, made_now, settled};
+use crate::requesting::{confirmed, is_made, made_now};
 use crate::tending::{Carrying, Forgetting, Supplying};
 use device::DeferredCall;
 use std::alloc::{AllocError, Allocator};
@@ -113,8 +113,8 @@ impl<A: Allocator + Copy> Embedded<A> {
             self.requests.machine().device(),
             self.made.saturating_add(1),
         );
-        let is_sure = is_made(waiting, self.needed, made);
-        let acknowledged = settled(is_sure, self.committed, self.acknowledged);
+        let is_durable = is_made(waiting, self.needed, made);
+        let acknowledged = confirmed(is_durable, self.committed, self.acknowledged);
         self.made = made;
         self.acknowledged = acknowledged;
     }

@@ -12,8 +12,8 @@ ghost use Rattle.machine.specs.declared.act.Step.{Step};
 ghost use Rattle.machine.specs.Laws.{ReadsBackSince};
 ghost use Rattle.machine.specs.Runs.{StepTaken, StepsTaken};
 ghost use Rattle.machine.specs.State.{Whole};
-ghost use Rattle.machine.specs.Steps.{told_first};
-ghost use Rattle.machine.specs.Told.{tell_all};
+ghost use Rattle.machine.specs.Steps.{observed_first};
+ghost use Rattle.machine.specs.Observed.{observe_all};
 ghost use Rattle.engine.specs.Engine.{HasStarted, HasRun};
 ghost use Rattle.session.specs.declared.notes.Notes.{Notes};
 ghost use Rattle.session.specs.Steps.{Makes};
@@ -59,20 +59,20 @@ pub fn ran_as_recorded<A: Allocator + Copy>(disk: &MemDisk<A>)
 
 /// A host makes the calls that wait on a device of its own, in order, which was behind the disk: what a crash at any
 /// moment of that leaves, within a call or between two, reads back as the files of the volume, as it was opened, after
-/// a durable prefix of what was told by the steps up to any machine all of whose calls were made before, and by some of
-/// the later steps (`steps`). So a mark that was committed is kept once the calls up to the end of its commit were made
-/// (`mark`). The mark that an embedded volume acknowledges is such a one: where the host has made the calls that it
-/// said it made, in order, and goes on with those behind them, it is kept (`acknowledged`).
+/// a durable prefix of what was observed by the steps up to any machine all of whose calls were made before, and by
+/// some of the later steps (`steps`). So a mark that was committed is kept once the calls up to the end of its commit
+/// were made (`mark`). The mark that an embedded volume acknowledges is such a one: where the host has made the calls
+/// that it said it made, in order, and goes on with those behind them, it is kept (`acknowledged`).
 pub fn crashed_on_the_host<D: Device, A: Allocator + Copy>(device: &D, disk: &MemDisk<A>)
     ensures steps { (before : Recorded) (shape : Shape) (start mid : Whole Recorded) (machine : Whole Deferred)
-        (earlier later : List Step) (told more : List Reply) (old new : D) (done : Bool) (left : ℕ)
-        → HasStarted recorded_disk before shape start → StepsTaken recorded_disk start earlier told mid
+        (earlier later : List Step) (replied more : List Reply) (old new : D) (done : Bool) (left : ℕ)
+        → HasStarted recorded_disk before shape start → StepsTaken recorded_disk start earlier replied mid
         → StepsTaken recorded_disk mid later more (recorded machine)
         → moment_of mid.device ≤ carried_moment machine.device
         → IsBehind D.is_honest D.seen D.may_leave old machine.device
         → CarriedOut D.Device old machine.device done new left
         → (files : List File) × RecoversTo (seen_of before) files × LeavesOnly D.moment D.left_since old new
-        (ReadsBackSince files (tell_all (told_first files start.state) earlier told) later more) }
+        (ReadsBackSince files (observe_all (observed_first files start.state) earlier replied) later more) }
     ensures mark { (machine : Whole Deferred) (notes : Notes) (mark : ℕ) (old new : D) (done : Bool) (left : ℕ)
         (committed : HasCommitted mark (recorded machine) notes)
         → moment_of committed.new.device ≤ carried_moment machine.device

@@ -1,9 +1,9 @@
 // How far a range was loaded or stored.
 ghost use Rattle.std.specs.Prelude.{◌≡◌, ◌↔◌, ◌^◌, ◌≤◌, ℕ, IsTrue, IfSome, IfNone, Option, Some};
 ghost use Rattle.page_entry.specs.declared.refusal.Refusal.{Refusal};
-ghost use Rattle.machine.specs.declared.act.Reply.TheVariants as told;
+ghost use Rattle.machine.specs.declared.act.Reply.TheVariants as replied;
 ghost use Rattle.session.specs.declared.ranges.Reached.TheVariants as reached;
-ghost use Rattle.embedded.specs.Progress.{reached_by, TellsWanted};
+ghost use Rattle.embedded.specs.Progress.{reached_by, ReportsWanted};
 
 use machine::Reply;
 use page_entry::Refusal;
@@ -28,7 +28,7 @@ impl Progress {
     pub(crate) fn of(reached: &Reached, wanted: Option<u32>) -> Progress
         ensures reached { reached_by result ≡ reached.now }
         ensures wanted { (disk : Option ℕ) → IfSome wanted (λ block. disk ≡ Some block)
-            → IfNone wanted ((block : ℕ) → disk ≡ Some block → 2 ^ 32 ≤ block) → TellsWanted disk result }
+            → IfNone wanted ((block : ℕ) → disk ≡ Some block → 2 ^ 32 ≤ block) → ReportsWanted disk result }
     {
         match reached {
             Reached::All => Progress::Done,
@@ -42,7 +42,7 @@ impl Progress {
 fn stopped(count: usize, reply: &Reply, wanted: Option<u32>) -> Progress
     ensures reached { reached_by result ≡ reached.Refused count reply.now }
     ensures wanted { (disk : Option ℕ) → IfSome wanted (λ block. disk ≡ Some block)
-        → IfNone wanted ((block : ℕ) → disk ≡ Some block → 2 ^ 32 ≤ block) → TellsWanted disk result }
+        → IfNone wanted ((block : ℕ) → disk ≡ Some block → 2 ^ 32 ≤ block) → ReportsWanted disk result }
 {
     match wanted {
         Some(block) if has_failed(reply) => Progress::Wanted { block, count },
@@ -55,7 +55,7 @@ fn stopped(count: usize, reply: &Reply, wanted: Option<u32>) -> Progress
 
 // Whether a device call failed.
 fn has_failed(reply: &Reply) -> bool
-    ensures { IsTrue result ↔ (reply.now ≡ told.Refused Refusal.Device) }
+    ensures { IsTrue result ↔ (reply.now ≡ replied.Refused Refusal.Device) }
 {
     matches!(reply, Reply::Refused(Refusal::Device))
 }

@@ -8,7 +8,7 @@ ghost use Rattle.session.specs.Ranges.{LoadsReached, StoresReached};
 ghost use Rattle.session.specs.Steps.{Makes};
 ghost use Rattle.embedded.specs.Embedded.{are_made, last_committed, last_needed, made_of};
 ghost use Rattle.embedded.specs.Recorded.{deferred_disk};
-ghost use Rattle.embedded.specs.Progress.{reached_by, TellsWanted};
+ghost use Rattle.embedded.specs.Progress.{reached_by, ReportsWanted};
 
 use crate::embedded::Embedded;
 use crate::progress::{Progress, block_number};
@@ -41,7 +41,7 @@ impl<A: Allocator + Copy> Embedded<A> {
         requires { bytes.old.items ≡ [] }
         ensures reached { CarriesOut deferred_disk self.old.machine self.old.notes
             (LoadsReached p va count bytes.new.items (reached_by result)) self.new.machine self.new.notes }
-        ensures wanted { TellsWanted self.new.machine.device.wanted result }
+        ensures wanted { ReportsWanted self.new.machine.device.wanted result }
         ensures committed { self.new.committed ≡ self.old.committed }
         ensures needed { self.new.needed ≡ self.old.needed }
         ensures made { self.new.made ≡ self.old.made }
@@ -58,7 +58,7 @@ impl<A: Allocator + Copy> Embedded<A> {
     pub fn store(&mut self, p: ProcessorNumber, va: u64, bytes: &[u8]) -> Progress
         ensures reached { CarriesOut deferred_disk self.old.machine self.old.notes
             (StoresReached p va bytes.now (reached_by result)) self.new.machine self.new.notes }
-        ensures wanted { TellsWanted self.new.machine.device.wanted result }
+        ensures wanted { ReportsWanted self.new.machine.device.wanted result }
         ensures committed { self.new.committed ≡ self.old.committed }
         ensures needed { self.new.needed ≡ self.old.needed }
         ensures made { self.new.made ≡ self.old.made }
@@ -101,8 +101,8 @@ impl<A: Allocator + Copy> Embedded<A> {
         let committed = committed_by(&answer, self.committed);
         let needed = needed_by(&answer, self.requests.machine().device(), self.needed);
         let made = made_now(self.requests.machine().device(), self.made);
-        let is_sure = is_made(waiting, needed, made);
-        let acknowledged = settled(is_sure, committed, self.acknowledged);
+        let is_durable = is_made(waiting, needed, made);
+        let acknowledged = confirmed(is_durable, committed, self.acknowledged);
         self.committed = committed;
         self.needed = needed;
         self.made = made;
@@ -156,12 +156,12 @@ pub(crate) fn is_made(waiting: usize, needed: u64, made: u64) -> bool
 
 // Rule: deferred acknowledgement
 // The last mark that is acknowledged: that of the last commit where its calls were made, and else the one before.
-pub(crate) fn settled(
-    is_sure: bool,
+pub(crate) fn confirmed(
+    is_durable: bool,
     committed: Option<u32>,
     acknowledged: Option<u32>,
 ) -> Option<u32>
-    ensures { result ≡ (if is_sure then committed else acknowledged) }
+    ensures { result ≡ (if is_durable then committed else acknowledged) }
 {
-    if is_sure { committed } else { acknowledged }
+    if is_durable { committed } else { acknowledged }
 }

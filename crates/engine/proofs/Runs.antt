@@ -107,9 +107,9 @@ fetched steps room part i n within same =
 -- steps after steps are steps
 abbrev pub GoesOn : {D : Type 0} → Ghosts D → Type 0
 GoesOn {D} disk =
-    (old mid new : Whole D) (steps later : List Step) (replies told : List Reply)
-    → StepsTaken disk old steps replies mid → StepsTaken disk mid later told new
-    → StepsTaken disk old (steps ++ later) (replies ++ told) new
+    (old mid new : Whole D) (steps later : List Step) (replies replied : List Reply)
+    → StepsTaken disk old steps replies mid → StepsTaken disk mid later replied new
+    → StepsTaken disk old (steps ++ later) (replies ++ replied) new
 
 -- as many steps as there are replies were made of a portion, after those before it
 pub taken_portion : {D : Type 0} (disk : Ghosts D) → GoesOn disk

@@ -50,7 +50,8 @@ begins {D} disk before shape start started honest =
     let P : Whole D → Type 0 = λ w. Begins disk files w in (
       files,
       opened_files disk before volume (started.opened.ended honest),
-      subst P (sym started.booted) (booted_begins disk volume shape started.shaped (started.settled.at_rest here) here),
+      subst P (sym started.booted)
+          (booted_begins disk volume shape started.shaped (started.well_formed.at_rest here) here),
     )
 
 -- the device is kept by a start, by a refusal, and by a run

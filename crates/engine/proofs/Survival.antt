@@ -15,11 +15,11 @@ use Rattle.machine.specs.Crashes.{StepIsSafe, Throughout}
 use Rattle.machine.specs.History.{Event, files_after}
 use Rattle.machine.specs.Later.{Finds, FindsDurable}
 use Rattle.machine.specs.Laws.{EachStep, FaultsAreServed, IsLawful, ReadsBack}
-use Rattle.machine.specs.OnTrack.{IsOnTrack}
+use Rattle.machine.specs.Reached.{IsReached}
 use Rattle.machine.specs.Runs.{StepsTaken}
 use Rattle.machine.specs.State.{Whole}
-use Rattle.machine.specs.Steps.{told_first}
-use Rattle.machine.specs.Told.{Told, tell}
+use Rattle.machine.specs.Steps.{observed_first}
+use Rattle.machine.specs.Observed.{Observed, observe}
 use Rattle.engine.specs.Engine.{HasStarted, HasRun}
 use Rattle.engine.specs.Survival.{history_of, KeepsFiles, FindsAfterCrash, StepSurvives, Survives}
 use Rattle.engine.proofs.Runs.{taken_kept}
@@ -28,9 +28,10 @@ use Rattle.engine.proofs.Starts.{begins}
 -- what holds of each run that led to a machine
 abbrev OfRuns : {D : Type 0} → Ghosts D → Whole D → (List File → Whole D → List Step → List Reply → Type 0) → Type 0
 OfRuns {D} disk last P = (files : List File) (start : Whole D) (steps : List Step) (replies : List Reply)
-    → IsOnTrack disk files start steps replies last → P files start steps replies
+    → IsReached disk files start steps replies last → P files start steps replies
 
-module _ {D : Type 0} (disk : Ghosts D) (settled : (files : List File) (n : ℕ) (first later : D) → disk.is_honest first
+module _ {D : Type 0} (disk : Ghosts D)
+    (permanent : (files : List File) (n : ℕ) (first later : D) → disk.is_honest first
     → Only (disk.may_leave first) (disk.seen first) → RecoversTo (disk.seen first) files → IsLater disk n first later
     → Finds disk files later) where
   found_after : (files : List File) (history : List Event) (lists : List ℕ → Type 0)
@@ -41,24 +42,25 @@ module _ {D : Type 0} (disk : Ghosts D) (settled : (files : List File) (n : ℕ)
       let found = files_after files read.prefix in (
         found,
         record { prefix = read.prefix; durable = read.durable; files_are = refl },
-        λ n later is. settled found n first later restarted.honest restarted.only read.recovers is,
+        λ n later is. permanent found n first later restarted.honest restarted.only read.recovers is,
       )
 
-  survive_throughout : (files : List File) (told : Told) (old : Whole D)
+  survive_throughout : (files : List File) (observed : Observed) (old : Whole D)
       (steps : List Step) (replies : List Reply) (new : Whole D)
-      → Throughout (StepIsSafe disk files) told old steps replies new
-      → Throughout (StepSurvives disk files) told old steps replies new
-  survive_throughout files told old [] [] new run = run
-  survive_throughout files told old (step ∷ steps) (reply ∷ replies) new (mid, safe, rest) = (
+      → Throughout (StepIsSafe disk files) observed old steps replies new
+      → Throughout (StepSurvives disk files) observed old steps replies new
+  survive_throughout files observed old [] [] new run = run
+  survive_throughout files observed old (step ∷ steps) (reply ∷ replies) new (mid, safe, rest) = (
     mid,
     record {
       safe = safe;
-      within = found_after files told.history (disk.left_since mid.device (disk.moment old.device)) safe.within.each;
+      within = found_after files observed.history
+          (disk.left_since mid.device (disk.moment old.device)) safe.within.each;
     },
-    survive_throughout files (tell told step reply) mid steps replies new rest,
+    survive_throughout files (observe observed step reply) mid steps replies new rest,
   )
-  survive_throughout files told old [] (reply ∷ replies) new run = absurd run
-  survive_throughout files told old (step ∷ steps) [] new run = absurd run
+  survive_throughout files observed old [] (reply ∷ replies) new run = absurd run
+  survive_throughout files observed old (step ∷ steps) [] new run = absurd run
 
   -- a crash within an opening keeps the files
   keeps_files : (left_as : (before after : D) (result : Result SuperValue Refusal) (c : List ℕ)
@@ -70,7 +72,7 @@ module _ {D : Type 0} (disk : Ghosts D) (settled : (files : List File) (n : ℕ)
   keeps_files left_as files before after result honest opens all = λ first later n restarted is.
       let alike = left_as before after result (disk.seen first) honest opens restarted.left in
       let r = all alike.0 alike.1 in
-      settled files n first later restarted.honest restarted.only (record {
+      permanent files n first later restarted.honest restarted.only (record {
         table = r.table;
         contents = r.contents;
         recovers = alike.2 r.table r.contents r.recovers;
@@ -87,11 +89,11 @@ module _ {D : Type 0} (disk : Ghosts D) (settled : (files : List File) (n : ℕ)
       (before : D) (shape : Shape) (start : Whole D) (steps : List Step) (replies : List Reply) (last : Whole D)
       → HasStarted disk before shape start → StepsTaken disk start steps replies last
       → OfRuns disk last (λ files start steps replies.
-      Throughout (StepIsSafe disk files) (told_first files start.state) start steps replies last)
+      Throughout (StepIsSafe disk files) (observed_first files start.state) start steps replies last)
       → OfRuns disk last
-      (λ files start steps replies. EachStep (IsLawful files) (told_first files start.state) steps replies)
+      (λ files start steps replies. EachStep (IsLawful files) (observed_first files start.state) steps replies)
       → ((files : List File) (start : Whole D) (steps : List Step) (replies : List Reply) (c : List ℕ)
-      → IsOnTrack disk files start steps replies last → disk.may_leave last.device c
+      → IsReached disk files start steps replies last → disk.may_leave last.device c
       → ReadsBack files (history_of files start steps replies) c)
       → OfRuns disk last (λ files start steps replies. FaultsAreServed steps replies)
       → HasRun disk before shape steps replies last.device
@@ -104,7 +106,7 @@ module _ {D : Type 0} (disk : Ghosts D) (settled : (files : List File) (n : ℕ)
       survives honest =
           let found = begins disk before shape start started honest in
           let files = found.0 in
-          let on : IsOnTrack disk files start steps replies last = record { begins = found.2; taken = taken } in
+          let on : IsReached disk files start steps replies last = record { begins = found.2; taken = taken } in
           let history = history_of files start steps replies in
           let left_now = λ (c : List ℕ) (may : disk.may_leave last.device c). left files start steps replies c on may in
           let Opened : Whole D → Type 0 =
@@ -114,7 +116,7 @@ module _ {D : Type 0} (disk : Ghosts D) (settled : (files : List File) (n : ℕ)
             record {
               opening = λ all. subst Opened (sym started.booted) (keeps_files left_as files before started.volume.device
                   (Ok started.volume.table) honest started.opened all);
-              within = survive_throughout files (told_first files start.state) start steps replies last
+              within = survive_throughout files (observed_first files start.state) start steps replies last
                   (headline files start steps replies on);
               after = found_after files history (disk.may_leave last.device) left_now;
               ended = λ n later is. durable files history n last.device later

@@ -6,7 +6,7 @@ use Rattle.volume_codec.specs.Files.{File}
 use Rattle.volume_codec.specs.Super.{SuperValue}
 use Rattle.volume_codec.specs.Recovery.{RecoversTo}
 use Rattle.recovery.specs.Opening.{Opens}
-use Rattle.recovery.specs.Volume.{VolumeState, IsSettled}
+use Rattle.recovery.specs.Volume.{VolumeState, IsWellFormed}
 use Rattle.machine.specs.declared.act.Reply.{Reply}
 use Rattle.machine.specs.declared.act.Shape.{Shape}
 use Rattle.machine.specs.declared.act.Step.{Step}
@@ -20,7 +20,7 @@ use Rattle.engine.specs.Survival.{Survives}
 pub record HasStarted {D : Type 0} (disk : Ghosts D) (before : D) (shape : Shape) (start : Whole D) : Type 0 where
   pub volume : VolumeState D
   pub opened : Opens disk before (Ok volume.table) volume.device
-  pub settled : IsSettled disk volume
+  pub well_formed : IsWellFormed disk volume
   pub shaped : IsShape volume.table shape
   pub booted : start ≡ record { state = fresh volume.table volume.lengths shape; device = volume.device }
 

@@ -10,8 +10,8 @@ ghost use Rattle.machine.specs.declared.act.Step.{Step};
 ghost use Rattle.machine.specs.Laws.{ReadsBackSince};
 ghost use Rattle.machine.specs.Runs.{StepsTaken};
 ghost use Rattle.machine.specs.State.{Whole};
-ghost use Rattle.machine.specs.Steps.{told_first};
-ghost use Rattle.machine.specs.Told.{tell_all};
+ghost use Rattle.machine.specs.Steps.{observed_first};
+ghost use Rattle.machine.specs.Observed.{observe_all};
 ghost use Rattle.recovery.specs.Openings.{IsLater, IsMade};
 ghost use Rattle.engine.specs.Engine.{HasNotStarted, HasRun, HasStarted};
 ghost use Rattle.engine.specs.Survival.{Survives};
@@ -24,18 +24,18 @@ use volume_codec::one_reading;
 
 /// Steps that were made after a start are a run, whatever is known of its last machine (`run`). Over an honest device
 /// there are files to which that recovered before it was opened, and a crash since any machine of the run leaves what
-/// reads back as these files after a durable prefix of what was told by the steps up to that one and by some of the
+/// reads back as these files after a durable prefix of what was observed by the steps up to that one and by some of the
 /// later ones (`since`).
 pub fn steps_are_a_run<D: Device>(device: &D)
     ensures run { (before : D) (shape : Shape) (start last : Whole D) (steps : List Step) (replies : List Reply)
         → HasStarted D.Device before shape start → StepsTaken D.Device start steps replies last
         → HasRun D.Device before shape steps replies last.device }
     ensures since { (before : D) (shape : Shape) (start mid last : Whole D) (earlier later : List Step)
-        (told more : List Reply) → HasStarted D.Device before shape start
-        → StepsTaken D.Device start earlier told mid → StepsTaken D.Device mid later more last → D.is_honest before
+        (replied more : List Reply) → HasStarted D.Device before shape start
+        → StepsTaken D.Device start earlier replied mid → StepsTaken D.Device mid later more last → D.is_honest before
         → (files : List File) × RecoversTo (D.seen before) files
         × ((c : List ℕ) → D.left_since last.device (D.moment mid.device) c
-        → ReadsBackSince files (tell_all (told_first files start.state) earlier told) later more c) }
+        → ReadsBackSince files (observe_all (observed_first files start.state) earlier replied) later more c) }
 {
     runs_keep_the_laws(device);
     faults_are_served(device);

@@ -64,7 +64,7 @@ health_of_found {Z} bytes found is = told is.batches is.volume
         all_closed (geometry_of found.table) bytes 0 found.journals.items is.journals.1 (λ k below o.
         let no : false ≡ true = volume.journals.all k (omega (arith, is.journals.0)) o in cc) in
         rw none (record { table = found.table; volume = volume; files = _; recovers = is.files })
-    told (newest ∷ older) volume =
+    derived (newest ∷ older) volume =
         let o = volume.journals.each.0 in
         let some : list_any is_open found.journals.items ≡ true =
         any_open (geometry_of found.table) bytes 0 newest.journal found.journals.items is.journals.1 (omega arith)

@@ -6,7 +6,7 @@ use Rattle.std.specs.List.{AllByRecursion}
 use Rattle.std.proofs.lemmas.Bool.{ltb-true, ltb-false, eqb-true, eqb-false, eq-eqb}
 use Rattle.volume_codec.specs.Layout.{GeometryValue, IsGeometry, journals_of, descriptor_block, first_home, block_at}
 use Rattle.volume_codec.specs.Descriptor.{DescriptorValue, IsDescriptor, RiseWithin}
-use Rattle.volume_codec.specs.Recovery.{Batch, IsOpenBatch, IsOpen, has_journal, AreOpen, standing_block}
+use Rattle.volume_codec.specs.Recovery.{Batch, IsOpenBatch, IsOpen, has_journal, AreOpen, recovered_block}
 use Rattle.volume_codec.proofs.Public.{few_journals}
 use Rattle.recovery.specs.inside.Reading.{AreRead}
 use Rattle.recovery.proofs.FoundJournals.{one_mark_refused}
@@ -15,8 +15,8 @@ use Rattle.inspection.specs.Found.{AreJournals}
 use Rattle.inspection.specs.inside.Order.{descriptor_at, batch_by, is_below, have_one_mark, batches_by, finishing}
 
 -- what is said of journal i, of which this descriptor was read, or none
-abbrev pub Says : GeometryValue → List ℕ → ℕ → Option DescriptorValue → Type 0
-Says g bytes i o = MatchOption o (i < journals_of g.layout → IsOpen bytes g.slots i → ⊥)
+abbrev pub Describes : GeometryValue → List ℕ → ℕ → Option DescriptorValue → Type 0
+Describes g bytes i o = MatchOption o (i < journals_of g.layout → IsOpen bytes g.slots i → ⊥)
     (λ d. IsOpenBatch g bytes (record { journal = i; mark = d.mark; homes = d.homes }))
 
 say_of : (g : GeometryValue) (bytes : List ℕ) (i : ℕ) (o : Option DescriptorValue) → i < journals_of g.layout
@@ -138,7 +138,7 @@ pub calls_of : (d e : Option DescriptorValue)
 calls_of d e = sum_of d e (is_below d e)
 
 -- the homes of a descriptor rise
-pub rises : (g : GeometryValue) (bytes : List ℕ) (i : ℕ) (o : Option DescriptorValue) → Says g bytes i o
+pub rises : (g : GeometryValue) (bytes : List ℕ) (i : ℕ) (o : Option DescriptorValue) → Describes g bytes i o
     → MatchOption o (Unit {0}) (λ d. RiseWithin (first_home g.layout g.slots) g.blocks d.homes)
 rises g bytes i None says = tt
 rises g bytes i (Some d) says = says.descriptor.described.homes.rising

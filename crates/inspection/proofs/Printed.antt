@@ -10,7 +10,7 @@ use Rattle.volume_codec.specs.Super.{pages_of, total_pages, names_in}
 use Rattle.volume_codec.specs.Lengths.{lengths_in}
 use Rattle.volume_codec.specs.Recovery.{files_from}
 use Rattle.volume_codec.proofs.Public.{length-block_at, length-file}
-use Rattle.recovery.specs.Volume.{VolumeState, IsSettled, files_of, bytes_of}
+use Rattle.recovery.specs.Volume.{VolumeState, IsWellFormed, files_of, bytes_of}
 use Rattle.std.specs.Io.KnownBytes.{Appends}
 use Rattle.inspection.specs.Lines.{json_line, head_data, rows_json, row_count, file_json, files_json}
 use Rattle.inspection.specs.inside.Pages.{IsReadVolume, AreFilesOf}

@@ -9,7 +9,7 @@ use Rattle.volume_codec.specs.Descriptor.{DescriptorValue}
 use Rattle.inspection.specs.declared.found.Journal.{Journal}
 use Rattle.inspection.specs.declared.found.Found.{Found}
 use Rattle.inspection.specs.declared.health.Health.{Health}
-use Rattle.inspection.specs.declared.place.Place.{Place}
+use Rattle.inspection.specs.declared.place.HomePage.{HomePage}
 use Rattle.inspection.specs.Places.{place_in}
 use Rattle.inspection.specs.Text.{name_of, health_words}
 
@@ -41,7 +41,7 @@ files_data v lengths zero = []
 files_data v lengths (suc i) = files_data v lengths i ++ file_data v i (slice_index lengths i) ∷ []
 
 -- a home block: its file and the page of that
-abbrev pub place_data : SuperValue → ℕ → Option Place → Data
+abbrev pub place_data : SuperValue → ℕ → Option HomePage → Data
 place_data v h None = object (member (codes "block") (num h) no_members)
 place_data v h (Some place) =
     object (member (codes "file") (string (name_of v place.file))

@@ -1,15 +1,15 @@
 -- Which page of which file a home block is.
 use Rattle.std.specs.Prelude.{ℕ, zero, suc, ◌-◌, if◌then◌else◌, nat_le, length, Option, Some, None}
 use Rattle.volume_codec.specs.Super.{SuperValue, first_home_of}
-use Rattle.inspection.specs.declared.place.Place.{Place}
+use Rattle.inspection.specs.declared.place.HomePage.{HomePage}
 
 -- the home block h as a page of the last of the files before file i that begins there or before
-abbrev pub place_before : SuperValue → ℕ → ℕ → Option Place
+abbrev pub place_before : SuperValue → ℕ → ℕ → Option HomePage
 place_before v h zero = None
 place_before v h (suc i) = if nat_le (first_home_of v i) h
     then Some (record { file = i; page = h - first_home_of v i })
     else place_before v h i
 
 -- the home block h as a page of the file that it belongs to
-abbrev pub place_in : SuperValue → ℕ → Option Place
+abbrev pub place_in : SuperValue → ℕ → Option HomePage
 place_in v h = place_before v h (length v.files)

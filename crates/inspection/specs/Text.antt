@@ -10,7 +10,7 @@ use Rattle.inspection.specs.declared.found.Journal.{Journal}
 use Rattle.inspection.specs.declared.found.Found.{Found}
 use Rattle.inspection.specs.declared.health.Health.{Health}
 use Rattle.inspection.specs.declared.health.Health.TheVariants.{Clean, NeedsOpening}
-use Rattle.inspection.specs.declared.place.Place.{Place}
+use Rattle.inspection.specs.declared.place.HomePage.{HomePage}
 use Rattle.inspection.specs.Places.{place_in}
 
 -- the name of file i
@@ -47,7 +47,7 @@ file_lines v lengths zero = []
 file_lines v lengths (suc i) = file_lines v lengths i ++ file_line v i (slice_index lengths i)
 
 -- a home block: a space, the name of its file, a colon, and the number of the page in that
-abbrev pub place_text : SuperValue → ℕ → Option Place → List ℕ
+abbrev pub place_text : SuperValue → ℕ → Option HomePage → List ℕ
 place_text v h None = codes " block " ++ decimal h
 place_text v h (Some place) = 32 ∷ name_of v place.file ++ 58 ∷ decimal place.page
 

@@ -3,7 +3,7 @@ ghost use Rattle.std.specs.Prelude.{◌≡◌, ◌↔◌, ℕ, ◌+◌, ◌*◌,
 ghost use Rattle.volume_codec.specs.Descriptor.{RiseWithin};
 ghost use Rattle.volume_codec.specs.Layout.{journals_of, first_home, block_at};
 ghost use Rattle.volume_codec.specs.Lengths.{AreLengths, IsLengths};
-ghost use Rattle.volume_codec.specs.Recovery.{Batch, IsVolume, standing_block};
+ghost use Rattle.volume_codec.specs.Recovery.{Batch, IsVolume, recovered_block};
 ghost use Rattle.volume_codec.specs.Super.{block_count, geometry_of};
 ghost use Rattle.recovery.specs.Opening.{RefusesOpening};
 ghost use Rattle.recovery.specs.inside.Reading.{AreFound, RefusesStored};
@@ -48,7 +48,7 @@ pub fn find_lengths<D: Device, A: Allocator + Copy>(
         };
         return Ok(lengths);
     }
-    let lengths = read_lengths_at(alloc, device, table, standing_first(&geometry, journals))?;
+    let lengths = read_lengths_at(alloc, device, table, recovered_first(&geometry, journals))?;
     Ok(lengths)
 }
 
@@ -73,10 +73,10 @@ fn read_lengths_at<D: Device, A: Allocator + Copy>(
 
 // The block that has the recovered bytes of the first home block. A record for that block is the first of its journal,
 // as records are in the order of their home blocks.
-fn standing_first<A: Allocator + Copy>(geometry: &Geometry, journals: &[Journal<A>]) -> u32
+fn recovered_first<A: Allocator + Copy>(geometry: &Geometry, journals: &[Journal<A>]) -> u32
     requires { length journals.now ≡ journals_of geometry.now.layout }
     ensures value { (bytes : List ℕ) → AreJournals geometry.now bytes journals.now
-        → result ≡ standing_block geometry.now.slots (batches_of journals.now)
+        → result ≡ recovered_block geometry.now.slots (batches_of journals.now)
         (first_home geometry.now.layout geometry.now.slots) }
     ensures within { result < geometry.now.blocks }
 {
@@ -105,8 +105,8 @@ fn record_or<A: Allocator + Copy>(
     ensures value { (older : List Batch)
         → MatchOption (option_copied descriptor.entry) (Unit {0}) (λ d. RiseWithin
         (first_home geometry.now.layout geometry.now.slots) geometry.now.blocks d.homes)
-        → other ≡ standing_block geometry.now.slots older (first_home geometry.now.layout geometry.now.slots)
-        → result ≡ standing_block geometry.now.slots (batch_by journal (option_copied descriptor.entry) ++ older)
+        → other ≡ recovered_block geometry.now.slots older (first_home geometry.now.layout geometry.now.slots)
+        → result ≡ recovered_block geometry.now.slots (batch_by journal (option_copied descriptor.entry) ++ older)
         (first_home geometry.now.layout geometry.now.slots) }
     ensures within { result < geometry.now.blocks }
 {
@@ -127,8 +127,8 @@ fn first_or<A: Allocator + Copy>(
     requires within { other < geometry.now.blocks }
     ensures value { (older : List Batch)
         → RiseWithin (first_home geometry.now.layout geometry.now.slots) geometry.now.blocks descriptor.now.homes
-        → other ≡ standing_block geometry.now.slots older (first_home geometry.now.layout geometry.now.slots)
-        → result ≡ standing_block geometry.now.slots (batch_by journal (Some descriptor.now) ++ older)
+        → other ≡ recovered_block geometry.now.slots older (first_home geometry.now.layout geometry.now.slots)
+        → result ≡ recovered_block geometry.now.slots (batch_by journal (Some descriptor.now) ++ older)
         (first_home geometry.now.layout geometry.now.slots) }
     ensures within { result < geometry.now.blocks }
 {

@@ -8,20 +8,20 @@ use volume_codec::Super;
 
 /// A page of a file, both counted from 0.
 #[derive(Clone, Copy, Debug, PartialEq, Eq)]
-pub struct Place {
+pub struct HomePage {
     pub file: usize,
     pub page: u32,
 }
 
 /// Which page of which file a home block is; none of a home block before those of the files.
-pub fn place_of<A: Allocator + Copy>(table: &Super<A>, home: u32) -> Option<Place>
+pub fn place_of<A: Allocator + Copy>(table: &Super<A>, home: u32) -> Option<HomePage>
     ensures place { result ≡ place_in table.now home }
     ensures within { IfSome result (λ place. place.file < length table.now.files) }
 {
     for file in (0..table.file_count()).rev() {
         let first = table.first_home(file);
         if first <= home {
-            return Some(Place {
+            return Some(HomePage {
                 file,
                 page: home - first,
             });

@@ -1,4 +1,4 @@
--- A write-out by itself is a list of one: it stands with its device as that does.
+-- A write-out by itself is a list of one: it is consistent with its device as that is.
 use Rattle.std.proofs.Common.{◌≡◌, ℕ, ◌+◌, ◌<◌, ◌⊎◌, inl, inr, Bool, false, cond, ◌==◌, List, [], ◌∷◌, length}
 use Rattle.std.proofs.Common.{drop, get_or, Option, Some, None, refl, sym, ap, ◌∙◌, subst, ⊎_elim, arith}
 use Rattle.std.specs.Prelude.{IsSome, MatchBool}
@@ -28,17 +28,17 @@ use Rattle.journal.specs.WriteOut.{flush_of, flush_home, flush_work, flush_answe
 use Rattle.journal.specs.WriteOuts.{WriteOutsValue, none_of, current, advanced, current_stage, outs_home}
 use Rattle.journal.specs.WriteOuts.{next_work, next_answer, outs_after, is_busy, begun, HasBlock}
 use Rattle.journal.specs.Crash.{LeftBefore, LeftWithin}
-use Rattle.journal.specs.Standing.{IsStep}
-use Rattle.journal.specs.Alone.{StandsAlone, BegunAlone, SteppedAlone}
-use Rattle.journal.specs.inside.Standing.{IsStanding}
-use Rattle.journal.specs.inside.Listed.{ListedWriteOut, listed_after}
+use Rattle.journal.specs.LedTo.{IsStep}
+use Rattle.journal.specs.Alone.{HasLedAlone, BegunAlone, SteppedAlone}
+use Rattle.journal.specs.inside.Consistent.{IsConsistent}
+use Rattle.journal.specs.inside.Queued.{QueuedWriteOut, queued_after}
 use Rattle.journal.specs.inside.Alone.{unless_done, alone_of}
 use Rattle.journal.proofs.Stages.{stage_at-is, stage_from, next_of, next_is}
 use Rattle.journal.proofs.Tying.{stage_of}
 use Rattle.journal.proofs.Sounding.{first_stage}
 use Rattle.journal.proofs.Leaving.{is_last}
-use Rattle.journal.proofs.StandsKept.{tied_first, stands_going, stands_begun}
-use Rattle.journal.proofs.StandsKept.{stands_stepped, stands_left, stands_within}
+use Rattle.journal.proofs.KeptConsistent.{tied_first, consistent_going, consistent_begun}
+use Rattle.journal.proofs.KeptConsistent.{consistent_stepped, consistent_left, consistent_within}
 
 -- ---- a list of one
 
@@ -156,10 +156,10 @@ module _ (flush : FlushValue) (stage : Stage) (at : next_stage flush.write_out �
 begun_alone : (v : SuperValue) (batch : Batch) (room : ℕ) (new : ℕ → List ℕ) (seen : List ℕ) (may : List ℕ → Type 0)
     → IsBatch (geometry_of v) batch → IsVolume v [] seen → Only may seen
     → ((b : ℕ) → (Contains batch.homes b → ⊥) → new b ≡ block_at seen b)
-    → IsStanding v (alone_of (flush_of (geometry_of v) batch room)) (block_at seen) new seen may
+    → IsConsistent v (alone_of (flush_of (geometry_of v) batch room)) (block_at seen) new seen may
 begun_alone v batch room new seen may is_batch volume only outside =
-    subst (λ (o : WriteOutsValue). IsStanding v o (block_at seen) new seen may) same
-    (stands_begun v empty (block_at seen) (block_at seen) new batch.mark batch.homes seen may refl free
+    subst (λ (o : WriteOutsValue). IsConsistent v o (block_at seen) new seen may) same
+    (consistent_begun v empty (block_at seen) (block_at seen) new batch.mark batch.homes seen may refl free
     is_batch.described.some_mark is_batch.described.small_mark is_batch.described.homes tt outside rests)
   where
     empty : WriteOutsValue
@@ -169,8 +169,8 @@ begun_alone v batch room new seen may is_batch volume only outside =
     free = or_from false (0 == journals_of v.layout) refl
         (ne_eqb 0 (journals_of v.layout) (λ e. absurd (let some = (few_journals v.layout).0 in omega (arith, some, e))))
 
-    rests : IsStanding v empty (block_at seen) (block_at seen) seen may
-    rests = stands_going v (block_at seen) (block_at seen) empty seen may refl
+    rests : IsConsistent v empty (block_at seen) (block_at seen) seen may
+    rests = consistent_going v (block_at seen) (block_at seen) empty seen may refl
         (record {
           geometry = fits_geometry v volume.super_block.fits;
           there = is_batch.there;
@@ -189,7 +189,7 @@ begun_alone v batch room new seen may is_batch volume only outside =
 
 -- it is a batch of the volume
 batch_alone : {D : Type 0} (disk : Ghosts D) (v : SuperValue) {flush : FlushValue} {old new : ℕ → List ℕ} {device : D}
-    → StandsAlone disk v flush old new device
+    → HasLedAlone disk v flush old new device
     → IsBatch (geometry_of v) flush.write_out.batch
 batch_alone disk v (BegunAlone batch room new device may outside) = may.is_batch
 batch_alone disk v (SteppedAlone flush old new bytes answer before after step is_new s) =
@@ -203,13 +203,13 @@ batch_alone disk v (SteppedAlone flush old new bytes answer before after step is
     by Device is = is
     by Broken is = is
 
-pub standing_alone : {D : Type 0} (disk : Ghosts D)
+pub consistent_alone : {D : Type 0} (disk : Ghosts D)
     (v : SuperValue) {flush : FlushValue} {old new : ℕ → List ℕ} {device : D}
-    → StandsAlone disk v flush old new device
-    → IsStanding v (alone_of flush) old new (disk.seen device) (disk.may_leave device)
-standing_alone disk v (BegunAlone batch room new device may outside) =
+    → HasLedAlone disk v flush old new device
+    → IsConsistent v (alone_of flush) old new (disk.seen device) (disk.may_leave device)
+consistent_alone disk v (BegunAlone batch room new device may outside) =
     begun_alone v batch room new (disk.seen device) (disk.may_leave device) may.is_batch may.volume may.synced outside
-standing_alone disk v (SteppedAlone flush old new bytes answer before after step is_new s) =
+consistent_alone disk v (SteppedAlone flush old new bytes answer before after step is_new s) =
     let at = stage_of flush.write_out step.going in
     let outs_step : IsStep disk (alone_of flush) bytes answer before after = record {
       whole = step.whole;
@@ -219,19 +219,19 @@ standing_alone disk v (SteppedAlone flush old new bytes answer before after step
       honest = step.honest;
       did = did_as disk (sym (work_same flush at.0 at.1 bytes)) refl step.did;
     } in
-    subst (λ (o : WriteOutsValue). IsStanding v o old new (disk.seen after) (disk.may_leave after))
+    subst (λ (o : WriteOutsValue). IsConsistent v o old new (disk.seen after) (disk.may_leave after))
     (after_same flush at.0 at.1 (batch_alone disk v s).described.homes.some step.whole answer step.answered)
-    (stands_stepped disk v (alone_of flush) old new bytes answer before after outs_step
-    (λ home e. is_new home (sym (home_same flush at.0 at.1) ∙ e)) (standing_alone disk v s))
+    (consistent_stepped disk v (alone_of flush) old new bytes answer before after outs_step
+    (λ home e. is_new home (sym (home_same flush at.0 at.1) ∙ e)) (consistent_alone disk v s))
 
 module _ {D : Type 0} (disk : Ghosts D) (v : SuperValue) {flush : FlushValue} {old new : ℕ → List ℕ} {device : D}
-    (s : StandsAlone disk v flush old new device) where
+    (s : HasLedAlone disk v flush old new device) where
   -- what may be left now may be left within the next step
   pub alone_left : (c : List ℕ) → disk.may_leave device c → LeftWithin v old new (next_stage flush.write_out) c
   alone_left c left =
       subst (λ (o : Option Stage). LeftWithin v old new o c) (stage_same flush)
-      (stands_left v old new (alone_of flush) (disk.seen device) (disk.may_leave device)
-      (standing_alone disk v s) c left)
+      (consistent_left v old new (alone_of flush) (disk.seen device) (disk.may_leave device)
+      (consistent_alone disk v s) c left)
 
   -- what a crash may leave within the next step
   pub alone_within : (bytes : List ℕ) → length bytes ≡ 4096 → flush.broken ≡ false
@@ -241,8 +241,8 @@ module _ {D : Type 0} (disk : Ghosts D) (v : SuperValue) {flush : FlushValue} {o
   alone_within bytes size whole going is_new c torn =
       let at = stage_of flush.write_out going in
       subst (λ (o : Option Stage). LeftWithin v old new o c) (stage_same flush)
-      (stands_within v old new (alone_of flush) (disk.seen device)
-      (disk.may_leave device) bytes size (standing_alone disk v s) whole (some_left flush at.0 at.1)
+      (consistent_within v old new (alone_of flush) (disk.seen device)
+      (disk.may_leave device) bytes size (consistent_alone disk v s) whole (some_left flush at.0 at.1)
       (λ home e. is_new home (sym (home_same flush at.0 at.1) ∙ e))
       c (subst (λ (work : Work). TornFromWork work (disk.may_leave device) c)
       (sym (work_same flush at.0 at.1 bytes)) torn))
@@ -253,14 +253,14 @@ module _ {D : Type 0} (disk : Ghosts D) (v : SuperValue) {flush : FlushValue} {o
       (LeftBefore v old new (next_stage flush.write_out) c)
   alone_now c left =
       subst (λ (o : Option Stage). MatchBool flush.broken (LeftWithin v old new o c) (LeftBefore v old new o c))
-      (stage_same flush) ((standing_alone disk v s).left c left)
+      (stage_same flush) ((consistent_alone disk v s).left c left)
 
   -- a home block outside the batch
   pub alone_reads : flush.broken ≡ false → (b : ℕ) → IsHome (geometry_of v) b
       → (Contains flush.write_out.batch.homes b → ⊥)
       → block_at (disk.seen device) b ≡ new b
   alone_reads whole b home none =
-      (standing_alone disk v s).reads whole b home (λ has. none (by (next_stage flush.write_out) refl has))
+      (consistent_alone disk v s).reads whole b home (λ has. none (by (next_stage flush.write_out) refl has))
     where
       by : (o : Option Stage) → next_stage flush.write_out ≡ o → HasBlock (alone_of flush) b
           → Contains flush.write_out.batch.homes b
@@ -281,11 +281,11 @@ module _ {D : Type 0} (disk : Ghosts D) (v : SuperValue) {flush : FlushValue} {o
   -- once it is done
   pub alone_rests : flush.broken ≡ false → next_stage flush.write_out ≡ None
       → IsVolume v [] (disk.seen device) × Only (disk.may_leave device) (disk.seen device)
-  alone_rests whole at = (standing_alone disk v s).rests whole (none_left flush.write_out at)
+  alone_rests whole at = (consistent_alone disk v s).rests whole (none_left flush.write_out at)
 
   pub alone_holds : flush.broken ≡ false → next_stage flush.write_out ≡ None → (b : ℕ) → IsHome (geometry_of v) b
       → block_at (disk.seen device) b ≡ new b
-  alone_holds whole at b home = (standing_alone disk v s).reads whole b home (λ has.
+  alone_holds whole at b home = (consistent_alone disk v s).reads whole b home (λ has.
       absurd (let in_none : Contains {X = WriteOut} [] has.0 =
       subst (λ (l : List WriteOut). Contains l has.0) (none_left flush.write_out at) has.1 in let lt = in_none.1 in
       omega (arith, lt)))
@@ -293,18 +293,18 @@ module _ {D : Type 0} (disk : Ghosts D) (v : SuperValue) {flush : FlushValue} {o
 -- ---- a step
 
 -- what the code keeps, after a step that answers so
-pub view_after : (g : GeometryValue) (listed new : ListedWriteOut)
+pub view_after : (g : GeometryValue) (queued new : QueuedWriteOut)
     (broken after : Bool) (answer : Flushed) (now : FlushValue)
     → (let f : FlushValue =
-    record { geometry = g; write_out = listed.write_out; broken = broken; room = listed.room } in
-    f) ≡ now → new ≡ listed_after listed answer → after ≡ broken_after answer broken
+    record { geometry = g; write_out = queued.write_out; broken = broken; room = queued.room } in
+    f) ≡ now → new ≡ queued_after queued answer → after ≡ broken_after answer broken
     → (let f : FlushValue = record { geometry = g; write_out = new.write_out; broken = after; room = new.room } in
     f) ≡ flush_after now answer
-view_after g listed new broken after answer now same value failed =
-    ap (λ (l : ListedWriteOut). let f : FlushValue =
+view_after g queued new broken after answer now same value failed =
+    ap (λ (l : QueuedWriteOut). let f : FlushValue =
     record { geometry = g; write_out = l.write_out; broken = after; room = l.room } in f) value
     ∙ ap (λ b. let f : FlushValue =
-    record { geometry = g; write_out = write_out_after answer listed.write_out; broken = b; room = listed.room } in
+    record { geometry = g; write_out = write_out_after answer queued.write_out; broken = b; room = queued.room } in
     f) failed
     ∙ ap (λ (f : FlushValue). flush_after f answer) same
 
@@ -320,7 +320,7 @@ module _ {D : Type 0} (disk : Ghosts D) {before after : D} (inside now : FlushVa
     (going : IsSome (next_stage now.write_out))
     (answered : (answer ≡ answer_of inside.write_out) ⊎ (answer ≡ Device))
     (did : Did disk before (work_of inside.geometry bytes inside.write_out) (has_done answer) after)
-    (v : SuperValue) (old new : ℕ → List ℕ) (s : StandsAlone disk v now old new before)
+    (v : SuperValue) (old new : ℕ → List ℕ) (s : HasLedAlone disk v now old new before)
     (is_new : (home : ℕ) → flush_home now ≡ Some home → bytes ≡ new home) where
   whole_now : now.broken ≡ false
   whole_now = sym (ap (λ (f : FlushValue). f.broken) same) ∙ whole
@@ -338,8 +338,8 @@ module _ {D : Type 0} (disk : Ghosts D) {before after : D} (inside now : FlushVa
       (LeftWithin v old new (next_stage now.write_out))
   crash_of_step = leaves_weaker did_now.time (alone_within disk v s bytes size whole_now going is_new)
 
-  pub stands_after_step : disk.is_honest before → StandsAlone disk v (flush_after now answer) old new after
-  stands_after_step honest =
+  pub consistent_after_step : disk.is_honest before → HasLedAlone disk v (flush_after now answer) old new after
+  consistent_after_step honest =
       SteppedAlone now old new bytes answer before after (record {
         whole = whole_now;
         going = going;

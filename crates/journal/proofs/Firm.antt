@@ -8,81 +8,84 @@ use Rattle.std.proofs.lemmas.List.{get_or-take, get_or-drop, get_or_default}
 use Rattle.volume_codec.specs.Layout.{IsHome, journals_of, gate_block, descriptor_block}
 use Rattle.volume_codec.specs.Layout.{record_block, first_home, block_at}
 use Rattle.volume_codec.specs.Super.{SuperValue, IsSuper, geometry_of, block_count}
-use Rattle.volume_codec.specs.Recovery.{Batch, IsOpen, IsOpenBatch, AreFalling, has_journal, standing_block}
+use Rattle.volume_codec.specs.Recovery.{Batch, IsOpen, IsOpenBatch, AreFalling, has_journal, recovered_block}
 use Rattle.journal.specs.declared.stage.Stage.{Stage}
 use Rattle.journal.specs.declared.stage.Stage.TheVariants.{Recording, Describing, SyncingRecords, Opening}
 use Rattle.journal.specs.declared.stage.Stage.TheVariants.{Committing, Applying, SyncingHomes, Closing, Finishing}
 use Rattle.journal.specs.Stage.{is_committed}
 use Rattle.journal.specs.WriteOut.{IsBatch}
 use Rattle.journal.specs.inside.Tied.{Progress, IsInJournal, IsFirmFor, IsLeft, is_recording}
-use Rattle.journal.specs.inside.Tied.{is_switching, is_applying, is_sure, is_open, is_described}
-use Rattle.journal.specs.inside.Tied.{sure_in, IsCovered, IsWritten, AreWritten, kept_in, IsSeen}
+use Rattle.journal.specs.inside.Tied.{is_switching, is_applying, is_durable, is_open, is_described}
+use Rattle.journal.specs.inside.Tied.{durable_in, IsCovered, IsWritten, AreWritten, kept_in, IsSeen}
 use Rattle.journal.proofs.Alls.{IsIn, all_map, all_each, all_in, all-append, in_left, in_right}
 use Rattle.journal.proofs.Places.{gate-below, descriptor-below, record-below, gate-above}
 use Rattle.journal.proofs.Places.{descriptor-above, record-above, descriptors_apart, gate_no_descriptor}
 use Rattle.journal.proofs.Places.{gate_no_record, descriptor_no_record, records_apart}
-use Rattle.journal.proofs.Standing.{IsSlot, AreFew, standing-cases, standing-recorded, covered_of, lacking, has-below}
+use Rattle.journal.proofs.RecoveredBlocks.{IsSlot, AreFew, recovered-cases}
+use Rattle.journal.proofs.RecoveredBlocks.{recovered-recorded, covered_of, lacking, has-below}
 use Rattle.journal.proofs.Recovering.{HoldsBy, falling_push}
 use Rattle.journal.proofs.Written.{home_at}
 use Rattle.journal.proofs.Tying.{false_true, IsBefore, AreOrdered, AreGoing, one_stage}
 
 -- ---- stages
 
-pub sure_facts : (s : Stage) → is_sure s ≡ true
+pub durable_facts : (s : Stage) → is_durable s ≡ true
     → (is_open s ≡ true) × (is_described s ≡ true) × (is_switching s ≡ false) × (is_recording s ≡ false)
     × (is_committed s ≡ true)
-sure_facts (Recording i) e = false_true e
-sure_facts Describing e = false_true e
-sure_facts SyncingRecords e = false_true e
-sure_facts Opening e = false_true e
-sure_facts Committing e = false_true e
-sure_facts (Applying i) e = (refl, refl, refl, refl, refl)
-sure_facts SyncingHomes e = (refl, refl, refl, refl, refl)
-sure_facts Closing e = (refl, refl, refl, refl, refl)
-sure_facts Finishing e = false_true e
+durable_facts (Recording i) e = false_true e
+durable_facts Describing e = false_true e
+durable_facts SyncingRecords e = false_true e
+durable_facts Opening e = false_true e
+durable_facts Committing e = false_true e
+durable_facts (Applying i) e = (refl, refl, refl, refl, refl)
+durable_facts SyncingHomes e = (refl, refl, refl, refl, refl)
+durable_facts Closing e = (refl, refl, refl, refl, refl)
+durable_facts Finishing e = false_true e
 
-pub applying_sure : (s : Stage) → is_applying s ≡ true → is_sure s ≡ true
-applying_sure (Recording i) e = false_true e
-applying_sure Describing e = false_true e
-applying_sure SyncingRecords e = false_true e
-applying_sure Opening e = false_true e
-applying_sure Committing e = false_true e
-applying_sure (Applying i) e = refl
-applying_sure SyncingHomes e = refl
-applying_sure Closing e = false_true e
-applying_sure Finishing e = false_true e
+pub applying_durable : (s : Stage) → is_applying s ≡ true → is_durable s ≡ true
+applying_durable (Recording i) e = false_true e
+applying_durable Describing e = false_true e
+applying_durable SyncingRecords e = false_true e
+applying_durable Opening e = false_true e
+applying_durable Committing e = false_true e
+applying_durable (Applying i) e = refl
+applying_durable SyncingHomes e = refl
+applying_durable Closing e = false_true e
+applying_durable Finishing e = false_true e
 
 -- ---- batches whose gates are surely open
 
-pub sure_all : (P : Batch → Type 0) (progress : List Progress)
-    → AllByRecursion (λ (p : Progress). is_sure p.stage ≡ true → P p.batch) progress
-    → AllByRecursion P (sure_in progress)
-sure_all P [] all = tt
-sure_all P (p ∷ newer) all =
-    all-append P (sure_in newer) (cond (is_sure p.stage) (p.batch ∷ []) []) (sure_all P newer all.1)
-    (cond_both (is_sure p.stage) (p.batch ∷ []) [] (AllByRecursion P) (λ e. (all.0 e, tt)) (λ e. tt))
+pub durable_all : (P : Batch → Type 0) (progress : List Progress)
+    → AllByRecursion (λ (p : Progress). is_durable p.stage ≡ true → P p.batch) progress
+    → AllByRecursion P (durable_in progress)
+durable_all P [] all = tt
+durable_all P (p ∷ newer) all =
+    all-append P (durable_in newer) (cond (is_durable p.stage) (p.batch ∷ []) []) (durable_all P newer all.1)
+    (cond_both (is_durable p.stage) (p.batch ∷ []) [] (AllByRecursion P) (λ e. (all.0 e, tt)) (λ e. tt))
 
-pub sure_there : (progress : List Progress) (p : Progress) → IsIn p progress → is_sure p.stage ≡ true
-    → IsIn p.batch (sure_in progress)
-sure_there [] p there sure = absurd there
-sure_there (q ∷ newer) p (inl is) sure =
-    in_right (sure_in newer) (cond (is_sure q.stage) (q.batch ∷ []) []) p.batch
+pub durable_there : (progress : List Progress) (p : Progress) → IsIn p progress → is_durable p.stage ≡ true
+    → IsIn p.batch (durable_in progress)
+durable_there [] p there durable = absurd there
+durable_there (q ∷ newer) p (inl is) durable =
+    in_right (durable_in newer) (cond (is_durable q.stage) (q.batch ∷ []) []) p.batch
     (subst (IsIn p.batch)
-    (sym (cond-true (is_sure q.stage) (q.batch ∷ []) [] (ap (λ (x : Progress). is_sure x.stage) is ∙ sure)))
+    (sym (cond-true (is_durable q.stage) (q.batch ∷ []) [] (ap (λ (x : Progress). is_durable x.stage) is ∙ durable)))
     (inl (ap (λ (x : Progress). x.batch) is)))
-sure_there (q ∷ newer) p (inr later) sure =
-    in_left (sure_in newer) (cond (is_sure q.stage) (q.batch ∷ []) []) p.batch (sure_there newer p later sure)
+durable_there (q ∷ newer) p (inr later) durable =
+    in_left (durable_in newer) (cond (is_durable q.stage) (q.batch ∷ []) []) p.batch
+    (durable_there newer p later durable)
 
-pub sure_falling : (progress : List Progress) → AreOrdered progress → AreFalling (sure_in progress)
-sure_falling [] ordered = tt
-sure_falling (p ∷ newer) ordered =
-    cond_both (is_sure p.stage) (p.batch ∷ []) [] (λ (l : List Batch). AreFalling (sure_in newer ++ l))
-    (λ e. falling_push (sure_in newer) p.batch (sure_falling newer ordered.1)
-    (sure_all (λ (b : Batch). p.batch.mark < b.mark) newer
-    (all_map {P = IsBefore p} {Q = λ (q : Progress). is_sure q.stage ≡ true → p.batch.mark < q.batch.mark}
-    (λ q before sure. before.marks) newer ordered.0)))
+pub durable_falling : (progress : List Progress) → AreOrdered progress → AreFalling (durable_in progress)
+durable_falling [] ordered = tt
+durable_falling (p ∷ newer) ordered =
+    cond_both (is_durable p.stage) (p.batch ∷ []) [] (λ (l : List Batch). AreFalling (durable_in newer ++ l))
+    (λ e. falling_push (durable_in newer) p.batch (durable_falling newer ordered.1)
+    (durable_all (λ (b : Batch). p.batch.mark < b.mark) newer
+    (all_map {P = IsBefore p} {Q = λ (q : Progress). is_durable q.stage ≡ true → p.batch.mark < q.batch.mark}
+    (λ q before durable. before.marks) newer ordered.0)))
     (λ e.
-    subst AreFalling (sym (Rattle.std.proofs.lemmas.List.append-nil (sure_in newer))) (sure_falling newer ordered.1))
+    subst AreFalling (sym (Rattle.std.proofs.lemmas.List.append-nil (durable_in newer)))
+    (durable_falling newer ordered.1))
 
 pub has_in : (batches : List Batch) (batch : Batch) → IsIn batch batches → has_journal batches batch.journal ≡ true
 has_in [] batch there = absurd there
@@ -96,7 +99,7 @@ pub written_at : (v : SuperValue) (new : ℕ → List ℕ) (seen : List ℕ) (pr
     → AreWritten v new seen progress → IsIn p progress → (newer : List Batch) × IsWritten v new newer p seen
 written_at v new seen [] p are there = absurd there
 written_at v new seen (q ∷ newer) p are (inl is) =
-    (sure_in newer, subst (λ (x : Progress). IsWritten v new (sure_in newer) x seen) is are.0)
+    (durable_in newer, subst (λ (x : Progress). IsWritten v new (durable_in newer) x seen) is are.0)
 written_at v new seen (q ∷ newer) p are (inr later) = written_at v new seen newer p are.1 later
 
 -- ---- firm blocks
@@ -215,48 +218,51 @@ module _ (v : SuperValue) (progress : List Progress) (going : AreGoing (geometry
       (one_stage progress p going.ordered there)
 
   -- what stands for home blocks
-  few_sure : AreFew v.slots (sure_in progress)
-  few_sure = sure_all (λ (b : Batch). length b.homes ≤ v.slots) progress
+  few_durable : AreFew v.slots (durable_in progress)
+  few_durable = durable_all (λ (b : Batch). length b.homes ≤ v.slots) progress
       (all_map {P = λ (p : Progress). IsBatch (geometry_of v) p.batch}
-      {Q = λ (p : Progress). is_sure p.stage ≡ true → length p.batch.homes ≤ v.slots}
-      (λ p is sure. is.described.homes.few) progress going.each)
+      {Q = λ (p : Progress). is_durable p.stage ≡ true → length p.batch.homes ≤ v.slots}
+      (λ p is durable. is.described.homes.few) progress going.each)
 
-  there_sure : AllByRecursion (λ (b : Batch). b.journal < journals_of v.layout) (sure_in progress)
-  there_sure = sure_all (λ (b : Batch). b.journal < journals_of v.layout) progress
+  there_durable : AllByRecursion (λ (b : Batch). b.journal < journals_of v.layout) (durable_in progress)
+  there_durable = durable_all (λ (b : Batch). b.journal < journals_of v.layout) progress
       (all_map {P = λ (p : Progress). IsBatch (geometry_of v) p.batch}
-      {Q = λ (p : Progress). is_sure p.stage ≡ true → p.batch.journal < journals_of v.layout}
-      (λ p is sure. is.there) progress going.each)
+      {Q = λ (p : Progress). is_durable p.stage ≡ true → p.batch.journal < journals_of v.layout}
+      (λ p is durable. is.there) progress going.each)
 
   -- no record is written in the journal of a sure batch
-  sure_apart : (j : ℕ) → has_journal (sure_in progress) j ≡ true
+  durable_apart : (j : ℕ) → has_journal (durable_in progress) j ≡ true
       → AllByRecursion (λ (q : Progress). is_recording q.stage ≡ true → q.batch.journal ≢ j) progress
-  sure_apart j has =
+  durable_apart j has =
       all_each (λ (q : Progress). is_recording q.stage ≡ true → q.batch.journal ≢ j) progress (λ q there rec e.
-      both_ways (has_journal (sure_in progress) j)
-      (lacking (sure_in progress) j (sure_all (λ (b : Batch). b.journal ≢ j) progress
+      both_ways (has_journal (durable_in progress) j)
+      (lacking (durable_in progress) j (durable_all (λ (b : Batch). b.journal ≢ j) progress
       (all_map {P = λ (p : Progress). p.batch.journal ≡ q.batch.journal → p.stage ≡ q.stage}
-      {Q = λ (p : Progress). is_sure p.stage ≡ true → p.batch.journal ≢ j}
-      (λ p same sure is.
-      both_ways (is_recording q.stage) (sure_facts q.stage (ap is_sure (sym (same (is ∙ sym e))) ∙ sure)).3 rec)
+      {Q = λ (p : Progress). is_durable p.stage ≡ true → p.batch.journal ≢ j}
+      (λ p same durable is.
+      both_ways (is_recording q.stage)
+      (durable_facts q.stage (ap is_durable (sym (same (is ∙ sym e))) ∙ durable)).3 rec)
       progress (one_stage progress q going.ordered there)))) has)
 
-  pub covered_sure : (p : Progress) (b : ℕ) → IsIn p progress → is_applying p.stage ≡ true → Contains p.batch.homes b
-      → IsCovered (sure_in progress) b
-  covered_sure p b there applying has =
-      covered_of (sure_in progress) p.batch b (sure_there progress p there (applying_sure p.stage applying)) has
+  pub covered_durable : (p : Progress) (b : ℕ) → IsIn p progress → is_applying p.stage ≡ true → Contains p.batch.homes b
+      → IsCovered (durable_in progress) b
+  covered_durable p b there applying has =
+      covered_of (durable_in progress) p.batch b
+      (durable_there progress p there (applying_durable p.stage applying)) has
 
-  pub standing_firm : (b : ℕ) → IsHome (geometry_of v) b → IsFirm (standing_block v.slots (sure_in progress) b)
-  standing_firm b home = elim (standing-cases v.slots (sure_in progress) b few_sure) [
+  pub recovered_firm : (b : ℕ) → IsHome (geometry_of v) b → IsFirm (recovered_block v.slots (durable_in progress) b)
+  recovered_firm b home = elim (recovered-cases v.slots (durable_in progress) b few_durable) [
     | inl slot ↦ subst IsFirm (sym slot.at)
         (record_firm slot.journal slot.slot
-        (has-below (journals_of v.layout) (sure_in progress) slot.journal there_sure slot.has) slot.within
-        (sure_apart slot.journal slot.has))
+        (has-below (journals_of v.layout) (durable_in progress) slot.journal there_durable slot.has) slot.within
+        (durable_apart slot.journal slot.has))
     | inr same ↦ subst IsFirm (sym same) (home_firm b home (λ p there applying has.
-        no_slot same (standing-recorded v.slots (sure_in progress) b few_sure (covered_sure p b there applying has))))
+        no_slot same
+        (recovered-recorded v.slots (durable_in progress) b few_durable (covered_durable p b there applying has))))
   ]
     where
-      no_slot : standing_block v.slots (sure_in progress) b ≡ b
-          → IsSlot v.slots (sure_in progress) (standing_block v.slots (sure_in progress) b)
+      no_slot : recovered_block v.slots (durable_in progress) b ≡ b
+          → IsSlot v.slots (durable_in progress) (recovered_block v.slots (durable_in progress) b)
           → ⊥
       no_slot same slot = absurd (omega (
         arith,
@@ -264,7 +270,7 @@ module _ (v : SuperValue) (progress : List Progress) (going : AreGoing (geometry
         same,
         slot.at,
         record-below v.layout v.slots slot.journal slot.slot
-            (has-below (journals_of v.layout) (sure_in progress) slot.journal there_sure slot.has) slot.within,
+            (has-below (journals_of v.layout) (durable_in progress) slot.journal there_durable slot.has) slot.within,
       ))
 
   -- ---- what a crash leaves of them
@@ -277,10 +283,11 @@ module _ (v : SuperValue) (progress : List Progress) (going : AreGoing (geometry
     pub gate_kept : (j : ℕ) → IsFirm (gate_block v.slots j) → IsOpen seen v.slots j → IsOpen c v.slots j
     gate_kept j firm is = first_same c seen (gate_block v.slots j) (l.firm (gate_block v.slots j) firm) ∙ is
 
-    pub sure_open : (p : Progress) → IsIn p progress → is_sure p.stage ≡ true → IsOpenBatch (geometry_of v) c p.batch
-    sure_open p there sure =
+    pub durable_open : (p : Progress) → IsIn p progress → is_durable p.stage ≡ true
+        → IsOpenBatch (geometry_of v) c p.batch
+    durable_open p there durable =
         let w = (written_at v new seen progress p s.written there).1 in
-        let facts = sure_facts p.stage sure in
+        let facts = durable_facts p.stage durable in
         let is_batch = batch_of p there in
         record {
           there = is_batch.there;
@@ -295,14 +302,14 @@ module _ (v : SuperValue) (progress : List Progress) (going : AreGoing (geometry
           };
         }
 
-    pub holds_left : HoldsBy v (sure_in progress) (kept_in progress old new) c
+    pub holds_left : HoldsBy v (durable_in progress) (kept_in progress old new) c
     holds_left = record {
       super_block = subst (IsSuper v) (sym (l.firm 0 super_firm)) s.super_block;
       long = subst (λ n. 4096 * block_count v ≤ n) (sym l.same_length) s.long;
-      each = sure_all (IsOpenBatch (geometry_of v) c) progress
-          (all_each (λ (p : Progress). is_sure p.stage ≡ true → IsOpenBatch (geometry_of v) c p.batch)
-          progress sure_open);
-      falling = sure_falling progress going.ordered;
+      each = durable_all (IsOpenBatch (geometry_of v) c) progress
+          (all_each (λ (p : Progress). is_durable p.stage ≡ true → IsOpenBatch (geometry_of v) c p.batch)
+          progress durable_open);
+      falling = durable_falling progress going.ordered;
       contents_are = λ b home.
-          s.contents b home ∙ sym (l.firm (standing_block v.slots (sure_in progress) b) (standing_firm b home));
+          s.contents b home ∙ sym (l.firm (recovered_block v.slots (durable_in progress) b) (recovered_firm b home));
     }

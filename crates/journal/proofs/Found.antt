@@ -12,17 +12,17 @@ use Rattle.journal.specs.WriteOut.{WriteOut, next_stage, has_committed}
 use Rattle.journal.specs.WriteOuts.{has_uncommitted}
 use Rattle.journal.specs.Recovered.{RecoversBy}
 use Rattle.journal.specs.inside.Sound.{IsWriteOut, IsOlder, AreInOrder}
-use Rattle.journal.specs.inside.Tied.{Progress, progress_in, is_sure, sure_in}
+use Rattle.journal.specs.inside.Tied.{Progress, progress_in, is_durable, durable_in}
 use Rattle.journal.specs.inside.Tied.{is_under_way, IsWritten, AreWritten, IsTied}
 use Rattle.journal.specs.inside.Finishing.{after_steps, found_in}
 use Rattle.journal.proofs.Alls.{all_map, all-append, all_of}
-use Rattle.journal.proofs.Standing.{lacking}
+use Rattle.journal.proofs.RecoveredBlocks.{lacking}
 use Rattle.journal.proofs.Batches.{committed_parts, committed-at}
 use Rattle.journal.proofs.Stages.{stage_from}
 use Rattle.journal.proofs.Tying.{progress-newest, progress_all, going_of}
-use Rattle.journal.proofs.Firm.{sure_all}
+use Rattle.journal.proofs.Firm.{durable_all}
 use Rattle.journal.proofs.Leaving.{seen_recovers}
-use Rattle.journal.proofs.Stepping.{sure_push, left_same}
+use Rattle.journal.proofs.Stepping.{durable_push, left_same}
 use Rattle.journal.proofs.Sounding.{some_stage, order-push}
 
 -- the write-out of a batch that was found
@@ -59,13 +59,13 @@ module _ (v : SuperValue) (seen : List ℕ) where
   some_homes : (a : Batch) → IsOpenBatch (geometry_of v) seen a → 0 < length a.homes
   some_homes a is = is.descriptor.described.homes.some
 
-  sure_found : (batches : List Batch) → AllByRecursion (IsOpenBatch (geometry_of v) seen) batches
-      → sure_in (progress_in (found_in batches)) ≡ batches
-  sure_found [] each = refl
-  sure_found (b ∷ older) each =
-      ap sure_in (progress-newest (found_in older) (found b) (Applying 0) (applying_first b (some_homes b each.0)))
-      ∙ sure_push (progress_in (found_in older)) (record { batch = b; stage = Applying 0 })
-      ∙ ap (λ (l : List Batch). b ∷ l) (sure_found older each.1)
+  durable_found : (batches : List Batch) → AllByRecursion (IsOpenBatch (geometry_of v) seen) batches
+      → durable_in (progress_in (found_in batches)) ≡ batches
+  durable_found [] each = refl
+  durable_found (b ∷ older) each =
+      ap durable_in (progress-newest (found_in older) (found b) (Applying 0) (applying_first b (some_homes b each.0)))
+      ∙ durable_push (progress_in (found_in older)) (record { batch = b; stage = Applying 0 })
+      ∙ ap (λ (l : List Batch). b ∷ l) (durable_found older each.1)
 
   pub found_each : (batches : List Batch) → AllByRecursion (IsOpenBatch (geometry_of v) seen) batches
       → AllByRecursion (IsWriteOut (geometry_of v)) (found_in batches)
@@ -107,7 +107,7 @@ module _ (v : SuperValue) (seen : List ℕ) where
       → AllByRecursion (λ (p : Progress). (l : List Batch) → IsWritten v new l p seen) progress
       → AreWritten v new seen progress
   written_each new [] all = tt
-  written_each new (p ∷ newer) all = (all.0 (sure_in newer), written_each new newer all.1)
+  written_each new (p ∷ newer) all = (all.0 (durable_in newer), written_each new newer all.1)
 
   -- each waits with its application
   waits : (P : Progress → Type 0) (batches : List Batch) → AllByRecursion (IsOpenBatch (geometry_of v) seen) batches
@@ -145,16 +145,16 @@ module _ (v : SuperValue) (seen : List ℕ) where
                 gate = is.gate;
               } in w));
           shut = λ j lt others opens. both_ways (has_journal batches j)
-              (lacking batches j (subst (AllByRecursion (λ (b : Batch). b.journal ≢ j)) (sure_found batches each)
-              (sure_all (λ (b : Batch). b.journal ≢ j) (progress_in (found_in batches))
+              (lacking batches j (subst (AllByRecursion (λ (b : Batch). b.journal ≢ j)) (durable_found batches each)
+              (durable_all (λ (b : Batch). b.journal ≢ j) (progress_in (found_in batches))
               (all_map {P = λ (p : Progress). p.batch.journal ≢ j}
-              {Q = λ (p : Progress). is_sure p.stage ≡ true → p.batch.journal ≢ j} (λ p other sure. other)
+              {Q = λ (p : Progress). is_durable p.stage ≡ true → p.batch.journal ≢ j} (λ p other durable. other)
               (progress_in (found_in batches)) others))))
               (r.volume.journals.all j lt opens);
           contents = λ b home.
               ap (λ (f : ℕ → List ℕ). f b) (contents_same (is_under_way (progress_in (found_in batches))) contents)
               ∙ r.contents_are b home
-              ∙ ap (λ (l : List Batch). contents_in v.slots l seen b) (sym (sure_found batches each));
+              ∙ ap (λ (l : List Batch). contents_in v.slots l seen b) (sym (durable_found batches each));
           outside = all_of _ (progress_in (found_in batches)) (λ (p : Progress) early b none. refl);
         };
         left_are = λ c left. left_same v contents contents (progress_in (found_in batches)) seen c (only c left);
@@ -166,9 +166,9 @@ module _ (v : SuperValue) (seen : List ℕ) where
       → AreInOrder (found_in batches) → IsTied v (found_in batches) contents contents now may
       → RecoversBy v batches contents now
   tied_recovers contents batches now may each ordered tied =
-      subst (λ (l : List Batch). RecoversBy v l contents now) (sure_found batches each)
-      (subst (λ (f : ℕ → List ℕ). RecoversBy v (sure_in (progress_in (found_in batches))) f now)
+      subst (λ (l : List Batch). RecoversBy v l contents now) (durable_found batches each)
+      (subst (λ (f : ℕ → List ℕ). RecoversBy v (durable_in (progress_in (found_in batches))) f now)
       (contents_same (is_under_way (progress_in (found_in batches))) contents)
       (seen_recovers v (progress_in (found_in batches))
       (going_of (geometry_of v) (found_in batches) (found_each batches each) ordered) contents contents now
-      (waits (λ (p : Progress). is_sure p.stage ≡ true) batches each (λ a is. refl)) tied.seen_is))
+      (waits (λ (p : Progress). is_durable p.stage ≡ true) batches each (λ a is. refl)) tied.seen_is))

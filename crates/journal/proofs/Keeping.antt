@@ -99,14 +99,14 @@ module _ (v : SuperValue) (old new : ℕ → List ℕ) where
         let work = work_is (geometry_of v) bytes batches w s is at in (
           λ c torn. subst (λ (o : Option Stage). LeftWithin v old new o c) (sym (stage_in-is batches w s is at))
               (within c (subst (λ (x : Work). TornFromWork x may c) work torn)),
-          λ may' left sure.
+          λ may' left durable.
               subst (λ (x : Work). IsTied v (after_in (answer_in batches) batches) old new (worked seen x) may')
               (sym work)
               (subst (λ (l : List WriteOut).
               IsTied v l old new (worked seen (work_at (geometry_of v) w.batch bytes s)) may')
               (sym (ap (λ (a : Flushed). after_in a batches) (answer_is batches w s is at) ∙ next))
               (goes may' (λ c may_c. subst (λ (x : Work). TornFromWork x may c) work (left c may_c))
-              (λ e. sure (work ∙ e)))),
+              (λ e. durable (work ∙ e)))),
         )
 
     -- ---- the newest, which isn't committed
@@ -177,12 +177,12 @@ module _ (v : SuperValue) (old new : ℕ → List ℕ) where
           (early_answer w.batch.mark s (others ++ w ∷ []) early ∙ advanced-newest others w uncommitted)
           (step_within v old new (progress_in others) [] w.batch seen may bytes s newest_going (λ other. newest_next)
           (λ other. placed) newest_none newest_now)
-          (λ may' left sure. tied_of (others ++ advanced_of w ∷ [])
+          (λ may' left durable. tied_of (others ++ advanced_of w ∷ [])
           (progress_in others ++ at_stage w (next_of (length w.batch.homes) s) ∷ [])
           (worked seen (work_at (geometry_of v) w.batch bytes s)) may'
           (progress-newest others (advanced_of w) (next_of (length w.batch.homes) s) newest_goes)
           (step_after v old new (progress_in others) [] w.batch seen may bytes s may'
-          (record { going = newest_going; going' = newest_next; tied = newest_now }) placed left sure))
+          (record { going = newest_going; going' = newest_next; tied = newest_now }) placed left durable))
 
     -- ---- the oldest, where all are committed
 
@@ -245,13 +245,13 @@ module _ (v : SuperValue) (old new : ℕ → List ℕ) where
           → ((c : List ℕ) → may' c → TornFromWork (work_at (geometry_of v) w.batch bytes s) may c)
           → (work_at (geometry_of v) w.batch bytes s ≡ Sync → (c : List ℕ) → may' c → c ≡ seen)
           → IsTied v (advanced_of w ∷ newer) old new (worked seen (work_at (geometry_of v) w.batch bytes s)) may'
-      oldest_after not_last may' left sure =
+      oldest_after not_last may' left durable =
           tied_of (advanced_of w ∷ newer) (at_stage w (next_of (length w.batch.homes) s) ∷ progress_in newer)
           (worked seen (work_at (geometry_of v) w.batch bytes s)) may'
           (progress-oldest (advanced_of w) newer (next_of (length w.batch.homes) s) (oldest_goes not_last))
           (step_after v old new [] (progress_in newer) w.batch seen may bytes s may'
           (record { going = oldest_going; going' = oldest_next not_last; tied = oldest_now })
-          (placed_now not_last) left sure)
+          (placed_now not_last) left durable)
 
       pub oldest_done : s ≡ Finishing → (may' : List ℕ → Type 0) → ((c : List ℕ) → may' c → c ≡ seen)
           → IsTied v newer old new seen may'
@@ -267,11 +267,11 @@ module _ (v : SuperValue) (old new : ℕ → List ℕ) where
           elim (is_last s) [
             | inl last ↦ steps_as (w ∷ newer) newer w s is at
                 (ap (λ (t : Stage). after_in (answer_at w.batch.mark t) (w ∷ newer)) last) oldest_within
-                (λ may' left sure.
+                (λ may' left durable.
                 let syncs : work_at (geometry_of v) w.batch bytes s ≡ Sync =
                 ap (work_at (geometry_of v) w.batch bytes) last in
                 subst (λ (x : Work). IsTied v newer old new (worked seen x) may') (sym syncs)
-                (oldest_done last may' (sure syncs)))
+                (oldest_done last may' (durable syncs)))
             | inr not_last ↦ steps_as (w ∷ newer) (advanced_of w ∷ newer) w s is at
                 (late_answer w.batch.mark s (w ∷ newer) late not_last ∙ advanced-oldest w newer none) oldest_within
                 (oldest_after not_last)

@@ -14,14 +14,14 @@ use Rattle.journal.specs.declared.stage.Stage.TheVariants.{Committing, Applying,
 use Rattle.journal.specs.Stage.{is_committed}
 use Rattle.journal.specs.WriteOut.{IsBatch}
 use Rattle.journal.specs.Recovered.{RecoversBy}
-use Rattle.journal.specs.inside.Tied.{Progress, IsLeft, is_recording, is_switching, is_applying, is_sure}
-use Rattle.journal.specs.inside.Tied.{is_open, sure_in, IsCovered, IsWritten, is_under_way, kept_in, IsSeen}
+use Rattle.journal.specs.inside.Tied.{Progress, IsLeft, is_recording, is_switching, is_applying, is_durable}
+use Rattle.journal.specs.inside.Tied.{is_open, durable_in, IsCovered, IsWritten, is_under_way, kept_in, IsSeen}
 use Rattle.journal.proofs.Alls.{IsIn, all_map, all_each, all_in, all-append}
-use Rattle.journal.proofs.Standing.{record_or-cases, covered_of}
+use Rattle.journal.proofs.RecoveredBlocks.{record_or-cases, covered_of}
 use Rattle.journal.proofs.Recovering.{HoldsBy, holds_newest, holds_oldest, holds_recovers}
 use Rattle.journal.proofs.Written.{home_at}
 use Rattle.journal.proofs.Tying.{false_true, IsBefore, AreGoing, last_of, not_finishing}
-use Rattle.journal.proofs.Firm.{sure_facts, applying_sure, sure_all, sure_there, has_in}
+use Rattle.journal.proofs.Firm.{durable_facts, applying_durable, durable_all, durable_there, has_in}
 use Rattle.journal.proofs.Firm.{written_at, gate_firm, descriptor_firm, record_firm, home_firm}
 use Rattle.journal.proofs.Firm.{not_recording, not_switching, gate_left, holds_left}
 
@@ -56,7 +56,7 @@ is_committing Finishing = inr (λ e. cc)
 
 -- the gate is surely open, it is surely closed, or it changes
 gate_cases : (s : Stage)
-    → (is_sure s ≡ true) ⊎ ((is_switching s ≡ false) × (is_open s ≡ false)) ⊎ (s ≡ Committing) ⊎ (s ≡ Finishing)
+    → (is_durable s ≡ true) ⊎ ((is_switching s ≡ false) × (is_open s ≡ false)) ⊎ (s ≡ Committing) ⊎ (s ≡ Finishing)
 gate_cases (Recording i) = inr (inl (refl, refl))
 gate_cases Describing = inr (inl (refl, refl))
 gate_cases SyncingRecords = inr (inl (refl, refl))
@@ -153,7 +153,7 @@ module _ (v : SuperValue) (progress : List Progress) (going : AreGoing (geometry
   -- one, but perhaps one that isn't committed
   record IsFound (opened : List Batch) : Type 0 where
     pub holds : HoldsBy v opened (kept_in progress old new) c
-    pub listed : AllByRecursion
+    pub queued : AllByRecursion
         (λ (q : Progress).
         q.stage ≢ Committing → IsOpen c v.slots q.batch.journal → has_journal opened q.batch.journal ≡ true)
         progress
@@ -172,24 +172,24 @@ module _ (v : SuperValue) (progress : List Progress) (going : AreGoing (geometry
         | inr before ↦ before.marks
       ]
 
-  sure_lower : (w : Progress) → IsIn w progress → is_committed w.stage ≡ false
-      → AllByRecursion (λ (b : Batch). b.mark < w.batch.mark) (sure_in progress)
-  sure_lower w there early = sure_all (λ (b : Batch). b.mark < w.batch.mark) progress
-      (all_each (λ (p : Progress). is_sure p.stage ≡ true → p.batch.mark < w.batch.mark) progress
-      (λ p there_p sure. below w there early p there_p (sure_facts p.stage sure).4))
+  durable_lower : (w : Progress) → IsIn w progress → is_committed w.stage ≡ false
+      → AllByRecursion (λ (b : Batch). b.mark < w.batch.mark) (durable_in progress)
+  durable_lower w there early = durable_all (λ (b : Batch). b.mark < w.batch.mark) progress
+      (all_each (λ (p : Progress). is_durable p.stage ≡ true → p.batch.mark < w.batch.mark) progress
+      (λ p there_p durable. below w there early p there_p (durable_facts p.stage durable).4))
 
   -- every gate that is open, but perhaps that of one that isn't committed, has one of these batches
-  listed_by : (opened : List Batch)
-      → ((q : Progress) → IsIn q progress → is_sure q.stage ≡ true → has_journal opened q.batch.journal ≡ true)
+  queued_by : (opened : List Batch)
+      → ((q : Progress) → IsIn q progress → is_durable q.stage ≡ true → has_journal opened q.batch.journal ≡ true)
       → ((q : Progress) → IsIn q progress → q.stage ≡ Finishing
       → IsOpen c v.slots q.batch.journal → has_journal opened q.batch.journal ≡ true)
       → AllByRecursion (λ (q : Progress).
       q.stage ≢ Committing → IsOpen c v.slots q.batch.journal → has_journal opened q.batch.journal ≡ true) progress
-  listed_by opened sure last = all_each (λ (q : Progress).
+  queued_by opened durable last = all_each (λ (q : Progress).
       q.stage ≢ Committing → IsOpen c v.slots q.batch.journal → has_journal opened q.batch.journal ≡ true)
       progress (λ q there other opens.
       elim (gate_cases q.stage) [
-        | inl is ↦ sure q there is
+        | inl is ↦ durable q there is
         | inr (inl is) ↦
             (let w = (written_at v new seen progress q s.written there).1 in
             absurd (subst (λ b.
@@ -200,38 +200,38 @@ module _ (v : SuperValue) (progress : List Progress) (going : AreGoing (geometry
         | inr (inr (inr is)) ↦ last q there is opens
       ])
 
-  sure_has : (q : Progress) → IsIn q progress → is_sure q.stage ≡ true
-      → has_journal (sure_in progress) q.batch.journal ≡ true
-  sure_has q there is = has_in (sure_in progress) q.batch (sure_there progress q there is)
+  durable_has : (q : Progress) → IsIn q progress → is_durable q.stage ≡ true
+      → has_journal (durable_in progress) q.batch.journal ≡ true
+  durable_has q there is = has_in (durable_in progress) q.batch (durable_there progress q there is)
 
   -- where no gate that closes is open
-  found_sure : ((q : Progress) → IsIn q progress → q.stage ≡ Finishing → IsOpen c v.slots q.batch.journal → ⊥)
-      → IsFound (sure_in progress)
-  found_sure shut = record {
+  found_durable : ((q : Progress) → IsIn q progress → q.stage ≡ Finishing → IsOpen c v.slots q.batch.journal → ⊥)
+      → IsFound (durable_in progress)
+  found_durable shut = record {
     holds = holds_left v progress going old new seen c s l;
-    listed = listed_by (sure_in progress) sure_has (λ q there is opens. absurd (shut q there is opens));
-    lower = sure_lower;
+    queued = queued_by (durable_in progress) durable_has (λ q there is opens. absurd (shut q there is opens));
+    lower = durable_lower;
   }
 
   -- where the gate of a batch is open that closes: all its home blocks are written
   home_or : (p : Progress) (newer : List Batch) → IsIn p progress → p.stage ≡ Finishing → IsWritten v new newer p seen
-      → ((b : ℕ) → IsCovered newer b → IsCovered (sure_in progress) b) → (i : ℕ) → i < length p.batch.homes
-      → IsCovered (sure_in progress) (get_or p.batch.homes i 0)
+      → ((b : ℕ) → IsCovered newer b → IsCovered (durable_in progress) b) → (i : ℕ) → i < length p.batch.homes
+      → IsCovered (durable_in progress) (get_or p.batch.homes i 0)
       ⊎ (block_at c (get_or p.batch.homes i 0) ≡ block_at c (record_block v.slots p.batch.journal i))
   home_or p newer there is w within i lt =
       let x = get_or p.batch.homes i 0 in
       let is_batch = batch_of p there in
       let all : i < Rattle.journal.specs.inside.Tied.applied (length p.batch.homes) p.stage =
       subst (λ (t : Stage). i < Rattle.journal.specs.inside.Tied.applied (length p.batch.homes) t) (sym is) lt in
-      elim (covered_or (sure_in progress) x) [
+      elim (covered_or (durable_in progress) x) [
         | inl covered ↦ inl covered
         | inr bare ↦ elim (w.homes i lt all) [
           | inl covered ↦ inl (within x covered)
           | inr same ↦ inr (
               l.firm x
               (home_firm v progress going x (home_at (geometry_of v) p.batch.homes i is_batch.described.homes lt)
-              (λ q there_q applying has. bare (covered_of (sure_in progress) q.batch x
-              (sure_there progress q there_q (applying_sure q.stage applying)) has)))
+              (λ q there_q applying has. bare (covered_of (durable_in progress) q.batch x
+              (durable_there progress q there_q (applying_durable q.stage applying)) has)))
               ∙ same
               ∙ sym (l.firm (record_block v.slots p.batch.journal i) (record_firm v progress going p.batch.journal i
               is_batch.there (omega (arith, lt, is_batch.described.homes.few))
@@ -240,12 +240,12 @@ module _ (v : SuperValue) (progress : List Progress) (going : AreGoing (geometry
       ]
 
   found_closing : (p : Progress) (newer : List Batch) → IsIn p progress → p.stage ≡ Finishing
-      → IsWritten v new newer p seen → ((b : ℕ) → IsCovered newer b → IsCovered (sure_in progress) b)
-      → AllByRecursion (λ (b : Batch). p.batch.mark < b.mark) (sure_in progress)
+      → IsWritten v new newer p seen → ((b : ℕ) → IsCovered newer b → IsCovered (durable_in progress) b)
+      → AllByRecursion (λ (b : Batch). p.batch.mark < b.mark) (durable_in progress)
       → ((q : Progress) → IsIn q progress → q.stage ≡ Finishing → q ≡ p) → IsOpen c v.slots p.batch.journal
-      → IsFound (sure_in progress ++ p.batch ∷ [])
+      → IsFound (durable_in progress ++ p.batch ∷ [])
   found_closing p newer there is w within lower only opens = record {
-    holds = holds_oldest v (sure_in progress) p.batch (kept_in progress old new) c
+    holds = holds_oldest v (durable_in progress) p.batch (kept_in progress old new) c
         (holds_left v progress going old new seen c s l)
         (record {
           there = is_batch.there;
@@ -258,12 +258,13 @@ module _ (v : SuperValue) (progress : List Progress) (going : AreGoing (geometry
                 ∙ w.descriptor (ap Rattle.journal.specs.inside.Tied.is_described is);
           };
         }) lower (home_or p newer there is w within);
-    listed = listed_by (sure_in progress ++ p.batch ∷ [])
-        (λ q there_q sure. has_push (sure_in progress) p.batch q.batch.journal (sure_has q there_q sure))
-        (λ q there_q last opened. has_last (sure_in progress) p.batch q.batch.journal
+    queued = queued_by (durable_in progress ++ p.batch ∷ [])
+        (λ q there_q durable. has_push (durable_in progress) p.batch q.batch.journal (durable_has q there_q durable))
+        (λ q there_q last opened. has_last (durable_in progress) p.batch q.batch.journal
         (ap (λ (x : Progress). x.batch.journal) (sym (only q there_q last))));
     lower = λ x there_x early.
-        all-append (λ (b : Batch). b.mark < x.batch.mark) (sure_in progress) (p.batch ∷ []) (sure_lower x there_x early)
+        all-append (λ (b : Batch). b.mark < x.batch.mark) (durable_in progress) (p.batch ∷ [])
+        (durable_lower x there_x early)
         (below x there_x early p there (ap is_committed is), tt);
   }
     where
@@ -272,15 +273,15 @@ module _ (v : SuperValue) (progress : List Progress) (going : AreGoing (geometry
 
   -- ---- with the batch that isn't committed
 
-  all_listed : (opened : List Batch)
+  all_queued : (opened : List Batch)
       → AllByRecursion (λ (q : Progress). IsOpen c v.slots q.batch.journal → has_journal opened q.batch.journal ≡ true)
       progress
       → (j : ℕ) → j < journals_of v.layout → IsOpen c v.slots j
       → has_journal opened j ≡ true
-  all_listed opened listed j lt opens = elim (find_journal progress j) [
+  all_queued opened queued j lt opens = elim (find_journal progress j) [
     | inl found ↦ subst (λ k. has_journal opened k ≡ true) found.2
         (all_in (λ (q : Progress). IsOpen c v.slots q.batch.journal → has_journal opened q.batch.journal ≡ true)
-        progress found.0 listed found.1 (subst (IsOpen c v.slots) (sym found.2) opens))
+        progress found.0 queued found.1 (subst (IsOpen c v.slots) (sym found.2) opens))
     | inr none ↦
         absurd (s.shut j lt none (gate_left v progress going old new seen c s l j (gate_firm v progress going j lt
         (all_map {P = λ (p : Progress). p.batch.journal ≢ j}
@@ -289,12 +290,12 @@ module _ (v : SuperValue) (progress : List Progress) (going : AreGoing (geometry
   ]
 
   -- any other one is committed
-  others_listed : (w : Progress) → IsIn w progress → w.stage ≡ Committing → (opened : List Batch)
+  others_queued : (w : Progress) → IsIn w progress → w.stage ≡ Committing → (opened : List Batch)
       → IsFound opened → (more : List Batch) → ((j : ℕ) → has_journal opened j ≡ true → has_journal more j ≡ true)
       → (IsOpen c v.slots w.batch.journal → has_journal more w.batch.journal ≡ true)
       → AllByRecursion (λ (q : Progress). IsOpen c v.slots q.batch.journal → has_journal more q.batch.journal ≡ true)
       progress
-  others_listed w there is opened found more in_more own =
+  others_queued w there is opened found more in_more own =
       all_each (λ (q : Progress). IsOpen c v.slots q.batch.journal → has_journal more q.batch.journal ≡ true) progress
       (λ q there_q opens.
       elim (all_in (λ (x : Progress). (x ≡ w) ⊎ IsBefore x w) progress q
@@ -305,7 +306,7 @@ module _ (v : SuperValue) (progress : List Progress) (going : AreGoing (geometry
         | inr before ↦ in_more q.batch.journal
             (all_in (λ (x : Progress).
             x.stage ≢ Committing → IsOpen c v.slots x.batch.journal → has_journal opened x.batch.journal ≡ true)
-            progress q found.listed there_q
+            progress q found.queued there_q
             (λ e. both_ways (is_committed q.stage) (ap is_committed e) before.committed) opens)
       ])
 
@@ -336,24 +337,24 @@ module _ (v : SuperValue) (progress : List Progress) (going : AreGoing (geometry
       → Recovers v (kept_in progress old new) c ⊎ (IsGateOpening progress × Recovers v new c)
   recovers_found opened found = elim (find progress) [
     | inr none ↦ inl (recovers_of v opened (kept_in progress old new) c
-        (holds_recovers v opened (kept_in progress old new) c found.holds (all_listed opened
+        (holds_recovers v opened (kept_in progress old new) c found.holds (all_queued opened
         (Rattle.journal.proofs.Alls.all_both {P = λ (q : Progress). q.stage ≢ Committing} {Q = λ (q : Progress).
         q.stage ≢ Committing → IsOpen c v.slots q.batch.journal → has_journal opened q.batch.journal ≡ true}
         {R = λ (q : Progress). IsOpen c v.slots q.batch.journal → has_journal opened q.batch.journal ≡ true}
-        (λ q other listed. listed other) progress none found.listed))))
+        (λ q other queued. queued other) progress none found.queued))))
     | inl w ↦ elim (cases_eq (get_or c (4096 * gate_block v.slots w.0.batch.journal) 0) 0xA7) [
       | inl opens ↦ inr (
         record { it = w.0; there = w.1; stage = w.2 },
         recovers_of v (w.0.batch ∷ opened) new c
             (holds_recovers v (w.0.batch ∷ opened) new c (with_newest w.0 w.1 w.2 opened found opens)
-            (all_listed (w.0.batch ∷ opened) (others_listed w.0 w.1 w.2 opened found (w.0.batch ∷ opened)
+            (all_queued (w.0.batch ∷ opened) (others_queued w.0 w.1 w.2 opened found (w.0.batch ∷ opened)
             (λ j has. or_right (w.0.batch.journal == j) (has_journal opened j) has)
             (λ is. or_left (w.0.batch.journal == w.0.batch.journal) (has_journal opened w.0.batch.journal)
             (eq-eqb w.0.batch.journal w.0.batch.journal refl))))),
       )
       | inr shut ↦ inl (recovers_of v opened (kept_in progress old new) c
           (holds_recovers v opened (kept_in progress old new) c found.holds
-          (all_listed opened (others_listed w.0 w.1 w.2 opened found opened (λ j has. has) (λ is. absurd (shut is))))))
+          (all_queued opened (others_queued w.0 w.1 w.2 opened found opened (λ j has. has) (λ is. absurd (shut is))))))
     ]
   ]
 
@@ -364,24 +365,25 @@ pub left_recovers : (v : SuperValue) (progress : List Progress)
     → IsSeen v progress old new seen → IsLeft v.slots progress seen c
     → Recovers v (kept_in progress old new) c ⊎ (IsGateOpening progress × Recovers v new c)
 left_recovers v [] going old new seen c s l = recovers_found v [] going old new seen c s l []
-    (found_sure v [] going old new seen c s l (λ q there is opens. there))
+    (found_durable v [] going old new seen c s l (λ q there is opens. there))
 left_recovers v (p ∷ newer) going old new seen c s l = elim (is_last p.stage) [
-  | inr other ↦ recovers_found v (p ∷ newer) going old new seen c s l (sure_in (p ∷ newer))
-      (found_sure v (p ∷ newer) going old new seen c s l (λ q there is opens. none_last other q there is))
+  | inr other ↦ recovers_found v (p ∷ newer) going old new seen c s l (durable_in (p ∷ newer))
+      (found_durable v (p ∷ newer) going old new seen c s l (λ q there is opens. none_last other q there is))
   | inl is ↦ elim (cases_eq (get_or c (4096 * gate_block v.slots p.batch.journal) 0) 0xA7) [
-    | inr shut ↦ recovers_found v (p ∷ newer) going old new seen c s l (sure_in (p ∷ newer))
-        (found_sure v (p ∷ newer) going old new seen c s l
+    | inr shut ↦ recovers_found v (p ∷ newer) going old new seen c s l (durable_in (p ∷ newer))
+        (found_durable v (p ∷ newer) going old new seen c s l
         (λ q there last opens.
         shut (subst (λ (x : Progress). IsOpen c v.slots x.batch.journal) (only q there last) opens)))
-    | inl opens ↦ recovers_found v (p ∷ newer) going old new seen c s l (sure_in (p ∷ newer) ++ p.batch ∷ [])
-        (found_closing v (p ∷ newer) going old new seen c s l p (sure_in newer) (inl refl) is s.written.0
-        (λ b covered. covered_front (sure_in newer) (cond (is_sure p.stage) (p.batch ∷ []) []) b covered)
-        (all-append (λ (b : Batch). p.batch.mark < b.mark) (sure_in newer) (cond (is_sure p.stage) (p.batch ∷ []) [])
-        (sure_all (λ (b : Batch). p.batch.mark < b.mark) newer
-        (all_map {P = IsBefore p} {Q = λ (q : Progress). is_sure q.stage ≡ true → p.batch.mark < q.batch.mark}
-        (λ q before sure. before.marks) newer going.ordered.0))
+    | inl opens ↦ recovers_found v (p ∷ newer) going old new seen c s l (durable_in (p ∷ newer) ++ p.batch ∷ [])
+        (found_closing v (p ∷ newer) going old new seen c s l p (durable_in newer) (inl refl) is s.written.0
+        (λ b covered. covered_front (durable_in newer) (cond (is_durable p.stage) (p.batch ∷ []) []) b covered)
+        (all-append (λ (b : Batch). p.batch.mark < b.mark) (durable_in newer)
+        (cond (is_durable p.stage) (p.batch ∷ []) [])
+        (durable_all (λ (b : Batch). p.batch.mark < b.mark) newer
+        (all_map {P = IsBefore p} {Q = λ (q : Progress). is_durable q.stage ≡ true → p.batch.mark < q.batch.mark}
+        (λ q before durable. before.marks) newer going.ordered.0))
         (subst (AllByRecursion (λ (b : Batch). p.batch.mark < b.mark))
-        (sym (cond-false (is_sure p.stage) (p.batch ∷ []) [] (ap is_sure is))) tt))
+        (sym (cond-false (is_durable p.stage) (p.batch ∷ []) [] (ap is_durable is))) tt))
         only opens)
   ]
 ]
@@ -397,13 +399,13 @@ left_recovers v (p ∷ newer) going old new seen c s l = elim (is_last p.stage) 
 -- where all gates are surely open, what a read finds recovers by their batches
 pub seen_recovers : (v : SuperValue) (progress : List Progress)
     (going : AreGoing (geometry_of v) progress) (old new : ℕ → List ℕ) (seen : List ℕ)
-    → AllByRecursion (λ (p : Progress). is_sure p.stage ≡ true) progress → IsSeen v progress old new seen
-    → RecoversBy v (sure_in progress) (kept_in progress old new) seen
-seen_recovers v progress going old new seen sure s =
+    → AllByRecursion (λ (p : Progress). is_durable p.stage ≡ true) progress → IsSeen v progress old new seen
+    → RecoversBy v (durable_in progress) (kept_in progress old new) seen
+seen_recovers v progress going old new seen durable s =
     let l : IsLeft v.slots progress seen seen = record { same_length = refl; firm = λ b is. refl } in
-    holds_recovers v (sure_in progress) (kept_in progress old new) seen
+    holds_recovers v (durable_in progress) (kept_in progress old new) seen
     (holds_left v progress going old new seen seen s l)
-    (all_listed v progress going old new seen seen s l (sure_in progress) (all_each (λ (q : Progress).
-    IsOpen seen v.slots q.batch.journal → has_journal (sure_in progress) q.batch.journal ≡ true) progress
-    (λ q there opens. has_in (sure_in progress) q.batch
-    (sure_there progress q there (all_in (λ (p : Progress). is_sure p.stage ≡ true) progress q sure there)))))
+    (all_queued v progress going old new seen seen s l (durable_in progress) (all_each (λ (q : Progress).
+    IsOpen seen v.slots q.batch.journal → has_journal (durable_in progress) q.batch.journal ≡ true) progress
+    (λ q there opens. has_in (durable_in progress) q.batch
+    (durable_there progress q there (all_in (λ (p : Progress). is_durable p.stage ≡ true) progress q durable there)))))

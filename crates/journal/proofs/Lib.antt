@@ -1,7 +1,7 @@
 pub mod Places
 pub mod Changes
 pub mod Alls
-pub mod Standing
+pub mod RecoveredBlocks
 pub mod Recovering
 pub mod Stages
 pub mod Batches
@@ -13,7 +13,7 @@ pub mod Stepping
 pub mod Sounding
 pub mod Answering
 pub mod Keeping
-pub mod StandsKept
+pub mod KeptConsistent
 pub mod Found
 pub mod UnderWay
 pub mod Rooms

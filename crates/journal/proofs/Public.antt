@@ -1,7 +1,7 @@
 -- What follows of the definitions, for `machine`, which takes no lemma of this crate from anywhere else: what a
 -- write-out and a device stand for after each step, which stage comes when, and which batch is the current one.
-pub use Rattle.journal.proofs.StandsKept.{stands_first, stands_begun, stands_within}
-pub use Rattle.journal.proofs.StandsKept.{stands_after, stands_failed, stands_left, stands_other}
+pub use Rattle.journal.proofs.KeptConsistent.{consistent_first, consistent_begun, consistent_within}
+pub use Rattle.journal.proofs.KeptConsistent.{consistent_after, consistent_failed, consistent_left, consistent_other}
 pub use Rattle.journal.proofs.Stages.{IsAt, stage_is, stage_at-is, after_committing, early_calls, all_calls}
 pub use Rattle.journal.proofs.Batches.{current-oldest, current-newest, advanced-newest}
 pub use Rattle.journal.proofs.Batches.{newest_of, committed_parts, committed-at, batch_before}

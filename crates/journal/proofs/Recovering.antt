@@ -8,7 +8,7 @@ use Rattle.volume_codec.specs.Layout.{record_block, first_home, block_at}
 use Rattle.volume_codec.specs.Super.{SuperValue, IsSuper, geometry_of, block_count}
 use Rattle.volume_codec.specs.Descriptor.{IsDescriptor, descriptor_text}
 use Rattle.volume_codec.specs.Recovery.{Batch, IsOpen, IsOpenBatch, IsNewer, AreFalling}
-use Rattle.volume_codec.specs.Recovery.{has_journal, IsVolume, standing_block, contents_in}
+use Rattle.volume_codec.specs.Recovery.{has_journal, IsVolume, recovered_block, contents_in}
 use Rattle.journal.specs.WriteOut.{IsBatch}
 use Rattle.journal.specs.Recovered.{RecoversBy, IsUnread}
 use Rattle.journal.proofs.Alls.{in_of, all_map, all_both, all-append, all_front, all_of}
@@ -16,8 +16,9 @@ use Rattle.journal.proofs.Changes.{SameBut}
 use Rattle.journal.proofs.Places.{gate-below, descriptor-below, record-below, gate-above}
 use Rattle.journal.proofs.Places.{descriptor-above, record-above, gates_apart, descriptors_apart}
 use Rattle.journal.proofs.Places.{gate_no_descriptor, gate_no_record, descriptor_no_record, records_apart}
-use Rattle.journal.proofs.Standing.{IsSlot, AreFew, AreHome, record_or-cases, standing-cases, standing-recorded}
-use Rattle.journal.proofs.Standing.{standing-without_oldest, covered_of, lacks, lacking, has-below, apart_by}
+use Rattle.journal.proofs.RecoveredBlocks.{IsSlot, AreFew, AreHome, record_or-cases}
+use Rattle.journal.proofs.RecoveredBlocks.{recovered-cases, recovered-recorded}
+use Rattle.journal.proofs.RecoveredBlocks.{recovered-without_oldest, covered_of, lacks, lacking, has-below, apart_by}
 
 -- these bytes hold a volume in which the journals of these batches are open, and perhaps others, and whose home blocks
 -- have these contents by them
@@ -52,8 +53,8 @@ module _ (v : SuperValue) where
         (λ (batch : Batch).
         block_at new (descriptor_block v.slots batch.journal) ≡ block_at c (descriptor_block v.slots batch.journal))
         opened
-    pub standing : (b : ℕ) → IsHome (geometry_of v) b
-        → block_at new (standing_block v.slots opened b) ≡ block_at c (standing_block v.slots opened b)
+    pub recovered : (b : ℕ) → IsHome (geometry_of v) b
+        → block_at new (recovered_block v.slots opened b) ≡ block_at c (recovered_block v.slots opened b)
 
   pub agrees_volume : (opened : List Batch) (c new : List ℕ) → IsVolume v opened c → Agrees opened c new
       → IsVolume v opened new
@@ -77,7 +78,7 @@ module _ (v : SuperValue) where
       → RecoversBy v opened contents new
   agrees_recovers opened contents c new r a = record {
     volume = agrees_volume opened c new r.volume a;
-    contents_are = λ b home. r.contents_are b home ∙ sym (a.standing b home);
+    contents_are = λ b home. r.contents_are b home ∙ sym (a.recovered b home);
   }
 
   -- ---- what a volume's batches have
@@ -119,16 +120,16 @@ module _ (v : SuperValue) where
     descriptors =
         all_map (λ (batch : Batch) not. same.blocks (descriptor_block v.slots batch.journal) (λ e. not (sym e))) opened
         unread.not_descriptor;
-    standing = λ b home. same.blocks (standing_block v.slots opened b) (λ e. unread.not_standing b home (sym e));
+    recovered = λ b home. same.blocks (recovered_block v.slots opened b) (λ e. unread.not_recovered b home (sym e));
   }
 
   -- a block below all homes, which is no record slot of the batches, stands for no home block
-  not_standing : (opened : List Batch) (x : ℕ) → AreFew v.slots opened → x < first_home v.layout v.slots
+  not_recovered : (opened : List Batch) (x : ℕ) → AreFew v.slots opened → x < first_home v.layout v.slots
       → ((k i : ℕ) → has_journal opened k ≡ true → i < v.slots → x ≢ record_block v.slots k i)
       → (b : ℕ) → IsHome (geometry_of v) b
-      → x ≢ standing_block v.slots opened b
-  not_standing opened x few low no_slot b home e =
-      elim (standing-cases v.slots opened b few) [
+      → x ≢ recovered_block v.slots opened b
+  not_recovered opened x few low no_slot b home e =
+      elim (recovered-cases v.slots opened b few) [
         | inl is ↦ no_slot is.journal is.slot is.has is.within (e ∙ is.at)
         | inr same ↦ absurd (omega (arith, e, same, home.low))
       ]
@@ -141,7 +142,7 @@ module _ (v : SuperValue) where
     not_gate = λ k there e. gate_no_record v.slots k j i within (sym e);
     not_descriptor =
         all_of _ opened (λ (batch : Batch) e. descriptor_no_record v.slots batch.journal j i within (sym e));
-    not_standing = not_standing opened (record_block v.slots j i) (few_in opened c volume)
+    not_recovered = not_recovered opened (record_block v.slots j i) (few_in opened c volume)
         (record-below v.layout v.slots j i lt within)
         (λ k l has fits e.
         records_apart v.slots j k i l (λ same. apart_by opened j k none has (sym same)) within fits e);
@@ -157,7 +158,7 @@ module _ (v : SuperValue) where
         {Q = λ (batch : Batch). descriptor_block v.slots j ≢ descriptor_block v.slots batch.journal}
         (λ batch not e. descriptors_apart v.slots j batch.journal (λ same. not (sym same)) e) opened
         (lacks opened j none);
-    not_standing = not_standing opened (descriptor_block v.slots j) (few_in opened c volume)
+    not_recovered = not_recovered opened (descriptor_block v.slots j) (few_in opened c volume)
         (descriptor-below v.layout v.slots j lt)
         (λ k l has fits e. descriptor_no_record v.slots j k l fits e);
   }
@@ -173,12 +174,12 @@ module _ (v : SuperValue) where
         {Q = λ (b : Batch). x ≢ descriptor_block v.slots b.journal}
         (λ b lt e. absurd (omega (arith, home.low, e, descriptor-below v.layout v.slots b.journal lt))) opened
         (there_in opened c volume);
-    not_standing = λ b is e. elim (cases_eq b x) [
-      | inl same ↦ no_slot (subst (λ n. IsSlot v.slots opened (standing_block v.slots opened n)) same
-          (standing-recorded v.slots opened b (few_in opened c volume)
+    not_recovered = λ b is e. elim (cases_eq b x) [
+      | inl same ↦ no_slot (subst (λ n. IsSlot v.slots opened (recovered_block v.slots opened n)) same
+          (recovered-recorded v.slots opened b (few_in opened c volume)
           (covered_of opened batch b (in_of opened batch there) (subst (Contains batch.homes) (sym same) recorded))))
-          (e ∙ ap (standing_block v.slots opened) same)
-      | inr other ↦ elim (standing-cases v.slots opened b (few_in opened c volume)) [
+          (e ∙ ap (recovered_block v.slots opened) same)
+      | inr other ↦ elim (recovered-cases v.slots opened b (few_in opened c volume)) [
         | inl slot ↦ far slot e
         | inr same ↦ other (sym (e ∙ same))
       ]
@@ -195,7 +196,7 @@ module _ (v : SuperValue) where
             (has-below (journals_of v.layout) opened slot.journal (there_in opened c volume) slot.has) slot.within,
       ))
 
-      no_slot : IsSlot v.slots opened (standing_block v.slots opened x) → x ≢ standing_block v.slots opened x
+      no_slot : IsSlot v.slots opened (recovered_block v.slots opened x) → x ≢ recovered_block v.slots opened x
       no_slot slot e = far slot e
 
   -- ---- gates
@@ -216,11 +217,11 @@ module _ (v : SuperValue) where
     ];
     descriptors = all_of _ opened (λ (batch : Batch).
         same.blocks (descriptor_block v.slots batch.journal) (λ e. gate_no_descriptor v.slots j batch.journal (sym e)));
-    standing = λ b home. same.blocks (standing_block v.slots opened b) (λ e. gate_not_standing b home (sym e));
+    recovered = λ b home. same.blocks (recovered_block v.slots opened b) (λ e. gate_not_recovered b home (sym e));
   }
     where
-      gate_not_standing : (b : ℕ) → IsHome (geometry_of v) b → gate_block v.slots j ≢ standing_block v.slots opened b
-      gate_not_standing = not_standing opened (gate_block v.slots j) (few_in opened c volume)
+      gate_not_recovered : (b : ℕ) → IsHome (geometry_of v) b → gate_block v.slots j ≢ recovered_block v.slots opened b
+      gate_not_recovered = not_recovered opened (gate_block v.slots j) (few_in opened c volume)
           (gate-below v.layout v.slots j lt) (λ k l has fits e. gate_no_record v.slots j k l fits e)
 
   -- ---- batches that come and go
@@ -234,8 +235,8 @@ module _ (v : SuperValue) where
         (λ (batch : Batch).
         block_at new (descriptor_block v.slots batch.journal) ≡ block_at c (descriptor_block v.slots batch.journal))
         opened
-    pub standing : (b : ℕ) → IsHome (geometry_of v) b
-        → block_at new (standing_block v.slots opened b) ≡ block_at c (standing_block v.slots opened b)
+    pub recovered : (b : ℕ) → IsHome (geometry_of v) b
+        → block_at new (recovered_block v.slots opened b) ≡ block_at c (recovered_block v.slots opened b)
 
   pub holds_kept : (opened : List Batch) (contents : ℕ → List ℕ) (c new : List ℕ)
       → HoldsBy v opened contents c → StaysBy opened c new
@@ -252,7 +253,7 @@ module _ (v : SuperValue) where
         let r : IsOpenBatch (geometry_of v) c batch × IsOpen new v.slots batch.journal = (is, opens) in
         r) opened h.each a.gates) a.descriptors;
     falling = h.falling;
-    contents_are = λ b home. h.contents_are b home ∙ sym (a.standing b home);
+    contents_are = λ b home. h.contents_are b home ∙ sym (a.recovered b home);
   }
 
   pub holds_of : (opened : List Batch) (contents : ℕ → List ℕ) (c : List ℕ) → RecoversBy v opened contents c
@@ -300,7 +301,7 @@ module _ (v : SuperValue) where
     );
     falling = (newer, h.falling);
     contents_are = λ b home.
-        elim (record_or-cases (standing_block v.slots opened b) (record_block v.slots batch.journal 0) batch.homes b) [
+        elim (record_or-cases (recovered_block v.slots opened b) (record_block v.slots batch.journal 0) batch.homes b) [
           | inl at ↦
               (let place : record_block v.slots batch.journal 0 + at.0 ≡ record_block v.slots batch.journal at.0 =
               omega arith in
@@ -319,7 +320,7 @@ module _ (v : SuperValue) where
     long = h.long;
     each = all-append (IsOpenBatch (geometry_of v) c) front (oldest ∷ []) h.each (is, tt);
     falling = falling_push front oldest h.falling lower;
-    contents_are = λ b home. h.contents_are b home ∙ sym (standing-without_oldest v.slots front oldest c are b);
+    contents_are = λ b home. h.contents_are b home ∙ sym (recovered-without_oldest v.slots front oldest c are b);
   }
 
   pub holds_without : (front : List Batch) (oldest : Batch) (contents : ℕ → List ℕ) (c : List ℕ)
@@ -330,7 +331,7 @@ module _ (v : SuperValue) where
     long = h.long;
     each = all_front (IsOpenBatch (geometry_of v) c) front (oldest ∷ []) h.each;
     falling = falling_front front oldest h.falling;
-    contents_are = λ b home. h.contents_are b home ∙ standing-without_oldest v.slots front oldest c are b;
+    contents_are = λ b home. h.contents_are b home ∙ recovered-without_oldest v.slots front oldest c are b;
   }
 
   -- ---- a gate whose journal none of these batches has
@@ -347,8 +348,8 @@ module _ (v : SuperValue) where
         opened h.each (lacks opened j none);
     descriptors = all_of _ opened (λ (batch : Batch).
         same.blocks (descriptor_block v.slots batch.journal) (λ e. gate_no_descriptor v.slots j batch.journal (sym e)));
-    standing = λ b home. same.blocks (standing_block v.slots opened b)
-        (λ e. not_standing opened (gate_block v.slots j) (few_each opened c h.each) (gate-below v.layout v.slots j lt)
+    recovered = λ b home. same.blocks (recovered_block v.slots opened b)
+        (λ e. not_recovered opened (gate_block v.slots j) (few_each opened c h.each) (gate-below v.layout v.slots j lt)
         (λ k l has fits at. gate_no_record v.slots j k l fits at) b home (sym e));
   })
 

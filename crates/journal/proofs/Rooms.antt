@@ -9,7 +9,7 @@ use Rattle.journal.specs.WriteOut.{WriteOut, has_committed, advanced_of, begun_o
 use Rattle.journal.specs.declared.flushed.Flushed.{Flushed}
 use Rattle.journal.specs.declared.flushed.Flushed.TheVariants.{Going, Committed, Done, Device, Broken}
 use Rattle.journal.specs.WriteOut.{broken_after}
-use Rattle.journal.specs.inside.Listed.{ListedWriteOut, listed_of, listed_after}
+use Rattle.journal.specs.inside.Queued.{QueuedWriteOut, queued_of, queued_after}
 use Rattle.journal.specs.WriteOuts.{WriteOutsValue, has_uncommitted, current, advanced}
 use Rattle.journal.specs.WriteOuts.{following, next_batch, begun, batches_after, outs_after}
 use Rattle.journal.specs.inside.Sound.{AreInOrder, IsSound}
@@ -18,48 +18,48 @@ use Rattle.journal.proofs.Alls.{all-append, all_front, all_back, all_at}
 
 -- ---- the write-outs in the code's list
 
-get-write_outs : (listed : List ListedWriteOut) (i : ℕ) (d : ListedWriteOut)
-    → get_or (write_outs_in listed) i d.write_out ≡ (get_or listed i d).write_out
+get-write_outs : (queued : List QueuedWriteOut) (i : ℕ) (d : QueuedWriteOut)
+    → get_or (write_outs_in queued) i d.write_out ≡ (get_or queued i d).write_out
 get-write_outs [] i d = refl
-get-write_outs (f ∷ listed) zero d = refl
-get-write_outs (f ∷ listed) (suc i) d = get-write_outs listed i d
+get-write_outs (f ∷ queued) zero d = refl
+get-write_outs (f ∷ queued) (suc i) d = get-write_outs queued i d
 
-pub length-write_outs : (listed : List ListedWriteOut) → length (write_outs_in listed) ≡ length listed
-length-write_outs listed = length-map listed (λ f. f.write_out)
+pub length-write_outs : (queued : List QueuedWriteOut) → length (write_outs_in queued) ≡ length queued
+length-write_outs queued = length-map queued (λ f. f.write_out)
 
 -- what stands at a place
-pub at_place : (listed : List ListedWriteOut) (i : ℕ) (f : ListedWriteOut)
-    → i < length listed → f ≡ get_or listed i f → (d : WriteOut)
-    → get_or (write_outs_in listed) i d ≡ f.write_out
-at_place listed i f lt is d =
-    get_or_default (write_outs_in listed) i d f.write_out (omega (arith, lt, length-write_outs listed))
-    ∙ get-write_outs listed i f
-    ∙ ap (λ (x : ListedWriteOut). x.write_out) (sym is)
+pub at_place : (queued : List QueuedWriteOut) (i : ℕ) (f : QueuedWriteOut)
+    → i < length queued → f ≡ get_or queued i f → (d : WriteOut)
+    → get_or (write_outs_in queued) i d ≡ f.write_out
+at_place queued i f lt is d =
+    get_or_default (write_outs_in queued) i d f.write_out (omega (arith, lt, length-write_outs queued))
+    ∙ get-write_outs queued i f
+    ∙ ap (λ (x : QueuedWriteOut). x.write_out) (sym is)
 
 -- ---- a home block of one of them
 
-pub found_block : (listed : List ListedWriteOut) (i : ℕ) (f : ListedWriteOut) (b : ℕ)
-    → i < length listed → f ≡ get_or listed i f → Contains f.write_out.batch.homes b
-    → (w : WriteOut) × Contains (write_outs_in listed) w × Contains w.batch.homes b
-found_block listed i f b lt is has =
-    (f.write_out, (i, omega (arith, lt, length-write_outs listed), at_place listed i f lt is f.write_out), has)
+pub found_block : (queued : List QueuedWriteOut) (i : ℕ) (f : QueuedWriteOut) (b : ℕ)
+    → i < length queued → f ≡ get_or queued i f → Contains f.write_out.batch.homes b
+    → (w : WriteOut) × Contains (write_outs_in queued) w × Contains w.batch.homes b
+found_block queued i f b lt is has =
+    (f.write_out, (i, omega (arith, lt, length-write_outs queued), at_place queued i f lt is f.write_out), has)
 
-pub no_block : (listed : List ListedWriteOut) (b : ℕ)
-    → ((i : ℕ) (d : ListedWriteOut) → i < length listed → Contains (get_or listed i d).write_out.batch.homes b → ⊥)
-    → ((w : WriteOut) × Contains (write_outs_in listed) w × Contains w.batch.homes b)
+pub no_block : (queued : List QueuedWriteOut) (b : ℕ)
+    → ((i : ℕ) (d : QueuedWriteOut) → i < length queued → Contains (get_or queued i d).write_out.batch.homes b → ⊥)
+    → ((w : WriteOut) × Contains (write_outs_in queued) w × Contains w.batch.homes b)
     → ⊥
-no_block listed b none found = by listed none found.0 found.1.0 found.1.1 found.1.2 found.2
+no_block queued b none found = by queued none found.0 found.1.0 found.1.1 found.1.2 found.2
   where
-    by : (listed : List ListedWriteOut)
-        → ((i : ℕ) (d : ListedWriteOut) → i < length listed → Contains (get_or listed i d).write_out.batch.homes b → ⊥)
-        → (w : WriteOut) (i : ℕ) → i < length (write_outs_in listed)
-        → get_or (write_outs_in listed) i w ≡ w → Contains w.batch.homes b
+    by : (queued : List QueuedWriteOut)
+        → ((i : ℕ) (d : QueuedWriteOut) → i < length queued → Contains (get_or queued i d).write_out.batch.homes b → ⊥)
+        → (w : WriteOut) (i : ℕ) → i < length (write_outs_in queued)
+        → get_or (write_outs_in queued) i w ≡ w → Contains w.batch.homes b
         → ⊥
     by [] none w i lt is has = absurd (omega arith)
-    by (f ∷ listed) none w zero lt is has =
+    by (f ∷ queued) none w zero lt is has =
         none 0 f (omega arith) (subst (λ (x : WriteOut). Contains x.batch.homes b) (sym is) has)
-    by (f ∷ listed) none w (suc i) lt is has =
-        by listed (λ k d within. none (suc k) d (omega arith)) w i (omega arith) is has
+    by (f ∷ queued) none w (suc i) lt is has =
+        by queued (λ k d within. none (suc k) d (omega arith)) w i (omega arith) is has
 
 -- ---- the one whose step comes next
 
@@ -121,38 +121,38 @@ last_is_current batches n e ordered has = record {
 
 -- ---- a batch begins
 
-write_outs-push : (listed : List ListedWriteOut) (f : ListedWriteOut)
-    → write_outs_in (listed ++ f ∷ []) ≡ write_outs_in listed ++ f.write_out ∷ []
+write_outs-push : (queued : List QueuedWriteOut) (f : QueuedWriteOut)
+    → write_outs_in (queued ++ f ∷ []) ≡ write_outs_in queued ++ f.write_out ∷ []
 write_outs-push [] f = refl
-write_outs-push (x ∷ listed) f = ap (λ (l : List WriteOut). x.write_out ∷ l) (write_outs-push listed f)
+write_outs-push (x ∷ queued) f = ap (λ (l : List WriteOut). x.write_out ∷ l) (write_outs-push queued f)
 
 -- the value's write-outs, as the code's list has them
-pub begun_view : (outs : WriteOutsValue) (listed listed' : List ListedWriteOut)
+pub begun_view : (outs : WriteOutsValue) (queued queued' : List QueuedWriteOut)
     (mark : ℕ) (homes : List ℕ) (room next : ℕ)
-    → outs.batches ≡ write_outs_in listed → listed' ≡ listed ++ listed_of (next_batch outs mark homes) room ∷ []
+    → outs.batches ≡ write_outs_in queued → queued' ≡ queued ++ queued_of (next_batch outs mark homes) room ∷ []
     → next ≡ following outs.geometry.layout outs.next
-    → record outs { next = next; batches = write_outs_in listed' } ≡ begun outs mark homes
-begun_view outs listed listed' mark homes room next are pushed turn =
-    let list : write_outs_in listed' ≡ outs.batches ++ begun_of (next_batch outs mark homes) ∷ [] =
+    → record outs { next = next; batches = write_outs_in queued' } ≡ begun outs mark homes
+begun_view outs queued queued' mark homes room next are pushed turn =
+    let list : write_outs_in queued' ≡ outs.batches ++ begun_of (next_batch outs mark homes) ∷ [] =
     ap write_outs_in pushed
-    ∙ write_outs-push listed (listed_of (next_batch outs mark homes) room)
+    ∙ write_outs-push queued (queued_of (next_batch outs mark homes) room)
     ∙ ap (λ (l : List WriteOut). l ++ begun_of (next_batch outs mark homes) ∷ []) (sym are) in
     λ i. record outs { next = turn i; batches = list i }
 
-pub begun_room : (outs : WriteOutsValue) (listed listed' : List ListedWriteOut) (spare spare' : List ℕ)
-    (listed_room listed_room' spare_room spare_room' : ℕ) (mark : ℕ) (homes : List ℕ) (list_room room : ℕ)
-    → HasRoom outs listed listed_room spare spare_room → IsSound (begun outs mark homes)
-    → listed' ≡ listed ++ listed_of (next_batch outs mark homes) room ∷ [] → spare ≡ spare' ++ list_room ∷ []
-    → list_room ≤ room → listed_room ≤ listed_room' → spare_room ≤ spare_room'
-    → HasRoom (begun outs mark homes) listed' listed_room' spare' spare_room'
-begun_room outs listed listed' spare spare' listed_room listed_room' spare_room spare_room' mark homes list_room room
+pub begun_room : (outs : WriteOutsValue) (queued queued' : List QueuedWriteOut) (spare spare' : List ℕ)
+    (queued_room queued_room' spare_room spare_room' : ℕ) (mark : ℕ) (homes : List ℕ) (list_room room : ℕ)
+    → HasRoom outs queued queued_room spare spare_room → IsSound (begun outs mark homes)
+    → queued' ≡ queued ++ queued_of (next_batch outs mark homes) room ∷ [] → spare ≡ spare' ++ list_room ∷ []
+    → list_room ≤ room → queued_room ≤ queued_room' → spare_room ≤ spare_room'
+    → HasRoom (begun outs mark homes) queued' queued_room' spare' spare_room'
+begun_room outs queued queued' spare spare' queued_room queued_room' spare_room spare_room' mark homes list_room room
     has sound pushed popped bigger more more_spare =
     let rooms = subst (AllByRecursion (λ r. outs.geometry.slots ≤ r)) popped has.spare_are in
     record {
       sound = sound;
-      listed_are = subst (AllByRecursion (λ (one : ListedWriteOut). outs.geometry.slots ≤ one.room)) (sym pushed)
-          (all-append (λ (one : ListedWriteOut). outs.geometry.slots ≤ one.room) listed
-          (listed_of (next_batch outs mark homes) room ∷ []) has.listed_are
+      queued_are = subst (AllByRecursion (λ (one : QueuedWriteOut). outs.geometry.slots ≤ one.room)) (sym pushed)
+          (all-append (λ (one : QueuedWriteOut). outs.geometry.slots ≤ one.room) queued
+          (queued_of (next_batch outs mark homes) room ∷ []) has.queued_are
           (omega (arith, bigger, (all_back (λ r. outs.geometry.slots ≤ r) spare' (list_room ∷ []) rooms).0), tt));
       spare_are = all_front (λ r. outs.geometry.slots ≤ r) spare' (list_room ∷ []) rooms;
       count = omega (
@@ -160,7 +160,7 @@ begun_room outs listed listed' spare spare' listed_room listed_room' spare_room 
         has.count,
         ap length pushed,
         ap length popped,
-        length-append listed (listed_of (next_batch outs mark homes) room ∷ []),
+        length-append queued (queued_of (next_batch outs mark homes) room ∷ []),
         length-append spare' (list_room ∷ []),
       );
       room = omega (arith, has.room, more);
@@ -179,11 +179,11 @@ popped_last f old new o x is some = ap (map f) (is ∙ ap (λ (p : Option _). ne
 
 -- ---- a step
 
-write_outs-set : (listed : List ListedWriteOut) (i : ℕ) (f : ListedWriteOut)
-    → write_outs_in (set listed i f) ≡ set (write_outs_in listed) i f.write_out
+write_outs-set : (queued : List QueuedWriteOut) (i : ℕ) (f : QueuedWriteOut)
+    → write_outs_in (set queued i f) ≡ set (write_outs_in queued) i f.write_out
 write_outs-set [] i f = refl
-write_outs-set (x ∷ listed) zero f = refl
-write_outs-set (x ∷ listed) (suc i) f = ap (λ (l : List WriteOut). x.write_out ∷ l) (write_outs-set listed i f)
+write_outs-set (x ∷ queued) zero f = refl
+write_outs-set (x ∷ queued) (suc i) f = ap (λ (l : List WriteOut). x.write_out ∷ l) (write_outs-set queued i f)
 
 set-same : (batches : List WriteOut) (i : ℕ) (d : WriteOut) → i < length batches
     → set batches i (get_or batches i d) ≡ batches
@@ -191,63 +191,63 @@ set-same [] i d lt = absurd (omega arith)
 set-same (w ∷ batches) zero d lt = refl
 set-same (w ∷ batches) (suc i) d lt = ap (λ (l : List WriteOut). w ∷ l) (set-same batches i d (omega arith))
 
-all-set : (P : ListedWriteOut → Type 0) (listed : List ListedWriteOut) (i : ℕ) (f : ListedWriteOut)
-    → AllByRecursion P listed → P f
-    → AllByRecursion P (set listed i f)
+all-set : (P : QueuedWriteOut → Type 0) (queued : List QueuedWriteOut) (i : ℕ) (f : QueuedWriteOut)
+    → AllByRecursion P queued → P f
+    → AllByRecursion P (set queued i f)
 all-set P [] i f all is = tt
-all-set P (x ∷ listed) zero f all is = (is, all.1)
-all-set P (x ∷ listed) (suc i) f all is = (all.0, all-set P listed i f all.1 is)
+all-set P (x ∷ queued) zero f all is = (is, all.1)
+all-set P (x ∷ queued) (suc i) f all is = (all.0, all-set P queued i f all.1 is)
 
-write_outs-rest : (listed : List ListedWriteOut) (i : ℕ) (f : ListedWriteOut) → i ≡ 0
-    → write_outs_in (drop 1 (set listed i f)) ≡ drop 1 (write_outs_in listed)
-write_outs-rest listed i f first = ap (λ k. write_outs_in (drop 1 (set listed k f))) first ∙ by listed
+write_outs-rest : (queued : List QueuedWriteOut) (i : ℕ) (f : QueuedWriteOut) → i ≡ 0
+    → write_outs_in (drop 1 (set queued i f)) ≡ drop 1 (write_outs_in queued)
+write_outs-rest queued i f first = ap (λ k. write_outs_in (drop 1 (set queued k f))) first ∙ by queued
   where
-    by : (l : List ListedWriteOut) → write_outs_in (drop 1 (set l 0 f)) ≡ drop 1 (write_outs_in l)
+    by : (l : List QueuedWriteOut) → write_outs_in (drop 1 (set l 0 f)) ≡ drop 1 (write_outs_in l)
     by [] = refl
     by (x ∷ l) = refl
 
-module _ (outs : WriteOutsValue) (listed : List ListedWriteOut) (at : ℕ) (f f' : ListedWriteOut)
-    (are : outs.batches ≡ write_outs_in listed) (current_at : IsCurrent (write_outs_in listed) at)
-    (here : f ≡ get_or listed at f) where
-  within : at < length listed
-  within = omega (arith, current_at.within, length-write_outs listed)
+module _ (outs : WriteOutsValue) (queued : List QueuedWriteOut) (at : ℕ) (f f' : QueuedWriteOut)
+    (are : outs.batches ≡ write_outs_in queued) (current_at : IsCurrent (write_outs_in queued) at)
+    (here : f ≡ get_or queued at f) where
+  within : at < length queued
+  within = omega (arith, current_at.within, length-write_outs queued)
 
-  place : (d : WriteOut) → get_or (write_outs_in listed) at d ≡ f.write_out
-  place d = at_place listed at f within here d
+  place : (d : WriteOut) → get_or (write_outs_in queued) at d ≡ f.write_out
+  place d = at_place queued at f within here d
 
   -- the write-outs after a step that goes on
-  going_on : f'.write_out ≡ advanced_of f.write_out → write_outs_in (set listed at f') ≡ advanced outs.batches
+  going_on : f'.write_out ≡ advanced_of f.write_out → write_outs_in (set queued at f') ≡ advanced outs.batches
   going_on is =
-      write_outs-set listed at f' ∙ ap (set (write_outs_in listed) at) (is ∙ ap advanced_of (sym (place f.write_out)))
+      write_outs-set queued at f' ∙ ap (set (write_outs_in queued) at) (is ∙ ap advanced_of (sym (place f.write_out)))
       ∙ sym (current_at.advanced f.write_out) ∙ ap advanced (sym are)
 
   -- the value after a step
-  stepped_batches : (answer : Flushed) → f' ≡ listed_after f answer → (answer ≡ Broken → ⊥)
+  stepped_batches : (answer : Flushed) → f' ≡ queued_after f answer → (answer ≡ Broken → ⊥)
       → ((mark : ℕ) → answer ≡ Done mark → has_committed f.write_out ≡ true)
-      → write_outs_in (kept_after answer (set listed at f')) ≡ batches_after answer outs.batches
-  stepped_batches Going is not_broken ends = going_on (ap (λ (x : ListedWriteOut). x.write_out) is)
-  stepped_batches (Committed mark) is not_broken ends = going_on (ap (λ (x : ListedWriteOut). x.write_out) is)
+      → write_outs_in (kept_after answer (set queued at f')) ≡ batches_after answer outs.batches
+  stepped_batches Going is not_broken ends = going_on (ap (λ (x : QueuedWriteOut). x.write_out) is)
+  stepped_batches (Committed mark) is not_broken ends = going_on (ap (λ (x : QueuedWriteOut). x.write_out) is)
   stepped_batches (Done mark) is not_broken ends =
       let first : at ≡ 0 = current_at.first f.write_out (ap has_committed (place f.write_out) ∙ ends mark refl) in
-      write_outs-rest listed at f' first ∙ ap (drop 1) (sym are)
+      write_outs-rest queued at f' first ∙ ap (drop 1) (sym are)
   stepped_batches Device is not_broken ends =
-      write_outs-set listed at f'
-      ∙ ap (set (write_outs_in listed) at) (ap (λ (x : ListedWriteOut). x.write_out) is ∙ sym (place f.write_out))
-      ∙ set-same (write_outs_in listed) at f.write_out current_at.within
+      write_outs-set queued at f'
+      ∙ ap (set (write_outs_in queued) at) (ap (λ (x : QueuedWriteOut). x.write_out) is ∙ sym (place f.write_out))
+      ∙ set-same (write_outs_in queued) at f.write_out current_at.within
       ∙ sym are
   stepped_batches Broken is not_broken ends = absurd (not_broken refl)
 
-  pub stepped_view : (answer : Flushed) → f' ≡ listed_after f answer → (answer ≡ Broken → ⊥)
+  pub stepped_view : (answer : Flushed) → f' ≡ queued_after f answer → (answer ≡ Broken → ⊥)
       → ((mark : ℕ) → answer ≡ Done mark → has_committed f.write_out ≡ true)
       → record outs {
-        batches = write_outs_in (kept_after answer (set listed at f'));
+        batches = write_outs_in (kept_after answer (set queued at f'));
         broken = broken_after answer outs.broken;
       } ≡ outs_after outs answer
   stepped_view answer is not_broken ends =
       ap (λ (l : List WriteOut). record outs { batches = l; broken = broken_after answer outs.broken })
       (stepped_batches answer is not_broken ends)
 
-  kept_all : (P : ListedWriteOut → Type 0) (answer : Flushed) (l : List ListedWriteOut) → AllByRecursion P l
+  kept_all : (P : QueuedWriteOut → Type 0) (answer : Flushed) (l : List QueuedWriteOut) → AllByRecursion P l
       → AllByRecursion P (kept_after answer l)
   kept_all P (Done mark) [] all = tt
   kept_all P (Done mark) (x ∷ l) all = all.1
@@ -256,8 +256,8 @@ module _ (outs : WriteOutsValue) (listed : List ListedWriteOut) (at : ℕ) (f f'
   kept_all P Device l all = all
   kept_all P Broken l all = all
 
-  spare_all : (slots : ℕ) (answer : Flushed) (l : List ListedWriteOut) (spare : List ℕ)
-      → AllByRecursion (λ (x : ListedWriteOut). slots ≤ x.room) l → AllByRecursion (λ r. slots ≤ r) spare
+  spare_all : (slots : ℕ) (answer : Flushed) (l : List QueuedWriteOut) (spare : List ℕ)
+      → AllByRecursion (λ (x : QueuedWriteOut). slots ≤ x.room) l → AllByRecursion (λ r. slots ≤ r) spare
       → AllByRecursion (λ r. slots ≤ r) (spare_after answer l spare)
   spare_all slots (Done mark) [] spare rooms all = all
   spare_all slots (Done mark) (x ∷ l) spare rooms all =
@@ -267,7 +267,7 @@ module _ (outs : WriteOutsValue) (listed : List ListedWriteOut) (at : ℕ) (f f'
   spare_all slots Device l spare rooms all = all
   spare_all slots Broken l spare rooms all = all
 
-  same_count : (answer : Flushed) (l : List ListedWriteOut) (spare : List ℕ)
+  same_count : (answer : Flushed) (l : List QueuedWriteOut) (spare : List ℕ)
       → length (kept_after answer l) + length (spare_after answer l spare) ≡ length l + length spare
   same_count (Done mark) [] spare = refl
   same_count (Done mark) (x ∷ l) spare = omega (arith, length-append spare (x.room ∷ []))
@@ -277,26 +277,26 @@ module _ (outs : WriteOutsValue) (listed : List ListedWriteOut) (at : ℕ) (f f'
   same_count Broken l spare = refl
 
   -- and the room
-  pub stepped_room : (answer : Flushed) (spare spare' : List ℕ) (listed_room listed_room' spare_room spare_room' : ℕ)
-      → HasRoom outs listed listed_room spare spare_room → IsSound (outs_after outs answer) → f' ≡ listed_after f answer
-      → spare' ≡ spare_after answer (set listed at f') spare → listed_room ≤ listed_room' → spare_room ≤ spare_room'
-      → HasRoom (outs_after outs answer) (kept_after answer (set listed at f')) listed_room' spare' spare_room'
-  stepped_room answer spare spare' listed_room listed_room' spare_room spare_room' has sound after spares
+  pub stepped_room : (answer : Flushed) (spare spare' : List ℕ) (queued_room queued_room' spare_room spare_room' : ℕ)
+      → HasRoom outs queued queued_room spare spare_room → IsSound (outs_after outs answer) → f' ≡ queued_after f answer
+      → spare' ≡ spare_after answer (set queued at f') spare → queued_room ≤ queued_room' → spare_room ≤ spare_room'
+      → HasRoom (outs_after outs answer) (kept_after answer (set queued at f')) queued_room' spare' spare_room'
+  stepped_room answer spare spare' queued_room queued_room' spare_room spare_room' has sound after spares
       more more_spare =
       let own : outs.geometry.slots ≤ f.room =
-      all_at (λ (one : ListedWriteOut). outs.geometry.slots ≤ one.room) listed f has.listed_are
+      all_at (λ (one : QueuedWriteOut). outs.geometry.slots ≤ one.room) queued f has.queued_are
       (at, within, sym here) in
-      let rooms = all-set (λ (one : ListedWriteOut). outs.geometry.slots ≤ one.room) listed at f' has.listed_are
-      (subst (λ (one : ListedWriteOut). outs.geometry.slots ≤ one.room) (sym after) own) in
+      let rooms = all-set (λ (one : QueuedWriteOut). outs.geometry.slots ≤ one.room) queued at f' has.queued_are
+      (subst (λ (one : QueuedWriteOut). outs.geometry.slots ≤ one.room) (sym after) own) in
       record {
         sound = sound;
-        listed_are = kept_all (λ (one : ListedWriteOut). outs.geometry.slots ≤ one.room) answer
-            (set listed at f') rooms;
+        queued_are = kept_all (λ (one : QueuedWriteOut). outs.geometry.slots ≤ one.room) answer
+            (set queued at f') rooms;
         spare_are = subst (AllByRecursion (λ r. outs.geometry.slots ≤ r)) (sym spares)
-            (spare_all outs.geometry.slots answer (set listed at f') spare rooms has.spare_are);
-        count = ap (λ (l : List ℕ). length (kept_after answer (set listed at f')) + length l) spares
-            ∙ same_count answer (set listed at f') spare
-            ∙ ap (λ n. n + length spare) (length-set listed at f')
+            (spare_all outs.geometry.slots answer (set queued at f') spare rooms has.spare_are);
+        count = ap (λ (l : List ℕ). length (kept_after answer (set queued at f')) + length l) spares
+            ∙ same_count answer (set queued at f') spare
+            ∙ ap (λ n. n + length spare) (length-set queued at f')
             ∙ has.count;
         room = omega (arith, has.room, more);
         spare_fits = omega (arith, has.spare_fits, more_spare);

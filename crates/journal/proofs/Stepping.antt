@@ -21,20 +21,20 @@ use Rattle.journal.specs.Stage.{is_committed}
 use Rattle.journal.specs.Work.{Work, Sync, work_at, worked, TornFromWork}
 use Rattle.journal.specs.WriteOut.{IsBatch}
 use Rattle.journal.specs.Crash.{LeftBefore, LeftWithin}
-use Rattle.journal.specs.inside.Tied.{Progress, IsFirmFor, IsLeft, is_recording, is_applying, is_sure}
-use Rattle.journal.specs.inside.Tied.{is_open, sure_in, recorded, is_described, applied, IsCovered}
+use Rattle.journal.specs.inside.Tied.{Progress, IsFirmFor, IsLeft, is_recording, is_applying, is_durable}
+use Rattle.journal.specs.inside.Tied.{is_open, durable_in, recorded, is_described, applied, IsCovered}
 use Rattle.journal.specs.inside.Tied.{IsWritten, AreWritten, is_under_way, kept_in, IsSeen}
 use Rattle.journal.proofs.Alls.{all_map, all_both, all_in, all-append, all_front, all_back, all_replaced, in_right}
 use Rattle.journal.proofs.Changes.{SameBut, same_but_torn, torn-written, block-written, first-written, length-block_at}
 use Rattle.journal.proofs.Places.{gate-below, descriptor-below, record-below}
 use Rattle.journal.proofs.Places.{gate_no_descriptor, gate_no_record, descriptor_no_record}
 use Rattle.journal.proofs.Stages.{next_of}
-use Rattle.journal.proofs.Standing.{standing-without_oldest}
+use Rattle.journal.proofs.RecoveredBlocks.{recovered-without_oldest}
 use Rattle.journal.proofs.Recovering.{HoldsBy, holds_newest}
 use Rattle.journal.proofs.Written.{IsBeside, written_more, written_kept, all_kept, beside_gate, beside_record}
 use Rattle.journal.proofs.Written.{beside_descriptor, beside_home, home_at, rising_apart, length-descriptor_text}
 use Rattle.journal.proofs.Tying.{false_true, IsBefore, AreOrdered, AreGoing, last_of}
-use Rattle.journal.proofs.Firm.{sure_all, first_same, super_firm, gate_firm, standing_firm, holds_left}
+use Rattle.journal.proofs.Firm.{durable_all, first_same, super_firm, gate_firm, recovered_firm, holds_left}
 use Rattle.journal.proofs.Leaving.{IsGateOpening, covered_front, newer_than, under_way, left_recovers}
 
 -- ---- the next stage
@@ -45,7 +45,7 @@ record IsRecordedTo (k n : ℕ) (s : Stage) : Type 0 where
   pub applied_is : applied k s ≡ 0
   pub described_is : is_described s ≡ false
   pub open_is : is_open s ≡ false
-  pub sure_is : is_sure s ≡ false
+  pub durable_is : is_durable s ≡ false
   pub committed_is : is_committed s ≡ false
   pub recording_is : is_recording s ≡ true
 
@@ -56,7 +56,7 @@ recorded_to k i = cond_both (i + 1 == k) Describing (Recording (i + 1)) (IsRecor
       applied_is = refl;
       described_is = refl;
       open_is = refl;
-      sure_is = refl;
+      durable_is = refl;
       committed_is = refl;
       recording_is = refl;
     })
@@ -65,7 +65,7 @@ recorded_to k i = cond_both (i + 1 == k) Describing (Recording (i + 1)) (IsRecor
       applied_is = refl;
       described_is = refl;
       open_is = refl;
-      sure_is = refl;
+      durable_is = refl;
       committed_is = refl;
       recording_is = refl;
     })
@@ -76,7 +76,7 @@ record IsAppliedTo (k n : ℕ) (s : Stage) : Type 0 where
   pub applied_is : applied k s ≡ n
   pub described_is : is_described s ≡ true
   pub open_is : is_open s ≡ true
-  pub sure_is : is_sure s ≡ true
+  pub durable_is : is_durable s ≡ true
   pub committed_is : is_committed s ≡ true
   pub applying_is : is_applying s ≡ true
 
@@ -87,7 +87,7 @@ applied_to k i = cond_both (i + 1 == k) SyncingHomes (Applying (i + 1)) (IsAppli
       applied_is = sym (eqb-true (i + 1) k e);
       described_is = refl;
       open_is = refl;
-      sure_is = refl;
+      durable_is = refl;
       committed_is = refl;
       applying_is = refl;
     })
@@ -96,7 +96,7 @@ applied_to k i = cond_both (i + 1 == k) SyncingHomes (Applying (i + 1)) (IsAppli
       applied_is = refl;
       described_is = refl;
       open_is = refl;
-      sure_is = refl;
+      durable_is = refl;
       committed_is = refl;
       applying_is = refl;
     })
@@ -126,11 +126,11 @@ homes_apart v batch is i k other lt within e =
 abbrev pub at : Batch → Stage → Progress
 at batch s = record { batch = batch; stage = s }
 
-sure_same : (older newer : List Progress) (batch : Batch) (s s' : Stage) → is_sure s ≡ is_sure s'
-    → sure_in (older ++ at batch s ∷ newer) ≡ sure_in (older ++ at batch s' ∷ newer)
-sure_same [] newer batch s s' same = ap (λ b. sure_in newer ++ cond b (batch ∷ []) []) same
-sure_same (q ∷ older) newer batch s s' same =
-    ap (λ (l : List Batch). l ++ cond (is_sure q.stage) (q.batch ∷ []) []) (sure_same older newer batch s s' same)
+durable_same : (older newer : List Progress) (batch : Batch) (s s' : Stage) → is_durable s ≡ is_durable s'
+    → durable_in (older ++ at batch s ∷ newer) ≡ durable_in (older ++ at batch s' ∷ newer)
+durable_same [] newer batch s s' same = ap (λ b. durable_in newer ++ cond b (batch ∷ []) []) same
+durable_same (q ∷ older) newer batch s s' same =
+    ap (λ (l : List Batch). l ++ cond (is_durable q.stage) (q.batch ∷ []) []) (durable_same older newer batch s s' same)
 
 way_same : (older newer : List Progress) (batch : Batch) (s s' : Stage) → is_committed s ≡ is_committed s'
     → is_under_way (older ++ at batch s ∷ newer) ≡ is_under_way (older ++ at batch s' ∷ newer)
@@ -157,12 +157,13 @@ all_committed (p ∷ newer) none =
       all_committed newer parts.1,
     )
 
-pub sure_push : (older : List Progress) (p : Progress)
-    → sure_in (older ++ p ∷ []) ≡ cond (is_sure p.stage) (p.batch ∷ []) [] ++ sure_in older
-sure_push [] p = sym (append-nil (cond (is_sure p.stage) (p.batch ∷ []) []))
-sure_push (q ∷ older) p =
-    ap (λ (l : List Batch). l ++ cond (is_sure q.stage) (q.batch ∷ []) []) (sure_push older p)
-    ∙ append_assoc (cond (is_sure p.stage) (p.batch ∷ []) []) (sure_in older) (cond (is_sure q.stage) (q.batch ∷ []) [])
+pub durable_push : (older : List Progress) (p : Progress)
+    → durable_in (older ++ p ∷ []) ≡ cond (is_durable p.stage) (p.batch ∷ []) [] ++ durable_in older
+durable_push [] p = sym (append-nil (cond (is_durable p.stage) (p.batch ∷ []) []))
+durable_push (q ∷ older) p =
+    ap (λ (l : List Batch). l ++ cond (is_durable q.stage) (q.batch ∷ []) []) (durable_push older p)
+    ∙ append_assoc (cond (is_durable p.stage) (p.batch ∷ []) []) (durable_in older)
+    (cond (is_durable q.stage) (q.batch ∷ []) [])
 
 -- those that follow wait with their application
 pub waiting : (p : Progress) (newer : List Progress) → AllByRecursion (IsBefore p) newer → is_under_way newer ≡ false
@@ -182,21 +183,25 @@ covered_back [] rest b covered = covered
 covered_back (x ∷ front) rest b covered = inr (covered_back front rest b covered)
 
 covered_more : (older newer : List Progress) (batch : Batch) (s s' : Stage)
-    → (is_sure s ≡ true → is_sure s' ≡ true) → (b : ℕ) → IsCovered (sure_in (older ++ at batch s ∷ newer)) b
-    → IsCovered (sure_in (older ++ at batch s' ∷ newer)) b
-covered_more [] newer batch s s' sure b covered =
-    elim (covered_split (sure_in newer) (cond (is_sure s) (batch ∷ []) []) b covered) [
-      | inl there ↦ covered_front (sure_in newer) (cond (is_sure s') (batch ∷ []) []) b there
-      | inr own ↦ covered_back (sure_in newer) (cond (is_sure s') (batch ∷ []) []) b (elim (cases_Bool (is_sure s)) [
-        | inl is ↦ subst (λ t. IsCovered (cond t (batch ∷ []) []) b) (is ∙ sym (sure is)) own
-        | inr not ↦ (let never : ⊥ = subst (λ t. IsCovered (cond t (batch ∷ []) []) b) not own in absurd never)
-      ])
+    → (is_durable s ≡ true → is_durable s' ≡ true) → (b : ℕ) → IsCovered (durable_in (older ++ at batch s ∷ newer)) b
+    → IsCovered (durable_in (older ++ at batch s' ∷ newer)) b
+covered_more [] newer batch s s' durable b covered =
+    elim (covered_split (durable_in newer) (cond (is_durable s) (batch ∷ []) []) b covered) [
+      | inl there ↦ covered_front (durable_in newer) (cond (is_durable s') (batch ∷ []) []) b there
+      | inr own ↦ covered_back (durable_in newer) (cond (is_durable s') (batch ∷ []) []) b
+          (elim (cases_Bool (is_durable s)) [
+            | inl is ↦ subst (λ t. IsCovered (cond t (batch ∷ []) []) b) (is ∙ sym (durable is)) own
+            | inr not ↦ (let never : ⊥ = subst (λ t. IsCovered (cond t (batch ∷ []) []) b) not own in absurd never)
+          ])
     ]
-covered_more (q ∷ older) newer batch s s' sure b covered =
-    elim (covered_split (sure_in (older ++ at batch s ∷ newer)) (cond (is_sure q.stage) (q.batch ∷ []) []) b covered) [
-      | inl there ↦ covered_front (sure_in (older ++ at batch s' ∷ newer)) (cond (is_sure q.stage) (q.batch ∷ []) []) b
-          (covered_more older newer batch s s' sure b there)
-      | inr own ↦ covered_back (sure_in (older ++ at batch s' ∷ newer)) (cond (is_sure q.stage) (q.batch ∷ []) []) b own
+covered_more (q ∷ older) newer batch s s' durable b covered =
+    elim (covered_split (durable_in (older ++ at batch s ∷ newer))
+    (cond (is_durable q.stage) (q.batch ∷ []) []) b covered) [
+      | inl there ↦ covered_front (durable_in (older ++ at batch s' ∷ newer))
+          (cond (is_durable q.stage) (q.batch ∷ []) []) b
+          (covered_more older newer batch s s' durable b there)
+      | inr own ↦ covered_back (durable_in (older ++ at batch s' ∷ newer))
+          (cond (is_durable q.stage) (q.batch ∷ []) []) b own
     ]
 
 -- those that are older than one, and the journals of the others are apart from its own
@@ -225,40 +230,40 @@ apart_of older newer p ordered = (
 
 own_of : (v : SuperValue) (new : ℕ → List ℕ) (older newer : List Progress) (p : Progress) (seen : List ℕ)
     → AreWritten v new seen (older ++ p ∷ newer)
-    → IsWritten v new (sure_in newer) p seen × AreWritten v new seen newer
+    → IsWritten v new (durable_in newer) p seen × AreWritten v new seen newer
 own_of v new [] newer p seen are = are
 own_of v new (q ∷ older) newer p seen are = own_of v new older newer p seen are.1
 
 module _ (v : SuperValue) (new : ℕ → List ℕ) (older newer : List Progress) (batch : Batch) (s s' : Stage) where
-  written_same : (seen : List ℕ) → (is_sure s ≡ true → is_sure s' ≡ true)
-      → IsWritten v new (sure_in newer) (at batch s') seen → AreWritten v new seen (older ++ at batch s ∷ newer)
+  written_same : (seen : List ℕ) → (is_durable s ≡ true → is_durable s' ≡ true)
+      → IsWritten v new (durable_in newer) (at batch s') seen → AreWritten v new seen (older ++ at batch s ∷ newer)
       → AreWritten v new seen (older ++ at batch s' ∷ newer)
-  written_same seen sure own are = by older are
+  written_same seen durable own are = by older are
     where
       by : (l : List Progress) → AreWritten v new seen (l ++ at batch s ∷ newer)
           → AreWritten v new seen (l ++ at batch s' ∷ newer)
       by [] are = (own, are.1)
-      by (q ∷ l) are = (written_more v new _ _ q seen (covered_more l newer batch s s' sure) are.0, by l are.1)
+      by (q ∷ l) are = (written_more v new _ _ q seen (covered_more l newer batch s s' durable) are.0, by l are.1)
 
   -- where a block is written that has no part in the others
-  written_with : (x : ℕ) (seen seen' : List ℕ) → (is_sure s ≡ true → is_sure s' ≡ true) ⊎ (older ≡ [])
+  written_with : (x : ℕ) (seen seen' : List ℕ) → (is_durable s ≡ true → is_durable s' ≡ true) ⊎ (older ≡ [])
       → AllByRecursion (λ (q : Progress). IsBeside v new q x) older
       × AllByRecursion (λ (q : Progress). IsBeside v new q x) newer
-      → SameBut x seen seen' → IsWritten v new (sure_in newer) (at batch s') seen'
+      → SameBut x seen seen' → IsWritten v new (durable_in newer) (at batch s') seen'
       → AreWritten v new seen (older ++ at batch s ∷ newer)
       → AreWritten v new seen' (older ++ at batch s' ∷ newer)
   written_with x seen seen' (inr none) beside same own are =
       subst (λ (l : List Progress).
       AreWritten v new seen (l ++ at batch s ∷ newer) → AreWritten v new seen' (l ++ at batch s' ∷ newer)) (sym none)
       (λ rest. (own, all_kept v new newer x seen seen' rest.1 beside.1 same)) are
-  written_with x seen seen' (inl sure) beside same own are = by older beside.0 are
+  written_with x seen seen' (inl durable) beside same own are = by older beside.0 are
     where
       by : (l : List Progress) → AllByRecursion (λ (q : Progress). IsBeside v new q x) l
           → AreWritten v new seen (l ++ at batch s ∷ newer)
           → AreWritten v new seen' (l ++ at batch s' ∷ newer)
       by [] all are = (own, all_kept v new newer x seen seen' are.1 beside.1 same)
       by (q ∷ l) all are = (
-        written_more v new _ _ q seen' (covered_more l newer batch s s' sure)
+        written_more v new _ _ q seen' (covered_more l newer batch s s' durable)
             (written_kept v new _ q x seen seen' are.0 all.0 same),
         by l all.1 are.1,
       )
@@ -286,7 +291,7 @@ module _ (v : SuperValue) (old new : ℕ → List ℕ) where
       → 4096 * block_count v ≤ length seen → AreWritten v new seen' progress
       → ((j : ℕ) → j < journals_of v.layout → AllByRecursion (IsApart j) progress → IsOpen seen v.slots j → ⊥)
       → ((b : ℕ) → IsHome (geometry_of v) b
-      → kept_in progress old new b ≡ contents_in v.slots (sure_in progress) seen b)
+      → kept_in progress old new b ≡ contents_in v.slots (durable_in progress) seen b)
       → AllByRecursion IsOutside progress
       → IsSeen v progress old new seen'
   seen_moves progress going seen seen' left super_block long are shut contents outside = record {
@@ -297,7 +302,7 @@ module _ (v : SuperValue) (old new : ℕ → List ℕ) where
         let firm = gate_firm v progress going j lt (all_map (λ p other sw. other) progress none) in
         shut j lt none
         (sym (first_same seen' seen (gate_block v.slots j) (left.firm (gate_block v.slots j) firm)) ∙ opens);
-    contents = λ b home. contents b home ∙ sym (left.firm _ (standing_firm v progress going b home));
+    contents = λ b home. contents b home ∙ sym (left.firm _ (recovered_firm v progress going b home));
     outside = outside;
   }
 
@@ -307,12 +312,12 @@ module _ (v : SuperValue) (old new : ℕ → List ℕ) where
     abbrev with_stage : Stage → List Progress
     with_stage s = older ++ at batch s ∷ newer
 
-    contents_with : (s s' : Stage) → is_sure s ≡ is_sure s' → is_committed s ≡ is_committed s' → (b : ℕ)
-        → kept_in (with_stage s) old new b ≡ contents_in v.slots (sure_in (with_stage s)) seen b
-        → kept_in (with_stage s') old new b ≡ contents_in v.slots (sure_in (with_stage s')) seen b
-    contents_with s s' sure committed b e =
+    contents_with : (s s' : Stage) → is_durable s ≡ is_durable s' → is_committed s ≡ is_committed s' → (b : ℕ)
+        → kept_in (with_stage s) old new b ≡ contents_in v.slots (durable_in (with_stage s)) seen b
+        → kept_in (with_stage s') old new b ≡ contents_in v.slots (durable_in (with_stage s')) seen b
+    contents_with s s' durable committed b e =
         sym (ap (λ t. cond t old new b) (way_same older newer batch s s' committed)) ∙ e
-        ∙ ap (λ (l : List Batch). contents_in v.slots l seen b) (sure_same older newer batch s s' sure)
+        ∙ ap (λ (l : List Batch). contents_in v.slots l seen b) (durable_same older newer batch s s' durable)
 
     -- a step from one stage to another
     pub record IsStep (s s' : Stage) : Type 0 where
@@ -325,7 +330,7 @@ module _ (v : SuperValue) (old new : ℕ → List ℕ) where
       is_batch =
           (all_back (λ (p : Progress). IsBatch (geometry_of v) p.batch) older (at batch s ∷ newer) step.going.each).0
 
-      own : IsWritten v new (sure_in newer) (at batch s) seen
+      own : IsWritten v new (durable_in newer) (at batch s) seen
       own = (own_of v new older newer (at batch s) seen step.tied.seen_is.written).0
 
       room : (x : ℕ) → x < first_home v.layout v.slots → 4096 * x + 4096 ≤ length seen
@@ -348,8 +353,8 @@ module _ (v : SuperValue) (old new : ℕ → List ℕ) where
 
       moved : (seen' : List ℕ) → IsLeft v.slots (with_stage s') seen seen' → is_committed s ≡ is_committed s'
           → AreWritten v new seen' (with_stage s')
-          → ((b : ℕ) → kept_in (with_stage s) old new b ≡ contents_in v.slots (sure_in (with_stage s)) seen b
-          → kept_in (with_stage s') old new b ≡ contents_in v.slots (sure_in (with_stage s')) seen b)
+          → ((b : ℕ) → kept_in (with_stage s) old new b ≡ contents_in v.slots (durable_in (with_stage s)) seen b
+          → kept_in (with_stage s') old new b ≡ contents_in v.slots (durable_in (with_stage s')) seen b)
           → IsSeen v (with_stage s') old new seen'
       moved seen' left committed are contents =
           let is = step.tied.seen_is in
@@ -363,23 +368,23 @@ module _ (v : SuperValue) (old new : ℕ → List ℕ) where
       -- it writes to one block, which is loose from then on
       write : (x n : ℕ) (bytes : List ℕ) → length bytes ≡ n → n ≤ 4096 → 4096 * x + 4096 ≤ length seen
           → ((b : ℕ) → IsFirmFor v.slots (at batch s') b → IsFirmFor v.slots (at batch s) b × (b ≢ x))
-          → is_committed s ≡ is_committed s' → (is_sure s ≡ true → is_sure s' ≡ true) ⊎ (older ≡ [])
+          → is_committed s ≡ is_committed s' → (is_durable s ≡ true → is_durable s' ≡ true) ⊎ (older ≡ [])
           → AllByRecursion (λ (q : Progress). IsBeside v new q x) older
           × AllByRecursion (λ (q : Progress). IsBeside v new q x) newer
           → (SameBut x seen (written seen (4096 * x) bytes)
-          → IsWritten v new (sure_in newer) (at batch s') (written seen (4096 * x) bytes))
-          → ((b : ℕ) → kept_in (with_stage s) old new b ≡ contents_in v.slots (sure_in (with_stage s)) seen b
-          → kept_in (with_stage s') old new b ≡ contents_in v.slots (sure_in (with_stage s')) seen b)
+          → IsWritten v new (durable_in newer) (at batch s') (written seen (4096 * x) bytes))
+          → ((b : ℕ) → kept_in (with_stage s) old new b ≡ contents_in v.slots (durable_in (with_stage s)) seen b
+          → kept_in (with_stage s') old new b ≡ contents_in v.slots (durable_in (with_stage s')) seen b)
           → ((c : List ℕ) → may' c → (d : List ℕ) × may d × Torn (4096 * x) n d c)
           → IsTiedAt (with_stage s') (written seen (4096 * x) bytes) may'
-      write x n bytes size few fits loose committed sure beside its contents torn =
+      write x n bytes size few fits loose committed durable beside its contents torn =
           let seen' = written seen (4096 * x) bytes in
           let same = same_but_torn x (length bytes) seen seen' (omega (arith, size))
           (torn-written (4096 * x) bytes seen (omega (arith, fits, size))) in
           record {
             seen_is = moved seen'
                 (record { same_length = same.same_length; firm = λ b is. same.blocks b (loosened b is).1 }) committed
-                (written_with v new older newer batch s s' x seen seen' sure beside same
+                (written_with v new older newer batch s s' x seen seen' durable beside same
                 (its same) step.tied.seen_is.written) contents;
             left_are = λ c may_c.
                 let d = torn c may_c in
@@ -401,13 +406,13 @@ module _ (v : SuperValue) (old new : ℕ → List ℕ) where
           )
 
       -- it syncs
-      sync : is_sure s ≡ is_sure s' → is_committed s ≡ is_committed s'
-          → IsWritten v new (sure_in newer) (at batch s') seen → ((c : List ℕ) → may' c → c ≡ seen)
+      sync : is_durable s ≡ is_durable s' → is_committed s ≡ is_committed s'
+          → IsWritten v new (durable_in newer) (at batch s') seen → ((c : List ℕ) → may' c → c ≡ seen)
           → IsTiedAt (with_stage s') seen may'
-      sync sure committed its synced = record {
+      sync durable committed its synced = record {
         seen_is = moved seen (left_same (with_stage s') seen seen refl) committed
-            (written_same v new older newer batch s s' seen (λ e. sym sure ∙ e) its step.tied.seen_is.written)
-            (contents_with s s' sure committed);
+            (written_same v new older newer batch s s' seen (λ e. sym durable ∙ e) its step.tied.seen_is.written)
+            (contents_with s s' durable committed);
         left_are = λ c may_c. left_same (with_stage s') seen c (synced c may_c);
       }
 
@@ -457,7 +462,7 @@ module _ (v : SuperValue) (old new : ℕ → List ℕ) where
           gate = gate_of s s' step x (λ e. gate_no_record v.slots batch.journal batch.journal i few (sym e)) _ same
               (sym to.open_is);
         })
-        (contents_with s s' (sym to.sure_is) (sym to.committed_is)) left
+        (contents_with s s' (sym to.durable_is) (sym to.committed_is)) left
 
     describe_step : (bytes : List ℕ) → (step : IsStep Describing SyncingRecords)
         → ((c : List ℕ) → may' c → TornFromWork (work_at (geometry_of v) batch bytes Describing) may c)
@@ -572,7 +577,7 @@ module _ (v : SuperValue) (old new : ℕ → List ℕ) where
               (λ e. low (gate_block v.slots batch.journal) (gate-below v.layout v.slots batch.journal is.there) (sym e))
               _ same (sym to.open_is);
         })
-        (contents_with s s' (sym to.sure_is) (sym to.committed_is)) left
+        (contents_with s s' (sym to.durable_is) (sym to.committed_is)) left
 
     close_step : (bytes : List ℕ) → (step : IsStep Closing Finishing) → older ≡ []
         → ((c : List ℕ) → may' c → TornFromWork (work_at (geometry_of v) batch bytes Closing) may c)
@@ -605,11 +610,11 @@ module _ (v : SuperValue) (old new : ℕ → List ℕ) where
           gate = λ opens. absurd (omega (arith, closed, opens));
         })
         (λ b. subst (λ (l : List Progress). kept_in (l ++ at batch Closing ∷ newer) old new b
-        ≡ contents_in v.slots (sure_in (l ++ at batch Closing ∷ newer)) seen b
+        ≡ contents_in v.slots (durable_in (l ++ at batch Closing ∷ newer)) seen b
         → kept_in (l ++ at batch Finishing ∷ newer) old new b
-        ≡ contents_in v.slots (sure_in (l ++ at batch Finishing ∷ newer)) seen b) (sym oldest)
-        (λ e. e ∙ standing-without_oldest v.slots (sure_in newer) batch seen (λ i lt. w.homes i lt lt) b
-        ∙ ap (λ (l : List Batch). contents_in v.slots l seen b) (sym (append-nil (sure_in newer))))) left
+        ≡ contents_in v.slots (durable_in (l ++ at batch Finishing ∷ newer)) seen b) (sym oldest)
+        (λ e. e ∙ recovered-without_oldest v.slots (durable_in newer) batch seen (λ i lt. w.homes i lt lt) b
+        ∙ ap (λ (l : List Batch). contents_in v.slots l seen b) (sym (append-nil (durable_in newer))))) left
 
   -- the newest is committed once its open gate is sure
   commit_step : (older : List Progress) (batch : Batch) (seen : List ℕ) (may may' : List ℕ → Type 0)
@@ -628,15 +633,15 @@ module _ (v : SuperValue) (old new : ℕ → List ℕ) where
       (all_map {P = λ (q : Progress). IsBefore q (at batch Committing)}
       (λ q before. before.committed) older (older_than older [] (at batch Committing) step.going.ordered))
       (refl, tt)) in
-      let base = subst (λ (l : List Batch). HoldsBy v l old seen) (sure_push older (at batch Committing))
-      (subst (λ (f : ℕ → List ℕ). HoldsBy v (sure_in (newest Committing)) f seen) (ap (λ b. cond b old new) early)
+      let base = subst (λ (l : List Batch). HoldsBy v l old seen) (durable_push older (at batch Committing))
+      (subst (λ (f : ℕ → List ℕ). HoldsBy v (durable_in (newest Committing)) f seen) (ap (λ b. cond b old new) early)
       (holds_left v (newest Committing) step.going old new seen seen is
       (left_same (newest Committing) seen seen refl))) in
-      let lower = sure_all (λ (b : Batch). b.mark < batch.mark) older
-      (all_map {P = λ (q : Progress). IsBefore q (at batch Committing)} (λ q before sure. before.marks) older
+      let lower = durable_all (λ (b : Batch). b.mark < batch.mark) older
+      (all_map {P = λ (q : Progress). IsBefore q (at batch Committing)} (λ q before durable. before.marks) older
       (older_than older [] (at batch Committing) step.going.ordered)) in
-      let all = holds_newest v (sure_in older) old new batch seen base
-      (is_batch older [] batch seen may may' Committing (Applying 0) step) (newer_than batch (sure_in older) lower)
+      let all = holds_newest v (durable_in older) old new batch seen base
+      (is_batch older [] batch seen may may' Committing (Applying 0) step) (newer_than batch (durable_in older) lower)
       w.gate (w.descriptor refl) (λ i lt. w.records i lt lt)
       (all_in IsOutside (newest Committing) (at batch Committing) is.outside it refl) in
       record {
@@ -652,7 +657,7 @@ module _ (v : SuperValue) (old new : ℕ → List ℕ) where
             (λ j lt none. is.shut j lt
             (all_replaced (IsApart j) older (at batch (Applying 0)) (at batch Committing) [] (λ other. other) none))
             (λ b home. ap (λ t. cond t old new b) late ∙ all.contents_are b home
-            ∙ ap (λ (l : List Batch). contents_in v.slots l seen b) (sym (sure_push older (at batch (Applying 0)))))
+            ∙ ap (λ (l : List Batch). contents_in v.slots l seen b) (sym (durable_push older (at batch (Applying 0)))))
             (all_replaced IsOutside older (at batch Committing) (at batch (Applying 0)) []
             (λ before e. false_true (sym e)) is.outside);
         left_are = λ c may_c. left_same (newest (Applying 0)) seen c (synced c may_c);
@@ -672,7 +677,7 @@ module _ (v : SuperValue) (old new : ℕ → List ℕ) where
               | inr other ↦ is.shut j lt (other, others)
             ])
             (λ b home.
-            is.contents b home ∙ ap (λ (l : List Batch). contents_in v.slots l seen b) (append-nil (sure_in newer)))
+            is.contents b home ∙ ap (λ (l : List Batch). contents_in v.slots l seen b) (append-nil (durable_in newer)))
             is.outside.1;
         left_are = λ c may_c. left_same newer seen c (synced c may_c);
       }
@@ -696,10 +701,10 @@ module _ (v : SuperValue) (old new : ℕ → List ℕ) where
         → (work_at (geometry_of v) batch bytes s ≡ Sync → (c : List ℕ) → may' c → c ≡ seen)
         → IsTiedAt (older ++ at batch (next_of (length batch.homes) s) ∷ newer)
         (worked seen (work_at (geometry_of v) batch bytes s)) may'
-    step_after (Recording i) may' step placed left sure =
+    step_after (Recording i) may' step placed left durable =
         record_step older newer batch seen may may' i bytes step placed.0 placed.1 placed.2 left
-    step_after Describing may' step placed left sure = describe_step older newer batch seen may may' bytes step left
-    step_after SyncingRecords may' step placed left sure =
+    step_after Describing may' step placed left durable = describe_step older newer batch seen may may' bytes step left
+    step_after SyncingRecords may' step placed left durable =
         let w = own older newer batch seen may may' SyncingRecords Opening step in
         sync older newer batch seen may may' SyncingRecords Opening step refl refl
         (record {
@@ -707,20 +712,20 @@ module _ (v : SuperValue) (old new : ℕ → List ℕ) where
           descriptor = w.descriptor;
           homes = λ l within less. absurd (omega (arith, less));
           gate = w.gate;
-        }) (sure refl)
-    step_after Opening may' step placed left sure = open_step older newer batch seen may may' bytes step left
-    step_after Committing may' step placed left sure =
+        }) (durable refl)
+    step_after Opening may' step placed left durable = open_step older newer batch seen may may' bytes step left
+    step_after Committing may' step placed left durable =
         subst (λ (l : List Progress). IsStep older l batch seen may may' Committing (Applying 0)
         → IsTiedAt (older ++ at batch (Applying 0) ∷ l) seen may') (sym placed)
-        (λ alone. commit_step older batch seen may may' alone (sure refl)) step
-    step_after (Applying i) may' step placed left sure =
+        (λ alone. commit_step older batch seen may may' alone (durable refl)) step
+    step_after (Applying i) may' step placed left durable =
         apply_step older newer batch seen may may' i bytes step placed.0 placed.1 placed.2 left
-    step_after SyncingHomes may' step placed left sure =
+    step_after SyncingHomes may' step placed left durable =
         let w = own older newer batch seen may may' SyncingHomes Closing step in
         sync older newer batch seen may may' SyncingHomes Closing step refl refl
-        (record { records = w.records; descriptor = w.descriptor; homes = w.homes; gate = w.gate }) (sure refl)
-    step_after Closing may' step placed left sure = close_step older newer batch seen may may' bytes step placed left
-    step_after Finishing may' step placed left sure = absurd placed
+        (record { records = w.records; descriptor = w.descriptor; homes = w.homes; gate = w.gate }) (durable refl)
+    step_after Closing may' step placed left durable = close_step older newer batch seen may may' bytes step placed left
+    step_after Finishing may' step placed left durable = absurd placed
 
   -- ---- what a crash leaves
 

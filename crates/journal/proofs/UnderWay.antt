@@ -307,7 +307,7 @@ module _ {D : Type 0} (disk : Ghosts D) (v : SuperValue) (newer : List Batch) (c
           (sym (done_seen did honest refl))
           (oldest_after v contents contents (disk.seen now) (disk.may_leave now) bytes (after_steps batch steps)
           (found_in newer) each_now order_now none stage at late tied not_last (disk.may_leave next) did.left
-          (did.sure honest refl))
+          (did.durable honest refl))
 
       ends : stage ≡ Finishing → IsTied v (found_in newer) contents contents (disk.seen next) (disk.may_leave next)
       ends last =
@@ -316,7 +316,7 @@ module _ {D : Type 0} (disk : Ghosts D) (v : SuperValue) (newer : List Batch) (c
           (sym (done_seen did honest refl ∙ ap (worked (disk.seen now)) sync))
           (oldest_done v contents contents (disk.seen now) (disk.may_leave now) bytes (after_steps batch steps)
           (found_in newer) each_now order_now none stage at late tied last (disk.may_leave next)
-          (did.sure honest refl sync))
+          (did.durable honest refl sync))
 
       still_tied : (stage ≡ Finishing) ⊎ (stage ≡ Finishing → ⊥)
           → IsTied v (left_of (after_steps batch (steps + 1)) (found_in newer)) contents contents (disk.seen next)
@@ -358,7 +358,7 @@ module _ {D : Type 0} (disk : Ghosts D) (v : SuperValue) (newer : List Batch) (c
             let sync : work_at (geometry_of v) batch bytes stage ≡ Sync =
             ap (work_at (geometry_of v) batch bytes)
             (last_stage stage (stage_at-is (length batch.homes) steps at) last) in
-            did.sure honest refl sync c left ∙ sym (done_seen did honest refl ∙ ap (worked (disk.seen now)) sync);
+            did.durable honest refl sync c left ∙ sym (done_seen did honest refl ∙ ap (worked (disk.seen now)) sync);
         time = time_step next true did;
       }
 

@@ -19,7 +19,7 @@ use Rattle.volume_codec.specs.Descriptor.{RiseWithin, AreHomes, descriptor_text}
 use Rattle.volume_codec.specs.Text.{number_text, zeros, padded}
 use Rattle.volume_codec.specs.Recovery.{Batch, IsOpen}
 use Rattle.journal.specs.WriteOut.{IsBatch}
-use Rattle.journal.specs.inside.Tied.{Progress, is_open, applied, sure_in, IsCovered, IsWritten, AreWritten}
+use Rattle.journal.specs.inside.Tied.{Progress, is_open, applied, durable_in, IsCovered, IsWritten, AreWritten}
 use Rattle.journal.proofs.Changes.{SameBut}
 use Rattle.journal.proofs.Places.{gates_apart, gate-below, descriptor-below, record-below, descriptors_apart}
 use Rattle.journal.proofs.Places.{gate_no_descriptor, gate_no_record, descriptor_no_record, records_apart}
@@ -149,8 +149,10 @@ module _ (v : SuperValue) (new : ℕ → List ℕ) where
       → AllByRecursion (λ (p : Progress). IsBeside p x) progress → SameBut x seen seen'
       → AreWritten v new seen' progress
   all_kept [] x seen seen' are beside same = tt
-  all_kept (p ∷ newer) x seen seen' are beside same =
-      (written_kept (sure_in newer) p x seen seen' are.0 beside.0 same, all_kept newer x seen seen' are.1 beside.1 same)
+  all_kept (p ∷ newer) x seen seen' are beside same = (
+    written_kept (durable_in newer) p x seen seen' are.0 beside.0 same,
+    all_kept newer x seen seen' are.1 beside.1 same,
+  )
 
   -- ---- blocks that have no part in it
 

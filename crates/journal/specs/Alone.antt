@@ -29,14 +29,14 @@ pub record IsStepAlone {D : Type 0} (disk : Ghosts D) (flush : FlushValue) (byte
   pub honest : disk.is_honest before
   pub did : Did disk before (flush_work flush bytes) (has_done answer) after
 
-pub data StandsAlone {D : Type 0} (disk : Ghosts D) (v : SuperValue)
+pub data HasLedAlone {D : Type 0} (disk : Ghosts D) (v : SuperValue)
     : FlushValue → (ℕ → List ℕ) → (ℕ → List ℕ) → D → Type 0 where
   -- Before the first step Old is the home blocks, and New each contents that agree with it outside the batch.
   BegunAlone : (batch : Batch) (room : ℕ) (new : ℕ → List ℕ) (device : D) → MayBeginAlone disk v batch device
       → ((b : ℕ) → (Contains batch.homes b → ⊥) → new b ≡ block_at (disk.seen device) b)
-      → StandsAlone disk v (flush_of (geometry_of v) batch room) (block_at (disk.seen device)) new device
+      → HasLedAlone disk v (flush_of (geometry_of v) batch room) (block_at (disk.seen device)) new device
   -- A step that writes a record is given the block of New.
   SteppedAlone : (flush : FlushValue) (old new : ℕ → List ℕ) (bytes : List ℕ) (answer : Flushed) (before after : D)
       → IsStepAlone disk flush bytes answer before after
       → ((home : ℕ) → flush_home flush ≡ Some home → bytes ≡ new home)
-      → StandsAlone disk v flush old new before → StandsAlone disk v (flush_after flush answer) old new after
+      → HasLedAlone disk v flush old new before → HasLedAlone disk v (flush_after flush answer) old new after

@@ -5,6 +5,6 @@ pub mod WriteOuts
 pub mod Recovered
 pub mod Finished
 pub mod Crash
-pub mod Standing
+pub mod LedTo
 pub mod Alone
 pub mod inside

@@ -3,7 +3,7 @@ use Rattle.std.specs.Prelude.{ℕ, ◌≡◌, ◌≢◌, ◌<◌, List}
 use Rattle.std.specs.List.{AllByRecursion}
 use Rattle.volume_codec.specs.Layout.{IsHome, journals_of, gate_block, descriptor_block}
 use Rattle.volume_codec.specs.Super.{SuperValue, geometry_of}
-use Rattle.volume_codec.specs.Recovery.{Batch, IsVolume, standing_block, contents_in}
+use Rattle.volume_codec.specs.Recovery.{Batch, IsVolume, recovered_block, contents_in}
 
 -- these bytes hold a volume with this super block, whose open journals have these batches, and recover to these
 -- contents
@@ -16,4 +16,4 @@ pub record IsUnread (v : SuperValue) (opened : List Batch) (block : ℕ) : Type 
   pub not_super : block ≢ 0
   pub not_gate : (j : ℕ) → j < journals_of v.layout → block ≢ gate_block v.slots j
   pub not_descriptor : AllByRecursion (λ batch. block ≢ descriptor_block v.slots batch.journal) opened
-  pub not_standing : (b : ℕ) → IsHome (geometry_of v) b → block ≢ standing_block v.slots opened b
+  pub not_recovered : (b : ℕ) → IsHome (geometry_of v) b → block ≢ recovered_block v.slots opened b

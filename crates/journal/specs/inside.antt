@@ -1,7 +1,7 @@
 pub mod Sound
-pub mod Listed
+pub mod Queued
 pub mod Tied
-pub mod Standing
+pub mod Consistent
 pub mod Room
 pub mod Finishing
 pub mod Alone

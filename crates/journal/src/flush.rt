@@ -8,10 +8,10 @@ ghost use Rattle.journal.specs.Work.{has_done};
 ghost use Rattle.journal.specs.WriteOut.{next_stage, has_committed};
 ghost use Rattle.journal.specs.WriteOut.{IsBatch, flush_of, flush_record, flush_home, flush_work, flush_answer, flush_after};
 ghost use Rattle.journal.specs.Crash.{LeftWithin};
-ghost use Rattle.journal.specs.Alone.{StandsAlone};
-ghost use Rattle.journal.specs.inside.Listed.{committed_of};
+ghost use Rattle.journal.specs.Alone.{HasLedAlone};
+ghost use Rattle.journal.specs.inside.Queued.{committed_of};
 
-use crate::listed::Listed;
+use crate::queued::Queued;
 use crate::{Flushed, Stage};
 use device::Device;
 use std::alloc::Allocator;
@@ -22,7 +22,7 @@ use volume_codec::Geometry;
 #[derive(Drop)]
 pub struct Flush<A: Allocator + Copy> {
     geometry: Geometry,
-    listed: Listed<A>,
+    queued: Queued<A>,
     broken: bool,
 }
 
@@ -33,12 +33,12 @@ impl<A: Allocator + Copy> Model for Flush<A> {
 
     ghost view = { λ f. record {
       geometry = f.geometry;
-      write_out = f.listed.write_out;
+      write_out = f.queued.write_out;
       broken = f.broken;
-      room = f.listed.room;
+      room = f.queued.room;
     } };
 
-    ghost invariant = { λ f. IsBatch f.geometry f.listed.write_out.batch };
+    ghost invariant = { λ f. IsBatch f.geometry f.queued.write_out.batch };
 }
 
 impl<A: Allocator + Copy> Flush<A> {
@@ -49,10 +49,10 @@ impl<A: Allocator + Copy> Flush<A> {
         ensures { result ≡ flush_of geometry
             (record { journal = journal; mark = mark; homes = homes.items }) (vec_capacity homes) }
     {
-        let listed = Listed::new(&geometry, journal, mark, homes);
+        let queued = Queued::new(&geometry, journal, mark, homes);
         Flush {
             geometry,
-            listed,
+            queued,
             broken: false,
         }
     }
@@ -64,10 +64,10 @@ impl<A: Allocator + Copy> Flush<A> {
         ensures { result ≡ committed_of geometry
             (record { journal = journal; mark = mark; homes = homes.items }) (vec_capacity homes) }
     {
-        let listed = Listed::committed(&geometry, journal, mark, homes);
+        let queued = Queued::committed(&geometry, journal, mark, homes);
         Flush {
             geometry,
-            listed,
+            queued,
             broken: false,
         }
     }
@@ -76,28 +76,28 @@ impl<A: Allocator + Copy> Flush<A> {
     pub fn journal(&self) -> u32
         ensures { result ≡ self.now.write_out.batch.journal }
     {
-        self.listed.journal()
+        self.queued.journal()
     }
 
     /// The mark that the batch is committed under.
     pub fn mark(&self) -> u64
         ensures { result ≡ self.now.write_out.batch.mark }
     {
-        self.listed.mark()
+        self.queued.mark()
     }
 
     /// The home blocks, in rising order. Record i is for the block at place i.
     pub fn homes(&self) -> &[u32]
         ensures { result.now ≡ self.now.write_out.batch.homes }
     {
-        self.listed.homes()
+        self.queued.homes()
     }
 
     /// The stage of the next step; `None` once the write-out is done.
     pub fn stage(&self) -> Option<Stage>
         ensures { result ≡ next_stage self.now.write_out }
     {
-        self.listed.stage()
+        self.queued.stage()
     }
 
     /// Whether a device call failed in a step.
@@ -111,7 +111,7 @@ impl<A: Allocator + Copy> Flush<A> {
     pub fn is_committed(&self) -> bool
         ensures { result ≡ has_committed self.now.write_out }
     {
-        self.listed.is_committed()
+        self.queued.is_committed()
     }
 
     /// The place of the record that the next step writes; `None` where that step is another, or no device call will
@@ -123,7 +123,7 @@ impl<A: Allocator + Copy> Flush<A> {
         if self.broken {
             return None;
         }
-        self.listed.next_record()
+        self.queued.next_record()
     }
 
     /// The home block of that record: the next step is given its new bytes.
@@ -133,14 +133,14 @@ impl<A: Allocator + Copy> Flush<A> {
         if self.broken {
             return None;
         }
-        self.listed.next_home()
+        self.queued.next_home()
     }
 
     /// Whether the home block belongs to the batch.
     pub fn has_block(&self, home: u32) -> bool
         ensures { IsTrue result ↔ Contains self.now.write_out.batch.homes home }
     {
-        self.listed.has_block(home)
+        self.queued.has_block(home)
     }
 
     /// The next step: what its stage asks is done. It answers what the stage does, or `Device` where a device call
@@ -160,13 +160,13 @@ impl<A: Allocator + Copy> Flush<A> {
         ensures value { self.new ≡ flush_after self.old result }
         ensures did { Did D.Device device.old (flush_work self.old bytes.now) (has_done result) device.new }
 
-        // With the same Old and New it stands after the step, and a crash at any moment of it leaves what it may.
-        ensures stands { (v : SuperValue) (old new : ℕ → List ℕ) → D.is_honest device.old
-            → StandsAlone D.Device v self.old old new device.old
+        // With the same Old and New this is so after the step, and a crash at any moment of it leaves what it may.
+        ensures leads { (v : SuperValue) (old new : ℕ → List ℕ) → D.is_honest device.old
+            → HasLedAlone D.Device v self.old old new device.old
             → ((home : ℕ) → flush_home self.old ≡ Some home → bytes.now ≡ new home)
-            → StandsAlone D.Device v self.new old new device.new }
+            → HasLedAlone D.Device v self.new old new device.new }
         ensures crash { (v : SuperValue) (old new : ℕ → List ℕ)
-            → StandsAlone D.Device v self.old old new device.old
+            → HasLedAlone D.Device v self.old old new device.old
             → ((home : ℕ) → flush_home self.old ≡ Some home → bytes.now ≡ new home)
             → LeavesOnly D.moment D.left_since device.old device.new
             (LeftWithin v old new (next_stage self.old.write_out)) }
@@ -174,7 +174,7 @@ impl<A: Allocator + Copy> Flush<A> {
         if self.broken {
             return Flushed::Broken;
         }
-        let answer = self.listed.step(&self.geometry, device, bytes, buffer);
+        let answer = self.queued.step(&self.geometry, device, bytes, buffer);
         if let Flushed::Device = answer {
             self.broken = true;
         }
@@ -188,9 +188,9 @@ impl<A: Allocator + Copy> Flush<A> {
     {
         let Flush {
             geometry: _,
-            listed,
+            queued,
             broken: _,
         } = self;
-        listed.into_homes()
+        queued.into_homes()
     }
 }

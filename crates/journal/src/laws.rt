@@ -12,8 +12,8 @@ ghost use Rattle.journal.specs.WriteOut.{WriteOut, IsBatch, FlushValue, next_sta
 ghost use Rattle.journal.specs.WriteOuts.{WriteOutsValue, has_uncommitted, current, advanced, current_stage, HasBlock, outs_after};
 ghost use Rattle.journal.specs.Recovered.{RecoversBy, IsUnread};
 ghost use Rattle.journal.specs.Crash.{LeftBefore, LeftWithin};
-ghost use Rattle.journal.specs.Standing.{Stands};
-ghost use Rattle.journal.specs.Alone.{StandsAlone};
+ghost use Rattle.journal.specs.LedTo.{HasLedTo};
+ghost use Rattle.journal.specs.Alone.{HasLedAlone};
 
 use device::Device;
 
@@ -44,32 +44,32 @@ pub fn no_step_makes_a_batch()
         → (before : WriteOut) × Contains outs.batches before × (before.batch ≡ w.batch) }
 {}
 
-/// Whatever led to write-outs that stand so with a device: what a crash may leave, what a read finds of the home
+/// Whatever led to such write-outs and such a device: what a crash may leave, what a read finds of the home
 /// blocks, and what is there once all batches are done.
 pub fn what_write_outs_leave<D: Device>(device: &D)
     ensures left { (v : SuperValue) (outs : WriteOutsValue) (old new : ℕ → List ℕ)
-        → Stands D.Device v outs old new device.now → (c : List ℕ) → D.may_leave device.now c
+        → HasLedTo D.Device v outs old new device.now → (c : List ℕ) → D.may_leave device.now c
         → MatchBool outs.broken (LeftWithin v old new (current_stage outs) c)
         (LeftBefore v old new (current_stage outs) c) }
     ensures reads { (v : SuperValue) (outs : WriteOutsValue) (old new : ℕ → List ℕ)
-        → Stands D.Device v outs old new device.now → outs.broken ≡ false
+        → HasLedTo D.Device v outs old new device.now → outs.broken ≡ false
         → (b : ℕ) → IsHome (geometry_of v) b → (HasBlock outs b → ⊥) → block_at (D.seen device.now) b ≡ new b }
     ensures rests { (v : SuperValue) (outs : WriteOutsValue) (old new : ℕ → List ℕ)
-        → Stands D.Device v outs old new device.now → outs.broken ≡ false → outs.batches ≡ []
+        → HasLedTo D.Device v outs old new device.now → outs.broken ≡ false → outs.batches ≡ []
         → IsVolume v [] (D.seen device.now) × Only (D.may_leave device.now) (D.seen device.now) }
 {}
 
 /// The same of a write-out that is alone in its volume: once it is done, New is on the disk and in no journal.
 pub fn what_a_write_out_leaves<D: Device>(device: &D)
     ensures left { (v : SuperValue) (flush : FlushValue) (old new : ℕ → List ℕ)
-        → StandsAlone D.Device v flush old new device.now → (c : List ℕ) → D.may_leave device.now c
+        → HasLedAlone D.Device v flush old new device.now → (c : List ℕ) → D.may_leave device.now c
         → MatchBool flush.broken (LeftWithin v old new (next_stage flush.write_out) c)
         (LeftBefore v old new (next_stage flush.write_out) c) }
     ensures reads { (v : SuperValue) (flush : FlushValue) (old new : ℕ → List ℕ)
-        → StandsAlone D.Device v flush old new device.now → flush.broken ≡ false → (b : ℕ) → IsHome (geometry_of v) b
+        → HasLedAlone D.Device v flush old new device.now → flush.broken ≡ false → (b : ℕ) → IsHome (geometry_of v) b
         → (Contains flush.write_out.batch.homes b → ⊥) → block_at (D.seen device.now) b ≡ new b }
     ensures rests { (v : SuperValue) (flush : FlushValue) (old new : ℕ → List ℕ)
-        → StandsAlone D.Device v flush old new device.now → flush.broken ≡ false → next_stage flush.write_out ≡ None
+        → HasLedAlone D.Device v flush old new device.now → flush.broken ≡ false → next_stage flush.write_out ≡ None
         → IsVolume v [] (D.seen device.now) × Only (D.may_leave device.now) (D.seen device.now)
         × ((b : ℕ) → IsHome (geometry_of v) b → block_at (D.seen device.now) b ≡ new b) }
 {}

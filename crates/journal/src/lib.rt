@@ -9,7 +9,7 @@ mod flush;
 mod flushed;
 mod gate;
 mod laws;
-mod listed;
+mod queued;
 mod stage;
 mod write_outs;
 

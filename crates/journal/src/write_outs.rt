@@ -12,9 +12,9 @@ ghost use Rattle.journal.specs.WriteOut.{broken_after};
 ghost use Rattle.journal.specs.WriteOuts.{none_of, has_uncommitted, current, current_stage, outs_record, outs_home, next_work, next_answer, outs_after, is_busy, following, begun, HasBlock};
 ghost use Rattle.journal.specs.inside.Room.{IsCurrent, kept_after, spare_after};
 ghost use Rattle.journal.specs.Crash.{LeftWithin};
-ghost use Rattle.journal.specs.Standing.{Stands};
+ghost use Rattle.journal.specs.LedTo.{HasLedTo};
 
-use crate::listed::Listed;
+use crate::queued::Queued;
 use crate::{Flushed, Stage};
 use device::Device;
 use std::alloc::{AllocError, Allocator};
@@ -28,7 +28,7 @@ pub struct WriteOuts<A: Allocator + Copy> {
     geometry: Geometry,
     next: u32,
     // The oldest first. There is room for one in each journal.
-    listed: Vec<Listed<A>, A>,
+    queued: Vec<Queued<A>, A>,
     // Lists with room for the home blocks of a batch, for the journals that have none.
     spare: Vec<Vec<u32, A>, A>,
     // Records are read into it on their way to their home blocks.
@@ -45,10 +45,10 @@ impl<A: Allocator + Copy> Model for WriteOuts<A> {
 
     ghost use Rattle.journal.specs.inside.Room.{outs_of, HasRoom};
 
-    ghost view = { λ o. outs_of o.geometry o.next o.listed.items o.broken };
+    ghost view = { λ o. outs_of o.geometry o.next o.queued.items o.broken };
 
-    ghost invariant = { λ o. HasRoom (outs_of o.geometry o.next o.listed.items o.broken)
-        o.listed.items (vec_capacity o.listed)
+    ghost invariant = { λ o. HasRoom (outs_of o.geometry o.next o.queued.items o.broken)
+        o.queued.items (vec_capacity o.queued)
         (map (λ list. vec_capacity list) o.spare.items) (vec_capacity o.spare) };
 }
 
@@ -101,25 +101,25 @@ fn refilled<A: Allocator + Copy>(mut list: Vec<u32, A>, homes: &[u32]) -> Vec<u3
 
 // What follows of a step's answer: the oldest leaves where it is done, and its list is spare again; or a device call
 // has failed.
-fn settle<A: Allocator + Copy>(
-    listed: &mut Vec<Listed<A>, A>,
+fn conclude<A: Allocator + Copy>(
+    queued: &mut Vec<Queued<A>, A>,
     spare: &mut Vec<Vec<u32, A>, A>,
     broken: &mut bool,
     answer: Flushed,
 )
-    requires some { 0 < vec_len listed.old }
+    requires some { 0 < vec_len queued.old }
     requires room { vec_len spare.old < vec_capacity spare.old }
-    ensures listed { listed.new.items ≡ kept_after answer listed.old.items }
+    ensures queued { queued.new.items ≡ kept_after answer queued.old.items }
     ensures spare { map (λ list. vec_capacity list) spare.new.items
-        ≡ spare_after answer listed.old.items (map (λ list. vec_capacity list) spare.old.items) }
+        ≡ spare_after answer queued.old.items (map (λ list. vec_capacity list) spare.old.items) }
     ensures broken { broken.new ≡ broken_after answer broken.old }
-    ensures capacity { vec_capacity listed.new ≡ vec_capacity listed.old }
+    ensures capacity { vec_capacity queued.new ≡ vec_capacity queued.old }
     ensures spare_capacity { vec_capacity spare.old ≤ vec_capacity spare.new }
 {
     match answer {
         Flushed::Device => *broken = true,
         Flushed::Done(_) => {
-            let done = listed.remove(0);
+            let done = queued.remove(0);
             let _ = spare.push(done.into_homes());
         }
         _ => {}
@@ -136,7 +136,7 @@ impl<A: Allocator + Copy> WriteOuts<A> {
         Ok(WriteOuts {
             geometry,
             next: 0,
-            listed: Vec::with_capacity(alloc, journals)?,
+            queued: Vec::with_capacity(alloc, journals)?,
             spare: spare_lists(alloc, journals, slots)?,
             buffer: blank_block(),
             broken: false,
@@ -147,14 +147,14 @@ impl<A: Allocator + Copy> WriteOuts<A> {
     pub fn is_fresh(&self) -> bool
         ensures { IsTrue result ↔ (self.now ≡ none_of self.now.geometry) }
     {
-        self.next == 0 && self.listed.is_empty() && !self.broken
+        self.next == 0 && self.queued.is_empty() && !self.broken
     }
 
     /// Whether every batch is done.
     pub fn is_empty(&self) -> bool
         ensures { IsTrue result ↔ (self.now.batches ≡ []) }
     {
-        self.listed.is_empty()
+        self.queued.is_empty()
     }
 
     /// Whether a device call failed in a step. Then no further step is made.
@@ -168,8 +168,8 @@ impl<A: Allocator + Copy> WriteOuts<A> {
     fn has_uncommitted(&self) -> bool
         ensures { result ≡ has_uncommitted self.now.batches }
     {
-        match self.listed.len().checked_sub(1) {
-            Some(last) => !self.listed[last].is_committed(),
+        match self.queued.len().checked_sub(1) {
+            Some(last) => !self.queued[last].is_committed(),
             None => false,
         }
     }
@@ -179,14 +179,14 @@ impl<A: Allocator + Copy> WriteOuts<A> {
     pub fn is_busy(&self) -> bool
         ensures { result ≡ is_busy self.now }
     {
-        self.has_uncommitted() || self.listed.len() == self.geometry.journals() as usize
+        self.has_uncommitted() || self.queued.len() == self.geometry.journals() as usize
     }
 
     /// Whether a home block belongs to a batch that isn't done.
     pub fn has_block(&self, home: u32) -> bool
         ensures { IsTrue result ↔ HasBlock self.now home }
     {
-        for one in &self.listed {
+        for one in &self.queued {
             if one.has_block(home) {
                 return true;
             }
@@ -199,7 +199,7 @@ impl<A: Allocator + Copy> WriteOuts<A> {
         ensures some { IfSome result (IsCurrent self.now.batches) }
         ensures none { IfNone result (self.now.batches ≡ []) }
     {
-        let last = self.listed.len().checked_sub(1)?;
+        let last = self.queued.len().checked_sub(1)?;
         Some(if self.has_uncommitted() { last } else { 0 })
     }
 
@@ -208,7 +208,7 @@ impl<A: Allocator + Copy> WriteOuts<A> {
         ensures { result ≡ current_stage self.now }
     {
         let at = self.current_place()?;
-        self.listed[at].stage()
+        self.queued[at].stage()
     }
 
     /// The place, in its batch, of the record that the next step writes; `None` where that step is another, or no
@@ -220,7 +220,7 @@ impl<A: Allocator + Copy> WriteOuts<A> {
             return None;
         }
         let at = self.current_place()?;
-        self.listed[at].next_record()
+        self.queued[at].next_record()
     }
 
     /// The home block of that record: the next step is given its new bytes.
@@ -231,7 +231,7 @@ impl<A: Allocator + Copy> WriteOuts<A> {
             return None;
         }
         let at = self.current_place()?;
-        self.listed[at].next_home()
+        self.queued[at].next_home()
     }
 
     /// Begins the write-out of a batch of these home blocks, in rising order, under a mark above those of all that
@@ -246,9 +246,9 @@ impl<A: Allocator + Copy> WriteOuts<A> {
         ensures { self.new ≡ begun self.old mark homes.now }
     {
         let list = refilled(self.spare.pop().unwrap(), homes);
-        let one = Listed::new(&self.geometry, self.next, mark, list);
+        let one = Queued::new(&self.geometry, self.next, mark, list);
         // There is room for a write-out in each journal.
-        let _ = self.listed.push(one);
+        let _ = self.queued.push(one);
         self.next = journal_after(&self.geometry, self.next);
     }
 
@@ -266,13 +266,13 @@ impl<A: Allocator + Copy> WriteOuts<A> {
         ensures value { self.new ≡ outs_after self.old result }
         ensures did { Did D.Device device.old (next_work self.old bytes.now) (has_done result) device.new }
 
-        // With the same Old and New they stand after the step, and a crash at any moment of it leaves what it may.
-        ensures stands { (v : SuperValue) (old new : ℕ → List ℕ) → D.is_honest device.old
-            → Stands D.Device v self.old old new device.old
+        // With the same Old and New this is so after the step, and a crash at any moment of it leaves what it may.
+        ensures leads { (v : SuperValue) (old new : ℕ → List ℕ) → D.is_honest device.old
+            → HasLedTo D.Device v self.old old new device.old
             → ((home : ℕ) → outs_home self.old ≡ Some home → bytes.now ≡ new home)
-            → Stands D.Device v self.new old new device.new }
+            → HasLedTo D.Device v self.new old new device.new }
         ensures crash { (v : SuperValue) (old new : ℕ → List ℕ)
-            → Stands D.Device v self.old old new device.old
+            → HasLedTo D.Device v self.old old new device.old
             → ((home : ℕ) → outs_home self.old ≡ Some home → bytes.now ≡ new home)
             → LeavesOnly D.moment D.left_since device.old device.new (LeftWithin v old new (current_stage self.old)) }
     {
@@ -280,9 +280,9 @@ impl<A: Allocator + Copy> WriteOuts<A> {
             return Flushed::Broken;
         }
         let at = self.current_place().unwrap();
-        let one = &mut self.listed[at];
+        let one = &mut self.queued[at];
         let answer = one.step(&self.geometry, device, bytes, &mut self.buffer);
-        settle(&mut self.listed, &mut self.spare, &mut self.broken, answer);
+        conclude(&mut self.queued, &mut self.spare, &mut self.broken, answer);
         answer
     }
 }

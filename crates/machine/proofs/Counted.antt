@@ -11,7 +11,7 @@ use Rattle.machine.proofs.Names.{outs_record, next_answer, next_batch, begun, Is
 use Rattle.machine.proofs.Names.{current-oldest, Act, Reply, Step, State, Whole, home_of, Acts, MarkMade}
 use Rattle.machine.proofs.Names.{with_batch, mark_homes, is_page_next, after_record}
 use Rattle.machine.proofs.Names.{reply_to, step_work, StepTaken, StepsTaken, listed_work}
-use Rattle.machine.proofs.Names.{asked_for, AskFor, IsOnTrack, IsSound, Performed, Moved, Marked, Failed}
+use Rattle.machine.proofs.Names.{asked_for, AskFor, IsReached, IsSound, Performed, Moved, Marked, Failed}
 use Rattle.journal.specs.declared.flushed.Flushed.TheVariants as flushed
 use Rattle.journal.specs.WriteOuts.{current}
 use Rattle.machine.specs.declared.act.Act.TheVariants as acts
@@ -24,8 +24,8 @@ use Rattle.machine.proofs.durable.Uncommitted.{none_when_done}
 use Rattle.machine.proofs.acts.All.{performed}
 use Rattle.machine.proofs.sound.Kept.{performed_sound}
 use Rattle.machine.proofs.durable.Steps.{GoesOn, step_goes, step_asks}
-use Rattle.machine.proofs.track.Moved.{moves_leave}
-use Rattle.machine.proofs.Tracks.{follows}
+use Rattle.machine.proofs.refining.Moved.{moves_leave}
+use Rattle.machine.proofs.Refinement.{follows}
 
 -- ---- what the answer of a step tells
 
@@ -185,8 +185,8 @@ module _ (n : ℕ) (batch : Batch) (its : batch.mark ≡ n) (g : GeometryValue) 
     calls : sum_by calls_of works ≡ calls_in_steps g batch m
 
   -- the same, or it is done
-  abbrev Tells : List WriteOut → List Work → Type 0
-  Tells batches works = HasNone n batches ⊎ IsUnder batches works
+  abbrev AreTallied : List WriteOut → List Work → Type 0
+  AreTallied batches works = HasNone n batches ⊎ IsUnder batches works
 
   -- what a step asks for it, where it has this work
   abbrev asked : List WriteOut → Work → List Work
@@ -203,9 +203,11 @@ module _ (n : ℕ) (batch : Batch) (its : batch.mark ≡ n) (g : GeometryValue) 
   -- a step that isn't of it
   passed : (batches after : List WriteOut) (works : List Work) (work : Work) (m : ℕ) → is_next n batches ≡ false
       → HasOne n batch its m after
-      → length works ≡ m → sum_by calls_of works ≡ calls_in_steps g batch m → Tells after (works ++ asked batches work)
+      → length works ≡ m → sum_by calls_of works ≡ calls_in_steps g batch m
+      → AreTallied after (works ++ asked batches work)
   passed batches after works work m other one count calls =
-      subst (Tells after) (sym (ap (λ more. works ++ more) (cond-false (is_next n batches) (listed_work work) [] other)
+      subst (AreTallied after)
+      (sym (ap (λ more. works ++ more) (cond-false (is_next n batches) (listed_work work) [] other)
       ∙ append-nil works)) (inr (record { m = m; one = one; count = count; calls = calls }))
 
   -- a step of it
@@ -233,8 +235,9 @@ module _ (n : ℕ) (batch : Batch) (its : batch.mark ≡ n) (g : GeometryValue) 
 
   -- a step of it, or of another
   advances : (batches : List WriteOut) (works : List Work) (h : GeometryValue) (bytes : List ℕ)
-      → GoesOn (option_map_or answer_of (current batches) flushed.Broken) → Tells batches works
-      → Tells (advanced batches) (works ++ asked batches (option_map_or (work_of h bytes) (current batches) Nothing))
+      → GoesOn (option_map_or answer_of (current batches) flushed.Broken) → AreTallied batches works
+      → AreTallied (advanced batches)
+      (works ++ asked batches (option_map_or (work_of h bytes) (current batches) Nothing))
   advances batches works h bytes goes (inl none) = inl (none_advanced n batches none)
   advances batches works h bytes goes (inr u) = elim (one_advanced n batch its u.m batches u.one) [
     | inl this ↦
@@ -252,8 +255,8 @@ module _ (n : ℕ) (batch : Batch) (its : batch.mark ≡ n) (g : GeometryValue) 
 
   -- a write-out is done
   finishes : (batches : List WriteOut) (works : List Work) (work : Work) (mark : ℕ)
-      → option_map_or answer_of (current batches) flushed.Broken ≡ flushed.Done mark → Tells batches works
-      → Tells (drop 1 batches) (works ++ asked batches work)
+      → option_map_or answer_of (current batches) flushed.Broken ≡ flushed.Done mark → AreTallied batches works
+      → AreTallied (drop 1 batches) (works ++ asked batches work)
   finishes [] works work mark e (inl none) = inl tt
   finishes (w ∷ newer) works work mark e (inl none) = inl none.1
   finishes batches works work mark e (inr u) = elim (one_done n batch its u.m batches mark u.one e) [
@@ -264,17 +267,17 @@ module _ (n : ℕ) (batch : Batch) (its : batch.mark ≡ n) (g : GeometryValue) 
   -- ---- one step
 
   -- a machine that broke goes on with none
-  abbrev Stands : WriteOutsValue → List Work → Type 0
-  Stands outs works = (outs.broken ≡ true) ⊎ Tells outs.batches works
+  abbrev IsTallied : WriteOutsValue → List Work → Type 0
+  IsTallied outs works = (outs.broken ≡ true) ⊎ AreTallied outs.batches works
 
   module _ (s : State) (works : List Work) where
-    marked : (number : ℕ) (homes : List ℕ) → number ≢ n → Stands s.write_outs works
-        → Stands (with_batch s number homes) works
+    marked : (number : ℕ) (homes : List ℕ) → number ≢ n → IsTallied s.write_outs works
+        → IsTallied (with_batch s number homes) works
     marked number [] other st = st
     marked number (home ∷ homes) other st = by s.write_outs.broken st
       where
-        by : (b : Bool) → Stands s.write_outs works
-            → Stands (cond b s.write_outs (begun s.write_outs number (home ∷ homes))) works
+        by : (b : Bool) → IsTallied s.write_outs works
+            → IsTallied (cond b s.write_outs (begun s.write_outs number (home ∷ homes))) works
         by true st = st
         by false (inl broken) = inl broken
         by false (inr (inl none)) = inr (inl
@@ -289,21 +292,21 @@ module _ (n : ℕ) (batch : Batch) (its : batch.mark ≡ n) (g : GeometryValue) 
 
     -- a step of the write-outs that answers so
     stepped : (a : Flushed) → GoesOn a → option_map_or answer_of (current s.write_outs.batches) flushed.Broken ≡ a
-        → Stands s.write_outs works
-        → Stands (outs_after s.write_outs a) (works ++ asked s.write_outs.batches
+        → IsTallied s.write_outs works
+        → IsTallied (outs_after s.write_outs a) (works ++ asked s.write_outs.batches
         (option_map_or (work_of s.write_outs.geometry (next_record s)) (current s.write_outs.batches) Nothing))
     stepped flushed.Device goes e st = absurd goes
     stepped flushed.Broken goes e st = absurd goes
-    stepped (flushed.Done mark) goes e (inr tells) = inr (finishes s.write_outs.batches works _ mark e tells)
+    stepped (flushed.Done mark) goes e (inr tallied) = inr (finishes s.write_outs.batches works _ mark e tallied)
     stepped answer goes e (inl broken) = inl broken
-    stepped answer goes e (inr tells) = inr
-        (advances s.write_outs.batches works s.write_outs.geometry (next_record s) (subst GoesOn (sym e) goes) tells)
+    stepped answer goes e (inr tallied) = inr
+        (advances s.write_outs.batches works s.write_outs.geometry (next_record s) (subst GoesOn (sym e) goes) tallied)
 
   module _ (s : State) (disk : List ℕ) (p : ℕ) (act : Act) (reply : Reply) (new : State) (disk' : List ℕ)
       (sound : IsSound s) where
     -- marks are counted on
     more_marks : Performed s disk p act reply new disk' → n ≤ s.marks → n ≤ new.marks
-    more_marks (Moved by) le = omega (arith, le, (moves_leave disk s by.says new sound by.moves).1)
+    more_marks (Moved by) le = omega (arith, le, (moves_leave disk s by.effect new sound by.moves).1)
     more_marks (Marked number act_is reply_is made same_disk) le =
         let same : new.marks ≡ number = ap (λ (x : State). x.marks) made.done in omega (arith, le, same, made.next)
     more_marks (Resized act_is reply_is made same_disk) le =
@@ -319,30 +322,32 @@ module _ (n : ℕ) (batch : Batch) (its : batch.mark ≡ n) (g : GeometryValue) 
 
     -- a step that asks for nothing
     idles : (outs : WriteOutsValue) (works : List Work) → new.write_outs ≡ outs → step_work s act reply ≡ Nothing
-        → Stands outs works → Stands new.write_outs (works ++ asked_for n s act reply)
+        → IsTallied outs works → IsTallied new.write_outs (works ++ asked_for n s act reply)
     idles outs works same none st =
-        subst (λ o. Stands o (works ++ asked_for n s act reply)) (sym same)
-        (subst (Stands outs) (sym (asked_nothing s.write_outs.batches works (step_work s act reply) none)) st)
+        subst (λ o. IsTallied o (works ++ asked_for n s act reply)) (sym same)
+        (subst (IsTallied outs) (sym (asked_nothing s.write_outs.batches works (step_work s act reply) none)) st)
 
-    stands_next : Performed s disk p act reply new disk' → n ≤ s.marks → (works : List Work) → Stands s.write_outs works
-        → Stands new.write_outs (works ++ asked_for n s act reply)
-    stands_next (Moved by) le works st =
-        idles s.write_outs works (moves_leave disk s by.says new sound by.moves).0 by.no_work st
-    stands_next (Marked number act_is reply_is made same_disk) le works st =
+    consistent_next : Performed s disk p act reply new disk' → n ≤ s.marks → (works : List Work)
+        → IsTallied s.write_outs works
+        → IsTallied new.write_outs (works ++ asked_for n s act reply)
+    consistent_next (Moved by) le works st =
+        idles s.write_outs works (moves_leave disk s by.effect new sound by.moves).0 by.no_work st
+    consistent_next (Marked number act_is reply_is made same_disk) le works st =
         idles (with_batch s number (mark_homes s made.pages)) works (ap (λ (x : State). x.write_outs) made.done)
         (λ i. step_work s (act_is i) (reply_is i))
         (marked s works number (mark_homes s made.pages) (λ same. absurd (omega (arith, le, made.next, same))) st)
-    stands_next (Resized act_is reply_is made same_disk) le works st =
+    consistent_next (Resized act_is reply_is made same_disk) le works st =
         idles s.write_outs works (ap (λ (x : State). x.write_outs) made.done)
         (λ i. step_work s (act_is i) (reply_is i)) st
-    stands_next (Stepped act_is by fine) le works st =
+    consistent_next (Stepped act_is by fine) le works st =
         let goes = step_goes (next_answer s.write_outs) reply by.answered fine in
         let whole = whole_answer s.write_outs goes in
-        subst (λ o. Stands o (works ++ asked_for n s act reply)) (sym (ap (λ (x : State). x.write_outs) by.made.done))
-        (subst (λ w. Stands (outs_after s.write_outs (next_answer s.write_outs)) (works ++ asked s.write_outs.batches
+        subst (λ o. IsTallied o (works ++ asked_for n s act reply))
+        (sym (ap (λ (x : State). x.write_outs) by.made.done))
+        (subst (λ w. IsTallied (outs_after s.write_outs (next_answer s.write_outs)) (works ++ asked s.write_outs.batches
         w)) (sym (work_now s act reply act_is (next_answer s.write_outs) by.answered goes whole.0))
         (stepped s works (next_answer s.write_outs) goes (sym whole.1) st))
-    stands_next (Failed act_is reply_is made) le works st = inl (ap (λ (x : State). x.write_outs.broken) made.done)
+    consistent_next (Failed act_is reply_is made) le works st = inl (ap (λ (x : State). x.write_outs.broken) made.done)
 
   -- ---- runs, with one step more
 
@@ -353,16 +358,16 @@ module _ (n : ℕ) (batch : Batch) (its : batch.mark ≡ n) (g : GeometryValue) 
       works : List Work
       asks : AskFor disk n old (steps ++ step ∷ []) (answers ++ reply ∷ []) new
           (works ++ asked_for n last.state step.act reply)
-      stands : Stands last.state.write_outs (before ++ works)
+      tallied : IsTallied last.state.write_outs (before ++ works)
 
     run : (steps : List Step) (answers : List Reply) (old : Whole D) (before : List Work) → IsSound old.state
         → n ≤ old.state.marks → StepsTaken disk old steps answers last
-        → Stands old.state.write_outs before → Asks old steps answers before
+        → IsTallied old.state.write_outs before → Asks old steps answers before
     run [] [] old before sound le taken st = subst (λ (x : Whole D). Asks x [] [] before) taken (record {
       works = [];
       asks = (new, [], here, (refl, refl), sym (append-nil (asked_for n last.state step.act reply)));
-      stands = subst (λ (x : Whole D). Stands x.state.write_outs (before ++ [])) (sym taken)
-          (subst (Stands old.state.write_outs) (sym (append-nil before)) st);
+      tallied = subst (λ (x : Whole D). IsTallied x.state.write_outs (before ++ [])) (sym taken)
+          (subst (IsTallied old.state.write_outs) (sym (append-nil before)) st);
     })
     run (first ∷ steps) (answer ∷ answers) old before sound le (mid, taken, rest) st =
         let by = performed old.state taken.answered.0 first answer mid.state taken.answered.1 sound taken.answered.2 in
@@ -370,7 +375,7 @@ module _ (n : ℕ) (batch : Batch) (its : batch.mark ≡ n) (g : GeometryValue) 
         let its = asked_for n old.state first.act answer in
         let le' =
         more_marks old.state taken.answered.0 first.p first.act answer mid.state taken.answered.1 sound by le in
-        let st' = stands_next old.state taken.answered.0 first.p first.act answer mid.state taken.answered.1
+        let st' = consistent_next old.state taken.answered.0 first.p first.act answer mid.state taken.answered.1
         sound by le before st in
         let later = run steps answers mid (before ++ its) sound' le' rest st' in
         record {
@@ -382,13 +387,13 @@ module _ (n : ℕ) (batch : Batch) (its : batch.mark ≡ n) (g : GeometryValue) 
             later.asks,
             append_assoc its later.works (asked_for n last.state step.act reply),
           );
-          stands = subst (Stands last.state.write_outs) (append_assoc before its later.works) later.stands;
+          tallied = subst (IsTallied last.state.write_outs) (append_assoc before its later.works) later.tallied;
         }
     run steps answers old before sound le taken st = absurd taken
 
     -- a last step that answers so, with the mark, is of its write-out
     module _ (answer : Flushed) (goes : GoesOn answer)
-        (tells : (w : WriteOut) → answer_of w ≡ answer → w.batch.mark ≡ n) (works : List Work) where
+        (tallied : (w : WriteOut) → answer_of w ≡ answer → w.batch.mark ≡ n) (works : List Work) where
       abbrev all_works : List Work
       all_works = works ++ asked_for n last.state step.act reply
 
@@ -399,10 +404,10 @@ module _ (n : ℕ) (batch : Batch) (its : batch.mark ≡ n) (g : GeometryValue) 
       is_of_answer : (o : Option WriteOut) → option_map_or answer_of o flushed.Broken ≡ answer
           → option_map_or (is_of n) o false ≡ true
       is_of_answer None e = absurd (subst GoesOn (sym e) goes)
-      is_of_answer (Some w) e = eq-eqb w.batch.mark n (tells w e)
+      is_of_answer (Some w) e = eq-eqb w.batch.mark n (tallied w e)
 
       ends : step.act ≡ acts.Flush → reply ≡ reply_to (next_answer last.state.write_outs)
-          → next_answer last.state.write_outs ≡ answer → Stands last.state.write_outs works → HasEnded
+          → next_answer last.state.write_outs ≡ answer → IsTallied last.state.write_outs works → HasEnded
       ends act_is reply_is is st =
           let outs = last.state.write_outs in
           let whole = whole_answer outs (subst GoesOn (sym is) goes) in
@@ -441,9 +446,9 @@ module _ (s : State) (disk : List ℕ) (p : ℕ) (new : State) (disk' : List ℕ
 -- ---- from the mark on
 
 module _ {D : Type 0} (disk : Ghosts D) (files : List File) (start old marked last new : Whole D)
-    (earlier steps : List Step) (told answers : List Reply) (p number : ℕ)
+    (earlier steps : List Step) (observed answers : List Reply) (p number : ℕ)
     (mark : MarkMade old.state p number marked.state) (step : Step)
-    (on : IsOnTrack disk files start earlier told old) (taken : StepsTaken disk marked steps answers last) where
+    (on : IsReached disk files start earlier observed old) (taken : StepsTaken disk marked steps answers last) where
   abbrev s : State
   s = old.state
 
@@ -454,7 +459,7 @@ module _ {D : Type 0} (disk : Ghosts D) (files : List File) (start old marked la
   g = s.write_outs.geometry
 
   sound : IsSound s
-  sound = (follows disk files start earlier told old on).tracked.sound
+  sound = (follows disk files start earlier observed old on).refines.sound
 
   none_before : HasNone number s.write_outs.batches
   none_before = recursion_from_All (λ (w : WriteOut). w.batch.mark ≢ number) s.write_outs.batches
@@ -462,10 +467,11 @@ module _ {D : Type 0} (disk : Ghosts D) (files : List File) (start old marked la
       (λ (w : WriteOut). w.batch.mark ≢ number)
       (λ w is same. absurd (omega (arith, is.1, same, mark.next))) s.write_outs.batches sound.write_outs.marked)
 
-  begins : (homes : List ℕ) → Stands number (next_batch s.write_outs number homes) refl g (with_batch s number homes) []
+  begins : (homes : List ℕ)
+      → IsTallied number (next_batch s.write_outs number homes) refl g (with_batch s number homes) []
   begins [] = inr (inl none_before)
   begins (home ∷ others) = elim s.write_outs.broken as (λ b. s.write_outs.broken ≡ b
-      → Stands number batch refl g (cond b s.write_outs (begun s.write_outs number homes)) []) [
+      → IsTallied number batch refl g (cond b s.write_outs (begun s.write_outs number homes)) []) [
         | true ↦ λ broken. inl broken
         | false ↦ λ whole. inr (inr (record {
           m = 0;
@@ -490,16 +496,16 @@ module _ {D : Type 0} (disk : Ghosts D) (files : List File) (start old marked la
       → ((d d' : List ℕ) → IsStep last.state d step.p new.state d' number step.act answer)
       → StepTaken disk last step (reply_to answer) new
       → (m : ℕ) × (answer_of (record { batch = its_batch; steps = m }) ≡ answer) × HasAsked (reply_to answer) (suc m)
-  counted answer goes tells is_step here =
+  counted answer goes tallied is_step here =
       let reply = reply_to answer in
       let marks : marked.state.marks ≡ number = ap (λ (x : State). x.marks) mark.done in
-      let st = subst (λ o. Stands number its_batch refl g o []) (sym (ap (λ (x : State). x.write_outs) mark.done))
+      let st = subst (λ o. IsTallied number its_batch refl g o []) (sym (ap (λ (x : State). x.write_outs) mark.done))
       (begins (mark_homes s mark.pages)) in
       let asked = run number its_batch refl g disk last new step reply here steps answers marked []
       (marked_sound s p number marked.state mark sound) (omega (arith, marks)) taken st in
       let flush = is_step here.answered.0 here.answered.1 here.answered.2 in
-      let end = ends number its_batch refl g disk last new step reply here answer goes tells asked.works flush.0
-      (ap reply_to (sym flush.1)) flush.1 asked.stands in
+      let end = ends number its_batch refl g disk last new step reply here answer goes tallied asked.works flush.0
+      (ap reply_to (sym flush.1)) flush.1 asked.tallied in
       (end.0, end.1, (asked.works ++ asked_for number last.state step.act reply, asked.asks, end.2, end.3))
 
   pub committed_count : StepTaken disk last step (replies.Committed number) new

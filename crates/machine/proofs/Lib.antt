@@ -3,8 +3,8 @@ pub mod moves
 pub mod acts
 pub mod code
 pub mod sound
-pub mod track
+pub mod refining
 pub mod durable
-pub mod Tracks
+pub mod Refinement
 pub mod Since
 pub mod Counted

@@ -33,11 +33,11 @@ pub use Rattle.frames.specs.Frames.{with_copy, with_page, without_copies, withou
 pub use Rattle.journal.proofs.Public.{IsAt, advanced-newest, after_committing, all_calls, batch_before, committed-at}
 pub use Rattle.journal.proofs.Public.{committed_parts, current-newest, current-oldest, current_committed}
 pub use Rattle.journal.proofs.Public.{done_committed, early_calls, newest_of, older_committed, stage_at-is}
-pub use Rattle.journal.proofs.Public.{stage_committed, stage_is, stands_after, stands_begun, stands_failed}
-pub use Rattle.journal.proofs.Public.{stands_first, stands_left, stands_other, stands_within}
+pub use Rattle.journal.proofs.Public.{stage_committed, stage_is, consistent_after, consistent_begun, consistent_failed}
+pub use Rattle.journal.proofs.Public.{consistent_first, consistent_left, consistent_other, consistent_within}
 pub use Rattle.journal.specs.Crash.{LeftBefore, LeftWithin}
 pub use Rattle.journal.specs.Stage.{answer_at, is_committed}
-pub use Rattle.journal.specs.Standing.{MayBegin}
+pub use Rattle.journal.specs.LedTo.{MayBegin}
 pub use Rattle.journal.specs.Work.{CopyBlock, HasFailed, Nothing, Sync, TornByWork, TornFromWork, Work, WriteAt}
 pub use Rattle.journal.specs.Work.{calls_of, has_done, work_at, worked}
 pub use Rattle.journal.specs.WriteOut.{WriteOut, advanced_of, answer_of, begun_of, broken_after, calls_in_steps}
@@ -51,7 +51,7 @@ pub use Rattle.journal.specs.declared.stage.Stage.{Stage}
 pub use Rattle.journal.specs.declared.stage.Stage.TheVariants.{Applying, Closing, Committing, Describing, Finishing}
 pub use Rattle.journal.specs.declared.stage.Stage.TheVariants.{Opening, Recording, SyncingHomes, SyncingRecords}
 pub use Rattle.journal.specs.inside.Sound.{AreInOrder, IsOlder}
-pub use Rattle.journal.specs.inside.Standing.{IsStanding}
+pub use Rattle.journal.specs.inside.Consistent.{IsConsistent}
 pub use Rattle.journal.specs.inside.Tied.{IsTied}
 pub use Rattle.machine.specs.Calls.{CallsOf, Counts, has_failed}
 pub use Rattle.machine.specs.Devices.{DeviceAfterFix, DeviceAfter}
@@ -67,8 +67,8 @@ pub use Rattle.machine.specs.History.{with_event, with_length}
 pub use Rattle.machine.specs.Later.{AreDurable, Finds, FindsDurable, OpensTo}
 pub use Rattle.machine.specs.Laws.{EachStep, FaultsAreServed, IsAccessOf, IsAnswered, IsFreeToAct, IsInside, IsLawful}
 pub use Rattle.machine.specs.Laws.{LeadsTo, LoadsLatest, ReadsBack, ServesNext, StoresAtPlace}
-pub use Rattle.machine.specs.Laws.{told_at_start}
-pub use Rattle.machine.specs.OnTrack.{IsOnTrack}
+pub use Rattle.machine.specs.Laws.{observed_at_start}
+pub use Rattle.machine.specs.Reached.{IsReached}
 pub use Rattle.machine.specs.Refusals.{first_of, is_absent, is_msync, mapping_refusal, pages_in_file, reads_page}
 pub use Rattle.machine.specs.Refusals.{lacks_frames, lacks_last_page, length_refusal, resize_refusal}
 pub use Rattle.machine.specs.Refusals.{reason_against, refuse_if, served_refusal, why_not}
@@ -81,12 +81,14 @@ pub use Rattle.machine.specs.Rules.{next_page, with_batch, with_hardware, with_s
 pub use Rattle.machine.specs.Rules.{is_page_next, mark_homes, work_asked}
 pub use Rattle.machine.specs.Runs.{StepTaken, StepsTaken}
 pub use Rattle.machine.specs.State.{State, Whole, capacity_of, cut_at_end, home_of, length_of, page_from, part}
-pub use Rattle.machine.specs.Steps.{StepMade, step_work, told_first}
+pub use Rattle.machine.specs.Steps.{StepMade, step_work, observed_first}
 pub use Rattle.machine.specs.Stops.{IsAcknowledged, IsNew, IsOld, Stops, StopsBefore, StopsInStep, StopsWithin}
 pub use Rattle.machine.specs.Sums.{AskFor, CallsAddUp, asked_for, listed_work}
-pub use Rattle.machine.specs.Told.{Pending, Protecting, Told, Unmapping, begun_by, begun_protect, begun_unmap, changed}
-pub use Rattle.machine.specs.Told.{ended_by, length_told, mapped_in, offset_at, place_told, places_in, store_at, tell}
-pub use Rattle.machine.specs.Told.{Resizing, resized_at, tell_all}
+pub use Rattle.machine.specs.Observed.{Pending, Protecting, Observed, Unmapping}
+pub use Rattle.machine.specs.Observed.{begun_by, begun_protect, begun_unmap, changed}
+pub use Rattle.machine.specs.Observed.{ended_by, length_observed, mapped_in, offset_at}
+pub use Rattle.machine.specs.Observed.{place_observed, places_in, store_at, observe}
+pub use Rattle.machine.specs.Observed.{Resizing, resized_at, observe_all}
 pub use Rattle.machine.specs.declared.act.Act.{Act}
 pub use Rattle.machine.specs.declared.msync_flags.MsyncFlags.{MsyncFlags}
 pub use Rattle.machine.specs.declared.act.Reply.{Reply}
@@ -99,19 +101,19 @@ pub use Rattle.machine.specs.inside.Flushing.{released_pages, reply_of_flush}
 pub use Rattle.machine.specs.inside.Following.{Follows}
 pub use Rattle.machine.specs.inside.Layers.{AnswersBy, AreLayers, AreReserved, IsAtHome, IsPageOf, IsQuiet, IsReserved}
 pub use Rattle.machine.specs.inside.Layers.{KeepsReserved, state_in, whole_in, with_homes}
-pub use Rattle.machine.specs.inside.Moves.{AreSpacesTold, Begin, Beginning, BeginsChange, Bring, ChangesPlaces}
+pub use Rattle.machine.specs.inside.Moves.{AreSpacesObserved, Begin, Beginning, BeginsChange, Bring, ChangesPlaces}
 pub use Rattle.machine.specs.inside.Moves.{Changing, Copy, Destroy, Drop, End, Ending, EndsChange, Entering, Failed}
-pub use Rattle.machine.specs.inside.Moves.{IsMoved, IsProcessorTold, Leaving, Mapping, Marked, Move, Moved, Moves}
+pub use Rattle.machine.specs.inside.Moves.{IsMoved, IsProcessorObserved, Leaving, Mapping, Marked, Move, Moved, Moves}
 pub use Rattle.machine.specs.inside.Moves.{Performed, Remap, Replace, ReplacesProcessor, ReplacesSpaces, Running}
-pub use Rattle.machine.specs.inside.Moves.{HasStepped, SameDirty, Saying, Silent}
+pub use Rattle.machine.specs.inside.Moves.{HasStepped, SameDirty, Effect, Silent}
 pub use Rattle.machine.specs.inside.Moves.{Store, StoresBytes, Storing, effect_of}
-pub use Rattle.machine.specs.inside.Moves.{ending_of, reply_to, said, said_all}
+pub use Rattle.machine.specs.inside.Moves.{ending_of, reply_to, after_effect, after_effects}
 pub use Rattle.machine.specs.inside.Sound.{AreOlderCommitted, AreSpacesSound, AreWriteOutsSound, IsMemory}
 pub use Rattle.machine.specs.inside.Sound.{IsMemorySound, IsPrepared, IsSound, IsSource, IsResizable}
-pub use Rattle.machine.specs.inside.Tracking.{AreContentsOf, AreMarks, ArePlain, AreTouched}
-pub use Rattle.machine.specs.inside.Tracking.{HasAcknowledged, HasFiles}
-pub use Rattle.machine.specs.inside.Tracking.{HasParts, IsArranged, IsLatest, IsLost, IsTracked, IsWaiting, IsWritten}
-pub use Rattle.machine.specs.inside.Tracking.{change_in, has_resized, is_resize, pending_in}
+pub use Rattle.machine.specs.inside.Refining.{AreContentsOf, AreMarks, ArePlain, AreTouched}
+pub use Rattle.machine.specs.inside.Refining.{HasAcknowledged, HasFiles}
+pub use Rattle.machine.specs.inside.Refining.{HasParts, IsArranged, IsLatest, IsLost, Refines, IsWaiting, IsWritten}
+pub use Rattle.machine.specs.inside.Refining.{change_in, has_resized, is_resize, pending_in}
 pub use Rattle.mappings.specs.Judgement.{add_refusal, is_mappable, is_user_range, mapped_pages_of, pages_holding}
 pub use Rattle.mappings.specs.Judgement.{protect_refusal, range_of_bytes}
 pub use Rattle.mappings.specs.Places.{Places, all_mapped, allows, any_forbids, any_mapped, is_among, may_write}
@@ -147,7 +149,8 @@ pub use Rattle.shootdown.proofs.Public.{processor_at-with_same, running, state-b
 pub use Rattle.shootdown.specs.Calls.{HandsOut, change_refusal, destroy_refusal, idle_refusal, is_idle, is_stalled}
 pub use Rattle.shootdown.specs.Calls.{lock_refusal, not_there, switch_refusal, wait_refusal}
 pub use Rattle.shootdown.specs.Coherence.{Agrees, Coheres, IsNoWider, IsUnused, IsUsable}
-pub use Rattle.shootdown.specs.Processors.{Processor, fresh_processor, is_concerned, is_running, queued, switched, told}
+pub use Rattle.shootdown.specs.Processors.{Processor, fresh_processor, is_concerned}
+pub use Rattle.shootdown.specs.Processors.{is_running, queued, switched, notified}
 pub use Rattle.shootdown.specs.Processors.{woken}
 pub use Rattle.shootdown.specs.Shootdown.{IsShootdown, ShootdownState, current, destroyed, finished, fresh_shootdown}
 pub use Rattle.shootdown.specs.Shootdown.{idled, interrupted, is_current, is_interrupted, is_there, not_free}

@@ -9,7 +9,7 @@ use Rattle.volume_codec.specs.Recovery.{IsVolume, files_in}
 use Rattle.machine.specs.declared.act.Reply.{Reply}
 use Rattle.machine.specs.declared.act.Step.{Step}
 use Rattle.machine.specs.State.{Whole}
-use Rattle.machine.specs.Told.{Told, tell}
+use Rattle.machine.specs.Observed.{Observed, observe}
 use Rattle.machine.specs.Laws.{ReadsBack}
 use Rattle.machine.specs.Fresh.{IsFresh}
 use Rattle.machine.specs.Runs.{StepTaken}
@@ -25,21 +25,23 @@ pub record Begins {D : Type 0} (disk : Ghosts D) (files : List File) (start : Wh
   pub honest : disk.is_honest start.device
   pub synced : Only (disk.may_leave start.device) (disk.seen start.device)
 
--- One step of a run over an honest device, by what was told before it: it was made. A crash at any moment within it
+-- One step of a run over an honest device, by what was observed before it: it was made. A crash at any moment within it
 -- leaves what reads back as the files after a durable prefix of the history before it, and a crash after it what reads
 -- back so of the history with it.
-pub record StepIsSafe {D : Type 0} (disk : Ghosts D) (files : List File) (told : Told) (old : Whole D) (step : Step)
+pub record StepIsSafe {D : Type 0} (disk : Ghosts D) (files : List File) (observed : Observed)
+    (old : Whole D) (step : Step)
     (reply : Reply) (new : Whole D) : Type 0 where
   pub taken : StepTaken disk old step reply new
   pub honest : disk.is_honest old.device
-  pub within : LeavesOnly disk.moment disk.left_since old.device new.device (ReadsBack files told.history)
-  pub after : (c : List ℕ) → disk.may_leave new.device c → ReadsBack files (tell told step reply).history c
+  pub within : LeavesOnly disk.moment disk.left_since old.device new.device (ReadsBack files observed.history)
+  pub after : (c : List ℕ) → disk.may_leave new.device c → ReadsBack files (observe observed step reply).history c
 
--- a run from old to new through a machine between any two steps, of each of which this is so, by what was told before
--- it
-abbrev pub Throughout : {D : Type 0} → (Told → Whole D → Step → Reply → Whole D → Type 0) → Told → Whole D
+-- a run from old to new through a machine between any two steps, of each of which this is so, by what was observed
+-- before it
+abbrev pub Throughout : {D : Type 0} → (Observed → Whole D → Step → Reply → Whole D → Type 0) → Observed → Whole D
     → List Step → List Reply → Whole D → Type 0
-Throughout Safe told old [] [] new = new ≡ old
-Throughout {D} Safe told old (step ∷ steps) (reply ∷ replies) new =
-    (mid : Whole D) × Safe told old step reply mid × Throughout Safe (tell told step reply) mid steps replies new
-Throughout Safe told old steps replies new = ⊥
+Throughout Safe observed old [] [] new = new ≡ old
+Throughout {D} Safe observed old (step ∷ steps) (reply ∷ replies) new =
+    (mid : Whole D) × Safe observed old step reply mid
+    × Throughout Safe (observe observed step reply) mid steps replies new
+Throughout Safe observed old steps replies new = ⊥

@@ -14,11 +14,12 @@ use Rattle.machine.specs.declared.act.Reply.TheVariants as replies
 use Rattle.machine.specs.declared.act.Step.{Step}
 use Rattle.cpu.specs.Access.{IsAccess}
 use Rattle.machine.specs.History.{Event, memory_of, after, files_after, IsDurablePrefix}
-use Rattle.machine.specs.Told.{Told, place_told, length_told, tell, tell_all}
+use Rattle.machine.specs.Observed.{Observed, place_observed, length_observed, observe, observe_all}
 
--- what is told at the start of a run with these files and so many processors: each is in space 0, which maps nothing
-abbrev pub told_at_start : List File → ℕ → Told
-told_at_start files cpus = record {
+-- what is observed at the start of a run with these files and so many processors: each is in space 0, which maps
+-- nothing
+abbrev pub observed_at_start : List File → ℕ → Observed
+observed_at_start files cpus = record {
   spaces = maps.insert maps.empty 0 maps.empty;
   current = replicate cpus 0;
   running = replicate cpus true;
@@ -28,64 +29,64 @@ told_at_start files cpus = record {
   history = [];
 }
 
--- a fact of each step of a run, by what was told before it
-abbrev pub EachStep : (Told → ℕ → Act → Reply → Type 0) → Told → List Step → List Reply → Type 0
-EachStep P told (step ∷ steps) (reply ∷ replies) =
-    P told step.p step.act reply × EachStep P (tell told step reply) steps replies
-EachStep P told steps replies = Unit {0}
+-- a fact of each step of a run, by what was observed before it
+abbrev pub EachStep : (Observed → ℕ → Act → Reply → Type 0) → Observed → List Step → List Reply → Type 0
+EachStep P observed (step ∷ steps) (reply ∷ replies) =
+    P observed step.p step.act reply × EachStep P (observe observed step reply) steps replies
+EachStep P observed steps replies = Unit {0}
 
 -- ---- coherence
 
 -- a load that answers gives, for each of its bytes, the latest answered store, over the files' bytes and zeros past
 -- their ends
-pub record LoadsLatest (files : List File) (told : Told) (p va count : ℕ) (bytes : List ℕ) : Type 0 where
+pub record LoadsLatest (files : List File) (observed : Observed) (p va count : ℕ) (bytes : List ℕ) : Type 0 where
   pub as_many : length bytes ≡ count
   pub place : Place
-  pub leads : place_told told p va ≡ Some place
-  pub latest : bytes ≡ take count (drop (va % 4096) (after (memory_of files) told.history place.file place.page))
+  pub leads : place_observed observed p va ≡ Some place
+  pub latest : bytes ≡ take count (drop (va % 4096) (after (memory_of files) observed.history place.file place.page))
 
 -- the page of a place begins before the end of its file
-abbrev pub IsInside : Told → Place → Type 0
-IsInside told place = 4096 * place.page < length_told told place.file
+abbrev pub IsInside : Observed → Place → Type 0
+IsInside observed place = 4096 * place.page < length_observed observed place.file
 
 -- a store that answers stands at a place whose rights allow it, in a page that begins before the file's end
-pub record StoresAtPlace (told : Told) (p va : ℕ) : Type 0 where
+pub record StoresAtPlace (observed : Observed) (p va : ℕ) : Type 0 where
   pub place : Place
-  pub leads : place_told told p va ≡ Some place
+  pub leads : place_observed observed p va ≡ Some place
   pub allowed : may_write place.rights ≡ true
-  pub inside : IsInside told place
+  pub inside : IsInside observed place
 
 -- a fault's address leads to a place that allows the access
-pub record LeadsTo (told : Told) (p va : ℕ) (write : Bool) (place : Place) : Type 0 where
-  pub leads : place_told told p va ≡ Some place
+pub record LeadsTo (observed : Observed) (p va : ℕ) (write : Bool) (place : Place) : Type 0 where
+  pub leads : place_observed observed p va ≡ Some place
   pub allowed : (not write || may_write place.rights) ≡ true
 
 -- the processor is there, goes on with loads and stores, and the lock is free
-pub record IsFreeToAct (told : Told) (p : ℕ) : Type 0 where
-  pub there : p < length told.running
-  pub running : slice_index_or told.running p false ≡ true
-  pub free : told.locked ≡ false
+pub record IsFreeToAct (observed : Observed) (p : ℕ) : Type 0 where
+  pub there : p < length observed.running
+  pub running : slice_index_or observed.running p false ≡ true
+  pub free : observed.locked ≡ false
 
--- Loads, stores and faults are answered by what was told. Of the three address refusals of a fault, the first leads
+-- Loads, stores and faults are answered by what was observed. Of the three address refusals of a fault, the first leads
 -- nowhere, the second isn't allowed, the third is past the file's end; every answer that comes after these in the order
 -- of refusals comes of none of them, and those that come before have a cause of their own.
-abbrev pub IsLawful : List File → Told → ℕ → Act → Reply → Type 0
-IsLawful files told p (acts.Load va count) (replies.Bytes bytes) = LoadsLatest files told p va count bytes
-IsLawful files told p (acts.Store va bytes) replies.Stored = StoresAtPlace told p va
-IsLawful files told p (acts.Fix va write) (replies.Refused refusals.Einval) =
-    (length told.running ≤ p) ⊎ (IsFreeToAct told p × (2 ^ 47 ≤ va))
-IsLawful files told p (acts.Fix va write) (replies.Refused refusals.Stalled) =
-    (p < length told.running) × (slice_index_or told.running p false ≡ false)
-IsLawful files told p (acts.Fix va write) (replies.Refused refusals.Locked) = told.locked ≡ true
-IsLawful files told p (acts.Fix va write) (replies.Refused refusals.SegvMapErr) =
-    (va < 2 ^ 47) × (place_told told p va ≡ None)
-IsLawful files told p (acts.Fix va write) (replies.Refused refusals.SegvAccErr) =
-    (place : Place) × (place_told told p va ≡ Some place) × (write ≡ true) × (may_write place.rights ≡ false)
-IsLawful files told p (acts.Fix va write) (replies.Refused refusals.BusAdrErr) =
-    (place : Place) × LeadsTo told p va write place × (IsInside told place → ⊥)
-IsLawful files told p (acts.Fix va write) reply =
-    (place : Place) × LeadsTo told p va write place × IsInside told place
-IsLawful files told p act reply = Unit {0}
+abbrev pub IsLawful : List File → Observed → ℕ → Act → Reply → Type 0
+IsLawful files observed p (acts.Load va count) (replies.Bytes bytes) = LoadsLatest files observed p va count bytes
+IsLawful files observed p (acts.Store va bytes) replies.Stored = StoresAtPlace observed p va
+IsLawful files observed p (acts.Fix va write) (replies.Refused refusals.Einval) =
+    (length observed.running ≤ p) ⊎ (IsFreeToAct observed p × (2 ^ 47 ≤ va))
+IsLawful files observed p (acts.Fix va write) (replies.Refused refusals.Stalled) =
+    (p < length observed.running) × (slice_index_or observed.running p false ≡ false)
+IsLawful files observed p (acts.Fix va write) (replies.Refused refusals.Locked) = observed.locked ≡ true
+IsLawful files observed p (acts.Fix va write) (replies.Refused refusals.SegvMapErr) =
+    (va < 2 ^ 47) × (place_observed observed p va ≡ None)
+IsLawful files observed p (acts.Fix va write) (replies.Refused refusals.SegvAccErr) =
+    (place : Place) × (place_observed observed p va ≡ Some place) × (write ≡ true) × (may_write place.rights ≡ false)
+IsLawful files observed p (acts.Fix va write) (replies.Refused refusals.BusAdrErr) =
+    (place : Place) × LeadsTo observed p va write place × (IsInside observed place → ⊥)
+IsLawful files observed p (acts.Fix va write) reply =
+    (place : Place) × LeadsTo observed p va write place × IsInside observed place
+IsLawful files observed p act reply = Unit {0}
 
 -- the reply of a load or a store that was made
 abbrev pub IsAnswered : Act → Reply → Type 0
@@ -120,7 +121,7 @@ pub record ReadsBack (files : List File) (history : List Event) (disk : List ℕ
   pub durable : IsDurablePrefix prefix history
   pub recovers : RecoversTo disk (files_after files prefix)
 
--- these bytes read back so of the history that is told by what was told before and the first so many of these steps
-abbrev pub ReadsBackSince : List File → Told → List Step → List Reply → List ℕ → Type 0
-ReadsBackSince files told steps replies disk =
-    (n : ℕ) × ReadsBack files (tell_all told (take n steps) (take n replies)).history disk
+-- these bytes read back so of the history that is observed by what was before and by the first so many of these steps
+abbrev pub ReadsBackSince : List File → Observed → List Step → List Reply → List ℕ → Type 0
+ReadsBackSince files observed steps replies disk =
+    (n : ℕ) × ReadsBack files (observe_all observed (take n steps) (take n replies)).history disk

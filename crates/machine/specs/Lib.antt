@@ -5,7 +5,7 @@ pub mod Rules
 pub mod Calls
 pub mod Devices
 pub mod History
-pub mod Told
+pub mod Observed
 pub mod Laws
 pub mod Fresh
 pub mod Booting
@@ -13,7 +13,7 @@ pub mod Crashes
 pub mod Steps
 pub mod Runs
 pub mod Sums
-pub mod OnTrack
+pub mod Reached
 pub mod AtOnce
 pub mod Stops
 pub mod Words

@@ -117,7 +117,7 @@ Refuses s p act why = reason_against s p act ≡ Some why
 -- ---- spaces
 
 -- a space was taken away, with its mappings and its entries; a dirty entry that goes with it is noted at its frame, and
--- whoever may cache the PCID is told
+-- whoever may cache the PCID is notified
 pub record SpaceDestroyed (s : State) (pcid : ℕ) (new : State) : Type 0 where
   pub checkpoint : CheckpointState
   pub noted : NotesTaken s.hardware.spaces (IsInSpace pcid) s.checkpoint checkpoint

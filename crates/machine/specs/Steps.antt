@@ -12,10 +12,11 @@ use Rattle.machine.specs.declared.act.Reply.TheVariants as replies
 use Rattle.machine.specs.declared.act.Step.{Step}
 use Rattle.machine.specs.State.{State, Whole}
 use Rattle.machine.specs.Rules.{Rules, work_asked}
-use Rattle.machine.specs.Told.{Told}
-use Rattle.machine.specs.Laws.{told_at_start}
+use Rattle.machine.specs.Observed.{Observed}
+use Rattle.machine.specs.Laws.{observed_at_start}
 
--- what a step that is answered so writes or makes sure on the device: the work of a write-out's step, and else nothing
+-- what a step that is answered so writes or makes durable on the device: the work of a write-out's step, and else
+-- nothing
 abbrev pub step_work : State → Act → Reply → Work
 step_work s acts.Flush replies.Going = work_asked s
 step_work s acts.Flush (replies.Committed number) = work_asked s
@@ -30,7 +31,7 @@ pub record StepMade {D : Type 0} (disk : Ghosts D) (old : Whole D) (step : Step)
   pub answered : Rules old.state (disk.seen old.device) step reply new.state (disk.seen new.device)
   pub left : (c : List ℕ) → disk.may_leave new.device c
       → TornFromWork (step_work old.state step.act reply) (disk.may_leave old.device) c
-  pub sure : reply ≢ replies.Refused refusals.Device → step_work old.state step.act reply ≡ Sync
+  pub durable : reply ≢ replies.Refused refusals.Device → step_work old.state step.act reply ≡ Sync
       → Only (disk.may_leave new.device) (disk.seen old.device)
   pub within : LeavesOnly disk.moment disk.left_since old.device new.device
       (TornFromWork (step_work old.state step.act reply) (disk.may_leave old.device))
@@ -38,6 +39,6 @@ pub record StepMade {D : Type 0} (disk : Ghosts D) (old : Whole D) (step : Step)
       → step_work old.state step.act reply ≡ CopyBlock from to → disk.calls_made old.device < 2 ^ 64 - 2
       → disk.calls_made new.device ≡ disk.calls_made old.device + 1 → disk.seen new.device ≡ disk.seen old.device
 
--- what is told at the start of a run of this machine with these files
-abbrev pub told_first : List File → State → Told
-told_first files start = told_at_start files (length start.hardware.shootdown.processors)
+-- what is observed at the start of a run of this machine with these files
+abbrev pub observed_first : List File → State → Observed
+observed_first files start = observed_at_start files (length start.hardware.shootdown.processors)

@@ -19,8 +19,8 @@ pub record IsAcknowledged (files : List File) (history : List Event) (c : List �
 
 -- they do, and this mark isn't among these
 pub record IsOld (files : List File) (history : List Event) (number : ℕ) (c : List ℕ) : Type 0 where
-  pub settled : IsAcknowledged files history c
-  pub lacks : Contains settled.prefix (Mark number) → ⊥
+  pub confirmed : IsAcknowledged files history c
+  pub lacks : Contains confirmed.prefix (Mark number) → ⊥
 
 -- these bytes recover to the files after the history up to this mark: a durable prefix whose marks are the acknowledged
 -- ones and this one
@@ -32,7 +32,7 @@ pub record IsNew (files : List File) (history : List Event) (number : ℕ) (c : 
   pub recovers : RecoversTo c (files_after files prefix)
 
 -- before the step of this stage of the write-out of this mark: old until the gate is written, either until that is
--- sure, and new from then on; where there is no write-out, the files at the last acknowledged mark
+-- durable, and new from then on; where there is no write-out, the files at the last acknowledged mark
 abbrev pub StopsBefore : List File → List Event → ℕ → Option Stage → List ℕ → Type 0
 StopsBefore files history mark (Some (Recording i)) c = IsOld files history mark c
 StopsBefore files history mark (Some Describing) c = IsOld files history mark c

@@ -4,12 +4,12 @@ use Rattle.machine.specs.declared.act.Reply.{Reply}
 use Rattle.machine.specs.declared.act.Reply.TheVariants.{Stored, Resized, Marked}
 
 -- what a reply says of that: there is something, there is nothing, or neither
-abbrev pub settles : Reply → Option Bool
-settles Stored = Some true
-settles Resized = Some true
-settles (Marked number) = Some false
-settles reply = None
+abbrev pub decides : Reply → Option Bool
+decides Stored = Some true
+decides Resized = Some true
+decides (Marked number) = Some false
+decides reply = None
 
 -- whether there is something after a reply, where there was something before it or not
 abbrev pub unmarked_by : Bool → Reply → Bool
-unmarked_by before reply = unwrap_or (settles reply) before
+unmarked_by before reply = unwrap_or (decides reply) before

@@ -1,5 +1,5 @@
 pub mod Sound
-pub mod Tracking
+pub mod Refining
 pub mod Following
 pub mod Layers
 pub mod Flushing

@@ -1,6 +1,6 @@
 // What a processor does in one step, and what it is answered.
 ghost use Rattle.std.specs.Prelude.{◌≡◌, ◌↔◌, IsTrue};
-ghost use Rattle.machine.specs.Unmarked.{settles, unmarked_by};
+ghost use Rattle.machine.specs.Unmarked.{decides, unmarked_by};
 
 use crate::{FewBytes, MsyncFlags};
 use mappings::Rights;
@@ -220,8 +220,8 @@ impl Reply {
     }
 
     /// What it says of stores and lengths that no mark holds yet: that there are some, that there are none, or nothing.
-    pub fn settles(&self) -> Option<bool>
-        ensures { result ≡ settles self.now }
+    pub fn decides(&self) -> Option<bool>
+        ensures { result ≡ decides self.now }
     {
         match self {
             Reply::Stored | Reply::Resized => Some(true),
@@ -256,7 +256,7 @@ impl Reply {
     pub fn leaves_unmarked(&self, before: bool) -> bool
         ensures { result ≡ unmarked_by before self.now }
     {
-        self.settles().unwrap_or(before)
+        self.decides().unwrap_or(before)
     }
 }
 

@@ -75,7 +75,7 @@ fn bytes_from<'a, A: Allocator + Copy>(frames: &'a Frames<A>, source: Source<'a>
 impl<D: Device, A: Allocator + Copy> Layers<D, A> {
     // What becomes of frozen pages by a step of a write-out: one whose record was written is released, and all are
     // where a device call failed.
-    fn settle(&mut self, writes_record: bool, answer: Flushed)
+    fn release_by(&mut self, writes_record: bool, answer: Flushed)
         requires some { writes_record ≡ true → 0 < length self.old.checkpoint.frozen }
         requires copies { AreCopiesOfFrozen self.old.frames self.old.checkpoint }
         ensures { self.new ≡ record self.old {
@@ -121,7 +121,7 @@ impl<D: Device, A: Allocator + Copy> Layers<D, A> {
     {
         let bytes = bytes_from(&self.frames, source);
         let answer = self.write_outs.step(&mut self.device, bytes);
-        self.settle(writes_record, answer);
+        self.release_by(writes_record, answer);
         reply_to_flush(answer)
     }
 

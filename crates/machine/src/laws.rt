@@ -14,22 +14,22 @@ ghost use Rattle.machine.specs.Crashes.{StepIsSafe, Throughout};
 ghost use Rattle.machine.specs.Laws.{EachStep, FaultsAreServed, IsLawful, ReadsBack, ReadsBackSince};
 ghost use Rattle.machine.specs.Later.{AreDurable, Finds, FindsDurable};
 ghost use Rattle.journal.specs.Work.{Work, calls_of};
-ghost use Rattle.machine.specs.OnTrack.{IsOnTrack};
+ghost use Rattle.machine.specs.Reached.{IsReached};
 ghost use Rattle.machine.specs.Runs.{StepTaken, StepsTaken};
-ghost use Rattle.machine.specs.Steps.{told_first};
+ghost use Rattle.machine.specs.Steps.{observed_first};
 ghost use Rattle.machine.specs.Sums.{CallsAddUp, AskFor};
-ghost use Rattle.machine.specs.Told.{tell_all};
+ghost use Rattle.machine.specs.Observed.{observe_all};
 
 use device::Device;
 use recovery::{kinds_of_bytes, opened_again, opened_as_recovered};
 use volume_codec::one_reading;
 
 /// Where a crash of an honest device leaves nothing but what a read gives, the files to which that recovers are found
-/// for good: after any number of openings, each with a crash or none within and after it (`settled`). Where all that a
-/// crash may leave of one reads back as the files after a durable prefix of a history, so it does after any number of
+/// for good: after any number of openings, each with a crash or none within and after it (`permanent`). Where all that
+/// a crash may leave of one reads back as the files after a durable prefix of a history, so it does after any number of
 /// such openings, and each opening finds exactly these files (`durable`).
 pub fn opened_later<D: Device>(device: &D)
-    ensures settled { (files : List File) (n : ℕ) (first later : D) → D.is_honest first
+    ensures permanent { (files : List File) (n : ℕ) (first later : D) → D.is_honest first
         → Only (D.may_leave first) (D.seen first) → RecoversTo (D.seen first) files
         → IsLater D.Device n first later → Finds D.Device files later }
     ensures durable { (files : List File) (history : List Event) (n : ℕ) (first later : D) → D.is_honest first
@@ -44,28 +44,28 @@ pub fn opened_later<D: Device>(device: &D)
 
 /// What holds of each run over an honest device, whatever is known of its last machine: what `Machine::keeps_the_laws`
 /// says (`headline`, `lawful`, `left`); and a crash since any machine of the run leaves what reads back as the files
-/// after a durable prefix of what was told by the steps up to that one and by some of the later ones (`since`).
+/// after a durable prefix of what was observed by the steps up to that one and by some of the later ones (`since`).
 pub fn runs_keep_the_laws<D: Device>(device: &D)
     ensures headline { (files : List File) (start last : Whole D) (steps : List Step) (replies : List Reply)
-        → IsOnTrack D.Device files start steps replies last
-        → Throughout (StepIsSafe D.Device files) (told_first files start.state) start steps replies last }
+        → IsReached D.Device files start steps replies last
+        → Throughout (StepIsSafe D.Device files) (observed_first files start.state) start steps replies last }
     ensures lawful { (files : List File) (start last : Whole D) (steps : List Step) (replies : List Reply)
-        → IsOnTrack D.Device files start steps replies last
-        → EachStep (IsLawful files) (told_first files start.state) steps replies }
+        → IsReached D.Device files start steps replies last
+        → EachStep (IsLawful files) (observed_first files start.state) steps replies }
     ensures left { (files : List File) (start last : Whole D) (steps : List Step) (replies : List Reply) (c : List ℕ)
-        → IsOnTrack D.Device files start steps replies last → D.may_leave last.device c
-        → ReadsBack files (tell_all (told_first files start.state) steps replies).history c }
+        → IsReached D.Device files start steps replies last → D.may_leave last.device c
+        → ReadsBack files (observe_all (observed_first files start.state) steps replies).history c }
     ensures since { (files : List File) (start mid last : Whole D) (earlier later : List Step)
-        (told more : List Reply) (c : List ℕ) → IsOnTrack D.Device files start earlier told mid
+        (replied more : List Reply) (c : List ℕ) → IsReached D.Device files start earlier replied mid
         → StepsTaken D.Device mid later more last → D.left_since last.device (D.moment mid.device) c
-        → ReadsBackSince files (tell_all (told_first files start.state) earlier told) later more c }
+        → ReadsBackSince files (observe_all (observed_first files start.state) earlier replied) later more c }
 {}
 
 /// Where steps were made, and further ones after them, all of them were made one after the other.
 pub fn steps_after_steps<D: Device>(device: &D)
-    ensures { (old mid new : Whole D) (steps later : List Step) (replies told : List Reply)
-        → StepsTaken D.Device old steps replies mid → StepsTaken D.Device mid later told new
-        → StepsTaken D.Device old (steps ++ later) (replies ++ told) new }
+    ensures { (old mid new : Whole D) (steps later : List Step) (replies replied : List Reply)
+        → StepsTaken D.Device old steps replies mid → StepsTaken D.Device mid later replied new
+        → StepsTaken D.Device old (steps ++ later) (replies ++ replied) new }
 {}
 
 /// Of steps over any device, honest or not: a fault that is served is served, so that the access of its page by the same
@@ -90,16 +90,16 @@ pub fn calls_of_steps<D: Device>(device: &D)
 /// write-out's.
 pub fn counts_of_a_write_out<D: Device>(device: &D)
     ensures committed { (files : List File) (start old marked last new : Whole D) (earlier steps : List Step)
-        (told replies : List Reply) (p number : ℕ) (mark : MarkMade old.state p number marked.state) (step : Step)
-        → IsOnTrack D.Device files start earlier told old
+        (replied replies : List Reply) (p number : ℕ) (mark : MarkMade old.state p number marked.state) (step : Step)
+        → IsReached D.Device files start earlier replied old
         → StepsTaken D.Device marked steps replies last → StepTaken D.Device last step (Committed number) new
         → (works : List Work)
         × AskFor D.Device number marked (steps ++ step ∷ []) (replies ++ Committed number ∷ []) new works
         × (length works ≡ length (mark_homes old.state mark.pages) + 4)
         × (sum_by calls_of works ≡ length (mark_homes old.state mark.pages) + 4) }
     ensures done { (files : List File) (start old marked last new : Whole D) (earlier steps : List Step)
-        (told replies : List Reply) (p number : ℕ) (mark : MarkMade old.state p number marked.state) (step : Step)
-        → IsOnTrack D.Device files start earlier told old
+        (replied replies : List Reply) (p number : ℕ) (mark : MarkMade old.state p number marked.state) (step : Step)
+        → IsReached D.Device files start earlier replied old
         → StepsTaken D.Device marked steps replies last → StepTaken D.Device last step (Done number) new
         → (works : List Work)
         × AskFor D.Device number marked (steps ++ step ∷ []) (replies ++ Done number ∷ []) new works

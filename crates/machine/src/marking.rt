@@ -8,7 +8,7 @@ ghost use Rattle.machine.specs.State.{home_of};
 ghost use Rattle.machine.specs.inside.Sound.{IsSound};
 ghost use Rattle.machine.specs.Rules.{Answers, mark_homes};
 ghost use Rattle.machine.specs.inside.Layers.{state_in, IsQuiet, IsPageOf, with_homes};
-ghost use Rattle.journal.specs.Standing.{MayBegin};
+ghost use Rattle.journal.specs.LedTo.{MayBegin};
 
 use crate::Reply;
 use crate::layers::Layers;

@@ -17,7 +17,7 @@ const CAPACITY: usize = 5;
 struct Plain {
     space: Pcid,
     entries: Vec<CachedEntry>,
-    told: Vec<Invpcid>,
+    notified: Vec<Invpcid>,
     // The PCIDs that were switched to and not dropped whole since.
     known: Vec<Pcid>,
 }
@@ -44,7 +44,7 @@ impl Plain {
         Ok(Plain {
             space: 0,
             entries: Vec::new(alloc),
-            told: Vec::new(alloc),
+            notified: Vec::new(alloc),
             known: vec![in alloc; 0]?,
         })
     }
@@ -77,7 +77,7 @@ impl Plain {
         is_there
     }
 
-    fn tell(&mut self, action: Invpcid) -> Result<(), AllocError> {
+    fn notify(&mut self, action: Invpcid) -> Result<(), AllocError> {
         let concerned = match action {
             Invpcid::IndividualAddress(pcid, _) | Invpcid::SingleContext(pcid) => {
                 self.known.contains(&pcid)
@@ -85,18 +85,18 @@ impl Plain {
             Invpcid::AllContextsAndGlobals | Invpcid::AllContexts => true,
         };
         if concerned {
-            self.told.push(action)?;
+            self.notified.push(action)?;
         }
         Ok(())
     }
 
     // Up to 4 pages are told one by one.
-    fn tell_range(&mut self, pcid: Pcid, first: u64, count: u64) -> Result<(), AllocError> {
+    fn notify_range(&mut self, pcid: Pcid, first: u64, count: u64) -> Result<(), AllocError> {
         if count > 4 {
-            return self.tell(Invpcid::SingleContext(pcid));
+            return self.notify(Invpcid::SingleContext(pcid));
         }
         for page in first..first.saturating_add(count) {
-            self.tell(Invpcid::IndividualAddress(pcid, page))?;
+            self.notify(Invpcid::IndividualAddress(pcid, page))?;
         }
         Ok(())
     }
@@ -104,17 +104,17 @@ impl Plain {
     // What nine or more invalidations name isn't told apart: they drop everything.
     fn drain(&mut self) {
         let space = self.space;
-        if self.told.len() > 8 {
+        if self.notified.len() > 8 {
             self.entries.clear();
             self.known.retain(|pcid| *pcid == space);
         }
-        for action in &self.told {
+        for action in &self.notified {
             let action = *action;
             self.entries.retain(|e| !drops(action, *e));
             self.known
                 .retain(|pcid| *pcid == space || !drops_pcid(action, *pcid));
         }
-        self.told.clear();
+        self.notified.clear();
     }
 
     fn switch(&mut self, pcid: Pcid, keep: bool) -> Result<(), AllocError> {
@@ -208,7 +208,7 @@ impl Pair {
     {
         let range = PageRange { first, count };
         let interrupted = self.change(rt, Change::Unmap { pcid, range });
-        assert!(rt; self.plain.tell_range(pcid, first, count).is_ok());
+        assert!(rt; self.plain.notify_range(pcid, first, count).is_ok());
         let is_here = self.plain.space == pcid;
         if is_here {
             self.plain.drain();
@@ -221,7 +221,7 @@ impl Pair {
         requires { HasUserPages change }
     {
         let interrupted = self.change(rt, change);
-        assert!(rt; self.plain.tell(Invpcid::AllContexts).is_ok());
+        assert!(rt; self.plain.notify(Invpcid::AllContexts).is_ok());
         self.plain.drain();
         interrupted
     }
@@ -230,7 +230,7 @@ impl Pair {
     fn forget(&mut self, pcid: Pcid) -> Result<(), AllocError> {
         if !self.shootdown.is_current(pcid) {
             self.shootdown.forget(pcid);
-            self.plain.tell(Invpcid::SingleContext(pcid))?;
+            self.plain.notify(Invpcid::SingleContext(pcid))?;
         }
         Ok(())
     }

@@ -7,7 +7,7 @@ pub mod Kept
 pub mod FoundJournals
 pub mod Opened
 pub mod Reopened
-pub mod StandingLengths
+pub mod RecoveredLengths
 pub mod Blank
 pub mod Carrying
 pub mod Copied

@@ -27,7 +27,7 @@ use Rattle.recovery.specs.Format.{HasShape, IsEmptied}
 use Rattle.recovery.specs.Migration.{asked_again, asked_of, AreZeroPast, IsFilled}
 use Rattle.recovery.specs.Migration.{IsPartlyMigrated, LeftByMigration, HasMigrated}
 use Rattle.recovery.specs.Openings.{IsMade}
-use Rattle.recovery.specs.Volume.{VolumeState, IsSettled, files_of, bytes_of}
+use Rattle.recovery.specs.Volume.{VolumeState, IsWellFormed, files_of, bytes_of}
 use Rattle.recovery.specs.inside.Copying.{LeftByLaying, Copies, AreCopied}
 use Rattle.recovery.specs.inside.Writing.{HasFinished}
 use Rattle.recovery.proofs.BlockRanges.{block_at-before, block_at-after}
@@ -240,10 +240,10 @@ module _ (table : SuperValue) (lengths laid copied final : List ℕ) (fits : Fit
 module _ {D : Type 0} (disk : Ghosts D) (volume : VolumeState D) (settled : IsSettled disk volume) (slots : ℕ)
     (table : SuperValue) (asked : IsAsked 3 (asked_of volume) slots table) where
   pub asked_files : table.files ≡ volume.table.files
-  asked_files = asked.files_are ∙ again_files volume.table.files volume.lengths settled.lengths.count
+  asked_files = asked.files_are ∙ again_files volume.table.files volume.lengths well_formed.lengths.count
 
   pub asked_lengths : lengths_asked (asked_of volume) ≡ volume.lengths
-  asked_lengths = again_lengths volume.table.files volume.lengths settled.lengths.count
+  asked_lengths = again_lengths volume.table.files volume.lengths well_formed.lengths.count
 
   pub asked_lengths_are : AreLengths table volume.lengths
   asked_lengths_are = let P : List ℕ → Type 0 = λ l. AreLengths table l in
@@ -258,10 +258,10 @@ module _ {D : Type 0} (disk : Ghosts D) (volume : VolumeState D) (settled : IsSe
     (each : disk.is_honest volume.device → AreCopied table volume.lengths
     (bytes_of (files_of volume.table (disk.seen volume.device))) (length table.files) laid copied) where
   abbrev named : table.files ≡ volume.table.files
-  named = asked_files disk volume settled slots table asked
+  named = asked_files disk volume well_formed slots table asked
 
   abbrev are : AreLengths table volume.lengths
-  are = asked_lengths_are disk volume settled slots table asked
+  are = asked_lengths_are disk volume well_formed slots table asked
 
   pub spelled : 0 < lengths_blocks table.layout
       → block_at final (first_home table.layout table.slots) ≡ lengths_text (lengths_asked (asked_of volume))

@@ -14,7 +14,7 @@ use Rattle.volume_codec.specs.Recovery.{Batch, IsVolume, contents_in}
 use Rattle.volume_codec.specs.Lengths.{AreLengths, HasLengths}
 use Rattle.volume_codec.proofs.Lengths.{has_lengths-same, lengths_in-same, same_lengths_block}
 use Rattle.recovery.specs.Counts.{Rises, RisesWithin}
-use Rattle.recovery.specs.Volume.{IsSettled}
+use Rattle.recovery.specs.Volume.{IsWellFormed}
 use Rattle.journal.specs.Recovered.{RecoversBy}
 use Rattle.journal.specs.Finished.{HoldsVolume, RecoversSame}
 use Rattle.recovery.specs.Opening.{IsUnwritten, LeftByOpening, opening_calls, HasOpened, HasRefused, RefusesOpening}

@@ -71,7 +71,7 @@ module _ {D : Type 0} {disk : Ghosts D} {old new : D} where
   pub sync_durable : Did disk old Sync true new → disk.is_honest old → Only (disk.may_leave new) (disk.seen new)
   sync_durable did honest =
       let P : List ℕ → Type 0 = Only (disk.may_leave new) in
-      subst P (sym (did.seen honest)) (did.sure honest refl refl)
+      subst P (sym (did.seen honest)) (did.durable honest refl refl)
 
 -- where a call failed, none of the later ones was made
 pub overwritten_failed : {D X Y : Type 0} {disk : Ghosts D} {old new : D} (at n most : ℕ) {e : Refusal}

@@ -8,7 +8,7 @@ ghost use Rattle.recovery.specs.Counts.{Rises, IsAccounted};
 ghost use Rattle.recovery.specs.Opening.{IsUnwritten};
 ghost use Rattle.recovery.specs.inside.Writing.{DidBoth};
 
-use device::{Device, make_sure, write_at};
+use device::{Device, make_durable, write_at};
 use page_entry::{PAGE, Refusal};
 
 /// A block of zeros.
@@ -62,12 +62,12 @@ pub fn write<D: Device>(device: &mut D, at: u64, bytes: &[u8]) -> Result<(), Ref
     }
 }
 
-/// Makes sure of what was written.
+/// Makes durable what was written.
 pub fn sync<D: Device>(device: &mut D) -> Result<(), Refusal>
     ensures did { Did D.Device device.old Sync (is_ok result) device.new }
     ensures fault { IfErr result (λ refusal. refusal ≡ Refusal.Device) }
 {
-    match make_sure(device) {
+    match make_durable(device) {
         Ok(()) => Ok(()),
         Err(_) => Err(Refusal::Device),
     }

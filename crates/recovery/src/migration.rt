@@ -9,7 +9,7 @@ ghost use Rattle.recovery.specs.Counts.{IsAccounted};
 ghost use Rattle.recovery.specs.Format.{HasShape, IsEmptied, RefusesFormat};
 ghost use Rattle.recovery.specs.Migration.{asked_of, AreAccounted, HasMigrated, LeftByMigration};
 ghost use Rattle.recovery.specs.Opening.{IsUnwritten};
-ghost use Rattle.recovery.specs.Volume.{IsSettled, files_of, bytes_of};
+ghost use Rattle.recovery.specs.Volume.{IsWellFormed, files_of, bytes_of};
 ghost use Rattle.recovery.specs.inside.Copying.{Copies, AreCopied, LeftByLaying};
 
 use crate::calls::write;
@@ -23,7 +23,7 @@ use volume_codec::{FileSpec, Super, block_count_as};
 /// The files of a volume as they are asked for, in the first places.
 fn specs_of<D: Device, A: Allocator + Copy>(volume: &Volume<D, A>) -> [FileSpec<'_>; 64]
     ensures specs { asked_by (take (length volume.now.table.files) result) ≡ asked_of volume.now }
-    ensures settled { IsSettled D.Device volume.now }
+    ensures well_formed { IsWellFormed D.Device volume.now }
 {
     let mut specs = [FileSpec {
         name: "",
@@ -63,7 +63,7 @@ fn begin<D: Device, E: Device, A: Allocator + Copy>(
     slots: u64,
 ) -> Result<Super<A>, Refusal>
     ensures ok { IfOk result (HasShape 3 (asked_of old.now) slots (length (E.seen new.old))) }
-    ensures settled { IsSettled D.Device old.now }
+    ensures well_formed { IsWellFormed D.Device old.now }
     ensures emptied { E.is_honest new.old → IfOk result (λ table. IsEmptied table old.now.lengths (E.seen new.new)) }
     ensures torn { E.is_honest new.old → (table : SuperValue) → IsAsked 3 (asked_of old.now) slots table
         → Torn 4096 (4096 * block_count table - 4096) (E.seen new.old) (E.seen new.new) }

@@ -6,12 +6,12 @@ ghost use Rattle.volume_codec.specs.Layout.{IsGeometry, journals_of, lengths_blo
 ghost use Rattle.volume_codec.specs.Super.{IsSuper, Fits, block_count, geometry_of, capacities_in};
 ghost use Rattle.volume_codec.specs.Descriptor.{IsDescribed, IsDescriptor};
 ghost use Rattle.volume_codec.specs.Lengths.{AreLengths, IsLengths};
-ghost use Rattle.volume_codec.specs.Recovery.{AreFalling, AreOpen, IsOpen, IsVolume, standing_block};
+ghost use Rattle.volume_codec.specs.Recovery.{AreFalling, AreOpen, IsOpen, IsVolume, recovered_block};
 ghost use Rattle.journal.specs.Finished.{Finishes};
 ghost use Rattle.journal.specs.WriteOut.{IsBatch};
 ghost use Rattle.recovery.specs.Counts.{Rises, RisesWithin, IsAccounted};
 ghost use Rattle.recovery.specs.Opening.{IsUnwritten, FindsWithin, RefusesOpening, Opens, opened_table, device_after};
-ghost use Rattle.recovery.specs.Volume.{IsSettled};
+ghost use Rattle.recovery.specs.Volume.{IsWellFormed};
 ghost use Rattle.recovery.specs.inside.Carrying.{CarriesOut};
 ghost use Rattle.recovery.specs.inside.Reading.{batch_of, batches_of, AreRead, RefusesJournal, RefusesJournals, RefusesStored, AreFound, JudgesWithin, IsOrdered, HaveOneMark, table_found};
 
@@ -258,12 +258,12 @@ fn begins_with<A: Allocator + Copy>(journal: &OpenJournal<A>, home: u32) -> bool
     journal.descriptor.homes()[0] == home
 }
 
-// Rule: standing lengths
+// Rule: recovered lengths
 /// The block that has the recovered bytes of the first home block, where these journals are open, the newest first. A
 /// record for that block is the first of its journal, as records are in the order of their home blocks.
-fn standing_first<A: Allocator + Copy>(geometry: &Geometry, found: &[OpenJournal<A>]) -> u32
+fn recovered_first<A: Allocator + Copy>(geometry: &Geometry, found: &[OpenJournal<A>]) -> u32
     requires { AllByRecursion (IsBatch geometry.now) (batches_of found.now) }
-    ensures value { result ≡ standing_block geometry.now.slots (batches_of found.now)
+    ensures value { result ≡ recovered_block geometry.now.slots (batches_of found.now)
         (first_home geometry.now.layout geometry.now.slots) }
     ensures within { result < geometry.now.blocks }
 {
@@ -327,7 +327,7 @@ fn find_lengths<D: Device, A: Allocator + Copy>(
         };
         return Ok(lengths);
     }
-    let lengths = read_lengths_at(alloc, device, table, standing_first(&geometry, found))?;
+    let lengths = read_lengths_at(alloc, device, table, recovered_first(&geometry, found))?;
     Ok(lengths)
 }
 
@@ -412,32 +412,31 @@ fn recover<D: Device, A: Allocator + Copy>(
     device: &mut D,
 ) -> Result<(Super<A>, Vec<u64, A>), Refusal>
     ensures opens { Opens D.Device device.old (table_found result) device.new }
-    ensures settled { IfOk result (λ found.
-        IsSettled D.Device (record { table = found.0; lengths = found.1.items; device = device.new })) }
+    ensures well_formed { IfOk result (λ found.
+        IsWellFormed D.Device (record { table = found.0; lengths = found.1.items; device = device.new })) }
 {
     let (table, found, lengths) = judge_all(alloc, device)?;
     carry_out_all(device, &table.geometry(), found)?;
     Ok((table, lengths))
 }
 
-/// Opens the volume of a device. The device's length and its block 0 are judged; what was written before is made sure
-/// of; the gate of each journal is read, and the descriptors of the open ones are judged. Where the layout has a lengths
-/// block, the block that it recovers to is judged: the newest open journal's record of it, else the block itself. Then
-/// each open journal, the one with the lower mark first, is carried out: its records are written to their home blocks
-/// and synced, its gate is closed and synced. `NotAVolume` where the device is shorter than a block or begins with no
-/// layout's magic; `Damaged` where its super block, the descriptor of an open journal or the lengths break the grammar,
-/// two open journals have one mark, or the device is shorter than its volume; nothing is written then. `Device` where a
-/// device call failed.
-/// `OutOfMemory` may come in the place of these, and nothing is written then either. An `Err` hands the device back.
-/// With no open journal it makes 3 device calls in layout 1, 4 in layout 2 and 5 in layout 3, and 2k + 4 more for each
-/// open journal of k records. Where it is refused it makes no more than that; one where block 0 holds no table, and where
-/// nothing is written 4 in layout 1, 6 in layout 2 and 7 in layout 3.
+/// Opens the volume of a device. The device's length and its block 0 are judged; what was written before is made
+/// durable; the gate of each journal is read, and the descriptors of the open ones are judged. Where the layout has a
+/// lengths block, the block that it recovers to is judged: the newest open journal's record of it, else the block
+/// itself. Then each open journal, the one with the lower mark first, is carried out: its records are written to their
+/// home blocks and synced, its gate is closed and synced. `NotAVolume` where the device is shorter than a block or
+/// begins with no layout's magic; `Damaged` where its super block, the descriptor of an open journal or the lengths
+/// break the grammar, two open journals have one mark, or the device is shorter than its volume; nothing is written
+/// then. `Device` where a device call failed. `OutOfMemory` may come in the place of these, and nothing is written then
+/// either. An `Err` hands the device back. With no open journal it makes 3 device calls in layout 1, 4 in layout 2 and
+/// 5 in layout 3, and 2k + 4 more for each open journal of k records. Where it is refused it makes no more than that;
+/// one where block 0 holds no table, and where nothing is written 4 in layout 1, 6 in layout 2 and 7 in layout 3.
 pub fn open<D: Device, A: Allocator + Copy>(
     alloc: A,
     mut device: D,
 ) -> Result<Volume<D, A>, (Refusal, D)>
     ensures opens { Opens D.Device device (opened_table result) (device_after result) }
-    ensures settled { IfOk result (λ volume. IsSettled D.Device volume) }
+    ensures well_formed { IfOk result (λ volume. IsWellFormed D.Device volume) }
 {
     match recover(alloc, &mut device) {
         Ok((table, lengths)) => Ok(Volume::new(table, lengths, device)),

@@ -3,7 +3,7 @@ ghost use Rattle.std.specs.Prelude.{◌≡◌, ◌==◌, ◌+◌, ◌≤◌, ◌
 ghost use Rattle.volume_codec.specs.Super.{names_in, capacities_in};
 ghost use Rattle.recovery.specs.Counts.{Rises, IsAccounted};
 ghost use Rattle.recovery.specs.Opening.{IsUnwritten};
-ghost use Rattle.recovery.specs.Volume.{IsSettled, files_of, bytes_of};
+ghost use Rattle.recovery.specs.Volume.{IsWellFormed, files_of, bytes_of};
 
 use crate::calls::read;
 use device::Device;
@@ -22,20 +22,20 @@ pub struct Volume<D: Device, A: Allocator + Copy> {
 }
 
 impl<D: Device, A: Allocator + Copy> Model for Volume<D, A> {
-    ghost use Rattle.recovery.specs.Volume.{VolumeState, IsSettled};
+    ghost use Rattle.recovery.specs.Volume.{VolumeState, IsWellFormed};
 
     ghost Value = { VolumeState D };
 
     ghost view = { λ v. record { table = v.table; lengths = v.lengths.items; device = v.device } };
 
     ghost invariant = { λ v.
-        IsSettled D.Device (record { table = v.table; lengths = v.lengths.items; device = v.device }) };
+        IsWellFormed D.Device (record { table = v.table; lengths = v.lengths.items; device = v.device }) };
 }
 
 impl<D: Device, A: Allocator + Copy> Volume<D, A> {
     /// The volume of a device that was made ready, with the length of each file in bytes.
     pub(crate) fn new(table: Super<A>, lengths: Vec<u64, A>, device: D) -> Self
-        requires { IsSettled D.Device (record { table = table; lengths = lengths.items; device = device }) }
+        requires { IsWellFormed D.Device (record { table = table; lengths = lengths.items; device = device }) }
         ensures { result ≡ record { table = table; lengths = lengths.items; device = device } }
     {
         Volume {
@@ -55,7 +55,7 @@ impl<D: Device, A: Allocator + Copy> Volume<D, A> {
     /// The number of files, 1 to 64.
     pub fn file_count(&self) -> usize
         ensures value { result ≡ length self.now.table.files }
-        ensures settled { IsSettled D.Device self.now }
+        ensures well_formed { IsWellFormed D.Device self.now }
     {
         self.table.file_count()
     }
@@ -79,7 +79,7 @@ impl<D: Device, A: Allocator + Copy> Volume<D, A> {
     /// The length of each file in bytes, in the table's order.
     pub fn lengths(&self) -> &[u64]
         ensures lengths { result.now ≡ self.now.lengths }
-        ensures settled { IsSettled D.Device self.now }
+        ensures well_formed { IsWellFormed D.Device self.now }
     {
         &self.lengths
     }
@@ -122,7 +122,7 @@ impl<D: Device, A: Allocator + Copy> Volume<D, A> {
     /// The table of the files.
     pub fn table(&self) -> &Super<A>
         ensures table { result.now ≡ self.now.table }
-        ensures settled { IsSettled D.Device self.now }
+        ensures well_formed { IsWellFormed D.Device self.now }
     {
         &self.table
     }
@@ -130,7 +130,7 @@ impl<D: Device, A: Allocator + Copy> Volume<D, A> {
     /// The device, which holds the volume with its gates closed, all of it synced.
     pub fn into_device(self) -> D
         ensures device { result ≡ self.device }
-        ensures settled { IsSettled D.Device self }
+        ensures well_formed { IsWellFormed D.Device self }
     {
         let Volume {
             table,
@@ -146,7 +146,7 @@ impl<D: Device, A: Allocator + Copy> Volume<D, A> {
     pub fn into_parts(self) -> (Super<A>, D)
         ensures table { result.0 ≡ self.table }
         ensures device { result.1 ≡ self.device }
-        ensures settled { IsSettled D.Device self }
+        ensures well_formed { IsWellFormed D.Device self }
     {
         let Volume {
             table,

@@ -107,7 +107,7 @@ verdict_says old replies new none equal given (inr stopped) =
     let texts = texts_of old.entries.now in
     let end = stopped.stopped in
     let count : stopped.before.same ≡ length stopped.earlier = omega (arith, is.same, none) in
-    verdict_is new.refused new.differs new.same (Says texts replies)
+    verdict_is new.refused new.differs new.same (IsVerdict texts replies)
     (λ r d. record {
       earlier = stopped.earlier;
       last = stopped.last;

@@ -16,7 +16,7 @@ line_of reply = reply_text reply ++ 10 ∷ []
 abbrev pub failure_after : ℕ → Option ℕ → List Reply → Option ℕ
 failure_after n found [] = found
 failure_after n None (reply ∷ replies) =
-    failure_after (n + 1) (if tells_failure reply then Some (n + 1) else None) replies
+    failure_after (n + 1) (if reports_failure reply then Some (n + 1) else None) replies
 failure_after n (Some first) (reply ∷ replies) = Some first
 
 -- Its line was printed and counted, and the first failure remembered.

@@ -137,7 +137,7 @@ fn replay_on<D: Device, A: Allocator + Copy>(
     requires { steps.now ≡ map (λ line. line.step) trace.now.entries.items }
     ensures ran { IfOk result (λ replayed. (replies : List Reply)
         × HasRun D.Device device trace.now.shape (take (length replies) steps.now) replies replayed.1
-        × IfSome replayed.0.verdict (Says (texts_of trace.now.entries.items) replies)) }
+        × IfSome replayed.0.verdict (IsVerdict (texts_of trace.now.entries.items) replies)) }
     ensures refused { IfErr result (λ refused. HasNotStarted D.Device device trace.now.shape refused.1 refused.0) }
 {
     let mut comparer = Comparer::new(global, &trace.entries);

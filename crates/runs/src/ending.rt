@@ -58,13 +58,13 @@ impl fmt::Display for Stop {
 
 // One ending among many: where the run is stopped, at which call an opening is cut, and what a crash leaves.
 #[derive(Clone, Copy)]
-struct Place {
+struct EndPoint {
     stop: Stop,
     cut: Option<u64>,
     choice: Option<Choice>,
 }
 
-impl fmt::Display for Place {
+impl fmt::Display for EndPoint {
     fn fmt<W: fmt::Write>(&self, f: &mut fmt::Formatter<W>) -> fmt::Result {
         let stop = self.stop;
         write!(f, "{stop}")?;
@@ -180,7 +180,7 @@ impl Ending {
     ) -> Result<(), Failure> {
         match self.make_one(alloc, trial, stop, cut, choice) {
             Err(Failure::Differs(text)) => {
-                let place = Place { stop, cut, choice };
+                let place = EndPoint { stop, cut, choice };
                 Err(Failure::Differs(format!(in alloc; "{place}: {text}")?))
             }
             made => made,

@@ -172,7 +172,7 @@ impl Judge {
         if value.get("crash").is_some() {
             return self.take_crash(members, value);
         }
-        self.settle();
+        self.begin_next();
         if value.get("run").is_some() {
             self.take_run(members, value)
         } else if value.get("volume").is_some() {
@@ -189,7 +189,7 @@ impl Judge {
     }
 
     // What the last run left is what comes next begins with.
-    fn settle(&mut self) {
+    fn begin_next(&mut self) {
         if let Some(left) = self.left.take() {
             self.trial.image = left;
             self.trial.run = None;
@@ -239,7 +239,7 @@ impl Judge {
         let choice = read_choice_of(alloc, member(alloc, value, "crash")?)?;
         let puts = read_puts(alloc, list_of(alloc, value, "but")?)?;
         self.left = Some(crashed(alloc, &self.trial, choice, &puts)?);
-        self.settle();
+        self.begin_next();
         Ok(())
     }
 

@@ -10,12 +10,12 @@ use Rattle.volume_codec.specs.Files.{File}
 use Rattle.machine.specs.declared.act.Reply.{Reply}
 use Rattle.machine.specs.declared.act.Step.{Step}
 use Rattle.machine.specs.Crashes.{StepIsSafe}
-use Rattle.machine.specs.OnTrack.{IsOnTrack}
+use Rattle.machine.specs.Reached.{IsReached}
 use Rattle.machine.specs.Runs.{StepTaken, StepsTaken}
 use Rattle.machine.specs.State.{Whole}
 use Rattle.service.specs.declared.entry.Entry.{Entry}
 use Rattle.service.specs.Trace.{is_progress, steps_of, replies_of}
-use Rattle.service.specs.Serving.{SharedState, IsServing, HasEntered, told_by, max_entries}
+use Rattle.service.specs.Serving.{SharedState, IsServing, HasEntered, observed_by, max_entries}
 
 count_one_more : {X : Type 0} (p : X → Bool) (xs : List X) (x : X)
     → count_by p (xs ++ x ∷ []) ≡ count_by p xs + (if p x then 1 else 0)

@@ -11,8 +11,8 @@ use Rattle.machine.specs.Fresh.{IsFresh}
 use Rattle.machine.specs.Laws.{EachStep, FaultsAreServed, IsLawful, ReadsBack}
 use Rattle.machine.specs.Runs.{StepTaken, StepsTaken}
 use Rattle.machine.specs.State.{Whole}
-use Rattle.machine.specs.Steps.{told_first}
-use Rattle.machine.specs.Told.{Told, tell_all}
+use Rattle.machine.specs.Steps.{observed_first}
+use Rattle.machine.specs.Observed.{Observed, observe_all}
 use Rattle.service.specs.declared.entry.Entry.{Entry}
 use Rattle.service.specs.Marks.{has_unmarked, last_acknowledged, HasReached, Words}
 use Rattle.service.specs.Marks.{LeavesCommitted, RaisesCommitted, HasRaised}
@@ -43,9 +43,9 @@ pub record ServesFrom {D : Type 0} (disk : Ghosts D) (start : Option (Whole D)) 
   pub capacity_is : s.capacity ≡ capacity
   pub serving : IsServing disk first s
 
--- what a trace from this start tells
-abbrev pub told_by : {D : Type 0} → List File → Whole D → List Entry → Told
-told_by files start trace = tell_all (told_first files start.state) (steps_of trace) (replies_of trace)
+-- what is observed of a trace from this start
+abbrev pub observed_by : {D : Type 0} → List File → Whole D → List Entry → Observed
+observed_by files start trace = observe_all (observed_first files start.state) (steps_of trace) (replies_of trace)
 
 -- What holds of a machine and its trace where the start was over a volume at rest with these files, on an honest
 -- device.
@@ -53,12 +53,12 @@ pub record KeepsLaws {D : Type 0} (disk : Ghosts D) (files : List File) (start :
     : Type 0 where
   -- a crash at any moment of any step, and after it, leaves what reads back as the files after a durable prefix of the
   -- history up to that moment
-  pub headline : Throughout (StepIsSafe disk files) (told_first files start.state) start (steps_of s.trace)
+  pub headline : Throughout (StepIsSafe disk files) (observed_first files start.state) start (steps_of s.trace)
       (replies_of s.trace) s.machine
   -- and a crash now what reads back so of the whole trace
-  pub left : (c : List ℕ) → disk.may_leave s.machine.device c → ReadsBack files (told_by files start s.trace).history c
-  -- loads, stores and faults are answered by what was told before them, and a served fault is served
-  pub lawful : EachStep (IsLawful files) (told_first files start.state) (steps_of s.trace) (replies_of s.trace)
+  pub left : (c : List ℕ) → disk.may_leave s.machine.device c → ReadsBack files (observed_by files start s.trace).history c
+  -- loads, stores and faults are answered by what was observed before them, and a served fault is served
+  pub lawful : EachStep (IsLawful files) (observed_first files start.state) (steps_of s.trace) (replies_of s.trace)
   pub served : FaultsAreServed (steps_of s.trace) (replies_of s.trace)
 
 -- One step of the machine and one entry of the trace, which is this step and its reply.
@@ -73,7 +73,7 @@ pub record HasEntered {D : Type 0} (disk : Ghosts D) (old : SharedState D) (step
   -- a crash at any moment within this step leaves what reads back by the trace before it, and one after it by the trace
   -- with its entry
   pub safe : (files : List File) (start : Whole D) → IsServing disk start old → Begins disk files start
-      → StepIsSafe disk files (told_by files start old.trace) old.machine step reply new.machine
+      → StepIsSafe disk files (observed_by files start old.trace) old.machine step reply new.machine
 
 -- One call of a processor that was answered: what the lock kept is a trace of the service, the act that was called and
 -- its reply are one more entry of it, and the call did to the horizon what the entry says. The words are those that

@@ -21,7 +21,7 @@ pub(crate) fn has_unmarked(trace: &[Entry]) -> bool
     let mut left = trace.len();
     while left > 0 {
         left -= 1;
-        match trace[left].reply.settles() {
+        match trace[left].reply.decides() {
             Some(unmarked) => return unmarked,
             None => {}
         }

@@ -13,7 +13,7 @@ use Rattle.session.specs.Locks.{KeepsPhases}
 use Rattle.session.specs.Notes.{noted_after, noted_all}
 use Rattle.session.specs.Ranges.{MakesStepsThat, LoadsRange, StoresRange}
 use Rattle.session.specs.Steps.{Makes, behind, AreLoads, AreStores}
-use Rattle.session.specs.inside.Aside.{LoadsOn}
+use Rattle.session.specs.inside.Paging.{LoadsOn}
 use Rattle.session.proofs.Phases.{keeps_none, keeps_then, store_keeps}
 use Rattle.session.proofs.Pieces.{loads_then, stores_then}
 use Rattle.session.proofs.Stretches.{makes_then}

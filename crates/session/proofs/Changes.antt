@@ -3,15 +3,15 @@ use Rattle.std.proofs.Common.{◌≡◌, ◌≢◌, ℕ, true, List, [], ◌∷�
 use Rattle.device.specs.declared.device.Device.{Ghosts}
 use Rattle.machine.specs.declared.act.Act.TheVariants as acts
 use Rattle.machine.specs.declared.act.Reply.{Reply}
-use Rattle.machine.specs.declared.act.Reply.TheVariants as tells
+use Rattle.machine.specs.declared.act.Reply.TheVariants as reports
 use Rattle.machine.specs.declared.act.Step.{Step}
 use Rattle.machine.specs.Rules.{Acts}
 use Rattle.machine.specs.State.{State, Whole}
 use Rattle.session.specs.declared.notes.Notes.{Notes}
-use Rattle.session.specs.Ends.{MakesRoom, tells_reclaimed}
-use Rattle.session.specs.Lengths.{tells_begun, tells_changed, AnswersChange}
+use Rattle.session.specs.Ends.{MakesRoom, reports_reclaimed}
+use Rattle.session.specs.Lengths.{reports_begun, reports_changed, AnswersChange}
 use Rattle.session.specs.Ranges.{MakesStepsThat}
-use Rattle.session.specs.Steps.{Makes, tells_reclaim}
+use Rattle.session.specs.Steps.{Makes, reports_reclaim}
 use Rattle.session.proofs.Phases.{begun_is}
 use Rattle.session.proofs.Rooms.{reclaim_room}
 use Rattle.session.proofs.Stretches.{makes_then}

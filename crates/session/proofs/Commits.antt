@@ -18,7 +18,7 @@ use Rattle.session.specs.Lengths.{AnswersChange, AreOthers, change_steps, change
 use Rattle.session.specs.Lengths.{flush_by, tells_begun, tells_flushed, tells_refused}
 use Rattle.session.specs.Notes.{noted_all}
 use Rattle.session.specs.Ranges.{MakesStepsThat}
-use Rattle.session.specs.Steps.{Makes, is_of_commit, Passes, AreOfCommit, tells_mark}
+use Rattle.session.specs.Steps.{Makes, is_of_commit, Passes, AreOfCommit, reports_mark}
 use Rattle.session.proofs.Each.{each_of_change, each_then}
 use Rattle.session.proofs.Phases.{begun_is}
 use Rattle.session.proofs.Rooms.{change_has}
@@ -44,12 +44,12 @@ flush_unmade s d p (replies.Refused why) new d' rule is = refl
 flush_unmade s d p reply new d' ((reason, it), same) is = absurd it
 
 -- what wasn't made was refused, if there was something to do
-pub refused_is : (reply : Reply) → tells_unmade reply ≡ true → reply ≢ replies.Nothing → tells_refused reply ≡ true
+pub refused_is : (reply : Reply) → reports_unmade reply ≡ true → reply ≢ replies.Nothing → reports_refused reply ≡ true
 refused_is replies.Nothing is some = absurd (some refl)
 refused_is (replies.Refused why) is some = refl
 refused_is reply is some = absurd (false≢true is)
 
-pub unmade_refused : (reply : Reply) → tells_refused reply ≡ true → tells_unmade reply ≡ true
+pub unmade_refused : (reply : Reply) → reports_refused reply ≡ true → reports_unmade reply ≡ true
 unmade_refused (replies.Refused why) is = refl
 unmade_refused reply is = absurd (false≢true is)
 
@@ -91,20 +91,20 @@ module _ (p : ℕ) where
       → (last ≡ msync_by p ∷ []) × (now ≡ reply ∷ []) → BeginsMark p (steps ++ last) (told ++ now)
   begins_later reply is steps told last now busy (attempt, answered) = record {
     waits = steps;
-    waited = told;
+    waited = replied;
     busy = busy;
     steps_are = ap (λ l. steps ++ l) attempt;
-    replies_are = ap (λ l. told ++ l) (answered ∙ ap (λ r. r ∷ []) (begun_is reply is));
+    replies_are = ap (λ l. replied ++ l) (answered ∙ ap (λ r. r ∷ []) (begun_is reply is));
   }
 
   pub refused_later : (answer : Reply) (steps : List Step) (told : List Reply) (last : List Step) (now : List Reply)
       → AreWaits p steps told → IsLastAttempt p answer last now → RefusesMark p answer (steps ++ last) (told ++ now)
   refused_later answer steps told last now busy refused = record {
     waits = steps;
-    waited = told;
+    waited = replied;
     busy = busy;
     last = last;
-    told = now;
+    replied = now;
     refused = refused;
     steps_are = refl;
     replies_are = refl;
@@ -145,7 +145,7 @@ of_step : (p : ℕ) (step other : Step) (reply : Reply) → step ≡ other → P
     → Passes is_of_commit p step reply
 of_step p step other reply is of = subst (λ (s : Step). Passes is_of_commit p s reply) (sym is) of
 
-waits_of_commit : (p : ℕ) (steps : List Step) (told : List Reply) → AreWaits p steps told → AreOfCommit p steps told
+waits_of_commit : (p : ℕ) (steps : List Step) (replied : List Reply) → AreWaits p steps replied → AreOfCommit p steps replied
 waits_of_commit p [] [] waits = tt
 waits_of_commit p (attempt ∷ step ∷ steps) (busy ∷ reply ∷ told) (a, b, s, r, more) = (
   of_step p attempt (msync_by p) busy a (refl, refl),
@@ -153,11 +153,11 @@ waits_of_commit p (attempt ∷ step ∷ steps) (busy ∷ reply ∷ told) (a, b, 
 )
 waits_of_commit p [] (reply ∷ told) waits = absurd waits
 waits_of_commit p (step ∷ []) [] waits = absurd waits
-waits_of_commit p (step ∷ []) (reply ∷ told) waits = absurd waits
+waits_of_commit p (step ∷ []) (reply ∷ replied) waits = absurd waits
 waits_of_commit p (attempt ∷ step ∷ steps) [] waits = absurd waits
 waits_of_commit p (attempt ∷ step ∷ steps) (reply ∷ []) waits = absurd waits
 
-change_list : (p : ℕ) (answer : Reply) (others : List ℕ) → AreOthers p others → tells_mark answer ≡ true
+change_list : (p : ℕ) (answer : Reply) (others : List ℕ) → AreOthers p others → reports_mark answer ≡ true
     → AreOfCommit p (change_steps p others) (change_replies answer others)
 change_list p answer others differ is = each_of_change (Passes is_of_commit p) p answer others differ (is, refl)
     (λ other not. (refl, not)) (λ other not. (refl, not))
@@ -176,7 +176,7 @@ writes_of_commit p mark answer (step ∷ steps) (reply ∷ told) (is, inl (last,
 writes_of_commit p mark answer (step ∷ steps) (reply ∷ told) (is, inr (other, more)) =
     (of_step p step (flush_by p) reply is (refl, refl), writes_of_commit p mark answer steps told more)
 writes_of_commit p mark answer [] [] it = absurd it
-writes_of_commit p mark answer [] (reply ∷ told) it = absurd it
+writes_of_commit p mark answer [] (reply ∷ replied) it = absurd it
 writes_of_commit p mark answer (step ∷ steps) [] it = absurd it
 
 are : (p : ℕ) (steps front : List Step) (told now : List Reply) → steps ≡ front → told ≡ now → AreOfCommit p front now
@@ -233,9 +233,9 @@ answers_of_commit p before (Err answer) steps told it = stops_of_commit p before
 -- ---- what a commit came to
 
 -- what makes a mark is answered by its number
-pub mark_told : {A : Type 0} (reply : Reply) → tells_mark reply ≡ true → ((mark : ℕ) → reply ≢ replies.Marked mark) → A
-mark_told (replies.Marked mark) is other = absurd (other mark refl)
-mark_told reply is other = absurd (false≢true is)
+pub mark_replied : {A : Type 0} (reply : Reply) → reports_mark reply ≡ true → ((mark : ℕ) → reply ≢ replies.Marked mark) → A
+mark_replied (replies.Marked mark) is other = absurd (other mark refl)
+mark_replied reply is other = absurd (false≢true is)
 
 module _ {D : Type 0} (disk : Ghosts D) where
   pub came_to : (old new : Whole D) (before after : Notes) (p : ℕ) (committed : Result ℕ Reply)
@@ -333,8 +333,8 @@ module _ {D : Type 0} (disk : Ghosts D) where
 
 -- ---- an attempt, and the step of the write-outs after it
 
-pub both_told : {a b c d : Reply} → a ≡ b → c ≡ d → (a ∷ c ∷ []) ≡ (b ∷ d ∷ [])
-both_told {a} {b} {c} {d} first last = ap (λ r. r ∷ c ∷ []) first ∙ ap (λ r. b ∷ r ∷ []) last
+pub both_replied : {a b c d : Reply} → a ≡ b → c ≡ d → (a ∷ c ∷ []) ≡ (b ∷ d ∷ [])
+both_replied {a} {b} {c} {d} first last = ap (λ r. r ∷ c ∷ []) first ∙ ap (λ r. b ∷ r ∷ []) last
 
 pub attempt_then : {D : Type 0} (disk : Ghosts D) (old mid new : Whole D) (before between after : Notes) (p : ℕ)
     (busy reply : Reply) (what : List Step → List Reply → Type 0)

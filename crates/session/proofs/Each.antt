@@ -8,20 +8,20 @@ use Rattle.session.specs.Lengths.{AreOthers, change_steps, change_replies}
 use Rattle.session.specs.Steps.{AreEach}
 
 -- one after the other
-pub each_then : (Is : Step → Reply → Type 0) (steps : List Step) (told : List Reply) (later : List Step)
-    (more : List Reply) → AreEach Is steps told → AreEach Is later more → AreEach Is (steps ++ later) (told ++ more)
+pub each_then : (Is : Step → Reply → Type 0) (steps : List Step) (replied : List Reply) (later : List Step)
+    (more : List Reply) → AreEach Is steps replied → AreEach Is later more → AreEach Is (steps ++ later) (replied ++ more)
 each_then Is [] [] later more first rest = rest
-each_then Is (step ∷ steps) (reply ∷ told) later more (is, first) rest =
-    (is, each_then Is steps told later more first rest)
-each_then Is [] (reply ∷ told) later more first rest = absurd first
+each_then Is (step ∷ steps) (reply ∷ replied) later more (is, first) rest =
+    (is, each_then Is steps replied later more first rest)
+each_then Is [] (reply ∷ replied) later more first rest = absurd first
 each_then Is (step ∷ steps) [] later more first rest = absurd first
 
 -- what holds of each by what does already
 pub each_so : (Is So : Step → Reply → Type 0) → ((step : Step) (reply : Reply) → Is step reply → So step reply)
-    → (steps : List Step) (told : List Reply) → AreEach Is steps told → AreEach So steps told
+    → (steps : List Step) (replied : List Reply) → AreEach Is steps replied → AreEach So steps replied
 each_so Is So so [] [] are = tt
-each_so Is So so (step ∷ steps) (reply ∷ told) (is, more) = (so step reply is, each_so Is So so steps told more)
-each_so Is So so [] (reply ∷ told) are = absurd are
+each_so Is So so (step ∷ steps) (reply ∷ replied) (is, more) = (so step reply is, each_so Is So so steps replied more)
+each_so Is So so [] (reply ∷ replied) are = absurd are
 each_so Is So so (step ∷ steps) [] are = absurd are
 
 -- the steps of a change by processor p

@@ -23,9 +23,9 @@ use Rattle.machine.specs.Runs.{StepTaken, StepsTaken}
 use Rattle.machine.specs.State.{State, Whole}
 use Rattle.session.specs.declared.notes.Notes.{Notes}
 use Rattle.session.specs.Commits.{msync_by}
-use Rattle.session.specs.Lengths.{tells_flushed, tells_later, flush_by, set_length_by, IsTry}
+use Rattle.session.specs.Lengths.{reports_flushed, reports_later, flush_by, set_length_by, IsTry}
 use Rattle.session.specs.Ranges.{MakesStepsThat}
-use Rattle.session.specs.Steps.{Makes, is_aside, tells_reclaim}
+use Rattle.session.specs.Steps.{Makes, is_paging, reports_reclaim}
 use Rattle.session.specs.inside.Made.{AttemptsLength}
 
 -- one more than the steps that a write-out has left
@@ -191,7 +191,7 @@ module _ {D : Type 0} (disk : Ghosts D) where
   try_taken : (old mid : Whole D) (p file to : ℕ) (step : Step) (reply : Reply) → IsTry p file to step reply
       → StepTaken disk old step reply mid → LeftAfter old mid
   try_taken old mid p file to step reply (inl (is, later)) here = later_taken old mid p file to step reply is later here
-  try_taken old mid p file to step reply (inr aside) here = aside_taken old mid step reply aside.0 here
+  try_taken old mid p file to step reply (inr paging) here = paging_taken old mid step reply paging.0 here
 
   -- attempts to begin to set a length, the last of which is busy
   attempts_keep : (old new : Whole D) (p file to : ℕ) (steps : List Step) (told : List Reply)
@@ -214,7 +214,7 @@ module _ {D : Type 0} (disk : Ghosts D) where
       )
   attempts_keep old new p file to (step ∷ steps) (reply ∷ told) (inr (is, busy, inr (other, vain))) taken = absurd (cc)
   attempts_keep old new p file to [] [] it taken = absurd it
-  attempts_keep old new p file to [] (reply ∷ told) it taken = absurd it
+  attempts_keep old new p file to [] (reply ∷ replied) it taken = absurd it
   attempts_keep old new p file to (step ∷ steps) [] it taken = absurd it
 
   pub attempts_left : (old new : Whole D) (before after : Notes) (p file to : ℕ)

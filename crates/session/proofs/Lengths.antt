@@ -12,7 +12,7 @@ use Rattle.session.specs.Steps.{IsAside, AreAside}
 use Rattle.session.specs.inside.Made.{AreTries, BeginsLength, AttemptsLength}
 use Rattle.session.proofs.Phases.{begun_is}
 use Rattle.session.proofs.Each.{each_so}
-use Rattle.session.proofs.Rooms.{vain_aside}
+use Rattle.session.proofs.Rooms.{vain_paging}
 
 -- one step of the write-outs alone
 abbrev pub IsNext : ℕ → Reply → List Step → List Reply → Type 0
@@ -21,9 +21,9 @@ IsNext p reply steps replies = (steps ≡ flush_by p ∷ []) × (replies ≡ rep
 module _ (p file to : ℕ) where
   -- ---- tries
 
-  pub tries_aside : (steps : List Step) (replies : List Reply) → AreAside p steps replies
+  pub tries_paging : (steps : List Step) (replies : List Reply) → ArePaging p steps replies
       → AreTries p file to steps replies
-  tries_aside = each_so (IsAside p) (IsTry p file to) (λ step reply aside. inr aside)
+  tries_paging = each_so (IsPaging p) (IsTry p file to) (λ step reply paging. inr paging)
 
   -- ---- it is begun
 
@@ -45,7 +45,7 @@ module _ (p file to : ℕ) where
   begins_then answer (step ∷ steps) (reply ∷ replies) steps' replies' (inr (is, told, none, silent)) later =
       let P : List Step → Type 0 = λ l. AnswersChange p answer (l ++ steps') (replies ++ replies') in
       let Q : List Reply → Type 0 = λ l. AnswersChange p answer steps' (l ++ replies') in
-      inr (is, told, subst P (sym none) (subst Q (sym silent) later))
+      inr (is, replied, subst P (sym none) (subst Q (sym silent) later))
   begins_then answer [] [] steps' replies' it later = absurd it
   begins_then answer [] (reply ∷ replies) steps' replies' it later = absurd it
   begins_then answer (step ∷ steps) [] steps' replies' it later = absurd it
@@ -130,10 +130,10 @@ module _ (p file to : ℕ) where
   left_unbusy (Refused NoFrame) reply told vain other steps replies none silent =
       let S : List Step → Type 0 = λ l. AreFruitless p l replies in
       let T : List Reply → Type 0 = λ l. AreFruitless p [] l in
-      inr (inl (told, refl, subst S (sym none) (subst T (sym silent) tt)))
-  left_unbusy (Refused why) reply told vain other steps replies none silent = inl (told, refl, refl, none, silent)
-  left_unbusy Begun reply told vain other steps replies none silent = absurd (false≢true (sym vain))
-  left_unbusy answer reply told vain other steps replies none silent = inl (told, refl, refl, none, silent)
+      inr (inl (replied, refl, subst S (sym none) (subst T (sym silent) tt)))
+  left_unbusy (Refused why) reply replied vain other steps replies none silent = inl (replied, refl, refl, none, silent)
+  left_unbusy Begun reply replied vain other steps replies none silent = absurd (false≢true (sym vain))
+  left_unbusy answer reply replied vain other steps replies none silent = inl (replied, refl, refl, none, silent)
 
   pub refuses_attempted : (answer : Reply) → tells_begun answer ≡ false → answer ≢ Refused Busy
       → (steps : List Step) (replies : List Reply) → AttemptsLength p file to answer steps replies

@@ -180,7 +180,7 @@ long_line bytes read told rest more before long from (line, none, inl is) = (
   ),
   omega (arith, length-append read line, long),
 )
-long_line bytes read told rest more before long from (line, none, inr (is, end)) =
+long_line bytes read given rest more before long from (line, none, inr (is, end)) =
     let some : 0 < length (read ++ line) = omega (arith, length-append read line, long) in (
       read ++ line,
       (
@@ -241,12 +241,12 @@ reads_none (Some x) None told read = absurd read
 reads_none (Some x) (Some y) told (none, end) = (end ∙ sym none, end)
 
 -- one was
-pub reads_one : (a b : Option (List ℕ)) (told : List ℕ) → ReadsLine a b Whole told → ReadsLines a b (Some told ∷ [])
-reads_one None b told read = tt
-reads_one (Some x) None told read = absurd read
-reads_one (Some x) (Some y) told (is, few) = (told, y, is, (refl, few), refl)
+pub reads_one : (a b : Option (List ℕ)) (given : List ℕ) → ReadsLine a b Whole given → ReadsLines a b (Some given ∷ [])
+reads_one None b given read = tt
+reads_one (Some x) None given read = absurd read
+reads_one (Some x) (Some y) given (is, few) = (given, y, is, (refl, few), refl)
 
-pub reads_too_long : (a b : Option (List ℕ)) (told : List ℕ) → ReadsLine a b Long told → ReadsLines a b (None ∷ [])
-reads_too_long None b told read = tt
-reads_too_long (Some x) None told read = absurd read
-reads_too_long (Some x) (Some y) told (line, is, many) = (line, y, is, many, refl)
+pub reads_too_long : (a b : Option (List ℕ)) (given : List ℕ) → ReadsLine a b Long given → ReadsLines a b (None ∷ [])
+reads_too_long None b given read = tt
+reads_too_long (Some x) None given read = absurd read
+reads_too_long (Some x) (Some y) given (line, is, many) = (line, y, is, many, refl)

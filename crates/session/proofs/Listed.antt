@@ -63,7 +63,7 @@ listed_from {D} disk before shape start lines started recovers are honest =
     let volume = started.volume in
     let table = volume.table in
     let seen = disk.seen volume.device in
-    let rest = started.settled.at_rest (started.opened.kept.honest.1 honest) in
+    let rest = started.well_formed.at_rest (started.opened.kept.honest.1 honest) in
     let opened = started.opened.ended honest in
     let lengths_are : start.state.lengths ≡ lengths_in table (block_at seen) =
     ap (λ (w : Whole D). w.state.lengths) started.booted ∙ rest.lengths_are in

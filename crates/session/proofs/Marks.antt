@@ -21,12 +21,12 @@ use Rattle.machine.specs.declared.act.Step.{Step}
 use Rattle.machine.specs.History.{Event, Mark, Acknowledge, is_change, since_mark, has_unmarked, with_event}
 use Rattle.machine.specs.Runs.{StepsTaken}
 use Rattle.machine.specs.State.{Whole}
-use Rattle.machine.specs.Steps.{told_first}
-use Rattle.machine.specs.Told.{Told, tell, tell_all, events_of}
+use Rattle.machine.specs.Steps.{observed_first}
+use Rattle.machine.specs.Observed.{Observed, observe, observe_all, events_of}
 use Rattle.engine.specs.Survival.{history_of}
 use Rattle.session.specs.declared.notes.Notes.{Notes}
 use Rattle.session.specs.Answers.{AnswersRequest, committed_text}
-use Rattle.session.specs.Commits.{CommitsMark, IsWritten, WritesUntil, tells_unmade}
+use Rattle.session.specs.Commits.{CommitsMark, IsWritten, WritesUntil, reports_unmade}
 use Rattle.session.specs.Lengths.{AnswersChange, AreOthers, change_steps, change_replies}
 use Rattle.session.specs.Notes.{noted_after, noted_all}
 use Rattle.session.specs.Requests.{asks_commit}
@@ -39,24 +39,24 @@ use Rattle.session.proofs.Rooms.{change_has}
 
 abbrev AreEven : List Step → List Reply → Type 0
 AreEven [] [] = Unit {0}
-AreEven (step ∷ steps) (reply ∷ told) = AreEven steps told
-AreEven steps told = ⊥
+AreEven (step ∷ steps) (reply ∷ replied) = AreEven steps replied
+AreEven steps replied = ⊥
 
-even_commit : (p : ℕ) (steps : List Step) (told : List Reply) → AreOfCommit p steps told → AreEven steps told
+even_commit : (p : ℕ) (steps : List Step) (replied : List Reply) → AreOfCommit p steps replied → AreEven steps replied
 even_commit p [] [] of = tt
-even_commit p (step ∷ steps) (reply ∷ told) of = even_commit p steps told of.1
-even_commit p [] (reply ∷ told) of = absurd of
+even_commit p (step ∷ steps) (reply ∷ replied) of = even_commit p steps replied of.1
+even_commit p [] (reply ∷ replied) of = absurd of
 even_commit p (step ∷ steps) [] of = absurd of
 
 module _ {D : Type 0} (disk : Ghosts D) where
   even_taken : (old new : Whole D) (steps : List Step) (told : List Reply) → StepsTaken disk old steps told new
       → AreEven steps told
   even_taken old new [] [] taken = tt
-  even_taken old new (step ∷ steps) (reply ∷ told) taken = even_taken taken.0 new steps told taken.2
-  even_taken old new [] (reply ∷ told) taken = absurd taken
+  even_taken old new (step ∷ steps) (reply ∷ replied) taken = even_taken taken.0 new steps replied taken.2
+  even_taken old new [] (reply ∷ replied) taken = absurd taken
   even_taken old new (step ∷ steps) [] taken = absurd taken
 
--- ---- what is told
+-- ---- what is observed
 
 told_then : (t : Told) (first : List Step) (told : List Reply) (later : List Step) (more : List Reply)
     → AreEven first told → tell_all t (first ++ later) (told ++ more) ≡ tell_all (tell_all t first told) later more
@@ -81,7 +81,7 @@ is_plain (replies.Marked number) = false
 is_plain (replies.Committed number) = false
 is_plain reply = true
 
-plain_events : (t : Told) (p : ℕ) (act : Act) (reply : Reply) → is_plain reply ≡ true → events_of t p act reply ≡ []
+plain_events : (t : Observed) (p : ℕ) (act : Act) (reply : Reply) → is_plain reply ≡ true → events_of t p act reply ≡ []
 plain_events t p (acts.Store va bytes) replies.Stored is = absurd (false≢true is)
 plain_events t p act (replies.Marked number) is = absurd (false≢true is)
 plain_events t p act replies.Resized is = absurd (false≢true is)
@@ -115,8 +115,8 @@ quiet_acknowledged h number quiet =
     ap (list_any is_change) (since_then h (Acknowledge number ∷ []))
     ∙ list_any-append is_change (since_mark h) (Acknowledge number ∷ []) ∙ ap (λ b. b || false) quiet
 
--- what is noted is told: a history has an unmarked change only where one is noted
-abbrev Agree : Told → Notes → Type 0
+-- what is noted is observed: a history has an unmarked change only where one is noted
+abbrev Agree : Observed → Notes → Type 0
 Agree t n = n.has_unmarked ≡ false → has_unmarked t.history ≡ false
 
 agree_step : (t : Told) (n : Notes) (step : Step) (reply : Reply) → Agree t n
@@ -183,7 +183,7 @@ module _ {D : Type 0} (disk : Ghosts D) (p mark : ℕ) where
       (sym events) (Contains-push t.history (Acknowledge mark)))
   later t (step ∷ steps) (reply ∷ told) (is, inr (other, more)) = later (tell t step reply) steps told more
   later t [] [] it = absurd it
-  later t [] (reply ∷ told) it = absurd it
+  later t [] (reply ∷ replied) it = absurd it
   later t (step ∷ steps) [] it = absurd it
 
   made : (t : Told) (n : Notes) (steps : List Step) (told : List Reply) → Agree t n → CommitsMark p n mark steps told
@@ -198,7 +198,7 @@ module _ {D : Type 0} (disk : Ghosts D) (p mark : ℕ) where
       ∙ told_then t it.beginning it.begun (it.marking ++ it.writing) (it.marked ++ it.written) begun
       ∙ told_then there it.marking it.marked it.writing it.written marked in
       let agreed = agree_all t n it.beginning it.begun begun agree in
-      subst (λ (x : Told). Contains x.history (Acknowledge mark)) (sym is) (go it.durable there agreed)
+      subst (λ (x : Observed). Contains x.history (Acknowledge mark)) (sym is) (go it.durable there agreed)
     where
       go : IsWritten p (noted_all n it.begun) mark it.writing it.written → (there : Told)
           → Agree there (noted_all n it.begun)

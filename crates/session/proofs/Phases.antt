@@ -37,15 +37,15 @@ use Rattle.machine.specs.declared.msync_flags.MsyncFlags.{MsyncFlags}
 use Rattle.machine.specs.Rules.{Accesses, Acts, begin_change, after_record, is_page_next}
 use Rattle.machine.specs.State.{State, Whole}
 use Rattle.session.specs.declared.notes.Notes.{Notes}
-use Rattle.session.specs.Lengths.{tells_begun, tells_changed}
+use Rattle.session.specs.Lengths.{reports_begun, reports_changed}
 use Rattle.session.specs.Locks.{KeepsPhases}
 use Rattle.session.specs.Steps.{Makes}
-use Rattle.session.specs.inside.Aside.{LoadsOrStores}
-use Rattle.session.specs.inside.Changing.{phase_after, HoldsLock, HasBegun, AreCalm, IsOver, tells_made}
+use Rattle.session.specs.inside.Paging.{LoadsOrStores}
+use Rattle.session.specs.inside.Changing.{phase_after, HoldsLock, HasBegun, AreCalm, IsOver, reports_made}
 
 -- ---- what was begun
 
-pub begun_is : (reply : Reply) → tells_begun reply ≡ true → reply ≡ replies.Begun
+pub begun_is : (reply : Reply) → reports_begun reply ≡ true → reply ≡ replies.Begun
 begun_is replies.Begun is = refl
 begun_is (replies.Bytes bytes) is = absurd (false≢true is)
 begun_is replies.Stored is = absurd (false≢true is)

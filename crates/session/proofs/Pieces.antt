@@ -12,8 +12,8 @@ use Rattle.session.specs.declared.notes.Notes.{Notes}
 use Rattle.session.specs.declared.ranges.Reached.TheVariants.{All, Refused, NoMemory}
 use Rattle.session.specs.Ends.{EndsRange}
 use Rattle.session.specs.Ranges.{MakesStepsThat, LoadsRange, LoadsReached, StoresRange, StoresReached}
-use Rattle.session.specs.Steps.{Makes, AreAside, behind, AreLoads, AreStores}
-use Rattle.session.specs.inside.Aside.{AnswersAfter, StopsAt}
+use Rattle.session.specs.Steps.{Makes, ArePaging, behind, AreLoads, AreStores}
+use Rattle.session.specs.inside.Paging.{AnswersAfter, StopsAt}
 use Rattle.session.specs.inside.Made.{HasMade}
 use Rattle.session.proofs.Stretches.{makes_none, makes_then}
 

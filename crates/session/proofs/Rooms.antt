@@ -28,20 +28,20 @@ use Rattle.session.proofs.Stretches.{makes_then}
 
 -- ---- single steps
 
-kept_reclaim : (reply : Reply) → tells_kept reply ≡ true → tells_reclaim reply ≡ true
+kept_reclaim : (reply : Reply) → reports_kept reply ≡ true → reports_reclaim reply ≡ true
 kept_reclaim replies.Kept is = refl
 kept_reclaim reply is = absurd (false≢true is)
 
-reclaim_kept : (reply : Reply) → tells_reclaim reply ≡ true → tells_reclaimed reply ≡ false → tells_kept reply ≡ true
+reclaim_kept : (reply : Reply) → reports_reclaim reply ≡ true → reports_reclaimed reply ≡ false → reports_kept reply ≡ true
 reclaim_kept replies.Reclaimed is other = absurd (false≢true (sym other))
 reclaim_kept replies.Kept is other = refl
 reclaim_kept reply is other = absurd (false≢true is)
 
-reclaimed_is : (reply : Reply) → tells_reclaimed reply ≡ true → reply ≡ replies.Reclaimed
+reclaimed_is : (reply : Reply) → reports_reclaimed reply ≡ true → reply ≡ replies.Reclaimed
 reclaimed_is replies.Reclaimed is = refl
 reclaimed_is reply is = absurd (false≢true is)
 
-fixed_is : (reply : Reply) → tells_fixed reply ≡ true → reply ≡ replies.Fixed
+fixed_is : (reply : Reply) → reports_fixed reply ≡ true → reply ≡ replies.Fixed
 fixed_is replies.Fixed is = refl
 fixed_is reply is = absurd (false≢true is)
 
@@ -49,13 +49,13 @@ fruitless_room : (act : Act) (reply : Reply) → is_fruitless act reply ≡ true
 fruitless_room acts.Change reply is = kept_reclaim reply is
 fruitless_room act reply is = is
 
-room_aside : (act : Act) (reply : Reply) → is_for_room act reply ≡ true → is_aside act reply ≡ true
-room_aside (acts.Reclaim file page) reply is = refl
-room_aside acts.Ack reply is = is
-room_aside acts.Change reply is = is
-room_aside acts.Resume reply is = is
-room_aside acts.Flush reply is = refl
-room_aside act reply is = absurd (false≢true is)
+room_paging : (act : Act) (reply : Reply) → is_for_room act reply ≡ true → is_paging act reply ≡ true
+room_paging (acts.Reclaim file page) reply is = refl
+room_paging acts.Ack reply is = is
+room_paging acts.Change reply is = is
+room_paging acts.Resume reply is = is
+room_paging acts.Flush reply is = refl
+room_paging act reply is = absurd (false≢true is)
 
 room_no_access : (act : Act) (reply : Reply) → is_for_room act reply ≡ true → is_access act ≡ false
 room_no_access (acts.Load va count) reply is = absurd (false≢true is)
@@ -66,21 +66,21 @@ room_not_served : (act : Act) (reply : Reply) → is_for_room act reply ≡ true
 room_not_served (acts.Fix va write) reply is = absurd (false≢true is)
 room_not_served act reply is = refl
 
-pub not_fault : (reply : Reply) → tells_fault reply ≡ true → (tells_bytes reply ≡ false) × (tells_stored reply ≡ false)
+pub not_fault : (reply : Reply) → reports_fault reply ≡ true → (reports_bytes reply ≡ false) × (reports_stored reply ≡ false)
 not_fault (replies.Refused why) is = (refl, refl)
 not_fault reply is = absurd (false≢true is)
 
 -- ---- one after the other
 
-vain_room : (p : ℕ) (steps : List Step) (told : List Reply) → AreFruitless p steps told → AreForRoom p steps told
+vain_room : (p : ℕ) (steps : List Step) (replied : List Reply) → AreFruitless p steps replied → AreForRoom p steps replied
 vain_room p = each_so (Passes is_fruitless p) (Passes is_for_room p)
     (λ step reply is. (fruitless_room step.act reply is.0, is.1))
 
-pub are_aside : (p : ℕ) (steps : List Step) (told : List Reply) → AreForRoom p steps told → AreAside p steps told
-are_aside p = each_so (Passes is_for_room p) (IsAside p) (λ step reply is. (room_aside step.act reply is.0, is.1))
+pub are_paging : (p : ℕ) (steps : List Step) (replied : List Reply) → AreForRoom p steps replied → ArePaging p steps replied
+are_paging p = each_so (Passes is_for_room p) (IsPaging p) (λ step reply is. (room_paging step.act reply is.0, is.1))
 
-pub vain_aside : (p : ℕ) (steps : List Step) (told : List Reply) → AreFruitless p steps told → AreAside p steps told
-vain_aside p steps told vain = are_aside p steps told (vain_room p steps told vain)
+pub vain_paging : (p : ℕ) (steps : List Step) (replied : List Reply) → AreFruitless p steps replied → ArePaging p steps replied
+vain_paging p steps replied vain = are_paging p steps replied (vain_room p steps replied vain)
 
 -- no frame became free, and then one did or didn't
 pub makes_room_then : (p : ℕ) (made : Bool) (steps : List Step) (told : List Reply) (steps' : List Step)
@@ -110,12 +110,12 @@ change_has P p answer steps replies it holds = subst (P steps) (sym it.replies_a
     (subst (λ (l : List Step). P l (change_replies answer it.others)) (sym it.steps_are) holds)
 
 -- the change of a reclaim, which is answered so
-change_vain : (p : ℕ) (answer : Reply) (others : List ℕ) → AreOthers p others → tells_kept answer ≡ true
+change_vain : (p : ℕ) (answer : Reply) (others : List ℕ) → AreOthers p others → reports_kept answer ≡ true
     → AreFruitless p (change_steps p others) (change_replies answer others)
 change_vain p answer others differ is = each_of_change (Passes is_fruitless p) p answer others differ (is, refl)
     (λ other not. (refl, not)) (λ other not. (refl, not))
 
-change_room : (p : ℕ) (answer : Reply) (others : List ℕ) → AreOthers p others → tells_reclaim answer ≡ true
+change_room : (p : ℕ) (answer : Reply) (others : List ℕ) → AreOthers p others → reports_reclaim answer ≡ true
     → AreForRoom p (change_steps p others) (change_replies answer others)
 change_room p answer others differ is = each_of_change (Passes is_for_room p) p answer others differ (is, refl)
     (λ other not. (refl, not)) (λ other not. (refl, not))
@@ -132,8 +132,8 @@ pub reclaim_room : (p file page : ℕ) (begun answer : Reply) (steps : List Step
     → MakesRoom p (tells_reclaimed answer) (record { p = p; act = acts.Reclaim file page } ∷ steps) (begun ∷ told)
 reclaim_room p file page begun answer steps told is change = go (tells_reclaimed answer) refl
   where
-    has : Contains told answer
-    has = change_has (λ steps told. Contains told answer) p answer steps told change (change_told answer change.others)
+    has : Contains replied answer
+    has = change_has (λ steps replied. Contains replied answer) p answer steps replied change (change_replied answer change.others)
 
     go : (b : Bool) → tells_reclaimed answer ≡ b
         → MakesRoom p b (record { p = p; act = acts.Reclaim file page } ∷ steps) (begun ∷ told)
@@ -262,7 +262,7 @@ module _ {D : Type 0} (disk : Ghosts D) (old mid new : Whole D) (before between 
 pub stops_answered : {D : Type 0} (disk : Ghosts D) (old new : Whole D) (before after : Notes) (step : Step) (at : ℕ)
     (answer : Reply) → IsAside step.p step answer → is_access_at at step.act ≡ true → tells_fault answer ≡ false
     → AnswersAfter disk old before step answer new after → StopsAt disk old before step.p at answer new after
-stops_answered disk old new before after step at answer (aside, mine) here no-fault it = record {
+stops_answered disk old new before after step at answer (paging, mine) here no-fault it = record {
   steps = it.steps ++ step ∷ [];
   replies = it.replies ++ answer ∷ [];
   makes = it.makes;

@@ -9,7 +9,7 @@ use Rattle.session.specs.declared.notes.Notes.{Notes}
 use Rattle.session.specs.Notes.{noted_after, noted_all}
 use Rattle.session.specs.Ranges.{MakesStepsThat}
 use Rattle.session.specs.Steps.{Makes}
-use Rattle.session.specs.inside.Aside.{AnswersAfter}
+use Rattle.session.specs.inside.Paging.{AnswersAfter}
 use Rattle.session.specs.inside.Made.{HasMade}
 
 noted_then : (before : Notes) (replies more : List Reply)

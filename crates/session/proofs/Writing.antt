@@ -298,14 +298,14 @@ are_answered_then before (line ∷ lines) text steps replies lines' text' steps'
       rest ++ text',
       first,
       after ++ steps',
-      told,
+      replied,
       more ++ replies',
       is,
       are_answered_then (noted_all before told) lines rest after more lines' text' steps' replies'
           are (subst S noted later),
       ap (λ t. t ++ text') text-is ∙ append_assoc answer (10 ∷ rest) text',
       ap (λ s. s ++ steps') steps-are ∙ append_assoc first after steps',
-      ap (λ r. r ++ replies') replies-are ∙ append_assoc told more replies',
+      ap (λ r. r ++ replies') replies-are ∙ append_assoc replied more replies',
     )
 
 -- no line

@@ -48,10 +48,10 @@ digits_text [] = []
 digits_text bytes = 32 ∷ encode_lower bytes
 
 -- a range that was loaded, as far as it was; there is no answer where memory was refused
-abbrev pub TellsLoaded : Reached → List ℕ → List ℕ → Type 0
-TellsLoaded All bytes answer = answer ≡ codes "loaded" ++ digits_text bytes
-TellsLoaded (Refused count reply) bytes answer = answer ≡ refusal_text reply count ++ digits_text bytes
-TellsLoaded NoMemory bytes answer = ⊥
+abbrev pub ReportsLoaded : Reached → List ℕ → List ℕ → Type 0
+ReportsLoaded All bytes answer = answer ≡ codes "loaded" ++ digits_text bytes
+ReportsLoaded (Refused count reply) bytes answer = answer ≡ refusal_text reply count ++ digits_text bytes
+ReportsLoaded NoMemory bytes answer = ⊥
 
 -- a range of so many bytes that was stored, as far as it was
 abbrev pub stored_text : Reached → ℕ → List ℕ
@@ -68,7 +68,7 @@ abbrev pub AnswersRequest : Notes → Asked → List ℕ → List Step → List 
 AnswersRequest before (asks_steps wanted) answer steps replies = (steps ≡ wanted) × (answer ≡ steps_text replies)
 AnswersRequest before (asks_load p va count) answer steps replies =
     (bytes : List ℕ) × (reached : Reached) × LoadsReached p va count bytes reached steps replies
-    × TellsLoaded reached bytes answer
+    × ReportsLoaded reached bytes answer
 AnswersRequest before (asks_store p va bytes) answer steps replies =
     (reached : Reached) × StoresReached p va bytes reached steps replies × (answer ≡ stored_text reached (length bytes))
 AnswersRequest before (asks_commit p) answer steps replies =
@@ -111,9 +111,9 @@ IsAnsweredNext before None answer steps replies = IsBad answer steps replies
 abbrev pub AnswersLines : Notes → List (Option (List ℕ)) → List ℕ → List Step → List Reply → Type 0
 AnswersLines before [] text steps replies = (text ≡ []) × (steps ≡ []) × (replies ≡ [])
 AnswersLines before (line ∷ lines) text steps replies =
-    (answer rest : List ℕ) × (first later : List Step) × (told more : List Reply)
-    × IsAnsweredNext before line answer first told × AnswersLines (noted_all before told) lines rest later more
-    × (text ≡ answer ++ 10 ∷ rest) × (steps ≡ first ++ later) × (replies ≡ told ++ more)
+    (answer rest : List ℕ) × (first later : List Step) × (replied more : List Reply)
+    × IsAnsweredNext before line answer first replied × AnswersLines (noted_all before replied) lines rest later more
+    × (text ≡ answer ++ 10 ∷ rest) × (steps ≡ first ++ later) × (replies ≡ replied ++ more)
 
 -- So many lines of the input were read and answered, and the answers were written as lines.
 abbrev pub WritesAnswers : Notes → ℕ → Option (List ℕ) → Option (List ℕ) → Option (List ℕ) → Option (List ℕ)

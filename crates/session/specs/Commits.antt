@@ -6,7 +6,7 @@ use Rattle.machine.specs.declared.act.Reply.{Reply}
 use Rattle.machine.specs.declared.act.Reply.TheVariants.{Begun, Marked, Committed, Nothing, Refused}
 use Rattle.machine.specs.declared.act.Step.{Step}
 use Rattle.session.specs.declared.notes.Notes.{Notes}
-use Rattle.session.specs.Lengths.{flush_by, tells_flushed, tells_refused, AnswersChange}
+use Rattle.session.specs.Lengths.{flush_by, reports_flushed, reports_refused, AnswersChange}
 use Rattle.session.specs.Notes.{noted_all}
 
 -- the step by which processor p begins a commit of all stores
@@ -14,15 +14,15 @@ abbrev pub msync_by : ℕ → Step
 msync_by p = record { p = p; act = Msync 0 0 (record { 0 = 4 }) }
 
 -- that a step wasn't made: it was refused, or there was nothing to do
-abbrev pub tells_unmade : Reply → Bool
-tells_unmade Nothing = true
-tells_unmade reply = tells_refused reply
+abbrev pub reports_unmade : Reply → Bool
+reports_unmade Nothing = true
+reports_unmade reply = reports_refused reply
 
 -- attempts to begin a mark that were busy, and after each of them a step of the write-outs that was made
 abbrev pub AreWaits : ℕ → List Step → List Reply → Type 0
 AreWaits p [] [] = ⊤
-AreWaits p (attempt ∷ step ∷ steps) (reply ∷ told ∷ replies) =
-    (attempt ≡ msync_by p) × (reply ≡ Refused Busy) × (step ≡ flush_by p) × (tells_flushed told ≡ true)
+AreWaits p (attempt ∷ step ∷ steps) (reply ∷ replied ∷ replies) =
+    (attempt ≡ msync_by p) × (reply ≡ Refused Busy) × (step ≡ flush_by p) × (reports_flushed replied ≡ true)
     × AreWaits p steps replies
 AreWaits p steps replies = ⊥
 
@@ -38,10 +38,10 @@ pub record BeginsMark (p : ℕ) (steps : List Step) (replies : List Reply) : Typ
 -- the write-outs have no step left; or it is busy, and the step of the write-outs that would be made for it is refused.
 abbrev pub IsLastAttempt : ℕ → Reply → List Step → List Reply → Type 0
 IsLastAttempt p answer steps replies =
-    ((steps ≡ msync_by p ∷ []) × (replies ≡ answer ∷ []) × (tells_refused answer ≡ true) × (answer ≢ Refused Busy))
+    ((steps ≡ msync_by p ∷ []) × (replies ≡ answer ∷ []) × (reports_refused answer ≡ true) × (answer ≢ Refused Busy))
     ⊎ ((steps ≡ msync_by p ∷ flush_by p ∷ []) × (replies ≡ Refused Busy ∷ Nothing ∷ []) × (answer ≡ Refused Busy))
     ⊎ ((steps ≡ msync_by p ∷ flush_by p ∷ []) × (replies ≡ Refused Busy ∷ answer ∷ [])
-    × (tells_refused answer ≡ true))
+    × (reports_refused answer ≡ true))
 
 -- Processor p was refused a mark, and this is the answer.
 pub record RefusesMark (p : ℕ) (answer : Reply) (steps : List Step) (replies : List Reply) : Type 0 where
@@ -49,14 +49,14 @@ pub record RefusesMark (p : ℕ) (answer : Reply) (steps : List Step) (replies :
   pub waited : List Reply
   pub busy : AreWaits p waits waited
   pub last : List Step
-  pub told : List Reply
-  pub refused : IsLastAttempt p answer last told
+  pub replied : List Reply
+  pub refused : IsLastAttempt p answer last replied
   pub steps_are : steps ≡ waits ++ last
-  pub replies_are : replies ≡ waited ++ told
+  pub replies_are : replies ≡ waited ++ replied
 
 -- a step of the write-outs that was made, and doesn't commit this mark
 abbrev pub IsOfOther : ℕ → Reply → Type 0
-IsOfOther mark reply = (tells_flushed reply ≡ true) × (reply ≢ Committed mark)
+IsOfOther mark reply = (reports_flushed reply ≡ true) × (reply ≢ Committed mark)
 
 -- Steps of the write-outs, each made, none of which commits this mark, up to the last one, which is answered so.
 abbrev pub WritesUntil : ℕ → ℕ → Reply → List Step → List Reply → Type 0
@@ -100,7 +100,7 @@ pub record StopsWriting (p : ℕ) (before : Notes) (answer : Reply) (steps : Lis
   pub writing : List Step
   pub written : List Reply
   pub writes : WritesUntil p mark answer writing written
-  pub unmade : tells_unmade answer ≡ true
+  pub unmade : reports_unmade answer ≡ true
   pub steps_are : steps ≡ beginning ++ (marking ++ writing)
   pub replies_are : replies ≡ begun ++ (marked ++ written)
 
@@ -115,4 +115,4 @@ StopsCommit p before answer steps replies =
 abbrev pub AnswersCommit : ℕ → Notes → Result ℕ Reply → List Step → List Reply → Type 0
 AnswersCommit p before (Ok mark) steps replies = CommitsMark p before mark steps replies
 AnswersCommit p before (Err answer) steps replies =
-    StopsCommit p before answer steps replies × (tells_unmade answer ≡ true)
+    StopsCommit p before answer steps replies × (reports_unmade answer ≡ true)

@@ -6,22 +6,22 @@ use Rattle.machine.specs.declared.act.Act.TheVariants.{Load, Store, Fix, Reclaim
 use Rattle.machine.specs.declared.act.Reply.{Reply}
 use Rattle.machine.specs.declared.act.Reply.TheVariants.{Reclaimed, Kept, Refused}
 use Rattle.machine.specs.declared.act.Step.{Step}
-use Rattle.session.specs.Steps.{is_aside, Passes, AreEach, tells_acked, tells_fixed, tells_reclaim, tells_resumed}
+use Rattle.session.specs.Steps.{is_paging, Passes, AreEach, reports_acked, reports_fixed, reports_reclaim, reports_resumed}
 
 -- that an access met a page fault
-abbrev pub tells_fault : Reply → Bool
-tells_fault (Refused (Fault code)) = true
-tells_fault _ = false
+abbrev pub reports_fault : Reply → Bool
+reports_fault (Refused (Fault code)) = true
+reports_fault _ = false
 
 -- that a page stays in memory
-abbrev pub tells_kept : Reply → Bool
-tells_kept Kept = true
-tells_kept _ = false
+abbrev pub reports_kept : Reply → Bool
+reports_kept Kept = true
+reports_kept _ = false
 
 -- that a page left memory, so that a frame is free
-abbrev pub tells_reclaimed : Reply → Bool
-tells_reclaimed Reclaimed = true
-tells_reclaimed _ = false
+abbrev pub reports_reclaimed : Reply → Bool
+reports_reclaimed Reclaimed = true
+reports_reclaimed _ = false
 
 -- a load or a store
 abbrev pub is_access : Act → Bool
@@ -42,16 +42,16 @@ is_fix_at at _ = false
 
 -- a fault that is served
 abbrev pub is_served : Act → Reply → Bool
-is_served (Fix va write) reply = tells_fixed reply
+is_served (Fix va write) reply = reports_fixed reply
 is_served _ reply = false
 
 -- a step that may make a frame free: a page is taken out of memory, where the others stall before it and go on after
 -- it, or a step of the write-outs is made first
 abbrev pub is_for_room : Act → Reply → Bool
 is_for_room (Reclaim file page) reply = true
-is_for_room Ack reply = tells_acked reply
-is_for_room Change reply = tells_reclaim reply
-is_for_room Resume reply = tells_resumed reply
+is_for_room Ack reply = reports_acked reply
+is_for_room Change reply = reports_reclaim reply
+is_for_room Resume reply = reports_resumed reply
 is_for_room Flush reply = true
 is_for_room _ reply = false
 
@@ -60,7 +60,7 @@ AreForRoom p = AreEach (Passes is_for_room p)
 
 -- such a step, by which none became free
 abbrev pub is_fruitless : Act → Reply → Bool
-is_fruitless Change reply = tells_kept reply
+is_fruitless Change reply = reports_kept reply
 is_fruitless act reply = is_for_room act reply
 
 abbrev pub AreFruitless : ℕ → List Step → List Reply → Type 0
@@ -76,7 +76,7 @@ MakesRoom p false steps replies = AreFruitless p steps replies
 abbrev pub IsUnserved : ℕ → ℕ → Reply → List Step → List Reply → Type 0
 IsUnserved p at answer (step ∷ steps) (reply ∷ replies) =
     ((is_access step.act ≡ false) × (is_served step.act reply ≡ false) × IsUnserved p at answer steps replies)
-    ⊎ ((step.p ≡ p) × (is_fix_at at step.act ≡ true) × (reply ≡ answer) × (tells_fixed answer ≡ false)
+    ⊎ ((step.p ≡ p) × (is_fix_at at step.act ≡ true) × (reply ≡ answer) × (reports_fixed answer ≡ false)
     × AreFruitless p steps replies)
 IsUnserved p at answer steps replies = ⊥
 
@@ -85,8 +85,8 @@ IsUnserved p at answer steps replies = ⊥
 abbrev pub EndsRange : ℕ → ℕ → Reply → List Step → List Reply → Type 0
 EndsRange p at answer (step ∷ steps) (reply ∷ replies) =
     EndsRange p at answer steps replies
-    ⊎ ((step.p ≡ p) × (is_access_at at step.act ≡ true) × (is_aside step.act reply ≡ true) × (reply ≡ answer)
-    × (tells_fault answer ≡ false) × (steps ≡ []) × (replies ≡ []))
-    ⊎ ((step.p ≡ p) × (is_access_at at step.act ≡ true) × (tells_fault reply ≡ true)
+    ⊎ ((step.p ≡ p) × (is_access_at at step.act ≡ true) × (is_paging step.act reply ≡ true) × (reply ≡ answer)
+    × (reports_fault answer ≡ false) × (steps ≡ []) × (replies ≡ []))
+    ⊎ ((step.p ≡ p) × (is_access_at at step.act ≡ true) × (reports_fault reply ≡ true)
     × IsUnserved p at answer steps replies)
 EndsRange p at answer steps replies = ⊥

@@ -7,34 +7,34 @@ use Rattle.machine.specs.declared.act.Reply.TheVariants.{Begun, Unmapped, Protec
 use Rattle.machine.specs.declared.act.Reply.TheVariants.{Acked, Resumed, Going, Committed, Done, Nothing, Refused}
 use Rattle.machine.specs.declared.act.Step.{Step}
 use Rattle.session.specs.Ends.{AreFruitless}
-use Rattle.session.specs.Steps.{IsAside}
+use Rattle.session.specs.Steps.{IsPaging}
 
 -- that a change was begun
-abbrev pub tells_begun : Reply → Bool
-tells_begun Begun = true
-tells_begun _ = false
+abbrev pub reports_begun : Reply → Bool
+reports_begun Begun = true
+reports_begun _ = false
 
 -- that a step of a write-out was made
-abbrev pub tells_flushed : Reply → Bool
-tells_flushed Going = true
-tells_flushed (Committed number) = true
-tells_flushed (Done number) = true
-tells_flushed _ = false
+abbrev pub reports_flushed : Reply → Bool
+reports_flushed Going = true
+reports_flushed (Committed number) = true
+reports_flushed (Done number) = true
+reports_flushed _ = false
 
 -- that a step was refused
-abbrev pub tells_refused : Reply → Bool
-tells_refused (Refused why) = true
-tells_refused _ = false
+abbrev pub reports_refused : Reply → Bool
+reports_refused (Refused why) = true
+reports_refused _ = false
 
 -- that a change was made
-abbrev pub tells_changed : Reply → Bool
-tells_changed Unmapped = true
-tells_changed Protected = true
-tells_changed Resized = true
-tells_changed Reclaimed = true
-tells_changed Kept = true
-tells_changed (Marked number) = true
-tells_changed _ = false
+abbrev pub reports_changed : Reply → Bool
+reports_changed Unmapped = true
+reports_changed Protected = true
+reports_changed Resized = true
+reports_changed Reclaimed = true
+reports_changed Kept = true
+reports_changed (Marked number) = true
+reports_changed _ = false
 
 -- the steps of a change by processor p: each of these others stalls before it, and goes on after it
 abbrev pub change_steps : ℕ → List ℕ → List Step
@@ -55,7 +55,7 @@ AreOthers p (other ∷ others) = (other ≢ p) × AreOthers p others
 -- A change that processor p began was made, and answered so. Those that it interrupted stalled before it, and went on
 -- after it.
 pub record AnswersChange (p : ℕ) (answer : Reply) (steps : List Step) (replies : List Reply) : Type 0 where
-  pub made : tells_changed answer ≡ true
+  pub made : reports_changed answer ≡ true
   pub others : List ℕ
   pub differ : AreOthers p others
   pub steps_are : steps ≡ change_steps p others
@@ -69,16 +69,16 @@ abbrev pub flush_by : ℕ → Step
 flush_by p = record { p = p; act = Flush }
 
 -- an attempt that is refused for a while: write-outs have to be done first, or too few frames are free
-abbrev pub tells_later : Reply → Bool
-tells_later (Refused Busy) = true
-tells_later (Refused NoFrame) = true
-tells_later _ = false
+abbrev pub reports_later : Reply → Bool
+reports_later (Refused Busy) = true
+reports_later (Refused NoFrame) = true
+reports_later _ = false
 
 -- a step before a length's change is begun: an attempt that is refused for a while, or one that reads and stores
 -- nothing
 abbrev pub IsTry : ℕ → ℕ → ℕ → Step → Reply → Type 0
 IsTry p file to step reply =
-    ((step ≡ set_length_by p file to) × (tells_later reply ≡ true)) ⊎ IsAside p step reply
+    ((step ≡ set_length_by p file to) × (reports_later reply ≡ true)) ⊎ IsPaging p step reply
 
 -- It is begun, and the answer is that of its change.
 abbrev pub ChangesLength : ℕ → ℕ → ℕ → Reply → List Step → List Reply → Type 0
@@ -92,10 +92,10 @@ ChangesLength p file to answer steps replies = ⊥
 -- step of the write-outs that would be made for it is refused, which is the answer.
 abbrev pub IsLeft : ℕ → Reply → Reply → List Step → List Reply → Type 0
 IsLeft p answer reply steps replies =
-    ((reply ≡ answer) × (tells_begun answer ≡ false) × (tells_later answer ≡ false) × (steps ≡ []) × (replies ≡ []))
+    ((reply ≡ answer) × (reports_begun answer ≡ false) × (reports_later answer ≡ false) × (steps ≡ []) × (replies ≡ []))
     ⊎ ((reply ≡ Refused NoFrame) × (answer ≡ Refused NoFrame) × AreFruitless p steps replies)
     ⊎ ((reply ≡ Refused Busy) × (answer ≡ Refused Busy) × (steps ≡ flush_by p ∷ []) × (replies ≡ Nothing ∷ []))
-    ⊎ ((reply ≡ Refused Busy) × (tells_refused answer ≡ true) × (steps ≡ flush_by p ∷ [])
+    ⊎ ((reply ≡ Refused Busy) × (reports_refused answer ≡ true) × (steps ≡ flush_by p ∷ [])
     × (replies ≡ answer ∷ []))
 
 -- It isn't begun, and the answer is that of the last attempt, or of the step of the write-outs that it waits for.

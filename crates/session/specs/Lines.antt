@@ -14,28 +14,28 @@ IsNextLine bytes line rest =
     HasNoFeed line × ((bytes ≡ line ++ 10 ∷ rest) ⊎ ((bytes ≡ line) × (line ≢ []) × (rest ≡ [])))
 
 -- Rule: long line: A line of more than 262144 bytes is skipped up to its line feed, and nothing of it is read.
--- A line of no more than 262144 bytes is told as it is, and of a longer one only that there is one.
-abbrev pub IsTold : Option (List ℕ) → List ℕ → Type 0
-IsTold (Some told) line = (told ≡ line) × (length line ≤ 262144)
-IsTold None line = 262144 < length line
+-- A line of no more than 262144 bytes is given as it is, and of a longer one only that there is one.
+abbrev pub IsGiven : Option (List ℕ) → List ℕ → Type 0
+IsGiven (Some given) line = (given ≡ line) × (length line ≤ 262144)
+IsGiven None line = 262144 < length line
 
 -- The first lines of bytes, in order, and what comes after them.
 abbrev pub AreLines : List ℕ → List (Option (List ℕ)) → List ℕ → Type 0
 AreLines bytes [] rest = rest ≡ bytes
-AreLines bytes (told ∷ lines) rest =
-    (line after : List ℕ) × IsNextLine bytes line after × IsTold told line × AreLines after lines rest
+AreLines bytes (given ∷ lines) rest =
+    (line after : List ℕ) × IsNextLine bytes line after × IsGiven given line × AreLines after lines rest
 
--- What bytes begin with, and what comes after it: a line, which is told if it isn't too long, or their end.
+-- What bytes begin with, and what comes after it: a line, which is given if it isn't too long, or their end.
 abbrev pub BeginsWith : List ℕ → Line → List ℕ → List ℕ → Type 0
-BeginsWith bytes Whole told rest = IsNextLine bytes told rest × (length told ≤ 262144)
-BeginsWith bytes Long told rest = (line : List ℕ) × IsNextLine bytes line rest × (262144 < length line)
-BeginsWith bytes End told rest = (bytes ≡ []) × (rest ≡ [])
+BeginsWith bytes Whole given rest = IsNextLine bytes given rest × (length given ≤ 262144)
+BeginsWith bytes Long given rest = (line : List ℕ) × IsNextLine bytes line rest × (262144 < length line)
+BeginsWith bytes End given rest = (bytes ≡ []) × (rest ≡ [])
 
 -- This was read from an input whose bytes are known.
 abbrev pub ReadsLine : Option (List ℕ) → Option (List ℕ) → Line → List ℕ → Type 0
-ReadsLine None new found told = ⊤
-ReadsLine (Some bytes) None found told = ⊥
-ReadsLine (Some bytes) (Some rest) found told = BeginsWith bytes found told rest
+ReadsLine None new found given = ⊤
+ReadsLine (Some bytes) None found given = ⊥
+ReadsLine (Some bytes) (Some rest) found given = BeginsWith bytes found given rest
 
 -- These lines were read from an input whose bytes are known.
 abbrev pub ReadsLines : Option (List ℕ) → Option (List ℕ) → List (Option (List ℕ)) → Type 0

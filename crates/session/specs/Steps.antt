@@ -19,30 +19,30 @@ pub record Makes {D : Type 0} (disk : Ghosts D) (old : Whole D) (before : Notes)
   pub notes : after ≡ noted_all before replies
 
 -- what was loaded
-abbrev pub tells_bytes : Reply → Bool
-tells_bytes (Bytes bytes) = true
-tells_bytes _ = false
+abbrev pub reports_bytes : Reply → Bool
+reports_bytes (Bytes bytes) = true
+reports_bytes _ = false
 
 -- that something was stored
-abbrev pub tells_stored : Reply → Bool
-tells_stored Stored = true
-tells_stored _ = false
+abbrev pub reports_stored : Reply → Bool
+reports_stored Stored = true
+reports_stored _ = false
 
 -- that a page left memory, or was kept there
-abbrev pub tells_reclaim : Reply → Bool
-tells_reclaim Reclaimed = true
-tells_reclaim Kept = true
-tells_reclaim _ = false
+abbrev pub reports_reclaim : Reply → Bool
+reports_reclaim Reclaimed = true
+reports_reclaim Kept = true
+reports_reclaim _ = false
 
 -- that an interrupted processor stalled
-abbrev pub tells_acked : Reply → Bool
-tells_acked Acked = true
-tells_acked _ = false
+abbrev pub reports_acked : Reply → Bool
+reports_acked Acked = true
+reports_acked _ = false
 
 -- that a stalled processor went on
-abbrev pub tells_resumed : Reply → Bool
-tells_resumed Resumed = true
-tells_resumed _ = false
+abbrev pub reports_resumed : Reply → Bool
+reports_resumed Resumed = true
+reports_resumed _ = false
 
 -- Who makes a step of what processor p does: the processors that a change of p interrupts stall before it and go on
 -- after it, and they are others than p; every other step is p's own.
@@ -55,27 +55,27 @@ IsMadeFor p maker act = maker ≡ p
 -- mapping and no length, and makes no mark. A change is that of a page that was to leave memory; the others stall
 -- before it and go on after it. (Where such a page's change is begun, it is made among the same steps: it holds the
 -- lock until it is made, and a request leaves the lock as it was, `KeepsPhases`.)
-abbrev pub is_aside : Act → Reply → Bool
-is_aside (Load va count) reply = not (tells_bytes reply)
-is_aside (Store va bytes) reply = not (tells_stored reply)
-is_aside (Fix va write) reply = true
-is_aside (Reclaim file page) reply = true
-is_aside Ack reply = tells_acked reply
-is_aside Change reply = tells_reclaim reply
-is_aside Resume reply = tells_resumed reply
-is_aside Flush reply = true
-is_aside act reply = false
+abbrev pub is_paging : Act → Reply → Bool
+is_paging (Load va count) reply = not (reports_bytes reply)
+is_paging (Store va bytes) reply = not (reports_stored reply)
+is_paging (Fix va write) reply = true
+is_paging (Reclaim file page) reply = true
+is_paging Ack reply = reports_acked reply
+is_paging Change reply = reports_reclaim reply
+is_paging Resume reply = reports_resumed reply
+is_paging Flush reply = true
+is_paging act reply = false
 
 -- that a mark was made
-abbrev pub tells_mark : Reply → Bool
-tells_mark (Marked number) = true
-tells_mark _ = false
+abbrev pub reports_mark : Reply → Bool
+reports_mark (Marked number) = true
+reports_mark _ = false
 
 -- a step of a commit, which reads and stores nothing either: it begins a mark, makes it, or is what both need
 abbrev pub is_of_commit : Act → Reply → Bool
 is_of_commit (Msync va len flags) reply = true
-is_of_commit Change reply = tells_mark reply
-is_of_commit act reply = is_aside act reply
+is_of_commit Change reply = reports_mark reply
+is_of_commit act reply = is_paging act reply
 
 -- a step of what processor p does that passes a test by its act and its reply
 abbrev pub Passes : (Act → Reply → Bool) → ℕ → Step → Reply → Type 0
@@ -88,11 +88,11 @@ AreEach Is (step ∷ steps) (reply ∷ replies) = Is step reply × AreEach Is st
 AreEach Is steps replies = ⊥
 
 -- each reads and stores nothing
-abbrev pub IsAside : ℕ → Step → Reply → Type 0
-IsAside = Passes is_aside
+abbrev pub IsPaging : ℕ → Step → Reply → Type 0
+IsPaging = Passes is_paging
 
-abbrev pub AreAside : ℕ → List Step → List Reply → Type 0
-AreAside p = AreEach (IsAside p)
+abbrev pub ArePaging : ℕ → List Step → List Reply → Type 0
+ArePaging p = AreEach (IsPaging p)
 
 -- each is of a commit
 abbrev pub AreOfCommit : ℕ → List Step → List Reply → Type 0
@@ -103,16 +103,16 @@ abbrev pub behind : ℕ → ℕ → ℕ
 behind va count = min (va + count) (2 ^ 64 - 1)
 
 -- that a fault was served
-abbrev pub tells_fixed : Reply → Bool
-tells_fixed Fixed = true
-tells_fixed _ = false
+abbrev pub reports_fixed : Reply → Bool
+reports_fixed Fixed = true
+reports_fixed _ = false
 
 -- Of a range from an address on, the bytes from one offset to another were loaded by processor p, piece by piece in
 -- order: these bytes are what the loads among the steps were answered, and the other steps read and store nothing.
 abbrev pub AreLoads : ℕ → ℕ → ℕ → ℕ → List Step → List Reply → List ℕ → Type 0
 AreLoads p va from to [] [] bytes = (from ≡ to) × (bytes ≡ [])
 AreLoads p va from to (step ∷ steps) (reply ∷ replies) bytes =
-    (IsAside p step reply × AreLoads p va from to steps replies bytes)
+    (IsPaging p step reply × AreLoads p va from to steps replies bytes)
     ⊎ ((count : ℕ) × (few rest : List ℕ) × (step ≡ record { p = p; act = Load (behind va from) count })
     × (reply ≡ Bytes few) × (bytes ≡ few ++ rest) × AreLoads p va (from + count) to steps replies rest)
 AreLoads p va from to steps replies bytes = ⊥
@@ -122,7 +122,7 @@ AreLoads p va from to steps replies bytes = ⊥
 abbrev pub AreStores : ℕ → ℕ → ℕ → List Step → List Reply → List ℕ → Type 0
 AreStores p va from [] [] bytes = bytes ≡ []
 AreStores p va from (step ∷ steps) (reply ∷ replies) bytes =
-    (IsAside p step reply × AreStores p va from steps replies bytes)
+    (IsPaging p step reply × AreStores p va from steps replies bytes)
     ⊎ ((few rest : List ℕ) × (step ≡ record { p = p; act = Store (behind va from) few })
     × (reply ≡ Stored) × (bytes ≡ few ++ rest) × AreStores p va (from + length few) steps replies rest)
 AreStores p va from steps replies bytes = ⊥

@@ -1,7 +1,7 @@
 // The line that answers a request.
 ghost use Rattle.std.specs.Prelude.{List, ℕ, [], ◌∷◌, ◌++◌, OnOk};
 ghost use Rattle.std.specs.Io.KnownBytes.{Appends};
-ghost use Rattle.session.specs.Answers.{TellsLoaded};
+ghost use Rattle.session.specs.Answers.{ReportsLoaded};
 ghost use Rattle.session.specs.Answers.{reply_after, reached_text, text_after_space, stored_text, committed_text};
 ghost use Rattle.session.specs.Asked.{asked};
 ghost use Rattle.session.specs.CarriedOut.{CarriesOutFor};
@@ -132,7 +132,7 @@ fn write_loaded<A: Allocator + Copy, W: io::Write>(
     bytes: &[u8],
     out: &mut W,
 ) -> Result<(), SessionFault>
-    ensures { OnOk result ((answer : List ℕ) × TellsLoaded reached.now bytes.now answer
+    ensures { OnOk result ((answer : List ℕ) × ReportsLoaded reached.now bytes.now answer
         × Appends (W.contents out.old) (W.contents out.new) (answer ++ 10 ∷ [])) }
 {
     if let Reached::NoMemory = reached {

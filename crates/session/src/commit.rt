@@ -2,15 +2,15 @@
 ghost use Rattle.std.specs.Prelude.{ℕ, ◌≡◌, ◌≢◌, ◌↔◌, true, false, IfSome, IfNone, IsTrue};
 ghost use Rattle.page_entry.specs.declared.refusal.Refusal.{Refusal};
 ghost use Rattle.spaces.specs.declared.change.Change.TheVariants.{Checkpoint};
-ghost use Rattle.machine.specs.declared.act.Reply.TheVariants as told;
+ghost use Rattle.machine.specs.declared.act.Reply.TheVariants as replied;
 ghost use Rattle.session.specs.CarriedOut.{CarriesOut};
-ghost use Rattle.session.specs.Commits.{BeginsMark, RefusesMark, WritesUntil, AnswersCommit, tells_unmade};
-ghost use Rattle.session.specs.Lengths.{tells_begun};
+ghost use Rattle.session.specs.Commits.{BeginsMark, RefusesMark, WritesUntil, AnswersCommit, reports_unmade};
+ghost use Rattle.session.specs.Lengths.{reports_begun};
 ghost use Rattle.session.specs.Locks.{KeepsPhases};
 ghost use Rattle.session.specs.Ranges.{MakesStepsThat};
 ghost use Rattle.session.specs.inside.Changing.{HasBegun};
 
-use crate::aside::{is_begun, is_flushed};
+use crate::paging::{is_begun, is_flushed};
 use crate::requests::Requests;
 use device::Device;
 use machine::{Act, MsyncFlags, Reply, Step};
@@ -45,13 +45,13 @@ impl<D: Device, A: Allocator + Copy> Requests<D, A> {
 
     // Begins a mark. Where write-outs have to be done first, it makes steps of them.
     fn begin_mark(&mut self, p: ProcessorNumber) -> Reply
-        ensures begins { tells_begun result ≡ true → MakesStepsThat D.Device self.old.machine self.old.notes
+        ensures begins { reports_begun result ≡ true → MakesStepsThat D.Device self.old.machine self.old.notes
             (BeginsMark p) self.new.machine self.new.notes }
-        ensures refuses { tells_begun result ≡ false → MakesStepsThat D.Device self.old.machine self.old.notes
+        ensures refuses { reports_begun result ≡ false → MakesStepsThat D.Device self.old.machine self.old.notes
             (RefusesMark p result) self.new.machine self.new.notes }
-        ensures held { tells_begun result ≡ true → HasBegun p Checkpoint self.old.machine.state
+        ensures held { reports_begun result ≡ true → HasBegun p Checkpoint self.old.machine.state
             self.new.machine.state }
-        ensures phases { tells_begun result ≡ false → KeepsPhases self.old.machine.state self.new.machine.state }
+        ensures phases { reports_begun result ≡ false → KeepsPhases self.old.machine.state self.new.machine.state }
     {
         let msync = Step {
             p,
@@ -81,7 +81,7 @@ impl<D: Device, A: Allocator + Copy> Requests<D, A> {
     fn write_out(&mut self, p: ProcessorNumber, mark: u32) -> Reply
         ensures writes { MakesStepsThat D.Device self.old.machine self.old.notes (WritesUntil p mark result)
             self.new.machine self.new.notes }
-        ensures ends { result ≢ told.Committed mark → tells_unmade result ≡ true }
+        ensures ends { result ≢ replied.Committed mark → reports_unmade result ≡ true }
         ensures phases { KeepsPhases self.old.machine.state self.new.machine.state }
     {
         loop {
@@ -96,10 +96,10 @@ impl<D: Device, A: Allocator + Copy> Requests<D, A> {
     }
 }
 
-// The mark that was made, where a reply tells it.
+// The mark that was made, where a reply reports it.
 fn mark_of(reply: &Reply) -> Option<u32>
-    ensures some { IfSome result (λ mark. reply.now ≡ told.Marked mark) }
-    ensures none { IfNone result ((mark : ℕ) → reply.now ≢ told.Marked mark) }
+    ensures some { IfSome result (λ mark. reply.now ≡ replied.Marked mark) }
+    ensures none { IfNone result ((mark : ℕ) → reply.now ≢ replied.Marked mark) }
 {
     if let Reply::Marked(mark) = reply {
         Some(*mark)
@@ -110,21 +110,21 @@ fn mark_of(reply: &Reply) -> Option<u32>
 
 // Whether a mark was committed.
 fn is_committed(reply: &Reply, mark: u32) -> bool
-    ensures { IsTrue result ↔ (reply.now ≡ told.Committed mark) }
+    ensures { IsTrue result ↔ (reply.now ≡ replied.Committed mark) }
 {
     matches!(reply, Reply::Committed(committed) if *committed == mark)
 }
 
 /// Whether commits have to be done first.
 pub(crate) fn is_busy(reply: &Reply) -> bool
-    ensures { IsTrue result ↔ (reply.now ≡ told.Refused Refusal.Busy) }
+    ensures { IsTrue result ↔ (reply.now ≡ replied.Refused Refusal.Busy) }
 {
     matches!(reply, Reply::Refused(Refusal::Busy))
 }
 
 /// Whether there was nothing to do.
 pub(crate) fn is_nothing(reply: &Reply) -> bool
-    ensures { IsTrue result ↔ (reply.now ≡ told.Nothing) }
+    ensures { IsTrue result ↔ (reply.now ≡ replied.Nothing) }
 {
     matches!(reply, Reply::Nothing)
 }

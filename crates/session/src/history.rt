@@ -21,14 +21,16 @@ use device::Device;
 /// line that answers a commit is `committed` and a number (`line`).
 pub fn acknowledges<D: Device>(device: &D)
     ensures mark { (files : List File) (start mid new : Whole D) (between after : Notes)
-        (earlier steps later : List Step) (told replies more : List Reply) (p mark : ℕ)
-        → Makes D.Device start no_notes earlier told mid between → Makes D.Device mid between steps replies new after
+        (earlier steps later : List Step) (replied replies more : List Reply) (p mark : ℕ)
+        → Makes D.Device start no_notes earlier replied mid between → Makes D.Device mid between steps replies new after
         → CommitsMark p between mark steps replies
-        → Contains (history_of files start (earlier ++ (steps ++ later)) (told ++ (replies ++ more))) (Acknowledge mark) }
+        → Contains (history_of files start (earlier ++ (steps ++ later)) (replied ++ (replies ++ more)))
+        (Acknowledge mark) }
     ensures line { (files : List File) (start mid new : Whole D) (between after : Notes)
-        (earlier steps later : List Step) (told replies more : List Reply) (p : ℕ) (number : List ℕ)
-        → Makes D.Device start no_notes earlier told mid between → Makes D.Device mid between steps replies new after
+        (earlier steps later : List Step) (replied replies more : List Reply) (p : ℕ) (number : List ℕ)
+        → Makes D.Device start no_notes earlier replied mid between → Makes D.Device mid between steps replies new after
         → AnswersRequest between (asks_commit p) (codes "committed " ++ number) steps replies
         → (mark : ℕ) × (number ≡ decimal mark)
-        × Contains (history_of files start (earlier ++ (steps ++ later)) (told ++ (replies ++ more))) (Acknowledge mark) }
+        × Contains (history_of files start (earlier ++ (steps ++ later)) (replied ++ (replies ++ more)))
+        (Acknowledge mark) }
 {}

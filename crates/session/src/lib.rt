@@ -2,12 +2,12 @@
 #![tactic(auto)]
 
 mod answer;
-mod aside;
 mod commit;
 mod files;
 mod history;
 mod line;
 mod notes;
+mod paging;
 mod ranges;
 mod request;
 mod request_fault;

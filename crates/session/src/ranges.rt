@@ -1,12 +1,12 @@
 // Ranges of addresses, loaded and stored: of each page a piece of up to eight bytes, for which its fault is served, and
 // then the rest at once, as far as that serves it.
 ghost use Rattle.std.specs.Prelude.{◌≡◌, ◌<◌, ◌≤◌, length, [], true, false, IfOk, IfErr, IfSome, IfNone, IsTrue};
-ghost use Rattle.machine.specs.declared.act.Reply.TheVariants as told;
+ghost use Rattle.machine.specs.declared.act.Reply.TheVariants as replied;
 ghost use Rattle.session.specs.CarriedOut.{CarriesOut};
-ghost use Rattle.session.specs.Ends.{tells_fault};
+ghost use Rattle.session.specs.Ends.{reports_fault};
 ghost use Rattle.session.specs.Locks.{KeepsPhases};
-ghost use Rattle.session.specs.Steps.{tells_bytes, tells_stored, tells_fixed};
-ghost use Rattle.session.specs.inside.Aside.{StopsAt, AnswersAfter, IsAccessFor, LoadsOn};
+ghost use Rattle.session.specs.Steps.{reports_bytes, reports_stored, reports_fixed};
+ghost use Rattle.session.specs.inside.Paging.{StopsAt, AnswersAfter, IsAccessFor, LoadsOn};
 ghost use Rattle.session.specs.Ranges.{LoadsReached, StoresReached};
 
 use crate::requests::Requests;
@@ -132,7 +132,7 @@ impl<D: Device, A: Allocator + Copy> Requests<D, A> {
         requires { IsAccessFor va write step.now.act }
         ensures ok { IfOk result (λ reply. AnswersAfter D.Device self.old.machine self.old.notes step.now reply
             self.new.machine self.new.notes) }
-        ensures no_fault { IfOk result (λ reply. tells_fault reply ≡ false) }
+        ensures no_fault { IfOk result (λ reply. reports_fault reply ≡ false) }
         ensures err { IfErr result (λ reply. StopsAt D.Device self.old.machine self.old.notes step.now.p va reply
             self.new.machine self.new.notes) }
         ensures phases { KeepsPhases self.old.machine.state self.new.machine.state }
@@ -170,10 +170,10 @@ fn part(bytes: &[u8]) -> FewBytes
     FewBytes::new(bytes).unwrap()
 }
 
-// The bytes that were loaded, where a reply tells them.
+// The bytes that were loaded, where a reply reports them.
 fn bytes_of(reply: &Reply) -> Option<&FewBytes>
-    ensures some { IfSome result (λ bytes. reply.now ≡ told.Bytes bytes.now) }
-    ensures none { IfNone result (tells_bytes reply.now ≡ false) }
+    ensures some { IfSome result (λ bytes. reply.now ≡ replied.Bytes bytes.now) }
+    ensures none { IfNone result (reports_bytes reply.now ≡ false) }
 {
     if let Reply::Bytes(bytes) = reply {
         Some(bytes)
@@ -183,20 +183,20 @@ fn bytes_of(reply: &Reply) -> Option<&FewBytes>
 }
 
 fn is_fault(reply: &Reply) -> bool
-    ensures { result ≡ tells_fault reply.now }
+    ensures { result ≡ reports_fault reply.now }
 {
     matches!(reply, Reply::Refused(Refusal::Fault(_)))
 }
 
 fn is_fixed(reply: &Reply) -> bool
-    ensures { result ≡ tells_fixed reply.now }
+    ensures { result ≡ reports_fixed reply.now }
 {
     matches!(reply, Reply::Fixed)
 }
 
 fn is_stored(reply: &Reply) -> bool
-    ensures value { result ≡ tells_stored reply.now }
-    ensures is { IsTrue result → reply.now ≡ told.Stored }
+    ensures value { result ≡ reports_stored reply.now }
+    ensures is { IsTrue result → reply.now ≡ replied.Stored }
 {
     matches!(reply, Reply::Stored)
 }

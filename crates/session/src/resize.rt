@@ -2,16 +2,16 @@
 ghost use Rattle.std.specs.Prelude.{◌≡◌, ◌≢◌, true, false};
 ghost use Rattle.page_entry.specs.declared.refusal.Refusal.{Refusal};
 ghost use Rattle.spaces.specs.declared.change.Change.TheVariants.{SetLength};
-ghost use Rattle.machine.specs.declared.act.Reply.TheVariants as told;
+ghost use Rattle.machine.specs.declared.act.Reply.TheVariants as replied;
 ghost use Rattle.session.specs.CarriedOut.{CarriesOut};
-ghost use Rattle.session.specs.Lengths.{tells_begun, AnswersLength, RefusesLength};
+ghost use Rattle.session.specs.Lengths.{reports_begun, AnswersLength, RefusesLength};
 ghost use Rattle.session.specs.Locks.{KeepsPhases};
 ghost use Rattle.session.specs.Ranges.{MakesStepsThat};
 ghost use Rattle.session.specs.inside.Changing.{HasBegun};
 ghost use Rattle.session.specs.inside.Made.{BeginsLength, AttemptsLength};
 
-use crate::aside::{is_begun, is_flushed, is_no_frame};
 use crate::commit::{is_busy, is_nothing};
+use crate::paging::{is_begun, is_flushed, is_no_frame};
 use crate::requests::Requests;
 use device::Device;
 use machine::{Act, Reply, Step};
@@ -36,13 +36,13 @@ impl<D: Device, A: Allocator + Copy> Requests<D, A> {
 
     // Begins to set a length. Where write-outs have to be done first, it makes steps of them.
     fn begin_length(&mut self, p: ProcessorNumber, file: u16, length: u64) -> Reply
-        ensures begins { tells_begun result ≡ true → MakesStepsThat D.Device self.old.machine self.old.notes
+        ensures begins { reports_begun result ≡ true → MakesStepsThat D.Device self.old.machine self.old.notes
             (BeginsLength p file length) self.new.machine self.new.notes }
-        ensures refuses { tells_begun result ≡ false → MakesStepsThat D.Device self.old.machine self.old.notes
+        ensures refuses { reports_begun result ≡ false → MakesStepsThat D.Device self.old.machine self.old.notes
             (RefusesLength p file length result) self.new.machine self.new.notes }
-        ensures held { tells_begun result ≡ true → HasBegun p (SetLength file length) self.old.machine.state
+        ensures held { reports_begun result ≡ true → HasBegun p (SetLength file length) self.old.machine.state
             self.new.machine.state }
-        ensures phases { tells_begun result ≡ false → KeepsPhases self.old.machine.state self.new.machine.state }
+        ensures phases { reports_begun result ≡ false → KeepsPhases self.old.machine.state self.new.machine.state }
     {
         loop {
             let begun = self.begin_in_room(p, file, length);
@@ -63,9 +63,9 @@ impl<D: Device, A: Allocator + Copy> Requests<D, A> {
     fn begin_in_room(&mut self, p: ProcessorNumber, file: u16, length: u64) -> Reply
         ensures attempts { MakesStepsThat D.Device self.old.machine self.old.notes (AttemptsLength p file length result)
             self.new.machine self.new.notes }
-        ensures held { tells_begun result ≡ true → HasBegun p (SetLength file length) self.old.machine.state
+        ensures held { reports_begun result ≡ true → HasBegun p (SetLength file length) self.old.machine.state
             self.new.machine.state }
-        ensures phases { tells_begun result ≡ false → KeepsPhases self.old.machine.state self.new.machine.state }
+        ensures phases { reports_begun result ≡ false → KeepsPhases self.old.machine.state self.new.machine.state }
     {
         let set = Step {
             p,

@@ -90,8 +90,8 @@ fn serve_next<D: Device, A: Allocator + Copy, I: BufRead, W: io::Write>(
     match read_line(input, line) {
         Ok(Line::End) => Ok(false),
         Ok(Line::Long) => {
-            let told = write_bad(alloc, &RequestFault::Long(MOST_OF_LINE), out);
-            flushed(told, out)
+            let given = write_bad(alloc, &RequestFault::Long(MOST_OF_LINE), out);
+            flushed(given, out)
         }
         Ok(Line::Whole) => {
             let served = serve_line(global, alloc, session, line, out);

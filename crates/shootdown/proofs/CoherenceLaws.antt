@@ -15,15 +15,15 @@ use Rattle.shootdown.specs.declared.lock.Lock.{Lock}
 use Rattle.shootdown.specs.declared.proc_state.ProcState.{ProcState}
 use Rattle.shootdown.specs.declared.proc_state.ProcState.TheVariants.{Active, Interrupted, Stalled, Initiating, Idle}
 use Rattle.shootdown.specs.Processors.{Processor, fresh_processor, is_running, queue_drops}
-use Rattle.shootdown.specs.Processors.{told, drained, woken, switched, IsProcessor}
+use Rattle.shootdown.specs.Processors.{notified, drained, woken, switched, IsProcessor}
 use Rattle.shootdown.specs.Shootdown.{ShootdownState, fresh_shootdown, processor_at, state_of, current}
 use Rattle.shootdown.specs.Shootdown.{with_processor, interrupted, actions_of, state_when_begun, begun}
 use Rattle.shootdown.specs.Shootdown.{stalled, finished, resumed, idled, switched_to, destroyed, IsShootdown}
 use Rattle.shootdown.specs.Coherence.{IsUsable, Agrees, IsCovered, Coheres}
 use Rattle.shootdown.specs.Coherence.{KeepsCoherence, IsUnused, IsForgotten, IsNoWider}
-use Rattle.shootdown.specs.inside.Telling.{state_begun}
-use Rattle.shootdown.proofs.Told.{told-queue, told_all-queue, queue_kept-told, queue_kept-told_all}
-use Rattle.shootdown.proofs.Told.{queue_drops-told, queue_drops-told_all, queue_drops-told_any}
+use Rattle.shootdown.specs.inside.Notifying.{state_begun}
+use Rattle.shootdown.proofs.Notified.{notified-queue, notified_all-queue, queue_kept-notified, queue_kept-notified_all}
+use Rattle.shootdown.proofs.Notified.{queue_drops-notified, queue_drops-notified_all, queue_drops-notified_any}
 use Rattle.spaces.proofs.Public.{touches_affected}
 use Rattle.shootdown.proofs.Sent.{sent}
 use Rattle.shootdown.proofs.ShootdownLaws.{at-with_processor, uninterrupted, begun_one, length-begun}
@@ -227,7 +227,7 @@ CoheresAt-begun p spaces change i x covered =
     let actions = actions_of spaces change in
     let y : Processor = record x { state = state_begun p spaces change i x } in
     let new = begun_one p spaces change i x in
-    let same : new ≡ record y { queue = new.queue } = told_all-queue actions y in
+    let same : new ≡ record y { queue = new.queue } = notified_all-queue actions y in
     let tlb : new.tlb ≡ x.tlb = ap (λ (z : Processor). z.tlb) same in
     let state : new.state ≡ state_begun p spaces change i x = ap (λ (z : Processor). z.state) same in
     let space : new.space ≡ x.space = ap (λ (z : Processor). z.space) same in
@@ -238,7 +238,7 @@ CoheresAt-begun p spaces change i x covered =
           (λ k d within uses. covered k d within (usable (get_or x.tlb.entries k d) uses));
       warned = λ held is pcid page may affected.
           let change_is : change ≡ held.change = cc in
-          queue_drops-told_any actions y pcid page (ap (λ (fs : List Bool). get_or fs pcid false) (sym flags) ∙ may)
+          queue_drops-notified_any actions y pcid page (ap (λ (fs : List Bool). get_or fs pcid false) (sym flags) ∙ may)
           (sent spaces change pcid page (ap (λ (c : Change). affects spaces c pcid page) change_is ∙ affected));
       away = λ held is active.
           let change_is : change ≡ held.change = cc in
@@ -251,7 +251,7 @@ CoheresAt-begun p spaces change i x covered =
         → (begun_one p spaces change i x).state ≡ state_begun p spaces change i x
         → (begun_one p spaces change i x).space ≡ x.space
         → IsUsable x e
-    was_usable e (inl kept) state space = inl (queue_kept-told_all (actions_of spaces change)
+    was_usable e (inl kept) state space = inl (queue_kept-notified_all (actions_of spaces change)
         (record x { state = state_begun p spaces change i x }) e.pcid e.page kept)
     was_usable e (inr runs) state space =
         inr (runs_begun p spaces change i x (sym (ap is_running state) ∙ runs.0), runs.1 ∙ space)
@@ -359,14 +359,14 @@ Coheres-changed change old new s only unused wider coheres =
 
 -- ---- a space is destroyed
 
--- no processor that is told to drop a PCID, and isn't in it, may use a cached entry of it
-unused_when_told : (x : Processor) (pcid : ℕ) (e : CachedEntry) → x.space ≢ pcid
-    → get_or x.may_cache e.pcid false ≡ true → e.pcid ≡ pcid → IsUsable (told x (SingleContext pcid)) e
+-- no processor that is notified to drop a PCID, and isn't in it, may use a cached entry of it
+unused_when_notified : (x : Processor) (pcid : ℕ) (e : CachedEntry) → x.space ≢ pcid
+    → get_or x.may_cache e.pcid false ≡ true → e.pcid ≡ pcid → IsUsable (notified x (SingleContext pcid)) e
     → ⊥
-unused_when_told x pcid e elsewhere known here (inl kept) =
-    let drops = queue_drops-told x (SingleContext pcid) e.pcid e.page known (eq-eqb e.pcid pcid here) in cc
-unused_when_told x pcid e elsewhere known here (inr runs) =
-    elsewhere (sym (ap (λ (z : Processor). z.space) (told-queue x (SingleContext pcid))) ∙ sym runs.1 ∙ here)
+unused_when_notified x pcid e elsewhere known here (inl kept) =
+    let drops = queue_drops-notified x (SingleContext pcid) e.pcid e.page known (eq-eqb e.pcid pcid here) in cc
+unused_when_notified x pcid e elsewhere known here (inr runs) =
+    elsewhere (sym (ap (λ (z : Processor). z.space) (notified-queue x (SingleContext pcid))) ∙ sym runs.1 ∙ here)
 
 pub IsForgotten-destroyed : (s : ShootdownState) (pcid : ℕ) → IsShootdown s
     → ((p : ℕ) → p < length s.processors → current s p ≢ pcid)
@@ -374,13 +374,13 @@ pub IsForgotten-destroyed : (s : ShootdownState) (pcid : ℕ) → IsShootdown s
 IsForgotten-destroyed s pcid is elsewhere = λ q within.
     let below : q < length s.processors = omega (arith, length-destroyed s pcid) in
     let x = processor_at s q in
-    let tlb : (told x (SingleContext pcid)).tlb ≡ x.tlb =
-    ap (λ (z : Processor). z.tlb) (told-queue x (SingleContext pcid)) in
-    let unused : All (λ e. e.pcid ≡ pcid → IsUsable (told x (SingleContext pcid)) e → ⊥)
-    (told x (SingleContext pcid)).tlb.entries =
-    subst (λ (t : TlbState). All (λ e. e.pcid ≡ pcid → IsUsable (told x (SingleContext pcid)) e → ⊥) t.entries)
+    let tlb : (notified x (SingleContext pcid)).tlb ≡ x.tlb =
+    ap (λ (z : Processor). z.tlb) (notified-queue x (SingleContext pcid)) in
+    let unused : All (λ e. e.pcid ≡ pcid → IsUsable (notified x (SingleContext pcid)) e → ⊥)
+    (notified x (SingleContext pcid)).tlb.entries =
+    subst (λ (t : TlbState). All (λ e. e.pcid ≡ pcid → IsUsable (notified x (SingleContext pcid)) e → ⊥) t.entries)
     (sym tlb)
-    (λ k d inside here uses. unused_when_told x pcid (get_or x.tlb.entries k d) (elsewhere q below)
+    (λ k d inside here uses. unused_when_notified x pcid (get_or x.tlb.entries k d) (elsewhere q below)
     ((is.each q below).known k d inside) here uses) in
     subst (λ (y : Processor). All (λ e. e.pcid ≡ pcid → IsUsable y e → ⊥) y.tlb.entries)
     (sym (processor_at-destroyed s pcid q below)) unused
@@ -388,10 +388,10 @@ IsForgotten-destroyed s pcid is elsewhere = λ q within.
 CoheresAt-destroyed : (old new : Spaces) (pcid : ℕ) (lock : Option Lock) (x : Processor) → IsProcessor x
     → x.space ≢ pcid → ((q page : ℕ) → q ≢ pcid → entry_at new q page ≡ entry_at old q page)
     → ((held : Lock) → lock ≡ Some held → IsNoWider held.change old new) → CoheresAt old lock x
-    → CoheresAt new lock (told x (SingleContext pcid))
+    → CoheresAt new lock (notified x (SingleContext pcid))
 CoheresAt-destroyed old new pcid lock x is elsewhere others wider at =
-    let y = told x (SingleContext pcid) in
-    let same : y ≡ record x { queue = y.queue } = told-queue x (SingleContext pcid) in
+    let y = notified x (SingleContext pcid) in
+    let same : y ≡ record x { queue = y.queue } = notified-queue x (SingleContext pcid) in
     let tlb : y.tlb ≡ x.tlb = ap (λ (z : Processor). z.tlb) same in
     let state : y.state ≡ x.state = ap (λ (z : Processor). z.state) same in
     let space : y.space ≡ x.space = ap (λ (z : Processor). z.space) same in
@@ -410,25 +410,26 @@ CoheresAt-destroyed old new pcid lock x is elsewhere others wider at =
     }
   where
     dropped : (q page : ℕ) → queue_drops x.queue q page ≡ true
-        → queue_drops (told x (SingleContext pcid)).queue q page ≡ true
-    dropped q page drops = queue_drops-told_all (SingleContext pcid ∷ []) x q page drops
+        → queue_drops (notified x (SingleContext pcid)).queue q page ≡ true
+    dropped q page drops = queue_drops-notified_all (SingleContext pcid ∷ []) x q page drops
 
-    usable : (e : CachedEntry) → IsUsable (told x (SingleContext pcid)) e
-        → (told x (SingleContext pcid)).state ≡ x.state → (told x (SingleContext pcid)).space ≡ x.space
+    usable : (e : CachedEntry) → IsUsable (notified x (SingleContext pcid)) e
+        → (notified x (SingleContext pcid)).state ≡ x.state → (notified x (SingleContext pcid)).space ≡ x.space
         → IsUsable x e
-    usable e (inl kept) state space = inl (queue_kept-told x (SingleContext pcid) e.pcid e.page kept)
+    usable e (inl kept) state space = inl (queue_kept-notified x (SingleContext pcid) e.pcid e.page kept)
     usable e (inr runs) state space = inr (sym (ap is_running state) ∙ runs.0, runs.1 ∙ space)
 
-    agrees : (e : CachedEntry) → (e.pcid ≡ pcid) ⊎ (e.pcid ≡ pcid → ⊥) → IsUsable (told x (SingleContext pcid)) e
+    agrees : (e : CachedEntry) → (e.pcid ≡ pcid) ⊎ (e.pcid ≡ pcid → ⊥) → IsUsable (notified x (SingleContext pcid)) e
         → get_or x.may_cache e.pcid false ≡ true → (IsUsable x e → Agrees old e)
-        → (told x (SingleContext pcid)).state ≡ x.state → (told x (SingleContext pcid)).space ≡ x.space
+        → (notified x (SingleContext pcid)).state ≡ x.state → (notified x (SingleContext pcid)).space ≡ x.space
         → Agrees new e
-    agrees e (inl here) uses known covered state space = absurd (unused_when_told x pcid e elsewhere known here uses)
+    agrees e (inl here) uses known covered state space =
+        absurd (unused_when_notified x pcid e elsewhere known here uses)
     agrees e (inr other) uses known covered state space =
         let before = covered (usable e uses state space) in
         (before.0, others e.pcid e.page other ∙ before.1, before.2)
 
--- A space goes that is nobody's current one; whoever may cache its PCID is told.
+-- A space goes that is nobody's current one; whoever may cache its PCID is notified.
 pub Coheres-destroyed : (old new : Spaces) (s : ShootdownState) (pcid : ℕ)
     → IsShootdown s → ((p : ℕ) → p < length s.processors → current s p ≢ pcid)
     → ((q page : ℕ) → q ≢ pcid → entry_at new q page ≡ entry_at old q page)

@@ -7,7 +7,7 @@ use Rattle.std.proofs.lemmas.List.{get_or_default, same_lists}
 use Rattle.std.proofs.lemmas.List.FromFn.{map-range_with_len_more}
 use Rattle.pcid_tlb.specs.declared.Invpcid.TheVariants.{IndividualAddress}
 use Rattle.shootdown.specs.Processors.{Processor}
-use Rattle.shootdown.specs.inside.Telling.{each_from}
+use Rattle.shootdown.specs.inside.Notifying.{each_from}
 
 pub length-each_from : (f : ℕ → Processor → Processor) (i : ℕ) (xs : List Processor)
     → length (each_from f i xs) ≡ length xs

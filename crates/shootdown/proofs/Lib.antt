@@ -1,7 +1,7 @@
 mod Flags
 mod Words
 mod Queues
-mod Told
+mod Notified
 mod Fresh
 mod Each
 mod Sent

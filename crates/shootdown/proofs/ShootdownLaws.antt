@@ -19,16 +19,17 @@ use Rattle.spaces.specs.Changes.{touches}
 use Rattle.shootdown.specs.declared.lock.Lock.{Lock}
 use Rattle.shootdown.specs.declared.proc_state.ProcState.{ProcState}
 use Rattle.shootdown.specs.declared.proc_state.ProcState.TheVariants.{Active, Interrupted, Stalled, Initiating, Idle}
-use Rattle.shootdown.specs.Processors.{Processor, fresh_processor, is_running, told}
-use Rattle.shootdown.specs.Processors.{told_all, drained, woken, pcids, IsProcessor}
+use Rattle.shootdown.specs.Processors.{Processor, fresh_processor, is_running, notified}
+use Rattle.shootdown.specs.Processors.{notified_all, drained, woken, pcids, IsProcessor}
 use Rattle.shootdown.specs.Shootdown.{ShootdownState, fresh_shootdown, processor_at, state_of, current}
 use Rattle.shootdown.specs.Shootdown.{with_processor, is_there, not_running, not_free, is_interrupted}
 use Rattle.shootdown.specs.Shootdown.{interrupted, actions_of, state_when_begun, begun_from, begun, stalled}
 use Rattle.shootdown.specs.Shootdown.{finished, resumed, idled, switched_to, destroyed, IsShootdown}
-use Rattle.shootdown.specs.inside.Telling.{each_from, state_begun}
+use Rattle.shootdown.specs.inside.Notifying.{each_from, state_begun}
 use Rattle.shootdown.specs.Calls.{not_there, holder_of}
 use Rattle.shootdown.proofs.Each.{length-each_from, get_or-each_from}
-use Rattle.shootdown.proofs.Told.{told-queue, told_all-queue, IsProcessor-told, IsProcessor-told_all}
+use Rattle.shootdown.proofs.Notified.{notified-queue, notified_all-queue}
+use Rattle.shootdown.proofs.Notified.{IsProcessor-notified, IsProcessor-notified_all}
 use Rattle.pcid_tlb.specs.declared.CachedEntry.{CachedEntry}
 use Rattle.pcid_tlb.specs.Tlb.{filled, without_page, evicted}
 use Rattle.shootdown.proofs.ProcessorLaws.{IsProcessor-filled, IsProcessor-without_page}
@@ -180,7 +181,7 @@ IsShootdown-finished s p lock is held holder quiet =
 -- the processor with number i, when processor p begins a change
 abbrev pub begun_one : ℕ → Spaces → Change → ℕ → Processor → Processor
 begun_one p spaces change i x =
-    told_all (record x {
+    notified_all (record x {
       state = if i == p then Initiating else state_when_begun (touches spaces change x.space) x.state;
     }) (actions_of spaces change)
 
@@ -207,7 +208,7 @@ processor_at-begun s p spaces change q within =
 pub state-begun_one : (p : ℕ) (spaces : Spaces) (change : Change) (i : ℕ) (x : Processor)
     → (begun_one p spaces change i x).state ≡ state_begun p spaces change i x
 state-begun_one p spaces change i x = ap (λ (y : Processor). y.state)
-    (told_all-queue (actions_of spaces change) (record x { state = state_begun p spaces change i x }))
+    (notified_all-queue (actions_of spaces change) (record x { state = state_begun p spaces change i x }))
 
 -- nobody else initiates
 interrupted_or_same : (touched : Bool) (state : ProcState) → state ≢ Initiating
@@ -236,7 +237,7 @@ pub current-begun : (s : ShootdownState) (p : ℕ) (spaces : Spaces) (change : C
     → current (begun s p spaces change) q ≡ current s q
 current-begun s p spaces change q within =
     ap (λ (y : Processor). y.space)
-    (processor_at-begun s p spaces change q within ∙ told_all-queue (actions_of spaces change)
+    (processor_at-begun s p spaces change q within ∙ notified_all-queue (actions_of spaces change)
     (record (processor_at s q) { state = state_begun p spaces change q (processor_at s q) }))
 
 pub IsShootdown-begun : (s : ShootdownState) (p : ℕ) (spaces : Spaces) (change : Change)
@@ -250,7 +251,7 @@ IsShootdown-begun s p spaces change is there free =
       each = λ q within.
           let below : q < length s.processors = omega (arith, same) in
           subst IsProcessor (sym (processor_at-begun s p spaces change q below))
-          (IsProcessor-told_all (actions_of spaces change)
+          (IsProcessor-notified_all (actions_of spaces change)
           (record (processor_at s q) { state = state_begun p spaces change q (processor_at s q) })
           (IsProcessor-with_state (processor_at s q) (state_begun p spaces change q (processor_at s q))
           (is.each q below)));
@@ -278,32 +279,32 @@ get_or-map f (x ∷ xs) zero d within = refl
 get_or-map f (x ∷ xs) (suc k) d within = get_or-map f xs k d (omega arith)
 
 pub processor_at-destroyed : (s : ShootdownState) (pcid q : ℕ) → q < length s.processors
-    → processor_at (destroyed s pcid) q ≡ told (processor_at s q) (SingleContext pcid)
+    → processor_at (destroyed s pcid) q ≡ notified (processor_at s q) (SingleContext pcid)
 processor_at-destroyed s pcid q within =
-    get_or-map (λ x. told x (SingleContext pcid)) s.processors q (fresh_processor 1) within
+    get_or-map (λ x. notified x (SingleContext pcid)) s.processors q (fresh_processor 1) within
 
 pub length-destroyed : (s : ShootdownState) (pcid : ℕ) → length (destroyed s pcid).processors ≡ length s.processors
-length-destroyed s pcid = length-map s.processors (λ x. told x (SingleContext pcid))
+length-destroyed s pcid = length-map s.processors (λ x. notified x (SingleContext pcid))
 
 -- the current spaces stay
 pub current-destroyed : (s : ShootdownState) (pcid q : ℕ) → q < length s.processors
     → current (destroyed s pcid) q ≡ current s q
 current-destroyed s pcid q within = ap (λ (y : Processor). y.space)
-    (processor_at-destroyed s pcid q within ∙ told-queue (processor_at s q) (SingleContext pcid))
+    (processor_at-destroyed s pcid q within ∙ notified-queue (processor_at s q) (SingleContext pcid))
 
 pub IsShootdown-destroyed : (s : ShootdownState) (pcid : ℕ) → IsShootdown s → IsShootdown (destroyed s pcid)
 IsShootdown-destroyed s pcid is =
     let same = length-destroyed s pcid in
     let state : (q : ℕ) → q < length s.processors → state_of (destroyed s pcid) q ≡ state_of s q = λ q below.
     ap (λ (y : Processor). y.state) (processor_at-destroyed s pcid q below)
-    ∙ ap (λ (y : Processor). y.state) (told-queue (processor_at s q) (SingleContext pcid)) in
+    ∙ ap (λ (y : Processor). y.state) (notified-queue (processor_at s q) (SingleContext pcid)) in
     record {
       some = omega (arith, is.some, same);
       few = omega (arith, is.few, same);
       each = λ q within.
           let below : q < length s.processors = omega (arith, same) in
           subst IsProcessor (sym (processor_at-destroyed s pcid q below))
-          (IsProcessor-told (processor_at s q) (SingleContext pcid) (is.each q below));
+          (IsProcessor-notified (processor_at s q) (SingleContext pcid) (is.each q below));
       free = λ none q within.
           let below : q < length s.processors = omega (arith, same) in
           subst (λ (st : ProcState). (st ≢ Initiating) × (st ≢ Interrupted)) (sym (state q below))
@@ -427,17 +428,17 @@ running s p none = go (is_there s p) refl (is_running (state_of s p)) refl none
 -- ---- how the code begins a change
 
 pub begun_from-parts : (p : ℕ) (spaces : Spaces) (change : Change) (i : ℕ) (xs : List Processor)
-    → map (λ x. told_all x (actions_of spaces change))
+    → map (λ x. notified_all x (actions_of spaces change))
     (each_from (λ k x. record x { state = state_begun p spaces change k x }) i xs) ≡ begun_from i p spaces change xs
 begun_from-parts p spaces change i [] = refl
 begun_from-parts p spaces change i (x ∷ xs) =
     ap (λ (ys : List Processor). begun_one p spaces change i x ∷ ys) (begun_from-parts p spaces change (i + 1) xs)
 
 -- one invalidation more
-pub told-map_told_all : (actions : List Invpcid) (a : Invpcid) (xs : List Processor)
-    → map (λ x. told x a) (map (λ x. told_all x actions) xs) ≡ map (λ x. told_all x (actions ++ a ∷ [])) xs
-told-map_told_all actions a [] = refl
-told-map_told_all actions a (x ∷ xs) =
-    let one = sym (fold_push told x actions a) in
-    let rest = told-map_told_all actions a xs in
+pub notified-map_notified_all : (actions : List Invpcid) (a : Invpcid) (xs : List Processor)
+    → map (λ x. notified x a) (map (λ x. notified_all x actions) xs) ≡ map (λ x. notified_all x (actions ++ a ∷ [])) xs
+notified-map_notified_all actions a [] = refl
+notified-map_notified_all actions a (x ∷ xs) =
+    let one = sym (fold_push notified x actions a) in
+    let rest = notified-map_notified_all actions a xs in
     λ i. one i ∷ rest i

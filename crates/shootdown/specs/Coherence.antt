@@ -30,7 +30,7 @@ Agrees spaces e = (entry : Mapped) × (entry_at spaces e.pcid e.page ≡ Some en
 abbrev pub IsCovered : Spaces → Processor → Type 0
 IsCovered spaces p = All (λ e. IsUsable p e → Agrees spaces e) p.tlb.entries
 
--- Rule: stale entry: No processor uses a cached entry that a change made stale: it drops what it was told of first.
+-- Rule: stale entry: No processor uses a cached entry that a change made stale: it drops what it was notified of first.
 -- The processors and the page tables cohere. While a change is under way, what could become stale is dropped by the
 -- queue of whoever may cache it, also what is cached only later; and no active processor that wasn't interrupted is in
 -- a space that the change touches.

@@ -92,13 +92,13 @@ is_concerned p (SingleContext pcid) = slice_index_or p.may_cache pcid false
 is_concerned p AllContextsAndGlobals = true
 is_concerned p AllContexts = true
 
--- the processor is told of an invalidation: it goes to whoever may cache what it drops, whatever space is current
-abbrev pub told : Processor → Invpcid → Processor
-told p a = if is_concerned p a then record p { queue = queued p.queue a } else p
+-- the processor is notified of an invalidation: it goes to whoever may cache what it drops, whatever space is current
+abbrev pub notified : Processor → Invpcid → Processor
+notified p a = if is_concerned p a then record p { queue = queued p.queue a } else p
 
--- it is told of several, one after the other
-abbrev pub told_all : Processor → List Invpcid → Processor
-told_all p actions = fold told p actions
+-- it is notified of several, one after the other
+abbrev pub notified_all : Processor → List Invpcid → Processor
+notified_all p actions = fold notified p actions
 
 -- it carries out its queue and goes on
 abbrev pub woken : Processor → Processor

@@ -20,8 +20,8 @@ use Rattle.spaces.specs.Changes.{entries_of, touches}
 use Rattle.shootdown.specs.declared.lock.Lock.{Lock}
 use Rattle.shootdown.specs.declared.proc_state.ProcState.{ProcState}
 use Rattle.shootdown.specs.declared.proc_state.ProcState.TheVariants.{Active, Interrupted, Stalled, Initiating, Idle}
-use Rattle.shootdown.specs.Processors.{Processor, fresh_processor, is_running, told}
-use Rattle.shootdown.specs.Processors.{told_all, woken, switched, IsProcessor}
+use Rattle.shootdown.specs.Processors.{Processor, fresh_processor, is_running, notified}
+use Rattle.shootdown.specs.Processors.{notified_all, woken, switched, IsProcessor}
 
 -- the processors, and who holds the lock, if anybody, and for which change
 pub record ShootdownState : Type 0 where
@@ -111,7 +111,7 @@ state_when_begun touched state = state
 abbrev pub begun_from : ℕ → ℕ → Spaces → Change → List Processor → List Processor
 begun_from i p spaces change [] = []
 begun_from i p spaces change (x ∷ xs) =
-    told_all (record x {
+    notified_all (record x {
       state = if i == p then Initiating
           else state_when_begun (touches spaces change x.space) x.state;
     }) (actions_of spaces change)
@@ -141,9 +141,9 @@ idled s p = with_processor s p (record (processor_at s p) { state = Idle })
 abbrev pub switched_to : ShootdownState → ℕ → ℕ → Bool → ShootdownState
 switched_to s p pcid keep = with_processor s p (switched (processor_at s p) pcid keep)
 
--- a space is destroyed: whoever may cache its PCID is told to drop it
+-- a space is destroyed: whoever may cache its PCID is notified to drop it
 abbrev pub destroyed : ShootdownState → ℕ → ShootdownState
-destroyed s pcid = record s { processors = map (λ p. told p (SingleContext pcid)) s.processors }
+destroyed s pcid = record s { processors = map (λ p. notified p (SingleContext pcid)) s.processors }
 
 -- What every such state keeps: 1 to 16 processors; the lock's holder, and no other, initiates; nobody is interrupted
 -- while the lock is free.

@@ -46,7 +46,8 @@ pub fn kept_by_changes()
 
 /// Where the page tables grow, as by a fault that is served, and a change that is under way affects no more by it,
 /// processors and tables cohere as before (`grown`). Where a space goes that is nobody's current one, and whoever may
-/// cache its PCID is told, they do too (`removed`), and nobody may use an entry of that PCID any more (`forgotten`).
+/// cache its PCID is notified, they do too (`removed`), and nobody may use an entry of that PCID any more
+/// (`forgotten`).
 pub fn kept_by_tables()
     ensures grown { (old new : Spaces) (s : ShootdownState) → Grows old new
         → ((lock : Lock) → s.lock ≡ Some lock → IsNoWider lock.change old new) → Coheres old s → Coheres new s }

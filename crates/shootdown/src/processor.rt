@@ -2,7 +2,7 @@
 ghost use Rattle.std.specs.Prelude.{◌≡◌, ◌==◌, ◌||◌, ◌<◌, not, false, length, nat_lt, slice_index_or, ◌↔◌, IsTrue, IfOk};
 ghost use Rattle.std.specs.List.{list_any};
 ghost use Rattle.pcid_tlb.specs.Tlb.{cached, filled, evicted, without_page, keep_entries};
-ghost use Rattle.shootdown.specs.Processors.{first_flags, fresh_processor, is_concerned, told, drained, woken, loaded, flags_kept, drops_pcid, queue_drops, pcids, IsProcessor};
+ghost use Rattle.shootdown.specs.Processors.{first_flags, fresh_processor, is_concerned, notified, drained, woken, loaded, flags_kept, drops_pcid, queue_drops, pcids, IsProcessor};
 ghost use Rattle.shootdown.specs.Shootdown.{is_interrupted};
 ghost use Rattle.shootdown.specs.inside.Flags.{flags_of};
 
@@ -134,10 +134,10 @@ impl<A: Allocator + Copy> Processor<A> {
     }
 
     // Rule: full queue
-    // Tells it of an invalidation, if it may cache what that drops. In a full queue the invalidation of everything
+    // Notifies it of an invalidation, if it may cache what that drops. In a full queue the invalidation of everything
     // takes the place of all.
-    pub(crate) fn tell(&mut self, action: Invpcid)
-        ensures { self.new ≡ told self.old action }
+    pub(crate) fn notify(&mut self, action: Invpcid)
+        ensures { self.new ≡ notified self.old action }
     {
         if !self.is_concerned(action) {
             return;

@@ -5,8 +5,8 @@ ghost use Rattle.shootdown.specs.Processors.{fresh_processor};
 ghost use Rattle.shootdown.specs.Shootdown.{fresh_shootdown, processor_at, state_of, current, is_there, not_running, not_free, interrupted, is_current, IsShootdown};
 
 mod moves;
+mod notifying;
 mod phases;
-mod telling;
 mod translations;
 
 use crate::processor::Processor;

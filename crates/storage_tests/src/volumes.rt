@@ -293,7 +293,7 @@ fn put_batch(image: &mut [u8], journal: usize, mark: u8, home: u8, byte: u8) {
 
 // The lengths block of an image that has this byte there at home, and in the records of journals A and B, each with its
 // mark; a mark of 0 leaves the journal closed.
-fn standing<R: Abort + AllocGlobal>(
+fn recovered<R: Abort + AllocGlobal>(
     rt: &R,
     home: u8,
     first: (u8, u8),
@@ -312,14 +312,14 @@ fn standing<R: Abort + AllocGlobal>(
 #[test]
 fn the_lengths_that_stand_are_judged(rt: HostRuntime) {
     let damaged = Err(Refusal::Damaged);
-    assert!(rt; standing(&rt, 0x31, (0, 0), (0, 0)) == damaged);
-    assert!(rt; standing(&rt, 0x31, (1, 0x20), (0, 0)) == Ok((8328, 4096, 11)));
-    assert!(rt; standing(&rt, 0x10, (1, 0x31), (0, 0)) == damaged);
-    assert!(rt; standing(&rt, 0x31, (2, 0x20), (1, 0x31)) == Ok((8328, 4096, 17)));
-    assert!(rt; standing(&rt, 0x31, (1, 0x31), (2, 0x20)) == Ok((8328, 4096, 17)));
-    assert!(rt; standing(&rt, 0x10, (2, 0x31), (1, 0x20)) == damaged);
-    assert!(rt; standing(&rt, 0x10, (1, 0x20), (2, 0x31)) == damaged);
-    assert!(rt; standing(&rt, 0x10, (1, 0x20), (1, 0x20)) == damaged);
+    assert!(rt; recovered(&rt, 0x31, (0, 0), (0, 0)) == damaged);
+    assert!(rt; recovered(&rt, 0x31, (1, 0x20), (0, 0)) == Ok((8328, 4096, 11)));
+    assert!(rt; recovered(&rt, 0x10, (1, 0x31), (0, 0)) == damaged);
+    assert!(rt; recovered(&rt, 0x31, (2, 0x20), (1, 0x31)) == Ok((8328, 4096, 17)));
+    assert!(rt; recovered(&rt, 0x31, (1, 0x31), (2, 0x20)) == Ok((8328, 4096, 17)));
+    assert!(rt; recovered(&rt, 0x10, (2, 0x31), (1, 0x20)) == damaged);
+    assert!(rt; recovered(&rt, 0x10, (1, 0x20), (2, 0x31)) == damaged);
+    assert!(rt; recovered(&rt, 0x10, (1, 0x20), (1, 0x20)) == damaged);
 }
 
 // An image of layout 3 with a batch of mark 1 in journal A for this home block.

@@ -13,7 +13,9 @@ use std::rt::Files;
 use std::sync::Wait;
 use std::thread::Threads;
 use traces::{write_entry, write_shape};
-use volume_files::{Mark, SyncNote, ThreadDisk, for_threads, open_to_write, place, read_file};
+use volume_files::{
+    SuspectFlag, SyncNote, ThreadDisk, for_threads, open_to_write, place, read_file,
+};
 
 /// How often a thread that waits looks whether another got on, before it gives up.
 const TURNS: u64 = 100_000_000;
@@ -109,7 +111,7 @@ fn refused_to_thread<'a, R>(
     script: &'a str,
     programs: &ThreadScript<Global>,
     refused: NotRun<ThreadDisk>,
-    mark: Mark<'_, R>,
+    mark: SuspectFlag<'_, R>,
     note: &mut SyncNote,
 ) -> Failure<'a>
 where

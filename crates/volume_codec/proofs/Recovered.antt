@@ -12,7 +12,7 @@ use Rattle.volume_codec.specs.Layout.{IsHome, block_at, record_block, first_file
 use Rattle.volume_codec.specs.Text.{zeros}
 use Rattle.volume_codec.specs.Super.{SuperValue, pages_of, total_pages, first_home_of, geometry_of}
 use Rattle.volume_codec.specs.Descriptor.{RiseWithin}
-use Rattle.volume_codec.specs.Recovery.{Batch, record_or, standing_block, blocks_from, files_from, files_in}
+use Rattle.volume_codec.specs.Recovery.{Batch, record_or, recovered_block, blocks_from, files_from, files_in}
 use Rattle.volume_codec.specs.Lengths.{lengths_in}
 use Rattle.volume_codec.proofs.Homes.{rising_at}
 use Rattle.volume_codec.proofs.Lengths.{lengths_in-same, same_lengths_block}

@@ -11,7 +11,7 @@ use Rattle.std.specs.Map.{lookup}
 use Rattle.indexmap.proofs.CallerLemmas.{insert_entry-new}
 use Rattle.indexmap.specs.IndexMap.{insert_entry}
 use Rattle.volume_codec.specs.declared.file_spec.FileSpec.{FileSpec}
-use Rattle.volume_codec.specs.declared.super_block.Place.{Place}
+use Rattle.volume_codec.specs.declared.super_block.Extent.{Extent}
 use Rattle.volume_codec.specs.Files.{TableFile}
 use Rattle.volume_codec.specs.Super.{AreDistinct, total_pages, pages_of}
 use Rattle.volume_codec.specs.inside.Tables.{rows_of, homes_of, homes_from, files_asked_for, names_of}
@@ -21,7 +21,7 @@ use Rattle.volume_codec.proofs.Places.{homes_from-push, total_pages-push, total_
 abbrev pub file_of : FileSpec → TableFile
 file_of f = record { name = f.name.now; capacity = f.capacity }
 
-abbrev pub row : {Z : Type 0} → String Z × Place → TableFile
+abbrev pub row : {Z : Type 0} → String Z × Extent → TableFile
 row r = record { name = string_bytes r.0; capacity = r.1.capacity }
 
 -- the file at a place

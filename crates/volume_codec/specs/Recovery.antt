@@ -55,16 +55,16 @@ abbrev pub record_or : ℕ → ℕ → List ℕ → ℕ → ℕ
 record_or other records [] b = other
 record_or other records (home ∷ homes) b = if b == home then records else record_or other (records + 1) homes b
 
--- Rule: standing lengths: The lengths are those of the newest open journal that has them, else of the lengths block.
+-- Rule: recovered lengths: The lengths are those of the newest open journal that has them, else of the lengths block.
 -- the block that has the recovered bytes of home block b: its record in the newest batch that has one, else b itself
-abbrev pub standing_block : ℕ → List Batch → ℕ → ℕ
-standing_block slots [] b = b
-standing_block slots (batch ∷ older) b =
-    record_or (standing_block slots older b) (record_block slots batch.journal 0) batch.homes b
+abbrev pub recovered_block : ℕ → List Batch → ℕ → ℕ
+recovered_block slots [] b = b
+recovered_block slots (batch ∷ older) b =
+    record_or (recovered_block slots older b) (record_block slots batch.journal 0) batch.homes b
 
 -- the contents that these bytes recover to, where these are the batches of the open journals
 abbrev pub contents_in : ℕ → List Batch → List ℕ → ℕ → List ℕ
-contents_in slots batches bytes b = block_at bytes (standing_block slots batches b)
+contents_in slots batches bytes b = block_at bytes (recovered_block slots batches b)
 
 -- these bytes hold a volume with this super block, and these are the batches of its open journals
 pub record IsVolume (v : SuperValue) (batches : List Batch) (bytes : List ℕ) : Type 0 where

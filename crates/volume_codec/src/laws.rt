@@ -7,7 +7,7 @@ ghost use Rattle.volume_codec.specs.Layout.{GeometryValue, IsGeometry, IsHome, j
 ghost use Rattle.volume_codec.specs.Super.{SuperValue, Fits, IsSuper, pages_of, first_home_of, block_count, geometry_of};
 ghost use Rattle.volume_codec.specs.Descriptor.{DescriptorValue, RiseWithin, IsDescriptor};
 ghost use Rattle.volume_codec.specs.Lengths.{IsLengths, HasLengths, lengths_in};
-ghost use Rattle.volume_codec.specs.Recovery.{Batch, AreOpen, standing_block, blocks_from, contents_in, files_in, Recovers, RecoversTo, IsVolume};
+ghost use Rattle.volume_codec.specs.Recovery.{Batch, AreOpen, recovered_block, blocks_from, contents_in, files_in, Recovers, RecoversTo, IsVolume};
 
 /// A block says at most one table, at most one descriptor in a volume of one geometry, and at most one list of lengths
 /// in a volume with one table; bytes have at most one list of open batches, and recover to at most one table, contents
@@ -55,10 +55,10 @@ pub fn parts_of_layouts()
 pub fn recovered_from()
     ensures record_of_newest { (slots low high : ℕ) (batch : Batch) (older : List Batch) (i : ℕ)
         → RiseWithin low high batch.homes → i < length batch.homes
-        → standing_block slots (batch ∷ older) (slice_index batch.homes i) ≡ record_block slots batch.journal i }
+        → recovered_block slots (batch ∷ older) (slice_index batch.homes i) ≡ record_block slots batch.journal i }
     ensures no_record { (slots b : ℕ) (batch : Batch) (older : List Batch)
         → AllByRecursion (λ home. home ≢ b) batch.homes
-        → standing_block slots (batch ∷ older) b ≡ standing_block slots older b }
+        → recovered_block slots (batch ∷ older) b ≡ recovered_block slots older b }
     ensures within { (v : SuperValue) (contents : ℕ → List ℕ) (bytes other : List ℕ)
         → Recovers v contents bytes → take (4096 * block_count v) other ≡ take (4096 * block_count v) bytes
         → Recovers v contents other }

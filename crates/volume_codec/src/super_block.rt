@@ -22,13 +22,13 @@ use std::marker::Model;
 
 /// The number of bytes to which a file may grow, and the first of its home blocks.
 #[derive(Clone, Copy)]
-struct Place {
+struct Extent {
     capacity: u64,
     first_home: u32,
 }
 
 /// The files by name, in the table's order, each with its place.
-type Table<A> = IndexMap<String<A>, Place, BuildHasherDefault<FoldHasher>, A>;
+type Table<A> = IndexMap<String<A>, Extent, BuildHasherDefault<FoldHasher>, A>;
 
 /// What a super block says: the layout, the files in order, each with its name and its capacity in bytes, and the
 /// number of record slots of each journal. Files are counted from 0.
@@ -66,7 +66,7 @@ fn table<A: Allocator + Copy>(
     let mut table = IndexMap::with_capacity(alloc, files.len())?;
     let mut home = first_home;
     for file in files {
-        let place = Place {
+        let place = Extent {
             capacity: file.capacity,
             first_home: home,
         };

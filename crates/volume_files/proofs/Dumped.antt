@@ -12,7 +12,7 @@ use Rattle.volume_codec.specs.Lengths.{lengths_in}
 use Rattle.volume_codec.specs.Recovery.{files_from}
 use Rattle.volume_codec.proofs.Blocks.{length-block_at}
 use Rattle.volume_codec.proofs.Recovered.{length-file}
-use Rattle.recovery.specs.Volume.{VolumeState, IsSettled, files_of, bytes_of}
+use Rattle.recovery.specs.Volume.{VolumeState, IsWellFormed, files_of, bytes_of}
 use Rattle.std.specs.Io.KnownBytes.{Appends}
 use Rattle.volume_files.specs.Dump.{file_text, dump_text}
 use Rattle.volume_files.specs.inside.Reading.{IsOnlyRead, AreFilesOf}

@@ -3,7 +3,7 @@ ghost use Rattle.std.specs.Prelude.{◌≡◌, ◌≢◌, ℕ, ◌<◌, length, 
 ghost use Rattle.std.specs.Io.KnownBytes.{Appends};
 ghost use Rattle.volume_codec.specs.Super.{names_in};
 ghost use Rattle.recovery.specs.Opening.{Opens};
-ghost use Rattle.recovery.specs.Volume.{IsSettled, files_of, bytes_of};
+ghost use Rattle.recovery.specs.Volume.{IsWellFormed, files_of, bytes_of};
 ghost use Rattle.volume_files.specs.Export.{IsCopied, IsExported};
 ghost use Rattle.volume_files.specs.inside.Reading.{IsOnlyRead, AreFilesOf};
 
@@ -83,7 +83,7 @@ fn copy_found<D: Device + Drop, A: Allocator + Copy, W: io::Write>(
 
 // The file of this name.
 fn find<D: Device, A: Allocator + Copy>(volume: &Volume<D, A>, name: &str) -> Option<usize>
-    ensures settled { IsSettled D.Device volume.now }
+    ensures well_formed { IsWellFormed D.Device volume.now }
     ensures within { IfSome result (λ file. file < length volume.now.table.files) }
     ensures named { IfSome result (λ file. slice_get (names_in volume.now.table) file ≡ Some name.now) }
     ensures none { IfNone result ((file : ℕ) → slice_get (names_in volume.now.table) file ≢ Some name.now) }

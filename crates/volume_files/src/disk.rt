@@ -9,7 +9,7 @@ ghost use Rattle.volume_files.specs.Dump.{dump_text};
 use crate::cause::{Cause, Refused, refused_to_open};
 use crate::failure::FileFailure;
 use crate::listing::{DumpFault, write_files};
-use crate::mark::Mark;
+use crate::suspect_flag::SuspectFlag;
 use crate::volume_file::{Access, off_streams, open_locked, place};
 use crate::watched_file::{SyncNote, WatchedFile};
 use device::{Device, FileDisk, OverlayDisk};
@@ -36,7 +36,7 @@ where
     R: Files<File = File> + AllocGlobal,
 {
     let file = open_locked(rt, path, place, access)?;
-    let mark = Mark::of(rt, place)?;
+    let mark = SuspectFlag::of(rt, place)?;
     if !trust && mark.is_there() {
         return Err(FileFailure::Suspect {
             path,
@@ -66,7 +66,7 @@ where
     let disk = open_disk(rt, path, place, Access::Write, trust, note)?;
     if trust {
         // It could be synced, so what is read of it from here on is on the disk.
-        Mark::of(rt, place)?
+        SuspectFlag::of(rt, place)?
             .remove()
             .map_err(|cause| FileFailure::File { path, cause })?;
     }

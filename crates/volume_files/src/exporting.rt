@@ -59,11 +59,11 @@ where
     // Both files are locked until the end.
     let old = old_copy(rt, plan.out, from, &to)?;
     let (count, _file) = named_copy(rt, alloc, plan, disk, old.as_ref(), &to)?;
-    settled(rt, plan, count, &to)
+    durably_named(rt, plan, count, &to)
 }
 
 // Makes sure that the name of a copy of so many bytes is on the disk.
-fn settled<'a, R: Files<File = File>>(
+fn durably_named<'a, R: Files<File = File>>(
     rt: &R,
     plan: ExportPlan<'a>,
     count: u64,

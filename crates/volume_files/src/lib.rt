@@ -8,9 +8,9 @@ mod exporting;
 mod failure;
 mod listing;
 mod making;
-mod mark;
 mod migrating;
 mod noted_file;
+mod suspect_flag;
 mod volume_file;
 mod watched_file;
 
@@ -22,8 +22,8 @@ pub use disk::{
 pub use exporting::{ExportPlan, export};
 pub use failure::FileFailure;
 pub use making::{Plan, format};
-pub use mark::Mark;
 pub use migrating::{MigrationPlan, migrate};
 pub use noted_file::{NotedFile, ThreadDisk, for_threads};
+pub use suspect_flag::SuspectFlag;
 pub use volume_file::{Access, place};
 pub use watched_file::{SyncNote, WatchedFile};

@@ -1,7 +1,7 @@
 // Making a volume: whole, in a file of its own, which then takes the old one's name.
 use crate::cause::refused_to_format;
 use crate::failure::FileFailure;
-use crate::mark::Mark;
+use crate::suspect_flag::SuspectFlag;
 use crate::volume_file::{Access, lock, off_streams, open_locked, place, sync_folder_of};
 use device::FileDisk;
 use page_entry::{PAGE, Refusal};
@@ -68,7 +68,7 @@ where
     // Both files are locked until the end.
     let old = old_file(rt, path, place)?;
     let _file = named_volume(rt, alloc, path, plan, blocks, old.as_ref(), place)?;
-    settle(rt, path, place)
+    durably_name(rt, path, place)
 }
 
 // Makes the volume of a plan in a new file, and gives that the name of the old one.
@@ -113,13 +113,13 @@ where
 }
 
 /// Makes sure that the name of a new volume is on the disk, and that it isn't marked as suspect.
-pub fn settle<'a, R>(rt: &R, path: &'a str, place: &str) -> Result<(), FileFailure<'a>>
+pub fn durably_name<'a, R>(rt: &R, path: &'a str, place: &str) -> Result<(), FileFailure<'a>>
 where
     R: Files<File = File> + AllocGlobal,
 {
     let failed = |cause| FileFailure::File { path, cause };
     sync_folder_of(rt, place).map_err(failed)?;
-    Mark::of(rt, place)?.remove().map_err(failed)
+    SuspectFlag::of(rt, place)?.remove().map_err(failed)
 }
 
 /// The file that is to be replaced, locked, if there is one.

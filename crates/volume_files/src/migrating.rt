@@ -3,7 +3,7 @@
 use crate::cause::{refused_to_migrate, refused_to_open};
 use crate::disk::{VolumeDisk, not_opened, open_to_write};
 use crate::failure::FileFailure;
-use crate::making::{named, new_file, old_file, ready, settle};
+use crate::making::{durably_name, named, new_file, old_file, ready};
 use crate::volume_file::place;
 use crate::watched_file::SyncNote;
 use device::{Device, FileDisk};
@@ -141,7 +141,7 @@ where
     // Both files are locked until the end.
     let old = old_file(rt, path, to)?;
     let _file = named_copy(rt, alloc, plan, to, blocks, old.as_ref(), volume)?;
-    settle(rt, path, to)?;
+    durably_name(rt, path, to)?;
     Ok(blocks)
 }
 

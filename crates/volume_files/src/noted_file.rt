@@ -3,7 +3,7 @@ ghost use Rattle.std.specs.Prelude.{◌≡◌};
 
 use crate::disk::VolumeDisk;
 use crate::failure::FileFailure;
-use crate::mark::Mark;
+use crate::suspect_flag::SuspectFlag;
 use crate::watched_file::SyncNote;
 use device::{BlockFile, FileDisk};
 use std::fs::{File, Files};
@@ -41,7 +41,7 @@ impl<F: BlockFile> NotedFile<F> {
 
 impl<F: BlockFile + Drop> NotedFile<F> {
     /// Marks the volume as suspect where a sync of its file failed, and answers what is to be said of that.
-    pub fn into_note<R>(self, mark: Mark<'_, R>) -> SyncNote
+    pub fn into_note<R>(self, mark: SuspectFlag<'_, R>) -> SyncNote
     where
         R: Files<File = File> + AllocGlobal,
     {
@@ -107,7 +107,7 @@ pub fn for_threads<'a, 'b, R>(
     disk: VolumeDisk<'b, R>,
     path: &'a str,
     note: &mut SyncNote,
-) -> Result<(ThreadDisk, Mark<'b, R>), FileFailure<'a>>
+) -> Result<(ThreadDisk, SuspectFlag<'b, R>), FileFailure<'a>>
 where
     R: Files<File = File> + AllocGlobal,
 {

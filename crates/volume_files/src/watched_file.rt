@@ -1,7 +1,7 @@
 // The file of a volume, whose failed syncs are marked.
 ghost use Rattle.std.specs.Prelude.{◌≡◌};
 
-use crate::mark::Mark;
+use crate::suspect_flag::SuspectFlag;
 use device::BlockFile;
 use std::fs::{File, Files};
 use std::{fmt, io};
@@ -11,14 +11,14 @@ use std::{fmt, io};
 #[derive(Drop)]
 pub struct WatchedFile<'a, F: BlockFile, R: Files<File = File>> {
     file: F,
-    mark: Mark<'a, R>,
+    mark: SuspectFlag<'a, R>,
     /// Whether a sync failed, and whether the last one that did could be marked.
     marked: Option<io::Result<()>>,
 }
 
 impl<'a, F: BlockFile, R: Files<File = File> + AllocGlobal> WatchedFile<'a, F, R> {
     /// This file, no sync of which has failed yet.
-    pub fn new(file: F, mark: Mark<'a, R>) -> Self {
+    pub fn new(file: F, mark: SuspectFlag<'a, R>) -> Self {
         WatchedFile {
             file,
             mark,
@@ -38,7 +38,7 @@ impl<'a, F: BlockFile, R: Files<File = File> + AllocGlobal> WatchedFile<'a, F, R
 
 impl<'a, F: BlockFile + Drop, R: Files<File = File> + AllocGlobal> WatchedFile<'a, F, R> {
     /// The file and its mark.
-    pub fn into_parts(self) -> (F, Mark<'a, R>) {
+    pub fn into_parts(self) -> (F, SuspectFlag<'a, R>) {
         let WatchedFile {
             file,
             mark,

@@ -53,10 +53,10 @@ pub record HasWrittenOut {D : Type 0} (disk : Ghosts D) (old : Whole D) (steps :
     (at number : ℕ) (new : Whole D) : Type 0 where
   pub below : at < length steps
   pub is_new : (i : ℕ) → slice_get (take at replies) i ≡ Some (Marked number) → ⊥
-  pub told : List Reply
+  pub replied : List Reply
   pub marked : Whole D
-  pub made : StepsTaken disk old (take (length told) (take (at + 1) steps)) told marked
-  pub same : told ≡ take (at + 1) replies
+  pub made : StepsTaken disk old (take (length replied) (take (at + 1) steps)) replied marked
+  pub same : replied ≡ take (at + 1) replies
   pub acknowledged : IsAcknowledged disk marked (take at replies) number new
 
 -- the files that are kept are those at the mark that the step of this index made in a run with these replies

@@ -66,20 +66,20 @@ pub record IsLeft (slots : ℕ) (progress : List Progress) (seen c : List ℕ) :
 -- ---- what a read finds
 
 -- the gate is open, and that is sure
-abbrev pub is_sure : Stage → Bool
-is_sure (Applying i) = true
-is_sure SyncingHomes = true
-is_sure Closing = true
-is_sure stage = false
+abbrev pub is_durable : Stage → Bool
+is_durable (Applying i) = true
+is_durable SyncingHomes = true
+is_durable Closing = true
+is_durable stage = false
 
 abbrev pub is_open : Stage → Bool
 is_open Committing = true
-is_open stage = is_sure stage
+is_open stage = is_durable stage
 
 -- the batches whose gates are surely open, the newest first
-abbrev pub sure_in : List Progress → List Batch
-sure_in [] = []
-sure_in (p ∷ newer) = sure_in newer ++ (if is_sure p.stage then p.batch ∷ [] else [])
+abbrev pub durable_in : List Progress → List Batch
+durable_in [] = []
+durable_in (p ∷ newer) = durable_in newer ++ (if is_durable p.stage then p.batch ∷ [] else [])
 
 -- one of these batches has a record of the block
 abbrev pub IsCovered : List Batch → ℕ → Type 0
@@ -127,7 +127,7 @@ pub record IsWritten (v : SuperValue) (new : ℕ → List ℕ) (newer : List Bat
 
 abbrev pub AreWritten : SuperValue → (ℕ → List ℕ) → List ℕ → List Progress → Type 0
 AreWritten v new seen [] = Unit {0}
-AreWritten v new seen (p ∷ newer) = IsWritten v new (sure_in newer) p seen × AreWritten v new seen newer
+AreWritten v new seen (p ∷ newer) = IsWritten v new (durable_in newer) p seen × AreWritten v new seen newer
 
 -- a batch isn't committed
 abbrev pub is_under_way : List Progress → Bool
@@ -146,7 +146,7 @@ pub record IsSeen (v : SuperValue) (progress : List Progress) (old new : ℕ →
   pub shut : (j : ℕ) → j < journals_of v.layout → AllByRecursion (λ p. p.batch.journal ≢ j) progress
       → IsOpen seen v.slots j → ⊥
   pub contents : (b : ℕ) → IsHome (geometry_of v) b
-      → kept_in progress old new b ≡ contents_in v.slots (sure_in progress) seen b
+      → kept_in progress old new b ≡ contents_in v.slots (durable_in progress) seen b
   -- without the batch that isn't committed New is Old
   pub outside : AllByRecursion (λ p. is_committed p.stage ≡ false
       → (b : ℕ) → (Contains p.batch.homes b → ⊥) → new b ≡ old b) progress

@@ -5,7 +5,7 @@ use Rattle.machine.proofs.Names.{IsShootdown-without_page, IsShootdown-evicted, 
 use Rattle.machine.proofs.Names.{entry_at, Hardware, filled_by, LoadMade, Faults, State, with_hardware, IsSound}
 use Rattle.machine.proofs.Names.{Replace}
 use Rattle.machine.proofs.sound.Admitted.{running_below}
-use Rattle.machine.proofs.track.Translations.{is_translated, filled_cases}
+use Rattle.machine.proofs.refining.Translations.{is_translated, filled_cases}
 use Rattle.machine.proofs.moves.Silent.{SilentMoves, no_moves, one_move}
 use Rattle.machine.proofs.moves.Entries.{tlb_replaced, walk_moves}
 

@@ -149,7 +149,7 @@ module _ {D : Type 0} (disk : Ghosts D) (since_now : SinceNow disk) (device : D)
     made = λ honest. record {
       answered = rule (disk.seen device);
       left = λ c may. may;
-      sure = λ other sync. absurd (cc);
+      durable = λ other sync. absurd (cc);
       within = leaves_at_start (λ c left. since_now device c left);
       unread = λ from to refused copy few calls. absurd (cc);
     };
@@ -163,7 +163,7 @@ module _ {D : Type 0} (disk : Ghosts D) (since_now : SinceNow disk) (device : D)
     made = λ honest. record {
       answered = rule (disk.seen device);
       left = λ c may. may;
-      sure = λ other sync. absurd (cc);
+      durable = λ other sync. absurd (cc);
       within = leaves_at_start (λ c left. since_now device c left);
       unread = λ from to refused copy few calls. absurd (cc);
     };

@@ -33,7 +33,7 @@ module _ {disk : List ℕ} (s : State) (p : ℕ) {new : State} where
         free = free;
         prepared = prepared;
         whole = whole;
-        says_is = refl;
+        effect_is = refl;
         done = is;
       })
 

@@ -17,7 +17,7 @@ use Rattle.spaces.specs.declared.change.Change.TheVariants as changes
 use Rattle.machine.proofs.sound.Lists.{same_some, kept_some}
 use Rattle.machine.proofs.sound.Ended.{prepared_change}
 use Rattle.machine.proofs.sound.Frames.{notes_in_use}
-use Rattle.machine.proofs.track.DirtyFrames.{dirty_rights, dirty_taken, takes_range}
+use Rattle.machine.proofs.refining.DirtyFrames.{dirty_rights, dirty_taken, takes_range}
 
 -- the places of a space that is there change so
 places_changed : (pcid : ℕ) (change : Places → Places) (old new : Spaces) → has_space old pcid ≡ true
@@ -69,11 +69,12 @@ module _ (disk : List ℕ) (s : State) (p : ℕ) (new : State) (sound : IsSound 
             (AreBacked-without_mapping s.hardware.memory s.checkpoint old made.pcid made.range sound.memory.backed);
         dirty = λ frame. dirty_taken (IsInRange made.pcid made.range) old spaces s.checkpoint made.checkpoint frame
             (takes_range old made.pcid made.range) made.noted;
-        told = places_changed made.pcid (λ places. without_range places made.range.first made.range.count) old spaces
+        observed = places_changed made.pcid
+            (λ places. without_range places made.range.first made.range.count) old spaces
             there (has_space-without_mapping old made.pcid made.range there)
             (ap (λ (x : AddressSpace). x.places) (space_at-with_space_same old made.pcid _))
             (λ q other. ap (λ (x : AddressSpace). x.places) (space_at-with_space_other old made.pcid _ q other));
-        says_is = refl;
+        effect_is = refl;
         done = made.done;
       })
 
@@ -102,8 +103,8 @@ module _ (disk : List ℕ) (s : State) (p : ℕ) (new : State) (sound : IsSound 
         backed = AreBacked-rights_set s.hardware.memory s.checkpoint old made.spaces made.pcid made.range made.rights
             sets sound.memory.backed;
         dirty = λ frame. dirty_rights made.pcid made.range made.rights old made.spaces s.checkpoint frame sets;
-        told = places_changed made.pcid _ old made.spaces there sets.same_spaces sets.rights_set sets.other_places;
-        says_is = refl;
+        observed = places_changed made.pcid _ old made.spaces there sets.same_spaces sets.rights_set sets.other_places;
+        effect_is = refl;
         done = made.done;
       })
     where
@@ -132,8 +133,8 @@ module _ (disk : List ℕ) (s : State) (p : ℕ) (new : State) (sound : IsSound 
     noted = sound.memory.noted;
     backed = sound.memory.backed;
     dirty = λ frame. (λ d. d, λ d. d);
-    told = record { there = λ q. refl; places = λ q. refl };
-    says_is = refl;
+    observed = record { there = λ q. refl; places = λ q. refl };
+    effect_is = refl;
     done = made.done;
   })
 
@@ -222,8 +223,8 @@ module _ (disk : List ℕ) (s : State) (p : ℕ) (new : State) (sound : IsSound 
         backed = AreBacked-cleared s.hardware.memory s.checkpoint old made.spaces made.owner
             made.cleared sound.memory.backed;
         dirty = same_dirty;
-        told = record { there = made.cleared.same_spaces; places = made.cleared.same_places };
-        says_is = refl;
+        observed = record { there = made.cleared.same_spaces; places = made.cleared.same_places };
+        effect_is = refl;
         done = refl;
       }),
       (
@@ -240,7 +241,7 @@ module _ (disk : List ℕ) (s : State) (p : ℕ) (new : State) (sound : IsSound 
           };
           unmapped = unmapped;
           free = refl;
-          says_is = refl;
+          effect_is = refl;
           done = made.done;
         }),
         refl,

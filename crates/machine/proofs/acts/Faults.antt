@@ -9,8 +9,8 @@ use Rattle.machine.specs.declared.act.Act.TheVariants as acts
 use Rattle.fault.proofs.Public.{MayBe-fixed, Keeps-fixed}
 use Rattle.machine.proofs.sound.Admitted.{free_of, free_below, served_at_fix, unlocked}
 use Rattle.machine.proofs.sound.Frames.{with_memory}
-use Rattle.machine.proofs.track.DirtyFrames.{dirty_fixed}
-use Rattle.machine.proofs.track.Faults.{led_to, servable}
+use Rattle.machine.proofs.refining.DirtyFrames.{dirty_fixed}
+use Rattle.machine.proofs.refining.Faults.{led_to, servable}
 use Rattle.machine.proofs.moves.Silent.{SilentMoves, no_moves, one_move, then_silent}
 use Rattle.machine.proofs.moves.Entries.{entry_replaced}
 use Rattle.machine.proofs.moves.Kept.{moves_sound}
@@ -41,7 +41,7 @@ module _ (s : State) (disk : List ℕ) (sound : IsSound s) where
             whole = whole read.0;
             unlocked = unlocked_now;
             free = read.1;
-            says_is = refl;
+            effect_is = refl;
             done = refl;
           }));
           holds = ap page_of (get_or-set_same s.hardware.memory.frames frame (Some page) None
@@ -65,7 +65,7 @@ module _ (s : State) (disk : List ℕ) (sound : IsSound s) where
               holds = there.holds;
               held = held refl;
               free = copies.1;
-              says_is = refl;
+              effect_is = refl;
               done = refl;
             })));
         holds = there.holds;
@@ -93,7 +93,7 @@ module _ (s : State) (disk : List ℕ) (sound : IsSound s) where
       let now = copied (copies_out h.memory c owner write) owner served.frame served.mid made.memory
       half.0 held served.copied in
       let last = with_memory s made.memory in
-      let still = moves_sound disk s now.moves.says last now.moves.moves sound in
+      let still = moves_sound disk s now.moves.effect last now.moves.moves sound in
       let can = may_write made.place.rights && not (is_held made.memory c owner) in
       let entry = fixed_entry (entry_at h.spaces pcid page) served.frame can write in
       then_silent now.moves (then_silent

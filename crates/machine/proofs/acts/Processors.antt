@@ -22,7 +22,7 @@ module _ {disk : List ℕ} (s : State) (p : ℕ) {new : State} (sound : IsSound 
     is_shootdown = is_shootdown;
     coheres = coheres;
     space = ap (has_space s.hardware.spaces) space ∙ sound.spaces.current p there;
-    told = (refl, space, state);
+    observed = (refl, space, state);
     done = is;
   })
 
@@ -40,7 +40,7 @@ module _ {disk : List ℕ} (s : State) (p : ℕ) {new : State} (sound : IsSound 
         coheres =
             Coheres-switched_to s.hardware.shootdown p pcid keep free.0 free.1 s.hardware.spaces sound.spaces.coheres;
         space = may.1;
-        told = (refl, refl, refl);
+        observed = (refl, refl, refl);
         done = is;
       })
 

@@ -17,7 +17,7 @@ use Rattle.mappings.specs.Places.{advanced}
 use Rattle.mappings.proofs.Public.{Decides-any_in_range}
 use Rattle.machine.proofs.sound.Lists.{same_some}
 use Rattle.machine.proofs.sound.Admitted.{first_none, refuse_none, free_below, unlocked}
-use Rattle.machine.proofs.track.DirtyFrames.{dirty_equal}
+use Rattle.machine.proofs.refining.DirtyFrames.{dirty_equal}
 
 -- a space is made, or replaced by one that maps other pages
 places_made : (old : Spaces) (pcid : ℕ) (space : AddressSpace) (change : Places → Places)
@@ -46,7 +46,7 @@ create_moves s p pcid {new} may lowest sound is =
           sound.spaces.in_table q page place (sym (place_at-create old pcid lowest.free q page) ∙ is);
       prepared = λ held is. unlocked s.hardware.shootdown.lock held free is;
       backed = AreBacked-created s.hardware.memory s.checkpoint old pcid sound.memory.backed;
-      told = places_made old pcid empty_space (λ places. maps.empty) refl;
+      observed = places_made old pcid empty_space (λ places. maps.empty) refl;
       done = is;
     }) (λ frame. dirty_equal old spaces s.checkpoint frame (entry_at-create old pcid lowest.free))
 
@@ -133,7 +133,7 @@ map_moves s p pcid va len file offset prot access {new} pages allowed judged don
       prepared = λ held is. unlocked s.hardware.shootdown.lock held free is;
       backed = AreBacked-with_mapping s.hardware.memory s.checkpoint old pcid range place
           (λ page among. unmapped_at (space_at old pcid).places range page unmapped among) sound.memory.backed;
-      told = places_made old pcid
+      observed = places_made old pcid
           (record (space_at old pcid) { places = with_range (space_at old pcid).places range.first range.count place })
           (λ places. with_range places range.first range.count place) refl;
       done = done;

@@ -37,7 +37,7 @@ module _ {D Z : Type 0} (disk : Ghosts D) (since_now : SinceNow disk) (old new :
     rules = rules;
     left = λ c may. subst (λ (w : Work). TornFromWork w (disk.may_leave old.device) c) (sym work)
         (subst (λ (x : D). disk.may_leave x c) same may);
-    sure = λ honest other sync. absurd (let both = sym work ∙ sync in cc);
+    durable = λ honest other sync. absurd (let both = sym work ∙ sync in cc);
     unread = λ honest from to refused copy few calls. absurd (let both = sym work ∙ copy in cc);
     time = subst (λ (x : D). LeavesOnly disk.moment disk.left_since old.device x
         (TornFromWork (step_work (state_in old) act reply) (disk.may_leave old.device))) (sym same)
@@ -102,7 +102,7 @@ flush_done {D} disk old new step reply is rules did kept =
     act_as disk old new step acts.Flush reply is (record {
       rules = rules;
       left = did.left;
-      sure = λ honest other sync. did.sure honest (unfailed reply other) sync;
+      durable = λ honest other sync. did.durable honest (unfailed reply other) sync;
       unread = λ honest from to refused copy few calls.
           did.unread honest (ap (λ r. not (has_failed r)) refused) from to copy (omega (arith, few)) calls;
       time = did.time;
@@ -166,7 +166,7 @@ fix_done {D} disk since_now old new step va write result is rules fixed untouche
         record {
           rules = rules;
           left = made.left;
-          sure = λ honest other sync. absurd (cc);
+          durable = λ honest other sync. absurd (cc);
           unread = λ honest from to refused copy few calls. absurd (cc);
           time = made.time;
           honest = made.honest;

@@ -13,7 +13,7 @@ use Rattle.fault.specs.declared.page_fault.PageFault.{PageFault}
 use Rattle.fault.specs.Fixing.{cut_to_length as cut_by}
 use Rattle.machine.specs.declared.act.Reply.TheVariants as replies
 use Rattle.volume_codec.specs.Text.{zeros}
-use Rattle.machine.proofs.track.Faults.{led_to}
+use Rattle.machine.proofs.refining.Faults.{led_to}
 use Rattle.machine.proofs.code.Refusals.{passed, found, alone, at_most}
 
 -- ---- refused before anything is read

@@ -39,7 +39,7 @@ module _ (s : State) (sound : IsSound s) (noted : CheckpointState) (pages : List
   none_broken broken = by s.resized refl
     where
       by : (set : Bool) → s.resized ≡ set → (cond set (first_home s.table.layout s.table.slots ∷ []) [] ++ []) ≡ []
-      by true is = absurd (both_ways s.write_outs.broken (sound.write_outs.settled is).1 broken)
+      by true is = absurd (both_ways s.write_outs.broken (sound.write_outs.quiescent is).1 broken)
       by false is = refl
 
   -- the home blocks of what is frozen: all, or none

@@ -9,9 +9,9 @@ pub steps_more : {D : Type 0} (disk : Ghosts D) (old : Whole D) (steps : List St
     → StepsTaken disk old (steps ++ step ∷ []) (replies ++ reply ∷ []) new
 steps_more {D} disk old [] [] mid step reply new taken next =
     (new, subst (λ (x : Whole D). StepTaken disk x step reply new) taken next, refl)
-steps_more {D} disk old (first ∷ steps) (told ∷ replies) mid step reply new taken next =
+steps_more {D} disk old (first ∷ steps) (observed ∷ replies) mid step reply new taken next =
     (taken.0, taken.1, steps_more disk taken.0 steps replies mid step reply new taken.2 next)
-steps_more {D} disk old [] (told ∷ replies) mid step reply new taken next = absurd taken
+steps_more {D} disk old [] (observed ∷ replies) mid step reply new taken next = absurd taken
 steps_more {D} disk old (first ∷ steps) [] mid step reply new taken next = absurd taken
 
 pub honest_taken : {D : Type 0} (disk : Ghosts D) (old : Whole D) (steps : List Step) (replies : List Reply)

@@ -21,7 +21,7 @@ module _ {D Z : Type 0} (disk : Ghosts D) (old new : Layers D Z) (step : Step) (
   step_made honest = record {
     answered = done.rules.own_disk honest;
     left = done.left;
-    sure = done.sure honest;
+    durable = done.durable honest;
     within = done.time;
     unread = done.unread honest;
   }

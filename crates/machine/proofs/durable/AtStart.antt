@@ -1,4 +1,5 @@
--- A fresh machine is as is told at the start of a run, and its device recovers to the files with which the run begins.
+-- A fresh machine is as is observed at the start of a run, and its device recovers to the files with which the run
+-- begins.
 use Rattle.machine.proofs.Names.{ℕ, zero, suc, ◌≡◌, ◌-◌, ◌*◌, ◌<◌, true, false, eqb, List, [], ◌∷◌, ◌++◌, length, take}
 use Rattle.machine.proofs.Names.{drop, map, replicate, get_or, Option, None, is_some, unwrap_or, refl, sym, ap, ◌∙◌}
 use Rattle.machine.proofs.Names.{subst, inl, inr, arith, ◌+◌, ◌≤◌, nat_cmp, cases_lt, cond-false, ne_eqb, false≢true}
@@ -9,25 +10,26 @@ use Rattle.machine.proofs.Names.{zeros, padded, length-padded, length-block_at, 
 use Rattle.machine.proofs.Names.{Places, AddressSpace, first_spaces, empty_space, Processor, fresh_processor}
 use Rattle.machine.proofs.Names.{is_running, fresh_shootdown, processor_at, Holds, CheckpointState, Shape, file_bytes}
 use Rattle.machine.proofs.Names.{Mark, Acknowledge, memory_of, State, length_of, Whole, home_of, cut_at_end, IsFresh}
-use Rattle.machine.proofs.Names.{fresh, Told, told_at_start, told_first, IsArranged, HasFiles, HasParts, AreContentsOf}
+use Rattle.machine.proofs.Names.{fresh, Observed, observed_at_start, observed_first}
+use Rattle.machine.proofs.Names.{IsArranged, HasFiles, HasParts, AreContentsOf}
 use Rattle.machine.proofs.Names.{block_at, first_file_home, IsVolume, files_from, files_in, lengths_in, blocks_from}
-use Rattle.machine.proofs.Names.{Contains, All, WriteOut, WriteOutsValue, none_of, has_uncommitted, IsStanding}
-use Rattle.machine.proofs.Names.{stands_first, bytes_at_mark, IsSound, Ghosts, Begins, IsInFile, within_file}
+use Rattle.machine.proofs.Names.{Contains, All, WriteOut, WriteOutsValue, none_of, has_uncommitted, IsConsistent}
+use Rattle.machine.proofs.Names.{consistent_first, bytes_at_mark, IsSound, Ghosts, Begins, IsInFile, within_file}
 use Rattle.std.specs.FinMap as maps
 use Rattle.frames.specs.Frames.{page_of as page_held}
 use Rattle.machine.specs.History.{page_of}
-use Rattle.machine.proofs.track.ToldSpaces.{AreProcessorsTold, AreSpacesTold, spaces_made}
-use Rattle.machine.proofs.track.Arranged.{arranged_from}
-use Rattle.machine.proofs.track.Pages.{HasPages}
+use Rattle.machine.proofs.refining.ObservedSpaces.{AreProcessorsObserved, AreSpacesObserved, spaces_made}
+use Rattle.machine.proofs.refining.Arranged.{arranged_from}
+use Rattle.machine.proofs.refining.Pages.{HasPages}
 use Rattle.machine.proofs.sound.Lists.{get_or-replicate-same}
 use Rattle.machine.proofs.durable.Lists.{contains_none}
 use Rattle.machine.proofs.sound.Homes.{capacity_at, total_pages-within, page_below}
 use Rattle.machine.proofs.durable.Homes.{nothing_padded, home_is, within_cut}
 use Rattle.machine.proofs.durable.Marks.{IsDurable}
 
--- ---- what is told of processors and spaces
+-- ---- what is observed of processors and spaces
 
-no_spaces : AreSpacesTold maps.empty maps.empty
+no_spaces : AreSpacesObserved maps.empty maps.empty
 no_spaces = record {
   same_spaces = λ pcid. ap is_some (maps.get-empty nat_cmp pcid) ∙ sym (ap is_some (maps.get-empty nat_cmp pcid));
   same_places = λ pcid.
@@ -35,11 +37,11 @@ no_spaces = record {
       ∙ sym (ap (λ (o : Option AddressSpace). (unwrap_or o empty_space).places) (maps.get-empty nat_cmp pcid));
 }
 
-first_space : AreSpacesTold (maps.insert maps.empty 0 maps.empty) first_spaces
+first_space : AreSpacesObserved (maps.insert maps.empty 0 maps.empty) first_spaces
 first_space = spaces_made maps.empty 0 maps.empty empty_space no_spaces
 
 first_processors : (cpus tlb : ℕ)
-    → AreProcessorsTold (replicate cpus 0) (replicate cpus true) (fresh_shootdown cpus tlb)
+    → AreProcessorsObserved (replicate cpus 0) (replicate cpus true) (fresh_shootdown cpus tlb)
 first_processors cpus tlb =
     let at : (p : ℕ) → p < cpus → processor_at (fresh_shootdown cpus tlb) p ≡ fresh_processor tlb =
     λ p within. get_or-replicate cpus p (fresh_processor tlb) (fresh_processor 1) within in
@@ -55,7 +57,7 @@ first_processors cpus tlb =
           get_or-replicate cpus p true false below ∙ sym (ap (λ (x : Processor). is_running x.state) (at p below));
     }
 
--- ---- what is told of pages
+-- ---- what is observed of pages
 
 none_held : (frames copies frame : ℕ) (owner : FilePage) → Holds (all_free frames copies) frame owner → ⊥
 none_held frames copies frame owner holds = let none = ap page_held (get_or-replicate-same frames frame None) in cc
@@ -99,14 +101,14 @@ module _ (files : List File) (table : SuperValue) (lengths : List ℕ) (shape : 
   abbrev start : State
   start = fresh table lengths shape
 
-  abbrev told : Told
-  told = told_at_start files shape.cpus
+  abbrev observed : Observed
+  observed = observed_at_start files shape.cpus
 
-  arranged_fresh : IsArranged told start
-  arranged_fresh = arranged_from told start first_space (first_processors shape.cpus shape.tlb)
+  arranged_fresh : IsArranged observed start
+  arranged_fresh = arranged_from observed start first_space (first_processors shape.cpus shape.tlb)
       (record { same_locked = refl; same_pending = refl }) has.lengths
 
-  pages_fresh : HasPages files told start
+  pages_fresh : HasPages files observed start
   pages_fresh = record {
     files_are = has;
     latest = record {
@@ -124,23 +126,23 @@ module _ (files : List File) (table : SuperValue) (lengths : List ℕ) (shape : 
 
 -- so is each fresh machine
 pub arranged_at_start : (files : List File) (s : State) → IsFresh s → HasFiles files [] s
-    → IsArranged (told_first files s) s
+    → IsArranged (observed_first files s) s
 arranged_at_start files s is has =
     let same = is.as_booted in
     let cpus : length s.hardware.shootdown.processors ≡ is.shape.cpus = ap (λ (x : State).
     length x.hardware.shootdown.processors) same ∙ length-replicate is.shape.cpus (fresh_processor is.shape.tlb) in
-    subst (λ n. IsArranged (told_at_start files n) s) (sym cpus)
-    (subst (λ (x : State). HasFiles files [] x → IsArranged (told_at_start files is.shape.cpus) x) (sym same)
+    subst (λ n. IsArranged (observed_at_start files n) s) (sym cpus)
+    (subst (λ (x : State). HasFiles files [] x → IsArranged (observed_at_start files is.shape.cpus) x) (sym same)
     (arranged_fresh files s.table s.lengths is.shape) has)
 
 pub pages_at_start : (files : List File) (s : State) → IsFresh s → HasFiles files [] s
-    → HasPages files (told_first files s) s
+    → HasPages files (observed_first files s) s
 pages_at_start files s is has =
     let same = is.as_booted in
     let cpus : length s.hardware.shootdown.processors ≡ is.shape.cpus = ap (λ (x : State).
     length x.hardware.shootdown.processors) same ∙ length-replicate is.shape.cpus (fresh_processor is.shape.tlb) in
-    subst (λ n. HasPages files (told_at_start files n) s) (sym cpus)
-    (subst (λ (x : State). HasFiles files [] x → HasPages files (told_at_start files is.shape.cpus) x) (sym same)
+    subst (λ n. HasPages files (observed_at_start files n) s) (sym cpus)
+    (subst (λ (x : State). HasFiles files [] x → HasPages files (observed_at_start files is.shape.cpus) x) (sym same)
     (pages_fresh files s.table s.lengths is.shape) has)
 
 -- ---- the files of a volume at rest are those of its table, with its lengths
@@ -288,7 +290,7 @@ module _ (s : State) (sound : IsSound s) (seen : List ℕ) (files : List File) (
 
 pub durable_at_start : {D : Type 0} (ghosts : Ghosts D) (files : List File) (start : Whole D) → IsSound start.state
     → Begins ghosts files start
-    → IsDurable files (told_first files start.state) start.state (ghosts.seen start.device)
+    → IsDurable files (observed_first files start.state) start.state (ghosts.seen start.device)
     (ghosts.may_leave start.device)
 durable_at_start ghosts files start sound begins =
     let s = start.state in
@@ -309,9 +311,9 @@ durable_at_start ghosts files start sound begins =
     record {
       old = block_at disk;
       new = block_at disk;
-      stands = subst (λ (o : WriteOutsValue).
-          IsStanding s.table o (block_at disk) (block_at disk) disk (ghosts.may_leave start.device)) (sym outs)
-          (stands_first s.table disk (ghosts.may_leave start.device)
+      consistent = subst (λ (o : WriteOutsValue).
+          IsConsistent s.table o (block_at disk) (block_at disk) disk (ghosts.may_leave start.device)) (sym outs)
+          (consistent_first s.table disk (ghosts.may_leave start.device)
           (fits_geometry s.table begins.volume.super_block.fits) begins.volume begins.synced);
       written = record {
         before = [];

@@ -11,12 +11,13 @@ use Rattle.machine.proofs.Names.{has_committed, advanced_of, record_at, next_rec
 use Rattle.machine.proofs.Names.{WriteOutsValue, has_uncommitted, advanced, outs_record, outs_home, next_answer}
 use Rattle.machine.proofs.Names.{outs_after, current_stage, batches_after, AreInOrder, stage_at-is, after_committing}
 use Rattle.machine.proofs.Names.{newest_of, current-newest, advanced-newest, committed-at, current_committed}
-use Rattle.machine.proofs.Names.{older_committed, batch_before, stands_within, stands_after, stands_failed}
-use Rattle.machine.proofs.Names.{stands_other, State, length_of, home_of, cut_at_end, IsSound, IsPrepared, next_page}
+use Rattle.machine.proofs.Names.{older_committed, batch_before, consistent_within, consistent_after, consistent_failed}
+use Rattle.machine.proofs.Names.{consistent_other, State, length_of, home_of}
+use Rattle.machine.proofs.Names.{cut_at_end, IsSound, IsPrepared, next_page}
 use Rattle.machine.proofs.Names.{bytes_with, bytes_at_mark, work_asked, after_record, after_failure, File, journals_of}
 use Rattle.machine.proofs.Names.{AreHomes, Batch, SuperValue, geometry_of, Flushed, Sync, worked, TornFromWork}
-use Rattle.machine.proofs.Names.{LeftWithin, IsStanding, Checkpoint, Lock, not_running, Event, Mark, Acknowledge}
-use Rattle.machine.proofs.Names.{reason_against, Told, change_in, IsLost, IsWaiting, IsWritten}
+use Rattle.machine.proofs.Names.{LeftWithin, IsConsistent, Checkpoint, Lock, not_running, Event, Mark, Acknowledge}
+use Rattle.machine.proofs.Names.{reason_against, Observed, change_in, IsLost, IsWaiting, IsWritten}
 use Rattle.journal.specs.WriteOuts.{current}
 use Rattle.machine.specs.declared.act.Act.TheVariants as acts
 use Rattle.machine.specs.Rules.{next_record as record_asked}
@@ -100,7 +101,7 @@ record_is_new s new sound whole fits lengths frozen home e = elim (cases_Bool (i
       (All-contains (λ (w : WriteOut). All (IsSource s.table s.hardware.memory) w.batch.homes) s.write_outs.batches c.w
       sound.write_outs.sources there) c.among in
       let unset : s.resized ≡ false = false_from_ne_true s.resized (λ set.
-      contains_none c.w (subst (λ (l : List WriteOut). Contains l c.w) (sound.write_outs.settled set).0 there)) in
+      contains_none c.w (subst (λ (l : List WriteOut). Contains l c.w) (sound.write_outs.quiescent set).0 there)) in
       let not_page : leb (first_file_home s.table.layout s.table.slots) c.home ≡ false =
       sym (page_next s c.home c.is) ∙ other in
       other_record s other ∙ ap lengths_text (sym (lengths unset)) ∙ by c.home not_page source
@@ -233,8 +234,10 @@ marks_after answer batches prefix all k d lt =
 
 -- ---- the step
 
-module _ (files : List File) (told : Told) (s : State) (seen : List ℕ) (may : List ℕ → Type 0) (old new : ℕ → List ℕ)
-    (sound : IsSound s) (stands : IsStanding s.table s.write_outs old new seen may) (w : IsWritten files told s old new)
+module _ (files : List File) (observed : Observed) (s : State) (seen : List ℕ)
+    (may : List ℕ → Type 0) (old new : ℕ → List ℕ)
+    (sound : IsSound s) (consistent : IsConsistent s.table s.write_outs old new seen may)
+    (w : IsWritten files observed s old new)
     (p : ℕ) (allowed : reason_against s p acts.Flush ≡ None) (some : s.write_outs.batches ≡ [] → ⊥) where
   pub flush_whole : s.write_outs.broken ≡ false
   flush_whole = second_not_refused (not_running s.hardware.shootdown p) s.write_outs.broken refusals.Broken [] allowed
@@ -245,8 +248,8 @@ module _ (files : List File) (told : Told) (s : State) (seen : List ℕ) (may : 
   -- what a crash within it leaves
   pub flush_within : (c : List ℕ) → TornFromWork (work_asked s) may c
       → LeftWithin s.table old new (current_stage s.write_outs) c
-  flush_within c torn = stands_within s.table old new s.write_outs seen may (record_asked s)
-      (size_of_record s sound) stands flush_whole some is_new c torn
+  flush_within c torn = consistent_within s.table old new s.write_outs seen may (record_asked s)
+      (size_of_record s sound) consistent flush_whole some is_new c torn
 
   -- no mark was lost so far
   never_lost : {x : State} → IsLost s → IsLost x
@@ -267,39 +270,41 @@ module _ (files : List File) (told : Told) (s : State) (seen : List ℕ) (may : 
 
   pub flush_failed : (x : State) (seen' : List ℕ) (may' : List ℕ → Type 0) → x ≡ after_failure s
       → ((c : List ℕ) → may' c → TornFromWork (work_asked s) may c)
-      → IsDurable files (record told { history = told.history ++ [] }) x seen' may'
+      → IsDurable files (record observed { history = observed.history ++ [] }) x seen' may'
   flush_failed x seen' may' is left = subst
-      (λ (y : State). IsDurable files (record told { history = told.history ++ [] }) y seen' may') (sym is) (record {
+      (λ (y : State). IsDurable files (record observed { history = observed.history ++ [] }) y seen' may') (sym is)
+      (record {
         old = old;
         new = new;
-        stands = stands_failed s.table old new s.write_outs seen may (record_asked s)
-            (size_of_record s sound) stands flush_whole some is_new seen' may' left;
-        written = written_same files told s (after_failure s) old new w []
-            (calm_of files told.history [] (quiet_nothing told.history)) (record { table = refl; lengths = refl })
+        consistent = consistent_failed s.table old new s.write_outs seen may (record_asked s)
+            (size_of_record s sound) consistent flush_whole some is_new seen' may' left;
+        written = written_same files observed s (after_failure s) old new w []
+            (calm_of files observed.history [] (quiet_nothing observed.history))
+            (record { table = refl; lengths = refl })
             (λ none. none) (λ n has. absurd (omega (arith, has.1))) w.marks (λ broken held. not_busy held) never_lost
             (λ k d lt. absurd (omega arith))
             (λ n has. absurd (omega (arith, has.1))) refl
-            (marks_more w.before w.marked told.history [] s (after_failure s)
+            (marks_more w.before w.marked observed.history [] s (after_failure s)
             (λ n has. absurd (omega (arith, has.1))) (λ n wait. inr wait) never_lost w.only)
             (λ n has. absurd (omega (arith, has.1))) w.fresh;
       })
 
   -- all its device calls succeeded
   module _ (records : Bool) (may' : List ℕ → Type 0) (left : (c : List ℕ) → may' c → TornFromWork (work_asked s) may c)
-      (sure : work_asked s ≡ Sync → (c : List ℕ) → may' c → c ≡ seen) where
+      (made_durable : work_asked s ≡ Sync → (c : List ℕ) → may' c → c ≡ seen) where
     abbrev outs : WriteOutsValue
     outs = outs_after s.write_outs (next_answer s.write_outs)
 
     abbrev after_it : State
     after_it = stepped s records outs
 
-    stands_now : IsStanding s.table outs old new (worked seen (work_asked s)) may'
-    stands_now = stands_after s.table old new s.write_outs seen may (record_asked s)
-        (size_of_record s sound) stands flush_whole some is_new may' left sure
+    consistent_now : IsConsistent s.table outs old new (worked seen (work_asked s)) may'
+    consistent_now = consistent_after s.table old new s.write_outs seen may (record_asked s)
+        (size_of_record s sound) consistent flush_whole some is_new may' left made_durable
 
-    stands_as : (other : ℕ → List ℕ) → IsStanding s.table outs other new (worked seen (work_asked s)) may'
-        → IsStanding after_it.table outs other new (worked seen (work_asked s)) may'
-    stands_as other is = subst (λ (t : SuperValue). IsStanding t outs other new (worked seen (work_asked s)) may')
+    consistent_as : (other : ℕ → List ℕ) → IsConsistent s.table outs other new (worked seen (work_asked s)) may'
+        → IsConsistent after_it.table outs other new (worked seen (work_asked s)) may'
+    consistent_as other is = subst (λ (t : SuperValue). IsConsistent t outs other new (worked seen (work_asked s)) may')
         (sym (same_files s outs records).table) is
 
     marks_now : All (λ (y : WriteOut). Contains w.marked (Mark y.batch.mark)) outs.batches
@@ -328,29 +333,32 @@ module _ (files : List File) (told : Told) (s : State) (seen : List ℕ) (may : 
     -- the batch isn't committed by it, or was before
     pub flush_goes_on : (next_answer s.write_outs ≡ flushed.Device → ⊥)
         → ((n : ℕ) → next_answer s.write_outs ≡ flushed.Committed n → ⊥)
-        → IsDurable files (record told { history = told.history ++ [] }) after_it (worked seen (work_asked s)) may'
+        → IsDurable files (record observed { history = observed.history ++ [] }) after_it
+        (worked seen (work_asked s)) may'
     flush_goes_on other uncommitting = record {
       old = old;
       new = new;
-      stands = stands_as old stands_now;
-      written = written_same files told s after_it old new w []
-          (calm_of files told.history [] (quiet_nothing told.history)) (same_files s outs records)
+      consistent = consistent_as old consistent_now;
+      written = written_same files observed s after_it old new w []
+          (calm_of files observed.history [] (quiet_nothing observed.history)) (same_files s outs records)
           (same_unset s outs records) (λ n has. absurd (omega (arith, has.1))) marks_now (ready_now other) never_lost
           (stepped_records s outs records new sound w.frozen)
           (λ n has. absurd (omega (arith, has.1))) (same_number s outs records)
-          (marks_more w.before w.marked told.history [] s after_it (λ n has. absurd (omega (arith, has.1))) (λ n wait.
+          (marks_more w.before w.marked observed.history [] s after_it
+          (λ n has. absurd (omega (arith, has.1))) (λ n wait.
           elim (waits_now n wait) [ inl still ↦ inr still | inr e ↦ absurd (uncommitting n e) ]) never_lost w.only)
           (λ n has. absurd (omega (arith, has.1))) fresh_still;
     }
 
     -- it is
     pub flush_commits : (number : ℕ) → next_answer s.write_outs ≡ flushed.Committed number → IsDurable files
-        (record told { history = told.history ++ Acknowledge number ∷ [] }) after_it (worked seen (work_asked s)) may'
+        (record observed { history = observed.history ++ Acknowledge number ∷ [] }) after_it
+        (worked seen (work_asked s)) may'
     flush_commits number is =
         let answer : option_map_or answer_of (current s.write_outs.batches) flushed.Broken ≡ flushed.Committed number =
         sym (cond-false s.write_outs.broken flushed.Broken
         (option_map_or answer_of (current s.write_outs.batches) flushed.Broken) flush_whole) ∙ is in
-        let at = commits s.write_outs.batches number stands.sound.ordered
+        let at = commits s.write_outs.batches number consistent.sound.ordered
         (λ y there. (All-contains (λ (y : WriteOut). AreHomes (geometry_of s.table) y.batch.homes)
         s.write_outs.batches y sound.write_outs.homes there).some) answer in
         let none : has_uncommitted outs.batches ≡ false =
@@ -360,14 +368,15 @@ module _ (files : List File) (told : Told) (s : State) (seen : List ℕ) (may : 
         record {
           old = new;
           new = new;
-          stands =
-              stands_as new (stands_other s.table old new new outs (worked seen (work_asked s)) may' none stands_now);
-          written = written_new files told s after_it old new w (Acknowledge number ∷ [])
-              (calm_of files told.history (Acknowledge number ∷ []) (quiet_acknowledge told.history number))
+          consistent =
+              consistent_as new
+              (consistent_other s.table old new new outs (worked seen (work_asked s)) may' none consistent_now);
+          written = written_new files observed s after_it old new w (Acknowledge number ∷ [])
+              (calm_of files observed.history (Acknowledge number ∷ []) (quiet_acknowledge observed.history number))
               (same_files s outs records) (same_unset s outs records) (acknowledges in_new) marks_now (ready_now
               (λ e. never number (sym is ∙ e))) never_lost (stepped_records s outs records new sound w.frozen)
               (acknowledge_no_mark number) (same_number s outs records)
-              (marks_more w.before w.marked told.history (Acknowledge number ∷ []) s after_it
+              (marks_more w.before w.marked observed.history (Acknowledge number ∷ []) s after_it
               (acknowledge_no_mark number) (λ n wait. elim (waits_now n wait)
               [ inl still ↦ inr still | inr e ↦ inl (this_acked n (sym is ∙ e)) ]) never_lost w.only)
               (λ y there early has. none_uncommitted outs.batches y none there early)
@@ -378,10 +387,10 @@ module _ (files : List File) (told : Told) (s : State) (seen : List ℕ) (may : 
         never n e = cc
 
         this_acked : (n : ℕ) → flushed.Committed number ≡ flushed.Committed n
-            → Contains (told.history ++ Acknowledge number ∷ []) (Acknowledge n)
+            → Contains (observed.history ++ Acknowledge number ∷ []) (Acknowledge n)
         this_acked n e = let same : number ≡ n = cc in
-            subst (λ k. Contains (told.history ++ Acknowledge number ∷ []) (Acknowledge k)) same
-            (Contains-push told.history (Acknowledge number))
+            subst (λ k. Contains (observed.history ++ Acknowledge number ∷ []) (Acknowledge k)) same
+            (Contains-push observed.history (Acknowledge number))
 
         acknowledges : Contains w.marked (Mark number) → (n : ℕ) → Contains (Acknowledge number ∷ []) (Acknowledge n)
             → Contains w.marked (Mark n)

@@ -12,7 +12,7 @@ use Rattle.machine.proofs.Names.{with_length, with_event, since_mark, is_change}
 use Rattle.machine.proofs.Names.{is_change_of, is_resize, has_resized, cut_file, lengths_in}
 use Rattle.machine.proofs.Names.{Contains-append_left, Contains-append_cases, Contains-get_or, HasAcknowledged, IsLost}
 use Rattle.machine.proofs.Names.{IsWaiting, AreMarks, AreTouched, change_in, AreContentsOf, IsWritten, State}
-use Rattle.machine.proofs.Names.{home_of, cut_at_end, FilePage, MarkMade, bytes_at_mark, Told, SuperValue, WriteOut}
+use Rattle.machine.proofs.Names.{home_of, cut_at_end, FilePage, MarkMade, bytes_at_mark, Observed, SuperValue, WriteOut}
 use Rattle.machine.proofs.Names.{has_committed, WriteOutsValue, has_uncommitted, Checkpoint, IsInFile, within_file}
 use Rattle.machine.specs.History.{Store, SetLength}
 use Rattle.machine.proofs.Names.{map, first_home, mark_homes}
@@ -380,9 +380,10 @@ marks_more before marked history events s x unmarked waits lost are = record {
     by_each n (inr (inr is)) = inr (inr (lost is))
 
 -- where none waits any more, the second prefix has acknowledged marks alone
-pub marks_settled : (before marked history : List Event) (x : State) → ((n : ℕ) → IsWaiting x.write_outs.batches n → ⊥)
+pub marks_confirmed : (before marked history : List Event) (x : State)
+    → ((n : ℕ) → IsWaiting x.write_outs.batches n → ⊥)
     → AreMarks history before marked x → AreMarks history marked marked x
-marks_settled before marked history x none are = record {
+marks_confirmed before marked history x none are = record {
   each = are.each;
   in_before = λ n has. elim (are.in_marked n has) [ inl acked ↦ acked | inr wait ↦ absurd (none n wait) ];
   in_marked = are.in_marked;
@@ -408,30 +409,32 @@ pub some_touched : (history : List Event) → has_resized history ≡ false → 
     → (file page : ℕ) × (is_touched history file page ≡ true)
 some_touched history none some = some_changed (since_mark history) some none
 
-module _ (told : Told) (s : State) (p number : ℕ) (new : State) (mark : MarkMade s p number new)
-    (touched : AreTouched told s) where
+module _ (observed : Observed) (s : State) (p number : ℕ) (new : State) (mark : MarkMade s p number new)
+    (touched : AreTouched observed s) where
   -- those of files that were touched since the last mark
   pub gathers_touched : (owner : FilePage)
-      → (Contains mark.pages owner) ↔ (IsInFile s owner × (is_touched told.history owner.file owner.page ≡ true))
+      → (Contains mark.pages owner) ↔ (IsInFile s owner × (is_touched observed.history owner.file owner.page ≡ true))
   gathers_touched owner =
       let dirty = mark.gathered.gathered.dirty owner in
       (λ gathered. (touched.each owner).1 (dirty.0 gathered), λ stored. dirty.1 ((touched.each owner).0 stored))
 
   -- it writes nothing, where nothing was stored and no length was set
-  pub gathers_nothing : has_resized told.history ≡ s.resized
-      → (mark_homes s mark.pages ≡ []) ↔ (has_unmarked told.history ≡ false)
+  pub gathers_nothing : has_resized observed.history ≡ s.resized
+      → (mark_homes s mark.pages ≡ []) ↔ (has_unmarked observed.history ≡ false)
   gathers_nothing resized = (
-    (λ none. let parts = none_written s mark.pages none in false_from_ne_true (has_unmarked told.history) (λ stored.
-        let some = some_touched told.history (resized ∙ parts.0) stored in
+    (λ none. let parts = none_written s mark.pages none in false_from_ne_true (has_unmarked observed.history) (λ stored.
+        let some = some_touched observed.history (resized ∙ parts.0) stored in
         let there = subst (λ (pages : List FilePage). Contains pages (record { file = some.0; page = some.1 })) parts.1
         ((gathers_touched (record { file = some.0; page = some.1 })).1
         (touched.inside parts.0 (record { file = some.0; page = some.1 }) some.2, some.2)) in
         omega (arith, there.1))),
     (λ none.
         let unset : s.resized ≡ false = false_from_ne_true s.resized
-        (λ set. both_ways (has_unmarked told.history) none (unmarked_by_resized told.history (resized ∙ set))) in
-        let no_pages : mark.pages ≡ [] = empty mark.pages (λ owner gathered. both_ways (has_unmarked told.history) none
-        (unmarked_by_touched told.history owner.file owner.page ((gathers_touched owner).0 gathered).1)) in
+        (λ set. both_ways (has_unmarked observed.history) none
+        (unmarked_by_resized observed.history (resized ∙ set))) in
+        let no_pages : mark.pages ≡ [] =
+        empty mark.pages (λ owner gathered. both_ways (has_unmarked observed.history) none
+        (unmarked_by_touched observed.history owner.file owner.page ((gathers_touched owner).0 gathered).1)) in
         λ i. cond (unset i) (first_home s.table.layout s.table.slots ∷ []) [] ++ map (home_of s.table) (no_pages i)),
   )
     where
@@ -516,7 +519,7 @@ records_as s x leaves new are =
     (λ k d lt. record_as s x leaves.files (get_or s.checkpoint.frozen k d) new
     (leaves.bytes (get_or s.checkpoint.frozen k d) (Contains-get_or s.checkpoint.frozen k d lt)) (are k d lt))
 
--- ---- what is told grows by events that touch no page
+-- ---- what is observed grows by events that touch no page
 
 -- events that touch no page and change none
 abbrev pub AreCalm : List File → List Event → List Event → Type 0
@@ -534,40 +537,42 @@ abbrev pub IsFresh : State → List Event → Type 0
 IsFresh x before = (y : WriteOut) → Contains x.write_outs.batches y → has_committed y ≡ false
     → Contains before (Mark y.batch.mark) → ⊥
 
-module _ (files : List File) (told : Told) (s x : State) (old new : ℕ → List ℕ) (w : IsWritten files told s old new)
-    (events : List Event) (calm : AreCalm files told.history events) (same : SameFiles s x)
+module _ (files : List File) (observed : Observed) (s x : State) (old new : ℕ → List ℕ)
+    (w : IsWritten files observed s old new)
+    (events : List Event) (calm : AreCalm files observed.history events) (same : SameFiles s x)
     (unset : x.resized ≡ false → s.resized ≡ false)
     (acks : (n : ℕ) → Contains events (Acknowledge n) → Contains w.marked (Mark n))
     (marks : All (λ (y : WriteOut). Contains w.marked (Mark y.batch.mark)) x.write_outs.batches)
     (ready : x.write_outs.broken ≡ true → change_in x.hardware.shootdown.lock ≡ Some Checkpoint → has_uncommitted
     x.write_outs.batches ≡ false) (lost_as : IsLost s → IsLost x) (frozen : AreFrozenRecords x new)
     (unmarked : (n : ℕ) → Contains events (Mark n) → ⊥) (same_marks : x.marks ≡ s.marks)
-    (only : AreMarks (told.history ++ events) w.before w.marked x) where
-  abbrev now : Told
-  now = record told { history = told.history ++ events }
+    (only : AreMarks (observed.history ++ events) w.before w.marked x) where
+  abbrev now : Observed
+  now = record observed { history = observed.history ++ events }
 
   -- with another Old
   pub written_on : (other : ℕ → List ℕ) (before : List Event) → AreContentsOf files
-      (told.history ++ events) x.table other before → HasAcknowledged before (told.history ++ events) → IsFresh x before
-      → AreMarks (told.history ++ events) before w.marked x → IsWritten files now x other new
+      (observed.history ++ events) x.table other before
+      → HasAcknowledged before (observed.history ++ events) → IsFresh x before
+      → AreMarks (observed.history ++ events) before w.marked x → IsWritten files now x other new
   written_on other before are acknowledged fresh only = record {
     before = before;
     old_are = are;
     acknowledged = acknowledged;
     marked = w.marked;
-    new_are = contents_more files told.history events s x same new w.marked w.new_are;
-    grown = acknowledged_more w.marked told.history events acks w.grown;
+    new_are = contents_more files observed.history events s x same new w.marked w.new_are;
+    grown = acknowledged_more w.marked observed.history events acks w.grown;
     marks = marks;
     fresh = fresh;
     only = only;
-    numbered = λ n has. elim (Contains-append_cases told.history events (Mark n) has)
+    numbered = λ n has. elim (Contains-append_cases observed.history events (Mark n) has)
         [ inl was ↦ subst (λ m. n ≤ m) (sym same_marks) (w.numbered n was) | inr this ↦ absurd (unmarked n this) ];
     ready = ready;
     clean = elim w.clean [
       | inl lost ↦ inl (lost_as lost)
       | inr clean ↦ inr (λ owner is untouched.
           let still = calm owner.file owner.page untouched in
-          part_as s x same owner new (after (memory_of files) (told.history ++ events) owner.file owner.page)
+          part_as s x same owner new (after (memory_of files) (observed.history ++ events) owner.file owner.page)
           (clean owner (in_file_as s x same owner is) still.before ∙ sym (ap (within_file s owner) still.same)))
     ];
     same_lengths = λ none. ap (λ (t : SuperValue). lengths_in t new) same.table
@@ -578,21 +583,22 @@ module _ (files : List File) (told : Told) (s x : State) (old new : ℕ → List
   -- with the same Old
   pub written_same : ((n : ℕ) → Contains events (Acknowledge n) → Contains w.before (Mark n)) → IsFresh x w.before
       → IsWritten files now x old new
-  written_same old_acks fresh = written_on old w.before (contents_more files told.history events s x same old w.before
-      w.old_are) (acknowledged_more w.before told.history events old_acks w.acknowledged) fresh only
+  written_same old_acks fresh =
+      written_on old w.before (contents_more files observed.history events s x same old w.before
+      w.old_are) (acknowledged_more w.before observed.history events old_acks w.acknowledged) fresh only
 
   -- where New is Old, too
   pub written_new : IsFresh x w.marked → ((n : ℕ) → IsWaiting x.write_outs.batches n → ⊥)
       → IsWritten files now x new new
-  written_new fresh none = written_on new w.marked (contents_more files told.history events s x same new w.marked
-      w.new_are) (acknowledged_more w.marked told.history events acks w.grown) fresh
-      (marks_settled w.before w.marked (told.history ++ events) x none only)
+  written_new fresh none = written_on new w.marked (contents_more files observed.history events s x same new w.marked
+      w.new_are) (acknowledged_more w.marked observed.history events acks w.grown) fresh
+      (marks_confirmed w.before w.marked (observed.history ++ events) x none only)
 
--- of what is told the history alone counts
-pub written_as : (files : List File) (told told' : Told) (s : State) (old new : ℕ → List ℕ)
-    → told'.history ≡ told.history → IsWritten files told s old new → IsWritten files told' s old new
-written_as files told told' s old new same w =
-    let moved : (P : List Event → Type 0) → P told.history → P told'.history = λ P p. subst P (sym same) p in
+-- of what is observed the history alone counts
+pub written_as : (files : List File) (observed observed' : Observed) (s : State) (old new : ℕ → List ℕ)
+    → observed'.history ≡ observed.history → IsWritten files observed s old new → IsWritten files observed' s old new
+written_as files observed observed' s old new same w =
+    let moved : (P : List Event → Type 0) → P observed.history → P observed'.history = λ P p. subst P (sym same) p in
     record {
       before = w.before;
       old_are = moved (λ h. AreContentsOf files h s.table old w.before) w.old_are;
@@ -613,10 +619,11 @@ written_as files told told' s old new same w =
     }
 
 -- what the device recovers to goes with a history to which nothing or a store is added
-pub written_left : (files : List File) (told told' : Told) (events : List Event) (s x : State) (old new : ℕ → List ℕ)
-    → told'.history ≡ told.history ++ events → IsQuiet events → Leaves s x → IsWritten files told s old new
-    → IsWritten files told' x old new
-written_left files told told' events s x old new grows quiet leaves w =
+pub written_left : (files : List File) (observed observed' : Observed) (events : List Event)
+    (s x : State) (old new : ℕ → List ℕ)
+    → observed'.history ≡ observed.history ++ events → IsQuiet events → Leaves s x → IsWritten files observed s old new
+    → IsWritten files observed' x old new
+written_left files observed observed' events s x old new grows quiet leaves w =
     let acks : (n : ℕ) (prefix : List Event) → Contains events (Acknowledge n) → Contains prefix (Mark n) =
     λ n prefix has. absurd (quiet_acknowledges events n quiet has) in
     let unmarked : (n : ℕ) → Contains events (Mark n) → ⊥ = λ n has. quiet_marks events n quiet has in
@@ -625,8 +632,9 @@ written_left files told told' events s x old new grows quiet leaves w =
       broken = ap (λ (o : WriteOutsValue). o.broken) outs ∙ lost.broken;
       no_mark = λ held. lost.no_mark (leaves.lock lost.broken held);
     } in
-    written_as files (record told { history = told.history ++ events }) told' x old new grows
-    (written_same files told s x old new w events (λ file page is. quiet_untouched (memory_of files) told.history events
+    written_as files (record observed { history = observed.history ++ events }) observed' x old new grows
+    (written_same files observed s x old new w events
+    (λ file page is. quiet_untouched (memory_of files) observed.history events
     file page quiet is) leaves.files (λ none. sym leaves.resized ∙ none) (λ n has. acks n w.marked has)
     (subst (λ (o : WriteOutsValue). All (λ batch. Contains w.marked (Mark batch.batch.mark)) o.batches)
     (sym outs) w.marks)
@@ -634,7 +642,7 @@ written_left files told told' events s x old new grows quiet leaves w =
     let was = sym (ap (λ (o : WriteOutsValue). o.broken) outs) ∙ broken in
     ap (λ (o : WriteOutsValue). has_uncommitted o.batches) outs ∙ w.ready was (leaves.lock was held))
     lost_as (records_as s x leaves new w.frozen) unmarked leaves.marks
-    (marks_more w.before w.marked told.history events s x unmarked
+    (marks_more w.before w.marked observed.history events s x unmarked
     (λ n wait. inr (subst (λ (o : WriteOutsValue). IsWaiting o.batches n) (sym outs) wait)) lost_as w.only)
     (λ n has. acks n w.before has)
     (λ y there early. w.fresh y (subst (λ (o : WriteOutsValue). Contains o.batches y) outs there) early))

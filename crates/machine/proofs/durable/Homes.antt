@@ -8,7 +8,7 @@ use Rattle.machine.proofs.Names.{within_file, IsSound, Contains, list_any, All, 
 use Rattle.machine.proofs.Names.{append-nil, zeros, padded, zeros-nil, Frame, frame_at, bytes_of, page_of, Holds}
 use Rattle.machine.proofs.Names.{is_of_page, is_frozen, same_page, bytes_with, bytes_at_mark}
 use Rattle.machine.proofs.Names.{All-contains, is_in_memory, WriteOut, HasBlock, memory_of, after}
-use Rattle.machine.proofs.Names.{is_touched, Told, IsTracked}
+use Rattle.machine.proofs.Names.{is_touched, Observed, Refines}
 use Rattle.machine.proofs.Names.{IsSource, first_home, lengths_text, eqb-true}
 use Rattle.machine.proofs.Names.{◌&&◌, and_right, and_from, eq-eqb, mark_homes}
 use Rattle.machine.proofs.Names.{lengths_blocks, Bool, false≢true}
@@ -113,7 +113,7 @@ module _ (s : State) (sound : IsSound s) (contents : ℕ → List ℕ) where
   -- those of pages do
   pub laid-page : (owner : FilePage) → laid s contents (home_of s.table owner) ≡ contents (home_of s.table owner)
   laid-page owner = laid-other (home_of s.table owner)
-      (λ set at. let some = (sound.write_outs.settled set).2 in let home = at in omega (arith, some, home))
+      (λ set at. let some = (sound.write_outs.quiescent set).2 in let home = at in omega (arith, some, home))
 
   pub laid-lengths : s.resized ≡ true
       → laid s contents (first_home s.table.layout s.table.slots) ≡ lengths_text s.lengths
@@ -178,24 +178,24 @@ no_batch s sound owner is absent has =
         same_home s sound.within owner page.0 is (sound.memory.in_files at.0 page.0 at.1) page.1 in
         both_ways (is_in_memory s.hardware.memory owner) absent (ap (is_in_memory s.hardware.memory) same ∙ page.2)
 
-module _ (files : List File) (told : Told) (s : State) (seen : List ℕ) (may : List ℕ → Type 0)
-    (t : IsTracked files told s seen may) where
+module _ (files : List File) (observed : Observed) (s : State) (seen : List ℕ) (may : List ℕ → Type 0)
+    (t : Refines files observed s seen may) where
   -- nor is it touched
   pub absent_untouched : (owner : FilePage) → IsInFile s owner → is_in_memory s.hardware.memory owner ≡ false
-      → is_touched told.history owner.file owner.page ≡ false
-  absent_untouched owner in_file absent = false_from_ne_true (is_touched told.history owner.file owner.page) (λ is.
+      → is_touched observed.history owner.file owner.page ≡ false
+  absent_untouched owner in_file absent = false_from_ne_true (is_touched observed.history owner.file owner.page) (λ is.
       let at = (t.touched.each owner).0 (in_file, is) in
       both_ways (is_in_memory s.hardware.memory owner) absent (in_memory_held s.hardware.memory at.0 owner at.1))
 
   pub page_read : (owner : FilePage) → IsInFile s owner → is_in_memory s.hardware.memory owner ≡ false
       → s.write_outs.broken ≡ false
-      → page_from s seen owner ≡ after (memory_of files) told.history owner.file owner.page
+      → page_from s seen owner ≡ after (memory_of files) observed.history owner.file owner.page
   page_read owner is absent whole =
       let home = home_of s.table owner in
       let block : block_at seen home ≡ t.new home =
-      t.stands.reads whole home (home_is s t.sound owner is) (no_batch s t.sound owner is absent) in
+      t.consistent.reads whole home (home_is s t.sound owner is) (no_batch s t.sound owner is absent) in
       let part : within_file s owner (t.new home)
-      ≡ within_file s owner (after (memory_of files) told.history owner.file owner.page) =
+      ≡ within_file s owner (after (memory_of files) observed.history owner.file owner.page) =
       elim t.written.clean [
         | inl lost ↦ absurd (both_ways s.write_outs.broken whole lost.broken)
         | inr clean ↦ clean owner is (absent_untouched owner is absent)

@@ -52,10 +52,10 @@ module _ {D : Type 0} (disk : Ghosts D)
   alike n first later honest is =
       left_as n first later (disk.seen later) honest is (seen_is_left later (stays_honest n first later honest is))
 
-  pub found_settled : (files : List File) (n : ℕ) (first later : D) → disk.is_honest first
+  pub found_permanent : (files : List File) (n : ℕ) (first later : D) → disk.is_honest first
       → Only (disk.may_leave first) (disk.seen first) → RecoversTo (disk.seen first) files → IsLater disk n first later
       → Finds disk files later
-  found_settled files n first later honest only r is =
+  found_permanent files n first later honest only r is =
       let alike_is = alike n first later honest is in
       found_on files later (stays_honest n first later honest is) (recovers_as (disk.may_leave first) (disk.seen later)
       alike_is files (subst (λ (c : List ℕ). RecoversTo c files) (sym (only alike_is.0 alike_is.1)) r))

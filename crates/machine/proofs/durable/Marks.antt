@@ -7,11 +7,12 @@ use Rattle.machine.proofs.Names.{both_ways, or_parts, not_from_true, not_from_fa
 use Rattle.machine.proofs.Names.{Contains-append_left, Contains-append_right, Contains-append_cases, Contains-push}
 use Rattle.machine.proofs.Names.{Contains-push_cases, Contains-get_or, All-push, All-weaker, recursion_from_All}
 use Rattle.machine.proofs.Names.{FilePage, File, GeometryValue, journals_of, geometry_of, AreHomes, WriteOut, begun_of}
-use Rattle.machine.proofs.Names.{has_committed, WriteOutsValue, has_uncommitted, is_busy, next_batch, begun, IsStanding}
-use Rattle.machine.proofs.Names.{stands_begun, stands_other, Checkpoint, Spaces, CheckpointState, Gathers}
+use Rattle.machine.proofs.Names.{has_committed, WriteOutsValue, has_uncommitted}
+use Rattle.machine.proofs.Names.{is_busy, next_batch, begun, IsConsistent}
+use Rattle.machine.proofs.Names.{consistent_begun, consistent_other, Checkpoint, Spaces, CheckpointState, Gathers}
 use Rattle.machine.proofs.Names.{without_notes, Event, Memory, Mark, Acknowledge, memory_of, after, has_unmarked}
 use Rattle.machine.proofs.Names.{is_touched, State, home_of, cut_at_end, MarkMade, end_change, with_batch}
-use Rattle.machine.proofs.Names.{bytes_at_mark, IsSound, Told, change_in, HasParts, AreContentsOf, HasAcknowledged}
+use Rattle.machine.proofs.Names.{bytes_at_mark, IsSound, Observed, change_in, HasParts, AreContentsOf, HasAcknowledged}
 use Rattle.machine.proofs.Names.{IsWaiting, IsWritten, IsLatest, AreTouched, IsInFile, within_file, part, HasLengths}
 use Rattle.machine.proofs.Names.{HasFiles, lengths_in, lengths_of, lengths_after, lengths_blocks, first_home}
 use Rattle.machine.proofs.Names.{lengths_in-same, has_lengths-same, said_lengths, reads_lengths, AreLengths, TableFile}
@@ -25,13 +26,13 @@ use Rattle.machine.proofs.durable.Uncommitted.{committed_frozen, none_uncommitte
 use Rattle.machine.proofs.durable.Homes.{laid, laid-other, laid-page, laid-lengths, unwritten, within_cut, overlaid}
 use Rattle.machine.proofs.durable.Homes.{overlaid-other, overlaid-at, overlaid-elsewhere, bytes_at_mark-held}
 
--- what the device recovers to goes with what is told
-pub record IsDurable (files : List File) (told : Told) (s : State) (seen : List ℕ)
+-- what the device recovers to goes with what is observed
+pub record IsDurable (files : List File) (observed : Observed) (s : State) (seen : List ℕ)
     (may_leave : List ℕ → Type 0) : Type 0 where
   pub old : ℕ → List ℕ
   pub new : ℕ → List ℕ
-  pub stands : IsStanding s.table s.write_outs old new seen may_leave
-  pub written : IsWritten files told s old new
+  pub consistent : IsConsistent s.table s.write_outs old new seen may_leave
+  pub written : IsWritten files observed s old new
 
 abbrev no_pages : List FilePage
 no_pages = []
@@ -49,13 +50,14 @@ lengths_at (g ∷ fs) (m ∷ lengths) within zero n f file size =
 lengths_at (g ∷ fs) (m ∷ lengths) within (suc i) n f file size =
     lengths_at fs lengths (λ k. within (suc k)) i n f file size
 
-module _ (files : List File) (told : Told) (s : State) (p number : ℕ) (seen : List ℕ) (may : List ℕ → Type 0)
-    (old new : ℕ → List ℕ) (sound : IsSound s) (has_files : HasFiles files told.history s)
-    (latest : IsLatest files told s) (touched : AreTouched told s)
-    (stands : IsStanding s.table s.write_outs old new seen may) (w : IsWritten files told s old new) (next : number
+module _ (files : List File) (observed : Observed) (s : State) (p number : ℕ) (seen : List ℕ) (may : List ℕ → Type 0)
+    (old new : ℕ → List ℕ) (sound : IsSound s) (has_files : HasFiles files observed.history s)
+    (latest : IsLatest files observed s) (touched : AreTouched observed s)
+    (consistent : IsConsistent s.table s.write_outs old new seen may)
+    (w : IsWritten files observed s old new) (next : number
     ≡ s.marks + 1) (lock : s.hardware.shootdown.lock ≡ Some (record { holder = p; change = Checkpoint })) where
   abbrev history : List Event
-  history = told.history
+  history = observed.history
 
   abbrev memory : Memory
   memory = after (memory_of files) history
@@ -67,8 +69,8 @@ module _ (files : List File) (told : Told) (s : State) (p number : ℕ) (seen : 
   abbrev longer : List Event
   longer = history ++ marked_by history number
 
-  abbrev now : Told
-  now = record told { history = longer }
+  abbrev now : Observed
+  now = record observed { history = longer }
 
   under_checkpoint : change_in s.hardware.shootdown.lock ≡ Some Checkpoint
   under_checkpoint = ap change_in lock
@@ -231,7 +233,7 @@ module _ (files : List File) (told : Told) (s : State) (p number : ℕ) (seen : 
       marked_nothing = record {
         old = new;
         new = new;
-        stands = stands_other s.table old new new s.write_outs seen may committed stands;
+        consistent = consistent_other s.table old new new s.write_outs seen may committed consistent;
         written = record {
           before = made;
           old_are = made_contents new w.new_are.fits (w.same_lengths unset) all_parts;
@@ -280,7 +282,7 @@ module _ (files : List File) (told : Told) (s : State) (p number : ℕ) (seen : 
           record {
             old = old;
             new = new;
-            stands = stands;
+            consistent = consistent;
             written = record {
               before = w.before;
               old_are = contents_more files history (marked_by history number) s s
@@ -306,7 +308,7 @@ module _ (files : List File) (told : Told) (s : State) (p number : ℕ) (seen : 
               ready = λ broken held. absurd (none_now held);
               clean = inl (record { broken = broken; no_mark = λ held. none_now held });
               same_lengths = λ none. w.same_lengths (false_from_ne_true s.resized
-                  (λ set. both_ways s.write_outs.broken (sound.write_outs.settled set).1 broken));
+                  (λ set. both_ways s.write_outs.broken (sound.write_outs.quiescent set).1 broken));
               frozen = subst (λ (pages : List FilePage). All (λ owner. new (home_of s.table owner)
                   ≡ cut_at_end s owner (bytes_at_mark s.hardware.memory owner)) pages) (sym (gathers.frozen
                   ∙ cond-false (not s.write_outs.broken) pages [] (not_from_true s.write_outs.broken broken)))
@@ -346,7 +348,7 @@ module _ (files : List File) (told : Told) (s : State) (p number : ℕ) (seen : 
 
       set_lengths : s.resized ≡ true → lengths_in s.table next_contents ≡ s.lengths
       set_lengths set =
-          said_lengths s.table next_contents (sound.write_outs.settled set).2
+          said_lengths s.table next_contents (sound.write_outs.quiescent set).2
           ∙ reads_lengths s.table s.lengths (next_contents lengths_home) sound.fits
           (record { are = lengths_fit; spelled = laid-lengths s sound (overlaid s pages new) set })
 
@@ -416,10 +418,10 @@ module _ (files : List File) (told : Told) (s : State) (p number : ℕ) (seen : 
           record {
             old = new;
             new = next_contents;
-            stands = stands_begun s.table s.write_outs old new next_contents number homes seen may whole
+            consistent = consistent_begun s.table s.write_outs old new next_contents number homes seen may whole
                 (prepared.1 whole) (omega arith) small_mark
                 (subst (λ (g : GeometryValue). AreHomes g homes) (sym sound.write_outs.geometry) fits) below
-                (λ b none. next_other b none) stands;
+                (λ b none. next_other b none) consistent;
             written = record {
               before = w.marked;
               old_are = contents_more files history (marked_by history number) s s

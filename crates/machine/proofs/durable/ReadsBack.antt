@@ -2,9 +2,10 @@
 use Rattle.machine.proofs.Names.{ℕ, ◌⊎◌, inl, inr, List, Option, Some, None, ◌≡◌, Bool, true, false, MatchBool, refl}
 use Rattle.machine.proofs.Names.{sym, ap, ◌∙◌, ◌<◌, length, subst, File, SuperValue, Recovers, RecoversTo, Stage}
 use Rattle.machine.proofs.Names.{Recording, Describing, SyncingRecords, Opening, Committing, current_stage, LeftWithin}
-use Rattle.machine.proofs.Names.{LeftBefore, stands_left, committed-at, stage_committed, Event, memory_of, after, Mark}
-use Rattle.machine.proofs.Names.{files_after, is_touched, State, ReadsBack, IsSound, Told, AreContentsOf}
-use Rattle.machine.proofs.Names.{HasAcknowledged, HasFiles, IsWritten, IsWaiting, IsTracked, Contains, All}
+use Rattle.machine.proofs.Names.{LeftBefore, consistent_left, committed-at}
+use Rattle.machine.proofs.Names.{stage_committed, Event, memory_of, after, Mark}
+use Rattle.machine.proofs.Names.{files_after, is_touched, State, ReadsBack, IsSound, Observed, AreContentsOf}
+use Rattle.machine.proofs.Names.{HasAcknowledged, HasFiles, IsWritten, IsWaiting, Refines, Contains, All}
 use Rattle.machine.proofs.Names.{option_map_or, option_and_then, both_ways, false_from_ne_true, All-contains}
 use Rattle.machine.proofs.Names.{is_committed, WriteOut, next_stage, has_committed, AreInOrder, IsAcknowledged, IsOld}
 use Rattle.machine.proofs.Names.{IsNew, StopsBefore, StopsWithin, StopsInStep, Stops, Mapped, FilePage, entry_at}
@@ -45,41 +46,45 @@ reads_contents files history s sound has contents prefix are acknowledged c reco
   };
 }
 
-pub reads_within : (files : List File) (told : Told) (s : State) → IsSound s → HasFiles files told.history s
-    → (old new : ℕ → List ℕ) → IsWritten files told s old new → (c : List ℕ)
-    → LeftWithin s.table old new (current_stage s.write_outs) c → ReadsBack files told.history c
-reads_within files told s sound has old new w c left =
+pub reads_within : (files : List File) (observed : Observed) (s : State) → IsSound s → HasFiles files observed.history s
+    → (old new : ℕ → List ℕ) → IsWritten files observed s old new → (c : List ℕ)
+    → LeftWithin s.table old new (current_stage s.write_outs) c → ReadsBack files observed.history c
+reads_within files observed s sound has old new w c left =
     elim (left_either s.table old new (current_stage s.write_outs) c left) [
-      | inl is ↦ reads_contents files told.history s sound has old w.before w.old_are w.acknowledged c is
-      | inr is ↦ reads_contents files told.history s sound has new w.marked w.new_are w.grown c is
+      | inl is ↦ reads_contents files observed.history s sound has old w.before w.old_are w.acknowledged c is
+      | inr is ↦ reads_contents files observed.history s sound has new w.marked w.new_are w.grown c is
     ]
 
 -- what a crash may leave now
-pub reads_now : (files : List File) (told : Told) (s : State) (seen : List ℕ) (may : List ℕ → Type 0) → IsSound s
-    → HasFiles files told.history s → IsDurable files told s seen may → (c : List ℕ) → may c
-    → ReadsBack files told.history c
-reads_now files told s seen may sound has is c left = reads_within files told s sound has is.old is.new is.written c
-    (stands_left s.table is.old is.new s.write_outs seen may is.stands c left)
+pub reads_now : (files : List File) (observed : Observed) (s : State) (seen : List ℕ) (may : List ℕ → Type 0)
+    → IsSound s
+    → HasFiles files observed.history s → IsDurable files observed s seen may → (c : List ℕ) → may c
+    → ReadsBack files observed.history c
+reads_now files observed s seen may sound has is c left =
+    reads_within files observed s sound has is.old is.new is.written c
+    (consistent_left s.table is.old is.new s.write_outs seen may is.consistent c left)
 
 -- ---- what a crash leaves by the write-out whose step comes next
 
-module _ (files : List File) (told : Told) (s : State) (sound : IsSound s) (has : HasFiles files told.history s)
-    (old new : ℕ → List ℕ) (w : IsWritten files told s old new)
+module _ (files : List File) (observed : Observed) (s : State) (sound : IsSound s)
+    (has : HasFiles files observed.history s)
+    (old new : ℕ → List ℕ) (w : IsWritten files observed s old new)
     (ordered : AreInOrder s.write_outs.batches) (c : List ℕ) where
-  recovers_to : (contents : ℕ → List ℕ) (prefix : List Event) → AreContentsOf files told.history s.table contents prefix
+  recovers_to : (contents : ℕ → List ℕ) (prefix : List Event)
+      → AreContentsOf files observed.history s.table contents prefix
       → Recovers s.table contents c → RecoversTo c (files_after files prefix)
   recovers_to contents prefix are recovers = record {
     table = s.table;
     contents = contents;
     recovers = recovers;
     lengths = are.fits;
-    files_are = prefix_has files s.table has.named told.history contents prefix are;
+    files_are = prefix_has files s.table has.named observed.history contents prefix are;
   }
 
   -- where no batch waits, New is the files at the last acknowledged mark
-  settled : ((n : ℕ) → IsWaiting s.write_outs.batches n → ⊥) → Recovers s.table new c
-      → IsAcknowledged files told.history c
-  settled none recovers = record {
+  confirmed : ((n : ℕ) → IsWaiting s.write_outs.batches n → ⊥) → Recovers s.table new c
+      → IsAcknowledged files observed.history c
+  confirmed none recovers = record {
     prefix = w.marked;
     durable =
         record { rest = w.new_are.rest; begins = w.new_are.begins; marked = w.new_are.marked; acknowledged = w.grown };
@@ -91,9 +96,9 @@ module _ (files : List File) (told : Told) (s : State) (sound : IsSound s) (has 
     there : Contains s.write_outs.batches y
     there = current_there s.write_outs.batches y is
 
-    is_old : has_committed y ≡ false → Recovers s.table old c → IsOld files told.history y.batch.mark c
+    is_old : has_committed y ≡ false → Recovers s.table old c → IsOld files observed.history y.batch.mark c
     is_old early recovers = record {
-      settled = record {
+      confirmed = record {
         prefix = w.before;
         durable = record {
           rest = w.old_are.rest;
@@ -107,7 +112,7 @@ module _ (files : List File) (told : Told) (s : State) (sound : IsSound s) (has 
       lacks = w.fresh y there early;
     }
 
-    is_new : Recovers s.table new c → IsNew files told.history y.batch.mark c
+    is_new : Recovers s.table new c → IsNew files observed.history y.batch.mark c
     is_new recovers = record {
       prefix = w.marked;
       durable = record {
@@ -133,7 +138,7 @@ module _ (files : List File) (told : Told) (s : State) (sound : IsSound s) (has 
         ∙ wait.early) (ap (λ (o : Option Stage). option_map_or is_committed o true) at)
 
     before_at : (o : Option Stage) → next_stage y ≡ o → LeftBefore s.table old new o c
-        → StopsBefore files told.history y.batch.mark o c
+        → StopsBefore files observed.history y.batch.mark o c
     before_at (Some (Recording i)) at left = is_old (committed-at y (Recording i) at) left
     before_at (Some Describing) at left = is_old (committed-at y Describing at) left
     before_at (Some SyncingRecords) at left = is_old (committed-at y SyncingRecords at) left
@@ -141,10 +146,10 @@ module _ (files : List File) (told : Told) (s : State) (sound : IsSound s) (has 
     before_at (Some Committing) at (inl left) = inl (is_old (committed-at y Committing at) left)
     before_at (Some Committing) at (inr left) = inr (is_new left)
     before_at (Some stage) at left = is_new left
-    before_at None at left = settled (none_waits at) left
+    before_at None at left = confirmed (none_waits at) left
 
     within_at : (o : Option Stage) → next_stage y ≡ o → LeftWithin s.table old new o c
-        → StopsWithin files told.history y.batch.mark o c
+        → StopsWithin files observed.history y.batch.mark o c
     within_at (Some (Recording i)) at left = is_old (committed-at y (Recording i) at) left
     within_at (Some Describing) at left = is_old (committed-at y Describing at) left
     within_at (Some SyncingRecords) at left = is_old (committed-at y SyncingRecords at) left
@@ -153,42 +158,44 @@ module _ (files : List File) (told : Told) (s : State) (sound : IsSound s) (has 
     within_at (Some Committing) at (inl left) = inl (is_old (committed-at y Committing at) left)
     within_at (Some Committing) at (inr left) = inr (is_new left)
     within_at (Some stage) at left = is_new left
-    within_at None at left = settled (none_waits at) left
+    within_at None at left = confirmed (none_waits at) left
 
   before_by : (o : Option WriteOut) → current s.write_outs.batches ≡ o
       → LeftBefore s.table old new (option_and_then next_stage o) c
-      → StopsBefore files told.history (option_map_or (λ (x : WriteOut). x.batch.mark) o 0)
+      → StopsBefore files observed.history (option_map_or (λ (x : WriteOut). x.batch.mark) o 0)
       (option_and_then next_stage o) c
-  before_by None is left = settled (λ n wait. none_current s.write_outs.batches is wait.w wait.there) left
+  before_by None is left = confirmed (λ n wait. none_current s.write_outs.batches is wait.w wait.there) left
   before_by (Some y) is left = before_at y is (next_stage y) refl left
 
   within_by : (o : Option WriteOut) → current s.write_outs.batches ≡ o
       → LeftWithin s.table old new (option_and_then next_stage o) c
-      → StopsWithin files told.history (option_map_or (λ (x : WriteOut). x.batch.mark) o 0)
+      → StopsWithin files observed.history (option_map_or (λ (x : WriteOut). x.batch.mark) o 0)
       (option_and_then next_stage o) c
-  within_by None is left = settled (λ n wait. none_current s.write_outs.batches is wait.w wait.there) left
+  within_by None is left = confirmed (λ n wait. none_current s.write_outs.batches is wait.w wait.there) left
   within_by (Some y) is left = within_at y is (next_stage y) refl left
 
   pub stops_within : LeftWithin s.table old new (current_stage s.write_outs) c
-      → StopsInStep files told.history s.write_outs c
+      → StopsInStep files observed.history s.write_outs c
   stops_within left = within_by (current s.write_outs.batches) refl left
 
   pub stops_now : MatchBool s.write_outs.broken (LeftWithin s.table old new (current_stage s.write_outs) c)
-      (LeftBefore s.table old new (current_stage s.write_outs) c) → Stops files told.history s.write_outs c
+      (LeftBefore s.table old new (current_stage s.write_outs) c) → Stops files observed.history s.write_outs c
   stops_now left = by s.write_outs.broken left
     where
       by : (b : Bool) → MatchBool b (LeftWithin s.table old new (current_stage s.write_outs) c)
           (LeftBefore s.table old new (current_stage s.write_outs) c)
-          → MatchBool b (StopsInStep files told.history s.write_outs c) (StopsBefore files told.history (option_map_or
+          → MatchBool b (StopsInStep files observed.history s.write_outs c)
+          (StopsBefore files observed.history (option_map_or
           (λ (x : WriteOut). x.batch.mark) (current s.write_outs.batches) 0) (current_stage s.write_outs) c)
       by true left = stops_within left
       by false left = before_by (current s.write_outs.batches) refl left
 
 -- what a crash now leaves of a tracked machine
-pub tracked_stops : (files : List File) (told : Told) (s : State) (seen : List ℕ) (may : List ℕ → Type 0)
-    → IsTracked files told s seen may → (c : List ℕ) → may c → Stops files told.history s.write_outs c
-tracked_stops files told s seen may t c left =
-    stops_now files told s t.sound t.files_are t.old t.new t.written t.stands.sound.ordered c (t.stands.left c left)
+pub refines_stops : (files : List File) (observed : Observed) (s : State) (seen : List ℕ) (may : List ℕ → Type 0)
+    → Refines files observed s seen may → (c : List ℕ) → may c → Stops files observed.history s.write_outs c
+refines_stops files observed s seen may t c left =
+    stops_now files observed s t.sound t.files_are t.old t.new t.written t.consistent.sound.ordered c
+    (t.consistent.left c left)
 
 -- ---- frozen pages
 
@@ -234,21 +241,22 @@ left_new v old new (Some Opening) c late left = absurd (both_ways false refl lat
 left_new v old new (Some Committing) c late left = absurd (both_ways false refl late)
 left_new v old new (Some stage) c late left = left
 
-module _ (files : List File) (told : Told) (s : State) (seen : List ℕ) (may : List ℕ → Type 0)
-    (t : IsTracked files told s seen may) (p number : ℕ) (new : State) (is : MarkMade s p number new) where
+module _ (files : List File) (observed : Observed) (s : State) (seen : List ℕ) (may : List ℕ → Type 0)
+    (t : Refines files observed s seen may) (p number : ℕ) (new : State) (is : MarkMade s p number new) where
   -- a page that isn't gathered at a mark has the bytes that each list that a crash may leave recovers to
   pub kept_page : (owner : FilePage) → IsInFile s owner → (Contains is.pages owner → ⊥) → (c : List ℕ) → may c
-      → HasPart s owner (after (memory_of files) told.history owner.file owner.page) c
+      → HasPart s owner (after (memory_of files) observed.history owner.file owner.page) c
   kept_page owner in_file other c left =
-      let none = committed files told s p number seen may t.old t.new t.sound t.files_are t.latest t.touched t.stands
+      let none =
+      committed files observed s p number seen may t.old t.new t.sound t.files_are t.latest t.touched t.consistent
       t.written is.next is.may.lock in
-      let untouched : is_touched told.history owner.file owner.page ≡ false =
-      false_from_ne_true (is_touched told.history owner.file owner.page)
+      let untouched : is_touched observed.history owner.file owner.page ≡ false =
+      false_from_ne_true (is_touched observed.history owner.file owner.page)
       (λ stored. other ((is.gathered.gathered.dirty owner).1 ((t.touched.each owner).0 (in_file, stored)))) in
       record {
         contents = t.new;
         recovers = left_new s.table t.old t.new (current_stage s.write_outs) c (stage_committed s.write_outs.batches
-            none) (stands_left s.table t.old t.new s.write_outs seen may t.stands c left);
-        same = clean files told s p number seen may t.old t.new t.sound t.files_are t.latest t.touched t.stands
+            none) (consistent_left s.table t.old t.new s.write_outs seen may t.consistent c left);
+        same = clean files observed s p number seen may t.old t.new t.sound t.files_are t.latest t.touched t.consistent
             t.written is.next is.may.lock owner in_file untouched;
       }

@@ -5,7 +5,7 @@ use Rattle.machine.proofs.Names.{both_ways, false≢true, length-take, take_all,
 use Rattle.machine.proofs.Names.{Contains-append_cases, FilePage, File, block_at}
 use Rattle.machine.proofs.Names.{Event, Memory, Mark, Acknowledge, memory_of}
 use Rattle.machine.proofs.Names.{after, is_touched, cut_file, State, length_of}
-use Rattle.machine.proofs.Names.{home_of, ResizeMade, IsInFile, within_file, Told, IsSound, IsLost, AreContentsOf}
+use Rattle.machine.proofs.Names.{home_of, ResizeMade, IsInFile, within_file, Observed, IsSound, IsLost, AreContentsOf}
 use Rattle.machine.proofs.Names.{HasAcknowledged, IsWritten, WriteOut}
 use Rattle.machine.specs.History.{SetLength}
 use Rattle.machine.proofs.durable.Lists.{contains_none}
@@ -15,15 +15,16 @@ use Rattle.machine.proofs.durable.Histories.{begins_more, acknowledged_more, mar
 use Rattle.machine.proofs.durable.Homes.{home_is}
 use Rattle.machine.proofs.durable.Marks.{IsDurable}
 use Rattle.machine.proofs.sound.ByResize.{resizable, none_frozen_then, after_it, length_there, length_elsewhere}
-use Rattle.machine.proofs.track.Pages.{HasPages}
+use Rattle.machine.proofs.refining.Pages.{HasPages}
 
 -- fewer of the same first bytes
 take_fewer : (m n : ℕ) (xs ys : List ℕ) → m ≤ n → take n xs ≡ take n ys → take m xs ≡ take m ys
 take_fewer m n xs ys le same = sym (take-take m n xs le) ∙ ap (take m) same ∙ take-take m n ys le
 
-module _ (files : List File) (told : Told) (s : State) (p : ℕ) (disk : List ℕ) (may : List ℕ → Type 0) (new : State)
+module _ (files : List File) (observed : Observed) (s : State) (p : ℕ) (disk : List ℕ)
+    (may : List ℕ → Type 0) (new : State)
     (made : ResizeMade s p new)
-    (sound : IsSound s) (has : HasPages files told s) (d : IsDurable files told s disk may) where
+    (sound : IsSound s) (has : HasPages files observed s) (d : IsDurable files observed s disk may) where
   abbrev from : ℕ
   from = length_of s made.file
 
@@ -34,22 +35,22 @@ module _ (files : List File) (told : Told) (s : State) (p : ℕ) (disk : List �
   events = SetLength made.file from made.to ∷ []
 
   abbrev longer : List Event
-  longer = told.history ++ events
+  longer = observed.history ++ events
 
   abbrev before : Memory
-  before = after (memory_of files) told.history
+  before = after (memory_of files) observed.history
 
   abbrev x : State
   x = after_it s p new made sound
 
-  abbrev w : IsWritten files told s d.old d.new
+  abbrev w : IsWritten files observed s d.old d.new
   w = d.written
 
   no_mark : (n : ℕ) → Contains events (Mark n) → ⊥
-  no_mark = cuts.length_marks told.history made.file from made.to
+  no_mark = cuts.length_marks observed.history made.file from made.to
 
   no_acknowledgement : (n : ℕ) → Contains events (Acknowledge n) → ⊥
-  no_acknowledgement = cuts.length_acknowledges told.history made.file from made.to
+  no_acknowledgement = cuts.length_acknowledges observed.history made.file from made.to
 
   -- the machine isn't broken, so no mark was lost
   none_lost : IsLost s → ⊥
@@ -58,10 +59,11 @@ module _ (files : List File) (told : Told) (s : State) (p : ℕ) (disk : List �
   -- ---- prefixes
 
   contents_longer : (contents : ℕ → List ℕ) (prefix : List Event)
-      → AreContentsOf files told.history s.table contents prefix → AreContentsOf files longer s.table contents prefix
+      → AreContentsOf files observed.history s.table contents prefix
+      → AreContentsOf files longer s.table contents prefix
   contents_longer contents prefix are = record {
     rest = are.rest ++ events;
-    begins = begins_more prefix are.rest told.history events are.begins;
+    begins = begins_more prefix are.rest observed.history events are.begins;
     marked = are.marked;
     whole = are.whole;
     fits = are.fits;
@@ -69,9 +71,9 @@ module _ (files : List File) (told : Told) (s : State) (p : ℕ) (disk : List �
     parts = are.parts;
   }
 
-  acknowledged_longer : (prefix : List Event) → HasAcknowledged prefix told.history → HasAcknowledged prefix longer
+  acknowledged_longer : (prefix : List Event) → HasAcknowledged prefix observed.history → HasAcknowledged prefix longer
   acknowledged_longer prefix acks =
-      acknowledged_more prefix told.history events (λ n there. absurd (no_acknowledgement n there)) acks
+      acknowledged_more prefix observed.history events (λ n there. absurd (no_acknowledgement n there)) acks
 
   -- ---- pages that aren't touched
 
@@ -80,13 +82,13 @@ module _ (files : List File) (told : Told) (s : State) (p : ℕ) (disk : List �
   short_home owner is =
       let home = home_of s.table owner in
       let read : block_at disk home ≡ d.new home =
-      d.stands.reads (resizable s p new made sound).whole home (home_is s sound owner is) (λ block.
+      d.consistent.reads (resizable s p new made sound).whole home (home_is s sound owner is) (λ block.
       contains_none block.0
       (subst (λ (l : List WriteOut). Contains l block.0) (resizable s p new made sound).done block.1)) in
       omega (arith, ap length (sym read), length-take 4096 (drop (4096 * home) disk))
 
   -- it has the page's part, where the page was in its file and wasn't touched
-  clean_then : (owner : FilePage) → IsInFile s owner → is_touched told.history owner.file owner.page ≡ false
+  clean_then : (owner : FilePage) → IsInFile s owner → is_touched observed.history owner.file owner.page ≡ false
       → within_file s owner (d.new (home_of s.table owner)) ≡ within_file s owner (before owner.file owner.page)
   clean_then owner is untouched =
       elim w.clean [ inl lost ↦ absurd (none_lost lost) | inr clean ↦ clean owner is untouched ]
@@ -96,7 +98,7 @@ module _ (files : List File) (told : Told) (s : State) (p : ℕ) (disk : List �
 
   bytes_are : (owner : FilePage) → bytes_after owner ≡ cut_file before made.file low owner.file owner.page
   bytes_are owner = ap (λ (m : Memory). m owner.file owner.page)
-      (cuts.after_set_length told.history made.file from made.to (memory_of files))
+      (cuts.after_set_length observed.history made.file from made.to (memory_of files))
 
   -- a part of these bytes and those, for so many
   abbrev Agree : FilePage → ℕ → List ℕ → Type 0
@@ -104,7 +106,7 @@ module _ (files : List File) (told : Told) (s : State) (p : ℕ) (disk : List �
 
   -- a page of another file
   clean_elsewhere : (owner : FilePage) → owner.file ≢ made.file → IsInFile x owner
-      → is_touched told.history owner.file owner.page ≡ false
+      → is_touched observed.history owner.file owner.page ≡ false
       → within_file x owner (d.new (home_of s.table owner)) ≡ within_file x owner (bytes_after owner)
   clean_elsewhere owner other is untouched =
       let long = length_elsewhere s p new made sound owner.file other in
@@ -117,7 +119,7 @@ module _ (files : List File) (told : Told) (s : State) (p : ℕ) (disk : List �
 
   -- a page of this file: it was inside, and a growth doesn't have it
   module _ (owner : FilePage) (same : owner.file ≡ made.file) (is : IsInFile x owner)
-      (u : cuts.WasUntouched told.history made.file from made.to owner.file owner.page) where
+      (u : cuts.WasUntouched observed.history made.file from made.to owner.file owner.page) where
     abbrev page : ℕ
     page = owner.page
 
@@ -178,7 +180,7 @@ module _ (files : List File) (told : Told) (s : State) (p : ℕ) (disk : List �
   clean_now : (owner : FilePage) → IsInFile x owner → is_touched longer owner.file owner.page ≡ false
       → within_file x owner (d.new (home_of s.table owner)) ≡ within_file x owner (bytes_after owner)
   clean_now owner is untouched =
-      let u = cuts.untouched_before told.history made.file from made.to owner.file owner.page untouched in
+      let u = cuts.untouched_before observed.history made.file from made.to owner.file owner.page untouched in
       elim (cases_eq owner.file made.file) [
         | inl same ↦ clean_here owner same is u
         | inr other ↦ clean_elsewhere owner other is u.before
@@ -186,7 +188,7 @@ module _ (files : List File) (told : Told) (s : State) (p : ℕ) (disk : List �
 
   -- ---- what the device recovers to
 
-  written_longer : IsWritten files (record told { history = longer }) x d.old d.new
+  written_longer : IsWritten files (record observed { history = longer }) x d.old d.new
   written_longer = record {
     before = w.before;
     old_are = contents_longer d.old w.before w.old_are;
@@ -196,9 +198,9 @@ module _ (files : List File) (told : Told) (s : State) (p : ℕ) (disk : List �
     grown = acknowledged_longer w.marked w.grown;
     marks = w.marks;
     fresh = w.fresh;
-    only = marks_more w.before w.marked told.history events s x no_mark (λ n wait. inr wait)
+    only = marks_more w.before w.marked observed.history events s x no_mark (λ n wait. inr wait)
         (λ lost. absurd (none_lost lost)) w.only;
-    numbered = λ n there. elim (Contains-append_cases told.history events (Mark n) there)
+    numbered = λ n there. elim (Contains-append_cases observed.history events (Mark n) there)
         [ inl was ↦ w.numbered n was | inr this ↦ absurd (no_mark n this) ];
     ready = λ broken held. absurd (both_ways s.write_outs.broken (resizable s p new made sound).whole broken);
     clean = inr clean_now;
@@ -207,18 +209,19 @@ module _ (files : List File) (told : Told) (s : State) (p : ℕ) (disk : List �
         (omega (arith, within, ap length (made.pages.frozen ∙ none_frozen_then s p new made sound)));
   }
 
-  durable_longer : (now : Told) → now.history ≡ longer → IsDurable files now x disk may
+  durable_longer : (now : Observed) → now.history ≡ longer → IsDurable files now x disk may
   durable_longer now history = record {
     old = d.old;
     new = d.new;
-    stands = d.stands;
-    written = written_as files (record told { history = longer }) now x d.old d.new history written_longer;
+    consistent = d.consistent;
+    written = written_as files (record observed { history = longer }) now x d.old d.new history written_longer;
   }
 
-pub resized_durable : (files : List File) (told now : Told) (s : State) (p : ℕ) (disk : List ℕ) (may : List ℕ → Type 0)
+pub resized_durable : (files : List File) (observed now : Observed) (s : State) (p : ℕ)
+    (disk : List ℕ) (may : List ℕ → Type 0)
     (new : State) → (made : ResizeMade s p new)
-    → now.history ≡ told.history ++ SetLength made.file (length_of s made.file) made.to ∷ [] → IsSound s
-    → HasPages files told s → IsDurable files told s disk may → IsDurable files now new disk may
-resized_durable files told now s p disk may new made history sound has d =
+    → now.history ≡ observed.history ++ SetLength made.file (length_of s made.file) made.to ∷ [] → IsSound s
+    → HasPages files observed s → IsDurable files observed s disk may → IsDurable files now new disk may
+resized_durable files observed now s p disk may new made history sound has d =
     subst (λ (y : State). IsDurable files now y disk may) (sym made.done)
-    (durable_longer files told s p disk may new made sound has d now history)
+    (durable_longer files observed s p disk may new made sound has d now history)

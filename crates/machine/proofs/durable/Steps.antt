@@ -4,14 +4,15 @@ use Rattle.machine.proofs.Names.{is_some, refl, sym, ap, ◌∙◌, subst, arith
 use Rattle.machine.proofs.Names.{All-contains, Contains-push, FilePage, Refusal, Only, LeavesOnly, Ghosts, File}
 use Rattle.machine.proofs.Names.{SuperValue, geometry_of, AreHomes, without_notes, Flushed, Work, Sync, Nothing, worked}
 use Rattle.machine.proofs.Names.{TornFromWork, WriteOut, begun_of, WriteOutsValue, current_stage, next_answer}
-use Rattle.machine.proofs.Names.{next_batch, begun, outs_record, outs_after, LeftWithin, IsStanding, IsTied}
-use Rattle.machine.proofs.Names.{stands_left, Act, Reply, Step, Event, Memory, Acknowledge, memory_of, has_unmarked}
+use Rattle.machine.proofs.Names.{next_batch, begun, outs_record, outs_after, LeftWithin, IsConsistent, IsTied}
+use Rattle.machine.proofs.Names.{consistent_left, Act, Reply, Step, Event, Memory, Acknowledge, memory_of, has_unmarked}
 use Rattle.machine.proofs.Names.{State, Whole, home_of, end_change, FlushMade}
 use Rattle.machine.proofs.Names.{HasStepped, FlushFailed, MarkMade, with_batch}
-use Rattle.machine.proofs.Names.{work_asked, reply_to, after_record, after_failure, Told, tell, ended_by, ReadsBack}
+use Rattle.machine.proofs.Names.{work_asked, reply_to, after_record, after_failure}
+use Rattle.machine.proofs.Names.{Observed, observe, ended_by, ReadsBack}
 use Rattle.machine.proofs.Names.{StepIsSafe, StopsInStep, step_work, StepMade, StepTaken, IsSound, IsArranged}
-use Rattle.machine.proofs.Names.{lengths_of, mark_homes, is_page_next, IsTracked}
-use Rattle.machine.proofs.Names.{said_all, IsMoved, Performed, Moved, Marked, Failed}
+use Rattle.machine.proofs.Names.{lengths_of, mark_homes, is_page_next, Refines}
+use Rattle.machine.proofs.Names.{after_effects, IsMoved, Performed, Moved, Marked, Failed}
 use Rattle.page_entry.specs.declared.refusal.Refusal.TheVariants as refusals
 use Rattle.journal.specs.declared.flushed.Flushed.TheVariants as flushed
 use Rattle.machine.specs.declared.act.Act.TheVariants as acts
@@ -26,20 +27,20 @@ use Rattle.machine.proofs.durable.Histories.{AreQuiet, quiet_nothing, quiet_ackn
 use Rattle.machine.proofs.durable.Marks.{IsDurable, marked_durable}
 use Rattle.machine.proofs.durable.Flushes.{flush_within, flush_failed, flush_goes_on, flush_commits}
 use Rattle.machine.proofs.durable.ReadsBack.{reads_within, reads_now, stops_within}
-use Rattle.machine.proofs.track.DirtyFrames.{clean_after_mark}
-use Rattle.machine.proofs.track.ToldSpaces.{spaces_still}
-use Rattle.machine.proofs.track.Arranged.{spaces_of, with_history, arranged_beside, arranged_end, arranged_resized}
-use Rattle.machine.proofs.track.Resized.{pages_resized}
+use Rattle.machine.proofs.refining.DirtyFrames.{clean_after_mark}
+use Rattle.machine.proofs.refining.ObservedSpaces.{spaces_still}
+use Rattle.machine.proofs.refining.Arranged.{spaces_of, with_history, arranged_beside, arranged_end, arranged_resized}
+use Rattle.machine.proofs.refining.Resized.{pages_resized}
 use Rattle.machine.proofs.durable.Resized.{resized_durable}
-use Rattle.machine.proofs.track.Pages.{HasPages, SamePages, files_kept, pages_quiet, plain_still}
-use Rattle.machine.proofs.track.Moved.{moves_tracked}
+use Rattle.machine.proofs.refining.Pages.{HasPages, SamePages, files_kept, pages_quiet, plain_still}
+use Rattle.machine.proofs.refining.Moved.{moves_refine}
 
 -- ---- what a crash may leave is among what it might
 
-pub stands_less : (v : SuperValue) (outs : WriteOutsValue) (old new : ℕ → List ℕ) (seen : List ℕ)
-    (may may' : List ℕ → Type 0) → ((c : List ℕ) → may' c → may c) → IsStanding v outs old new seen may
-    → IsStanding v outs old new seen may'
-stands_less v outs old new seen may may' fewer s = record {
+pub consistent_less : (v : SuperValue) (outs : WriteOutsValue) (old new : ℕ → List ℕ) (seen : List ℕ)
+    (may may' : List ℕ → Type 0) → ((c : List ℕ) → may' c → may c) → IsConsistent v outs old new seen may
+    → IsConsistent v outs old new seen may'
+consistent_less v outs old new seen may may' fewer s = record {
   geometry = s.geometry;
   left = λ c left. s.left c (fewer c left);
   reads = s.reads;
@@ -49,14 +50,17 @@ stands_less v outs old new seen may may' fewer s = record {
       record { seen_is = tied.seen_is; left_are = λ c left. tied.left_are c (fewer c left) } in r);
 }
 
--- the history that is told counts, and what a read gives
-pub durable_as : (files : List File) (told told' : Told) (s : State) (seen seen' : List ℕ) (may : List ℕ → Type 0)
-    → told'.history ≡ told.history → seen' ≡ seen → IsDurable files told s seen may → IsDurable files told' s seen' may
-durable_as files told told' s seen seen' may same same_seen is = record {
+-- the history that is observed counts, and what a read gives
+pub durable_as : (files : List File) (observed observed' : Observed) (s : State)
+    (seen seen' : List ℕ) (may : List ℕ → Type 0)
+    → observed'.history ≡ observed.history → seen' ≡ seen → IsDurable files observed s seen may
+    → IsDurable files observed' s seen' may
+durable_as files observed observed' s seen seen' may same same_seen is = record {
   old = is.old;
   new = is.new;
-  stands = subst (λ (l : List ℕ). IsStanding s.table s.write_outs is.old is.new l may) (sym same_seen) is.stands;
-  written = written_as files told told' s is.old is.new same is.written;
+  consistent = subst (λ (l : List ℕ). IsConsistent s.table s.write_outs is.old is.new l may)
+      (sym same_seen) is.consistent;
+  written = written_as files observed observed' s is.old is.new same is.written;
 }
 
 -- ---- steps of the write-outs
@@ -72,10 +76,11 @@ abbrev acknowledged_by : Flushed → List Event
 acknowledged_by (flushed.Committed number) = Acknowledge number ∷ []
 acknowledged_by answer = []
 
-step_told : (told : Told) (p : ℕ) (a : Flushed) → tell told (record { p = p; act = acts.Flush }) (reply_to a)
-    ≡ record told { history = told.history ++ acknowledged_by a }
-step_told told p (flushed.Committed number) = refl
-step_told told p answer = refl
+step_observed : (observed : Observed) (p : ℕ) (a : Flushed)
+    → observe observed (record { p = p; act = acts.Flush }) (reply_to a)
+    ≡ record observed { history = observed.history ++ acknowledged_by a }
+step_observed observed p (flushed.Committed number) = refl
+step_observed observed p answer = refl
 
 pub step_asks : (s : State) (a : Flushed) → GoesOn a → step_work s acts.Flush (reply_to a) ≡ work_asked s
 step_asks s flushed.Device goes = absurd goes
@@ -95,41 +100,41 @@ step_goes answer reply is fine = tt
 
 -- ---- one step
 
-module _ (files : List File) (told : Told) (s : State) (disk : List ℕ) (may : List ℕ → Type 0)
-    (t : IsTracked files told s disk may) (p : ℕ) (act : Act) (reply : Reply) (new : State) (disk' : List ℕ)
+module _ (files : List File) (observed : Observed) (s : State) (disk : List ℕ) (may : List ℕ → Type 0)
+    (t : Refines files observed s disk may) (p : ℕ) (act : Act) (reply : Reply) (new : State) (disk' : List ℕ)
     (sound' : IsSound new) (may' : List ℕ → Type 0)
     (left : (c : List ℕ) → may' c → TornFromWork (step_work s act reply) may c)
-    (sure : reply ≢ replies.Refused refusals.Device → step_work s act reply ≡ Sync → Only may' disk) where
+    (made_durable : reply ≢ replies.Refused refusals.Device → step_work s act reply ≡ Sync → Only may' disk) where
   -- what a crash within the step leaves, where it asks for this work
   abbrev IsWithin : Work → Type 0
   IsWithin work = (c : List ℕ) → TornFromWork work may c → LeftWithin s.table t.old t.new (current_stage s.write_outs) c
 
-  -- what is told after it is this
-  abbrev IsTold : Told → Type 0
-  IsTold now = tell told (record { p = p; act = act }) reply ≡ now
+  -- what is observed after it is this
+  abbrev IsObserved : Observed → Type 0
+  IsObserved now = observe observed (record { p = p; act = act }) reply ≡ now
 
   abbrev Outcome : Type 0
-  Outcome = IsTracked files (tell told (record { p = p; act = act }) reply) new disk' may'
+  Outcome = Refines files (observe observed (record { p = p; act = act }) reply) new disk' may'
       × IsWithin (step_work s act reply)
 
-  -- where this is told, and this work asked for
-  outcome_as : (now : Told) (work : Work) → IsTold now → step_work s act reply ≡ work
-      → IsTracked files now new disk' may' → IsWithin work → Outcome
-  outcome_as now work told_is work_is tracked within =
-      (subst (λ x. IsTracked files x new disk' may') (sym told_is) tracked, subst IsWithin (sym work_is) within)
+  -- where this is observed, and this work asked for
+  outcome_as : (now : Observed) (work : Work) → IsObserved now → step_work s act reply ≡ work
+      → Refines files now new disk' may' → IsWithin work → Outcome
+  outcome_as now work observed_is work_is refines within =
+      (subst (λ x. Refines files x new disk' may') (sym observed_is) refines, subst IsWithin (sym work_is) within)
 
   left_by : (work : Work) → step_work s act reply ≡ work → (c : List ℕ) → may' c → TornFromWork work may c
   left_by work is c left_c = subst (λ (w : Work). TornFromWork w may c) is (left c left_c)
 
   left_now : IsWithin Nothing
-  left_now c left_c = stands_left s.table t.old t.new s.write_outs disk may t.stands c left_c
+  left_now c left_c = consistent_left s.table t.old t.new s.write_outs disk may t.consistent c left_c
 
-  has : HasPages files told s
+  has : HasPages files observed s
   has = record { files_are = t.files_are; latest = t.latest; touched = t.touched; plain = t.plain }
 
-  tracked_of : (now : Told) → IsArranged now new → HasPages files now new → IsDurable files now new disk' may'
-      → IsTracked files now new disk' may'
-  tracked_of now arranged pages durable = record {
+  refines_of : (now : Observed) → IsArranged now new → HasPages files now new → IsDurable files now new disk' may'
+      → Refines files now new disk' may'
+  refines_of now arranged pages durable = record {
     sound = sound';
     files_are = pages.files_are;
     arranged = arranged;
@@ -138,7 +143,7 @@ module _ (files : List File) (told : Told) (s : State) (disk : List ℕ) (may : 
     plain = pages.plain;
     old = durable.old;
     new = durable.new;
-    stands = durable.stands;
+    consistent = durable.consistent;
     written = durable.written;
   }
 
@@ -146,8 +151,8 @@ module _ (files : List File) (told : Told) (s : State) (disk : List ℕ) (may : 
 
   moving : IsMoved s disk p act reply new disk' → Outcome
   moving by =
-      let m = moves_tracked files told s disk may t by.says new by.moves in
-      outcome_as (said_all told by.says) Nothing (by.tells told) by.no_work (record {
+      let m = moves_refine files observed s disk may t by.effect new by.moves in
+      outcome_as (after_effects observed by.effect) Nothing (by.observes observed) by.no_work (record {
         sound = m.sound;
         files_are = m.files_are;
         arranged = m.arranged;
@@ -156,8 +161,9 @@ module _ (files : List File) (told : Told) (s : State) (disk : List ℕ) (may : 
         plain = m.plain;
         old = m.old;
         new = m.new;
-        stands = subst (λ (l : List ℕ). IsStanding new.table new.write_outs m.old m.new l may') (sym by.same_disk)
-            (stands_less new.table new.write_outs m.old m.new disk may may' (left_by Nothing by.no_work) m.stands);
+        consistent = subst (λ (l : List ℕ). IsConsistent new.table new.write_outs m.old m.new l may') (sym by.same_disk)
+            (consistent_less new.table new.write_outs m.old m.new disk may may'
+            (left_by Nothing by.no_work) m.consistent);
         written = m.written;
       }) left_now
 
@@ -185,26 +191,26 @@ module _ (files : List File) (told : Told) (s : State) (disk : List ℕ) (may : 
           (begun_of (next_batch s.write_outs number homes)) sound'.write_outs.homes there)
 
   module _ (number : ℕ) (made : MarkMade s p number new) where
-    abbrev marked : Told
-    marked = record (ended_by told p) { history = told.history ++ marked_by told.history number }
+    abbrev marked : Observed
+    marked = record (ended_by observed p) { history = observed.history ++ marked_by observed.history number }
 
     marked_arranged : IsArranged marked new
     marked_arranged =
         let m = s.hardware.spaces in
-        let spaces = spaces_still told.spaces m made.spaces made.protected.same_spaces made.protected.same_places
+        let spaces = spaces_still observed.spaces m made.spaces made.protected.same_spaces made.protected.same_places
         (spaces_of t.arranged) in
-        let ended = arranged_end told s t.arranged p told.spaces made.spaces s.hardware.memory
+        let ended = arranged_end observed s t.arranged p observed.spaces made.spaces s.hardware.memory
         (without_notes made.noted) made.may.allowed spaces in
         subst (IsArranged marked) (sym made.done) (arranged_beside marked (end_change s p made.spaces s.hardware.memory
         (without_notes made.noted)) _ (with_history marked.history ended) refl refl refl)
 
     marked_pages : HasPages files marked new
     marked_pages =
-        let memory = after_marked (memory_of files) told.history number in
+        let memory = after_marked (memory_of files) observed.history number in
         subst (HasPages files marked) (sym made.done) (record {
-          files_are = files_kept files told.history marked.history s _ (record { table = refl; lengths = refl })
-              (lengths_marked (lengths_of files) told.history number)
-              (resized_mark told.history number (has_unmarked told.history)) has.files_are;
+          files_are = files_kept files observed.history marked.history s _ (record { table = refl; lengths = refl })
+              (lengths_marked (lengths_of files) observed.history number)
+              (resized_mark observed.history number (has_unmarked observed.history)) has.files_are;
           latest = record {
             whole = λ file page. ap (λ (m : Memory). length (m file page)) memory ∙ has.latest.whole file page;
             latest = λ frame owner holds. has.latest.latest frame owner holds
@@ -213,73 +219,78 @@ module _ (files : List File) (told : Told) (s : State) (disk : List ℕ) (may : 
           touched = record {
             each = λ owner. (
               λ is. absurd (false≢true
-                  (sym (touched_mark told.history number (has_unmarked told.history) owner.file owner.page) ∙ is.1)),
+                  (sym (touched_mark observed.history number (has_unmarked observed.history) owner.file owner.page)
+                  ∙ is.1)),
               λ d. absurd (clean_after_mark s.hardware.spaces made.spaces s.hardware.memory s.checkpoint made.noted
                   (not s.write_outs.broken) made.pages d.0 made.gathered made.protected d.2),
             );
             inside = λ unset owner is. absurd (false≢true
-                (sym (touched_mark told.history number (has_unmarked told.history) owner.file owner.page) ∙ is));
+                (sym (touched_mark observed.history number (has_unmarked observed.history) owner.file owner.page)
+                ∙ is));
           };
-          plain = plain_still files told marked s _ (record { table = refl; lengths = refl })
+          plain = plain_still files observed marked s _ (record { table = refl; lengths = refl })
               (λ owner is gone. (ap (λ (m : Memory). m owner.file owner.page) memory, has.plain owner is gone));
         })
 
-    marking : IsTold marked → step_work s act reply ≡ Nothing → disk' ≡ disk → Outcome
-    marking told_is work same_disk =
-        outcome_as marked Nothing told_is work (tracked_of marked marked_arranged marked_pages
-        (durable_as files (record told { history = told.history ++ marked_by told.history number }) marked new disk
+    marking : IsObserved marked → step_work s act reply ≡ Nothing → disk' ≡ disk → Outcome
+    marking observed_is work same_disk =
+        outcome_as marked Nothing observed_is work (refines_of marked marked_arranged marked_pages
+        (durable_as files
+        (record observed { history = observed.history ++ marked_by observed.history number }) marked new disk
         disk' may' refl same_disk
-        (marked_durable files told s p number disk may' t.old t.new t.sound t.files_are t.latest t.touched
-        (stands_less s.table s.write_outs t.old t.new disk may may' (left_by Nothing work) t.stands) t.written
+        (marked_durable files observed s p number disk may' t.old t.new t.sound t.files_are t.latest t.touched
+        (consistent_less s.table s.write_outs t.old t.new disk may may' (left_by Nothing work) t.consistent) t.written
         made.next made.may.lock new made (fits number made)))) left_now
 
   -- ---- a change of a file's length
 
   module _ (made : ResizeMade s p new) where
-    abbrev resized : Told
-    resized = record (ended_by (changed told told.pending) p) { history = told.history ++ resized_at told told.pending }
+    abbrev resized : Observed
+    resized = record (ended_by (changed observed observed.pending) p)
+        { history = observed.history ++ resized_at observed observed.pending }
 
-    -- what is told is the change of the length
-    event_is : resized_at told told.pending ≡ SetLength made.file (length_of s made.file) made.to ∷ []
+    -- what is observed is the change of the length
+    event_is : resized_at observed observed.pending ≡ SetLength made.file (length_of s made.file) made.to ∷ []
     event_is =
-        ap (resized_at told) (t.arranged.same_pending ∙ ap (λ l. pending_in (change_in l)) made.may.lock)
+        ap (resized_at observed) (t.arranged.same_pending ∙ ap (λ l. pending_in (change_in l)) made.may.lock)
         ∙ ap (λ (l : List ℕ). SetLength made.file (get_or l made.file 0) made.to ∷ []) t.arranged.same_lengths
 
-    history_is : resized.history ≡ told.history ++ SetLength made.file (length_of s made.file) made.to ∷ []
-    history_is = ap (λ l. told.history ++ l) event_is
+    history_is : resized.history ≡ observed.history ++ SetLength made.file (length_of s made.file) made.to ∷ []
+    history_is = ap (λ l. observed.history ++ l) event_is
 
-    resizing : IsTold resized → step_work s act reply ≡ Nothing → disk' ≡ disk → Outcome
-    resizing told_is work same_disk =
-        let standing = stands_less s.table s.write_outs t.old t.new disk may may' (left_by Nothing work) t.stands in
-        outcome_as resized Nothing told_is work (tracked_of resized
-        (with_history resized.history (arranged_resized told s t.arranged p new made))
-        (pages_resized files told resized s p new made history_is t.sound has)
+    resizing : IsObserved resized → step_work s act reply ≡ Nothing → disk' ≡ disk → Outcome
+    resizing observed_is work same_disk =
+        let consistent = consistent_less s.table s.write_outs t.old t.new disk may may'
+        (left_by Nothing work) t.consistent in
+        outcome_as resized Nothing observed_is work (refines_of resized
+        (with_history resized.history (arranged_resized observed s t.arranged p new made))
+        (pages_resized files observed resized s p new made history_is t.sound has)
         (durable_as files resized resized new disk disk' may' refl same_disk
-        (resized_durable files told resized s p disk may' new made history_is t.sound has
-        (record { old = t.old; new = t.new; stands = standing; written = t.written })))) left_now
+        (resized_durable files observed resized s p disk may' new made history_is t.sound has
+        (record { old = t.old; new = t.new; consistent = consistent; written = t.written })))) left_now
 
   -- ---- a step of the write-outs
 
-  abbrev with_events : List Event → Told
-  with_events events = record told { history = told.history ++ events }
+  abbrev with_events : List Event → Observed
+  with_events events = record observed { history = observed.history ++ events }
 
   -- of a state that differs in write-outs, frozen pages and copies alone
-  module _ (events : List Event) (quiet : AreQuiet told.history events) where
-    abbrev IsAsTold : State → Type 0
-    IsAsTold x = IsArranged (with_events events) x × HasPages files (with_events events) x
+  module _ (events : List Event) (quiet : AreQuiet observed.history events) where
+    abbrev IsAsObserved : State → Type 0
+    IsAsObserved x = IsArranged (with_events events) x × HasPages files (with_events events) x
 
     beside : (x : State) → x.hardware.shootdown ≡ s.hardware.shootdown → x.hardware.spaces ≡ s.hardware.spaces
-        → SameFiles s x → x.resized ≡ s.resized → SamePages s x → IsAsTold x
+        → SameFiles s x → x.resized ≡ s.resized → SamePages s x → IsAsObserved x
     beside x shootdown spaces same set pages = (
       arranged_beside (with_events events) s x
-          (with_history (told.history ++ events) t.arranged) shootdown spaces same.lengths,
-      pages_quiet files told (with_events events) s x events refl quiet same set has pages,
+          (with_history (observed.history ++ events) t.arranged) shootdown spaces same.lengths,
+      pages_quiet files observed (with_events events) s x events refl quiet same set has pages,
     )
 
-    stepped : FlushMade s disk p (next_answer s.write_outs) new disk' → IsAsTold new
+    stepped : FlushMade s disk p (next_answer s.write_outs) new disk' → IsAsObserved new
     stepped made =
-        subst IsAsTold (sym made.done)
-        (elim (is_page_next s) as (λ b. IsAsTold
+        subst IsAsObserved (sym made.done)
+        (elim (is_page_next s) as (λ b. IsAsObserved
         (record (cond b (after_record s) s) { write_outs = outs_after s.write_outs (next_answer s.write_outs) })) [
           | true ↦ beside _ refl refl (record { table = refl; lengths = refl }) refl
               (record { frames = refl; dirty = λ frame. (λ d. d, λ d. d) })
@@ -288,7 +299,7 @@ module _ (files : List File) (told : Told) (s : State) (disk : List ℕ) (may : 
         ])
 
   module _ (made : FlushMade s disk p (next_answer s.write_outs) new disk')
-      (work : step_work s act reply ≡ work_asked s) (sure_now : work_asked s ≡ Sync → Only may' disk) where
+      (work : step_work s act reply ≡ work_asked s) (durable_now : work_asked s ≡ Sync → Only may' disk) where
     abbrev after_it : State
     after_it = record (cond (is_page_next s) (after_record s) s)
         { write_outs = outs_after s.write_outs (next_answer s.write_outs) }
@@ -304,8 +315,9 @@ module _ (files : List File) (told : Told) (s : State) (disk : List ℕ) (may : 
         → ((n : ℕ) → next_answer s.write_outs ≡ flushed.Committed n → ⊥)
         → IsDurable files (with_events []) new disk' may'
     goes_on other uncommitting =
-        landed [] (flush_goes_on files told s disk may t.old t.new t.sound t.stands t.written p made.allowed made.some
-        (is_page_next s) may' (left_by (work_asked s) work) sure_now other uncommitting)
+        landed []
+        (flush_goes_on files observed s disk may t.old t.new t.sound t.consistent t.written p made.allowed made.some
+        (is_page_next s) may' (left_by (work_asked s) work) durable_now other uncommitting)
 
     step_durable : (a : Flushed) → next_answer s.write_outs ≡ a → GoesOn a
         → IsDurable files (with_events (acknowledged_by a)) new disk' may'
@@ -313,8 +325,8 @@ module _ (files : List File) (told : Told) (s : State) (disk : List ℕ) (may : 
         (λ n c. let never : flushed.Going ≡ flushed.Committed n = sym is ∙ c in cc)
     step_durable (flushed.Committed number) is goes =
         landed (Acknowledge number ∷ [])
-        (flush_commits files told s disk may t.old t.new t.sound t.stands t.written p made.allowed made.some
-        (is_page_next s) may' (left_by (work_asked s) work) sure_now number is)
+        (flush_commits files observed s disk may t.old t.new t.sound t.consistent t.written p made.allowed made.some
+        (is_page_next s) may' (left_by (work_asked s) work) durable_now number is)
     step_durable (flushed.Done number) is goes =
         goes_on (λ d. let never : flushed.Done number ≡ flushed.Device = sym is ∙ d in cc)
         (λ n c. let never : flushed.Done number ≡ flushed.Committed n = sym is ∙ c in cc)
@@ -326,35 +338,38 @@ module _ (files : List File) (told : Told) (s : State) (disk : List ℕ) (may : 
   stepping act_is by fine =
       let a = next_answer s.write_outs in
       let goes = step_goes a reply by.answered fine in
-      let told_is = (λ i. tell told (record { p = p; act = act_is i }) (by.answered i)) ∙ step_told told p a in
+      let observed_is = (λ i. observe observed (record { p = p; act = act_is i }) (by.answered i))
+      ∙ step_observed observed p a in
       let work = (λ i. step_work s (act_is i) (by.answered i)) ∙ step_asks s a goes in
-      let as_told = stepped (acknowledged_by a) (step_quiet told.history a) by.made in
-      outcome_as (with_events (acknowledged_by a)) (work_asked s) told_is work
-      (tracked_of (with_events (acknowledged_by a)) as_told.0 as_told.1
-      (step_durable by.made work (λ sync. sure (fine refusals.Device) (work ∙ sync)) a refl goes))
-      (flush_within files told s disk may t.old t.new t.sound t.stands t.written p by.made.allowed by.made.some)
+      let as_observed = stepped (acknowledged_by a) (step_quiet observed.history a) by.made in
+      outcome_as (with_events (acknowledged_by a)) (work_asked s) observed_is work
+      (refines_of (with_events (acknowledged_by a)) as_observed.0 as_observed.1
+      (step_durable by.made work (λ sync. made_durable (fine refusals.Device) (work ∙ sync)) a refl goes))
+      (flush_within files observed s disk may t.old t.new t.sound t.consistent t.written p by.made.allowed by.made.some)
 
   failing : act ≡ acts.Flush → reply ≡ replies.Refused refusals.Device → FlushFailed s disk p new disk' → Outcome
   failing act_is reply_is made =
       let work : step_work s act reply ≡ work_asked s = λ i. step_work s (act_is i) (reply_is i) in
-      let as_told : IsAsTold [] (quiet_nothing told.history) new =
-      subst (IsAsTold [] (quiet_nothing told.history)) (sym made.done)
-      (beside [] (quiet_nothing told.history) (after_failure s) refl refl (record { table = refl; lengths = refl })
+      let as_observed : IsAsObserved [] (quiet_nothing observed.history) new =
+      subst (IsAsObserved [] (quiet_nothing observed.history)) (sym made.done)
+      (beside [] (quiet_nothing observed.history) (after_failure s) refl refl (record { table = refl; lengths = refl })
       refl (record { frames = refl; dirty = λ frame. (λ d. d, λ d. d) })) in
-      outcome_as (with_events []) (work_asked s) (λ i. tell told (record { p = p; act = act_is i }) (reply_is i)) work
-      (tracked_of (with_events []) as_told.0 as_told.1 (flush_failed files told s disk may t.old t.new t.sound t.stands
+      outcome_as (with_events []) (work_asked s)
+      (λ i. observe observed (record { p = p; act = act_is i }) (reply_is i)) work
+      (refines_of (with_events []) as_observed.0 as_observed.1
+      (flush_failed files observed s disk may t.old t.new t.sound t.consistent
       t.written p made.allowed made.some new disk' may' made.done (left_by (work_asked s) work)))
-      (flush_within files told s disk may t.old t.new t.sound t.stands t.written p made.allowed made.some)
+      (flush_within files observed s disk may t.old t.new t.sound t.consistent t.written p made.allowed made.some)
 
   -- ---- any act
 
   pub performing : Performed s disk p act reply new disk' → Outcome
   performing (Moved by) = moving by
   performing (Marked number act_is reply_is made same_disk) =
-      marking number made (λ i. tell told (record { p = p; act = act_is i }) (reply_is i))
+      marking number made (λ i. observe observed (record { p = p; act = act_is i }) (reply_is i))
       (λ i. step_work s (act_is i) (reply_is i)) same_disk
   performing (Resized act_is reply_is made same_disk) =
-      resizing made (λ i. tell told (record { p = p; act = act_is i }) (reply_is i))
+      resizing made (λ i. observe observed (record { p = p; act = act_is i }) (reply_is i))
       (λ i. step_work s (act_is i) (reply_is i)) same_disk
   performing (Stepped act_is made fine) = stepping act_is made fine
   performing (Failed act_is reply_is made) = failing act_is reply_is made
@@ -370,8 +385,9 @@ leaves_more moment left_since old new P Q more is = record {
   keeps = is.keeps;
 }
 
-module _ {D : Type 0} (disk : Ghosts D) (files : List File) (told : Told) (old : Whole D) (step : Step) (reply : Reply)
-    (new : Whole D) (t : IsTracked files told old.state (disk.seen old.device) (disk.may_leave old.device))
+module _ {D : Type 0} (disk : Ghosts D) (files : List File) (observed : Observed) (old : Whole D)
+    (step : Step) (reply : Reply)
+    (new : Whole D) (t : Refines files observed old.state (disk.seen old.device) (disk.may_leave old.device))
     (taken : StepTaken disk old step reply new) (honest : disk.is_honest old.device) where
   made : StepMade disk old step reply new
   made = taken.made honest
@@ -379,35 +395,38 @@ module _ {D : Type 0} (disk : Ghosts D) (files : List File) (told : Told) (old :
   abbrev asked : List ℕ → Type 0
   asked c = TornFromWork (step_work old.state step.act reply) (disk.may_leave old.device) c
 
-  outcome : IsTracked files (tell told step reply) new.state (disk.seen new.device) (disk.may_leave new.device)
+  outcome : Refines files (observe observed step reply) new.state (disk.seen new.device) (disk.may_leave new.device)
       × ((c : List ℕ) → asked c → LeftWithin old.state.table t.old t.new (current_stage old.state.write_outs) c)
   outcome =
       let by = performed old.state (disk.seen old.device) step reply new.state
       (disk.seen new.device) t.sound made.answered in
-      performing files told old.state (disk.seen old.device)
+      performing files observed old.state (disk.seen old.device)
       (disk.may_leave old.device) t step.p step.act reply new.state (disk.seen new.device)
-      (performed_sound t.sound by) (disk.may_leave new.device) made.left made.sure by
+      (performed_sound t.sound by) (disk.may_leave new.device) made.left made.durable by
 
-  pub tracked_kept : IsTracked files (tell told step reply) new.state (disk.seen new.device) (disk.may_leave new.device)
-  tracked_kept = outcome.0
+  pub refines_kept : Refines files (observe observed step reply) new.state (disk.seen new.device)
+      (disk.may_leave new.device)
+  refines_kept = outcome.0
 
   -- a crash within it leaves old files or new ones, by the stage of the write-out
   pub step_stopped : LeavesOnly disk.moment disk.left_since old.device new.device
-      (StopsInStep files told.history old.state.write_outs)
+      (StopsInStep files observed.history old.state.write_outs)
   step_stopped = leaves_more disk.moment disk.left_since old.device new.device asked
-      (StopsInStep files told.history old.state.write_outs)
-      (λ c torn. stops_within files told old.state t.sound t.files_are t.old t.new t.written t.stands.sound.ordered c
+      (StopsInStep files observed.history old.state.write_outs)
+      (λ c torn. stops_within files observed old.state t.sound t.files_are t.old t.new t.written
+      t.consistent.sound.ordered c
       (outcome.1 c torn)) made.within
 
   -- and a crash at any moment reads back
-  pub step_safe : StepIsSafe disk files told old step reply new
+  pub step_safe : StepIsSafe disk files observed old step reply new
   step_safe = record {
     taken = taken;
     honest = honest;
-    within = leaves_more disk.moment disk.left_since old.device new.device asked (ReadsBack files told.history)
-        (λ c torn. reads_within files told old.state t.sound t.files_are t.old t.new t.written c (outcome.1 c torn))
+    within = leaves_more disk.moment disk.left_since old.device new.device asked (ReadsBack files observed.history)
+        (λ c torn. reads_within files observed old.state t.sound t.files_are t.old t.new t.written c (outcome.1 c torn))
         made.within;
-    after = λ c left. let now = tracked_kept in reads_now files (tell told step reply) new.state (disk.seen new.device)
+    after = λ c left. let now = refines_kept in
+        reads_now files (observe observed step reply) new.state (disk.seen new.device)
         (disk.may_leave new.device) now.sound now.files_are
-        (record { old = now.old; new = now.new; stands = now.stands; written = now.written }) c left;
+        (record { old = now.old; new = now.new; consistent = now.consistent; written = now.written }) c left;
   }

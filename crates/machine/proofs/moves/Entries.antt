@@ -8,18 +8,19 @@ use Rattle.machine.proofs.Names.{is_some_from, Grows-with_entry, Lock, IsShootdo
 use Rattle.machine.proofs.Names.{with_processor, with_tlb, Coheres, Agrees, at-with_processor, IsNoWider-same_places}
 use Rattle.machine.proofs.Names.{Coheres-grown, IsShootdown-filled, Coheres-filled, Holds, page_at, MayBe}
 use Rattle.machine.proofs.Names.{AreBacked-with_entry, cached_of, walked, State, with_hardware, with_shootdown}
-use Rattle.machine.proofs.Names.{with_spaces, IsSound, Saying, Silent, Mapping, AreSpacesTold, ReplacesProcessor}
+use Rattle.machine.proofs.Names.{with_spaces, IsSound, Effect, Silent, Mapping, AreSpacesObserved, ReplacesProcessor}
 use Rattle.machine.proofs.Names.{ReplacesSpaces, Replace, Remap}
 use Rattle.machine.proofs.sound.Lists.{same_some}
 use Rattle.machine.proofs.moves.Silent.{SilentMoves}
-use Rattle.machine.proofs.track.DirtyFrames.{dirty_alike}
+use Rattle.machine.proofs.refining.DirtyFrames.{dirty_alike}
 use Rattle.machine.proofs.sound.Groups.{still_sound, unchanged_sound, shootdown_sound}
 use Rattle.machine.proofs.sound.Groups.{prepared_moved, memory_beside, write_outs_moved}
 
 -- ---- a machine stays sound
 
-pub processor_sound : (s : State) (says : Saying) (new : State) → ReplacesProcessor s says new → IsSound s → IsSound new
-processor_sound s says new is sound =
+pub processor_sound : (s : State) (effect : Effect) (new : State) → ReplacesProcessor s effect new → IsSound s
+    → IsSound new
+processor_sound s effect new is sound =
     let shootdown = with_processor s.hardware.shootdown is.p is.x in
     unchanged_sound _ new is.done
     (shootdown_sound s shootdown is.is_shootdown is.coheres
@@ -29,20 +30,21 @@ processor_sound s says new is sound =
     sound.spaces.prepared sound)
 
 -- a space that was there is
-space_stays : (says : Saying) (old new : Spaces) → AreSpacesTold says old new → (q : ℕ) → has_space old q ≡ true
+space_stays : (effect : Effect) (old new : Spaces) → AreSpacesObserved effect old new → (q : ℕ) → has_space old q ≡ true
     → has_space new q ≡ true
-space_stays Silent old new told q is = told.there q ∙ is
-space_stays (Mapping space change) old new told q is = told.there q ∙ or_right (eqb q space) (has_space old q) is
-space_stays says old new told q is = absurd told
+space_stays Silent old new observed q is = observed.there q ∙ is
+space_stays (Mapping space change) old new observed q is =
+    observed.there q ∙ or_right (eqb q space) (has_space old q) is
+space_stays effect old new observed q is = absurd observed
 
-pub spaces_sound : (s : State) (spaces : Spaces) (says : Saying) (new : State) → ReplacesSpaces s spaces says new
+pub spaces_sound : (s : State) (spaces : Spaces) (effect : Effect) (new : State) → ReplacesSpaces s spaces effect new
     → IsSound s → IsSound new
-spaces_sound s spaces says new is sound = unchanged_sound _ new is.done (still_sound sound refl refl
+spaces_sound s spaces effect new is sound = unchanged_sound _ new is.done (still_sound sound refl refl
     (record {
       spaces = is.are_spaces;
       shootdown = sound.spaces.shootdown;
       coheres = is.coheres;
-      current = λ p below. space_stays says s.hardware.spaces spaces is.told _ (sound.spaces.current p below);
+      current = λ p below. space_stays effect s.hardware.spaces spaces is.observed _ (sound.spaces.current p below);
       in_table = is.in_table;
       prepared = is.prepared;
     })
@@ -65,7 +67,7 @@ tlb_replaced s p tlb new sound there is_shootdown coheres is = record {
   is_shootdown = is_shootdown;
   coheres = coheres;
   space = sound.spaces.current p there;
-  told = (refl, refl);
+  observed = (refl, refl);
   done = is;
 }
 
@@ -103,14 +105,14 @@ entry_replaced s pcid page place entry mapped may keeps had sound =
         table = refl;
         in_memory = λ owner is. is;
         lengths = refl;
-        settled = λ whole none. (whole, none);
+        quiescent = λ whole none. (whole, none);
         room = refl;
         marks = refl;
         free = λ free. free;
       }) (sound.spaces.prepared lock held);
       backed =
           AreBacked-with_entry s.hardware.memory s.checkpoint old pcid page place entry mapped may sound.memory.backed;
-      told = record { there = there; places = places };
+      observed = record { there = there; places = places };
       done = refl;
     }
   where
@@ -191,7 +193,7 @@ module _ (s : State) (p page : ℕ) (was now : Mapped) (sound : IsSound s)
   pub walk_moves : (disk : List ℕ) (new : State) → now.dirty ≡ was.dirty
       → new ≡ with_hardware s (walked s.hardware p page now) → SilentMoves disk s new
   walk_moves disk new same is = record {
-    says = Silent ∷ Silent ∷ [];
+    effect = Silent ∷ Silent ∷ [];
     silent = tt;
     moves = (
       mid,

@@ -7,7 +7,7 @@ use Rattle.machine.proofs.Names.{finished, destroyed, destroy_refusal, IsShootdo
 use Rattle.machine.proofs.Names.{Coheres-begun, entry_at-remove_other, IsNoWider-remove, elsewhere}
 use Rattle.machine.proofs.Names.{IsShootdown-destroyed, current-destroyed, length-destroyed, Coheres-destroyed}
 use Rattle.machine.proofs.Names.{IsInSpace, AreBacked-remove, AreBacked-frozen, Hardware, State, page_from}
-use Rattle.machine.proofs.Names.{reason_against, with_hardware, SpaceDestroyed, IsPrepared, IsSound, Saying}
+use Rattle.machine.proofs.Names.{reason_against, with_hardware, SpaceDestroyed, IsPrepared, IsSound, Effect}
 use Rattle.machine.proofs.Names.{BeginsChange, EndsChange, StoresBytes, Move, Moves, Replace, Remap, Destroy, Begin}
 use Rattle.machine.proofs.Names.{End, Store, Bring, Copy, Drop}
 use Rattle.std.specs.FinMap as maps
@@ -20,13 +20,13 @@ use Rattle.machine.proofs.sound.Groups.{still_sound, unchanged_sound, shootdown_
 use Rattle.machine.proofs.sound.Ended.{ended_spaces}
 use Rattle.machine.proofs.sound.Frames.{notes_in_use, bytes_sound, length-page_from}
 use Rattle.machine.proofs.sound.Frames.{page_sound, copy_sound, dropped_sound}
-use Rattle.machine.proofs.track.Translations.{is_translated}
+use Rattle.machine.proofs.refining.Translations.{is_translated}
 use Rattle.machine.proofs.moves.Entries.{processor_sound, spaces_sound, walk_sound}
 
 -- ---- changes begin and end
 
-begun_sound : (s : State) (says : Saying) (new : State) → BeginsChange s says new → IsSound s → IsSound new
-begun_sound s says new is sound =
+begun_sound : (s : State) (effect : Effect) (new : State) → BeginsChange s effect new → IsSound s → IsSound new
+begun_sound s effect new is sound =
     let sd = s.hardware.shootdown in
     let free = free_below sd is.p is.free in
     unchanged_sound _ new is.done
@@ -43,8 +43,8 @@ begun_sound s says new is sound =
         → is.change ≡ lock.change
     its_change lock held = cc
 
-ended_sound : (s : State) (says : Saying) (new : State) → EndsChange s says new → IsSound s → IsSound new
-ended_sound s says new is sound =
+ended_sound : (s : State) (effect : Effect) (new : State) → EndsChange s effect new → IsSound s → IsSound new
+ended_sound s effect new is sound =
     let memory = s.hardware.memory in
     unchanged_sound _ new is.done (still_sound sound refl refl
     (ended_spaces s is.p is.change is.spaces memory is.checkpoint s.write_outs s.marks s.resized is.may is.only is.wider
@@ -113,8 +113,8 @@ destroyed_sound s p pcid new allowed rule sound =
 
 -- ---- bytes are stored
 
-stored_sound : (s : State) (says : Saying) (new : State) → StoresBytes s says new → IsSound s → IsSound new
-stored_sound s says new is sound =
+stored_sound : (s : State) (effect : Effect) (new : State) → StoresBytes s effect new → IsSound s → IsSound new
+stored_sound s effect new is sound =
     let made = is.made in
     let page = is.va / 4096 in
     let t = is_translated s.hardware is.p page true made.frame made.mid sound.spaces.coheres
@@ -132,23 +132,23 @@ stored_sound s says new is sound =
 
 -- ---- moves
 
-pub move_sound : (disk : List ℕ) (s : State) (says : Saying) (new : State) → Move disk s says new → IsSound s
+pub move_sound : (disk : List ℕ) (s : State) (effect : Effect) (new : State) → Move disk s effect new → IsSound s
     → IsSound new
-move_sound disk s says new (Replace is) sound = processor_sound s says new is sound
-move_sound disk s says new (Remap spaces is dirty) sound = spaces_sound s spaces says new is sound
-move_sound disk s says new (Destroy is) sound = destroyed_sound s is.p is.pcid new is.allowed is.made sound
-move_sound disk s says new (Begin is) sound = begun_sound s says new is sound
-move_sound disk s says new (End is) sound = ended_sound s says new is sound
-move_sound disk s says new (Store is) sound = stored_sound s says new is sound
-move_sound disk s says new (Bring is) sound =
+move_sound disk s effect new (Replace is) sound = processor_sound s effect new is sound
+move_sound disk s effect new (Remap spaces is dirty) sound = spaces_sound s spaces effect new is sound
+move_sound disk s effect new (Destroy is) sound = destroyed_sound s is.p is.pcid new is.allowed is.made sound
+move_sound disk s effect new (Begin is) sound = begun_sound s effect new is sound
+move_sound disk s effect new (End is) sound = ended_sound s effect new is sound
+move_sound disk s effect new (Store is) sound = stored_sound s effect new is sound
+move_sound disk s effect new (Bring is) sound =
     unchanged_sound _ new is.done (page_sound s is.frame is.owner (page_from s disk is.owner) is.in_file
     (length-page_from s disk is.owner) is.absent is.free is.unlocked sound)
-move_sound disk s says new (Copy is) sound =
+move_sound disk s effect new (Copy is) sound =
     unchanged_sound _ new is.done (copy_sound s is.frame is.owner is.copy is.holds is.held is.free sound)
-move_sound disk s says new (Drop is) sound =
+move_sound disk s effect new (Drop is) sound =
     unchanged_sound _ new is.done (dropped_sound s is.owner is.frame is.leaves is.unmapped is.free sound)
 
-pub moves_sound : (disk : List ℕ) (s : State) (says : List Saying) (new : State) → Moves disk s says new → IsSound s
+pub moves_sound : (disk : List ℕ) (s : State) (effect : List Effect) (new : State) → Moves disk s effect new → IsSound s
     → IsSound new
 moves_sound disk s [] new same sound = unchanged_sound s new same sound
 moves_sound disk s (first ∷ more) new moves sound =

@@ -1,92 +1,99 @@
 -- Moves that tell nothing, and acts of moves.
 use Rattle.machine.proofs.Names.{ℕ, ◌≡◌, List, [], ◌∷◌, ◌++◌, refl, sym, ◌∙◌, subst, append-nil, Nothing, Act, Reply}
-use Rattle.machine.proofs.Names.{State, Event, step_work, Told, tell, Saying, Silent, said, said_all, Move, Moves}
+use Rattle.machine.proofs.Names.{State, Event, step_work, Observed, observe, Effect}
+use Rattle.machine.proofs.Names.{Silent, after_effect, after_effects, Move, Moves}
 use Rattle.machine.proofs.Names.{Performed, Moved}
 
-abbrev pub AreSilent : List Saying → Type 0
+abbrev pub AreSilent : List Effect → Type 0
 AreSilent [] = Unit {0}
 AreSilent (Silent ∷ more) = AreSilent more
-AreSilent (says ∷ more) = ⊥
+AreSilent (effect ∷ more) = ⊥
 
 -- moves that tell nothing
 pub record SilentMoves (disk : List ℕ) (s new : State) : Type 0 where
-  pub says : List Saying
-  pub silent : AreSilent says
-  pub moves : Moves disk s says new
+  pub effect : List Effect
+  pub silent : AreSilent effect
+  pub moves : Moves disk s effect new
 
 pub no_moves : {disk : List ℕ} {s new : State} → new ≡ s → SilentMoves disk s new
-no_moves same = record { says = []; silent = tt; moves = same }
+no_moves same = record { effect = []; silent = tt; moves = same }
 
 pub one_move : {disk : List ℕ} {s new : State} → Move disk s Silent new → SilentMoves disk s new
-one_move {new = new} move = record { says = Silent ∷ []; silent = tt; moves = (new, move, refl) }
+one_move {new = new} move = record { effect = Silent ∷ []; silent = tt; moves = (new, move, refl) }
 
 -- moves, and then others
-pub joined : (disk : List ℕ) (s mid new : State) (says more : List Saying) → Moves disk s says mid
-    → Moves disk mid more new → Moves disk s (says ++ more) new
+pub joined : (disk : List ℕ) (s mid new : State) (effect more : List Effect) → Moves disk s effect mid
+    → Moves disk mid more new → Moves disk s (effect ++ more) new
 joined disk s mid new [] more same rest = subst (λ x. Moves disk x more new) same rest
-joined disk s mid new (first ∷ says) more moves rest =
-    (moves.0, moves.1, joined disk moves.0 mid new says more moves.2 rest)
+joined disk s mid new (first ∷ effect) more moves rest =
+    (moves.0, moves.1, joined disk moves.0 mid new effect more moves.2 rest)
 
-silent_both : (says more : List Saying) → AreSilent says → AreSilent more → AreSilent (says ++ more)
+silent_both : (effect more : List Effect) → AreSilent effect → AreSilent more → AreSilent (effect ++ more)
 silent_both [] more silent rest = rest
-silent_both (Silent ∷ says) more silent rest = silent_both says more silent rest
-silent_both (first ∷ says) more silent rest = absurd silent
+silent_both (Silent ∷ effect) more silent rest = silent_both effect more silent rest
+silent_both (first ∷ effect) more silent rest = absurd silent
 
 pub then_silent : {disk : List ℕ} {s mid new : State} → SilentMoves disk s mid → SilentMoves disk mid new
     → SilentMoves disk s new
 then_silent {disk} {s} {mid} {new} first rest = record {
-  says = first.says ++ rest.says;
-  silent = silent_both first.says rest.says first.silent rest.silent;
-  moves = joined disk s mid new first.says rest.says first.moves rest.moves;
+  effect = first.effect ++ rest.effect;
+  silent = silent_both first.effect rest.effect first.silent rest.silent;
+  moves = joined disk s mid new first.effect rest.effect first.moves rest.moves;
 }
 
-silent_said : (told : Told) (says : List Saying) → AreSilent says → said_all told says ≡ told
-silent_said told [] silent = refl
-silent_said told (Silent ∷ says) silent = silent_said told says silent
-silent_said told (first ∷ says) silent = absurd silent
+silent_after : (observed : Observed) (effect : List Effect) → AreSilent effect
+    → after_effects observed effect ≡ observed
+silent_after observed [] silent = refl
+silent_after observed (Silent ∷ effect) silent = silent_after observed effect silent
+silent_after observed (first ∷ effect) silent = absurd silent
 
 -- ---- acts of moves
 
-same_history : (told : Told) (history : List Event) → told.history ≡ history
-    → record told { history = history ++ [] } ≡ told
-same_history told history same = λ i. record told { history = (append-nil history ∙ sym same) i }
+same_history : (observed : Observed) (history : List Event) → observed.history ≡ history
+    → record observed { history = history ++ [] } ≡ observed
+same_history observed history same = λ i. record observed { history = (append-nil history ∙ sym same) i }
 
 -- an act of moves by which nothing is stored or marked
 pub moved_all : {s : State} {disk : List ℕ} {p : ℕ} {act : Act} {reply : Reply} {new : State}
-    {disk' : List ℕ} (says : List Saying)
-    → Moves disk s says new
-    → ((told : Told) → tell told (record { p = p; act = act }) reply
-    ≡ record (said_all told says) { history = told.history ++ [] })
-    → ((told : Told) → (said_all told says).history ≡ told.history) → step_work s act reply ≡ Nothing → disk' ≡ disk
+    {disk' : List ℕ} (effect : List Effect)
+    → Moves disk s effect new
+    → ((observed : Observed) → observe observed (record { p = p; act = act }) reply
+    ≡ record (after_effects observed effect) { history = observed.history ++ [] })
+    → ((observed : Observed) → (after_effects observed effect).history ≡ observed.history)
+    → step_work s act reply ≡ Nothing → disk' ≡ disk
     → Performed s disk p act reply new disk'
-moved_all says moves tells still work same = Moved (record {
-  says = says;
+moved_all effect moves observes still work same = Moved (record {
+  effect = effect;
   moves = moves;
-  tells = λ told. tells told ∙ same_history (said_all told says) told.history (still told);
+  observes = λ observed. observes observed
+      ∙ same_history (after_effects observed effect) observed.history (still observed);
   no_work = work;
   same_disk = same;
 })
 
 -- of one move
 pub moved : {s : State} {disk : List ℕ} {p : ℕ} {act : Act} {reply : Reply} {new : State}
-    {disk' : List ℕ} {says : Saying}
-    → Move disk s says new
-    → ((told : Told) → tell told (record { p = p; act = act }) reply
-    ≡ record (said told says) { history = told.history ++ [] })
-    → ((told : Told) → (said told says).history ≡ told.history) → step_work s act reply ≡ Nothing → disk' ≡ disk
+    {disk' : List ℕ} {effect : Effect}
+    → Move disk s effect new
+    → ((observed : Observed) → observe observed (record { p = p; act = act }) reply
+    ≡ record (after_effect observed effect) { history = observed.history ++ [] })
+    → ((observed : Observed) → (after_effect observed effect).history ≡ observed.history)
+    → step_work s act reply ≡ Nothing → disk' ≡ disk
     → Performed s disk p act reply new disk'
-moved {new = new} {says = says} move tells still work same =
-    moved_all (says ∷ []) (new, move, refl) tells still work same
+moved {new = new} {effect = effect} move observes still work same =
+    moved_all (effect ∷ []) (new, move, refl) observes still work same
 
 -- of moves that tell nothing
 pub silently : {s : State} {disk : List ℕ} {p : ℕ} {act : Act} {reply : Reply} {new : State} {disk' : List ℕ}
     → SilentMoves disk s new
-    → ((told : Told) → tell told (record { p = p; act = act }) reply ≡ record told { history = told.history ++ [] })
+    → ((observed : Observed)
+    → observe observed (record { p = p; act = act }) reply ≡ record observed { history = observed.history ++ [] })
     → step_work s act reply ≡ Nothing → disk' ≡ disk → Performed s disk p act reply new disk'
-silently silent tells work same = Moved (record {
-  says = silent.says;
+silently silent observes work same = Moved (record {
+  effect = silent.effect;
   moves = silent.moves;
-  tells = λ told. tells told ∙ same_history told told.history refl ∙ sym (silent_said told silent.says silent.silent);
+  observes = λ observed. observes observed ∙ same_history observed observed.history refl
+      ∙ sym (silent_after observed silent.effect silent.silent);
   no_work = work;
   same_disk = same;
 })

@@ -57,7 +57,7 @@ module _ (table : SuperValue) (lengths : List ℕ) (shape : Shape) (is : IsShape
     sources = λ k d within. absurd (omega arith);
     marked = λ k d within. absurd (omega arith);
     few_marks = omega arith;
-    settled = λ set. absurd (false≢true set);
+    quiescent = λ set. absurd (false≢true set);
     frozen = refl;
   }
 

@@ -32,7 +32,7 @@ module _ (s : State) (sound : IsSound s) (whole : s.write_outs.broken ≡ false)
       ∙ cond-false s.write_outs.broken [] (file_homes s.table (waiting s.write_outs.batches)) whole
 
   unset : s.resized ≡ true → s.write_outs.broken ≡ false
-  unset set = (sound.write_outs.settled set).1
+  unset set = (sound.write_outs.quiescent set).1
 
   -- the first frozen page's record was written
   pub record_sound : (answer : Flushed) (home : ℕ) (rest : List ℕ) → waiting s.write_outs.batches ≡ home ∷ rest
@@ -157,7 +157,7 @@ failed_sound s sound some =
       copied = λ copy kept there. absurd (let none = none_left s.hardware.memory.copies copy in cc);
     })
     (stepped_write_outs s sound flushed.Device true (record s.hardware { memory = memory }) (thawed s.checkpoint) refl
-    sound.write_outs.older (omega arith) (λ set. absurd (some (sound.write_outs.settled set).0)) refl)
+    sound.write_outs.older (omega arith) (λ set. absurd (some (sound.write_outs.quiescent set).0)) refl)
 
 -- ---- the act
 

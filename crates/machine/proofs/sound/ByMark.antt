@@ -106,7 +106,7 @@ marks_more s hardware checkpoint same few frozen is = record {
       All (λ (w : WriteOut). All (IsSource s.table m) w.batch.homes) s.write_outs.batches) (sym same) is.sources;
   marked = λ k d within. let was = is.marked k d within in (was.0, omega (arith, was.1));
   few_marks = few;
-  settled = λ set. absurd (false≢true set);
+  quiescent = λ set. absurd (false≢true set);
   frozen = frozen;
 }
 
@@ -145,7 +145,7 @@ batch_more s hardware checkpoint home_list same few whole free frozen homes ther
       marked = All-push (λ (x : WriteOut). (0 < x.batch.mark) × (x.batch.mark ≤ s.marks + 1)) outs.batches w old_marked
           (omega arith, omega arith);
       few_marks = few;
-      settled = λ set. absurd (false≢true set);
+      quiescent = λ set. absurd (false≢true set);
       frozen = frozen ∙ ap (file_homes s.table) (sym waits)
           ∙ sym (cond-false outs.broken [] (file_homes s.table (waiting (outs.batches ++ w ∷ []))) whole);
     }
@@ -160,7 +160,7 @@ module _ (s : State) (hardware : Hardware) (checkpoint : CheckpointState) (pages
       record s { hardware = hardware; checkpoint = checkpoint; write_outs = outs; marks = s.marks + 1; resized = false }
 
   has_block : s.resized ≡ true → 0 < lengths_blocks s.table.layout
-  has_block set = (sound.write_outs.settled set).2
+  has_block set = (sound.write_outs.quiescent set).2
 
   -- nothing is frozen by it
   none_more : checkpoint.frozen ≡ [] → AreWriteOutsSound (marked_by s.write_outs)

@@ -125,7 +125,7 @@ module _ (s : State) (p : ℕ) (new : State) (made : ResizeMade s p new) (sound 
         sources = λ k d within. absurd (omega (arith, within, ap length resizable.done));
         marked = is.marked;
         few_marks = is.few_marks;
-        settled = λ set. (resizable.done, resizable.whole, resizable.block);
+        quiescent = λ set. (resizable.done, resizable.whole, resizable.block);
         frozen = ap (map (home_of s.table)) made.pages.frozen ∙ is.frozen;
       }
 

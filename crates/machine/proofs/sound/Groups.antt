@@ -90,7 +90,7 @@ write_outs_kept s hardware checkpoint same stays is = record {
       (is.sources k d within i e below);
   marked = is.marked;
   few_marks = is.few_marks;
-  settled = is.settled;
+  quiescent = is.quiescent;
   frozen = ap (map (home_of s.table)) same ∙ is.frozen;
 }
 
@@ -112,7 +112,7 @@ pub record StaysPrepared (s new : State) : Type 0 where
   pub in_memory : (owner : FilePage) → is_in_memory s.hardware.memory owner ≡ true
       → is_in_memory new.hardware.memory owner ≡ true
   pub lengths : new.lengths ≡ s.lengths
-  pub settled : s.write_outs.broken ≡ false → s.write_outs.batches ≡ []
+  pub quiescent : s.write_outs.broken ≡ false → s.write_outs.batches ≡ []
       → (new.write_outs.broken ≡ false) × (new.write_outs.batches ≡ [])
   pub room : count_by is_none new.hardware.memory.frames ≡ count_by is_none s.hardware.memory.frames
   pub marks : new.marks ≡ s.marks
@@ -143,7 +143,7 @@ prepared_moved s new (Reclaim owner) stays is = (
 )
 prepared_moved s new (SetLength file to) stays is =
     let same = stays.lengths in
-    let settled = stays.settled is.whole is.done in
+    let quiescent = stays.quiescent is.whole is.done in
     let memory = new.hardware.memory in
     record {
       block = subst (λ (table : SuperValue). 0 < lengths_blocks table.layout) (sym stays.table) is.block;
@@ -151,8 +151,8 @@ prepared_moved s new (SetLength file to) stays is =
       within = subst (λ (table : SuperValue). to ≤ get_or (map (λ f. f.capacity) table.files) file 0)
           (sym stays.table) is.within;
       differs = λ e. is.differs (e ∙ ap (λ (l : List ℕ). get_or l file 0) same);
-      whole = settled.0;
-      done = settled.1;
+      whole = quiescent.0;
+      done = quiescent.1;
       resident = subst (λ (l : List ℕ). (ltb (get_or l file 0) to && not (eqb (get_or l file 0 % 4096) 0)
           && not (is_in_memory memory (record { file = file; page = get_or l file 0 / 4096 }))) ≡ false) (sym same)
           (lacks_still (ltb (get_or s.lengths file 0) to) (not (eqb (get_or s.lengths file 0 % 4096) 0))
@@ -195,7 +195,7 @@ prepared_same s shootdown change =
       table = refl;
       in_memory = λ owner there. there;
       lengths = refl;
-      settled = λ whole none. (whole, none);
+      quiescent = λ whole none. (whole, none);
       room = refl;
       marks = refl;
       free = λ free. free;

@@ -131,7 +131,7 @@ gathered_homes s pages sound rising some in_files there = record {
 pub mark_homes_are : (s : State) (pages : List FilePage) → IsSound s → AreRising pages → 0 < length (mark_homes s pages)
     → All (IsInFile s) pages → All (λ owner. is_in_memory s.hardware.memory owner ≡ true) pages
     → AreHomes (geometry_of s.table) (mark_homes s pages)
-mark_homes_are s pages sound rising some in_files there = by s.resized (λ set. (sound.write_outs.settled set).2) some
+mark_homes_are s pages sound rising some in_files there = by s.resized (λ set. (sound.write_outs.quiescent set).2) some
   where
     lengths_home : ℕ
     lengths_home = first_home s.table.layout s.table.slots

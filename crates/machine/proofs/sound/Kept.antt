@@ -12,7 +12,7 @@ use Rattle.machine.proofs.acts.All.{performed}
 module _ {s : State} {disk : List ℕ} {p : ℕ} {act : Act} {reply : Reply} {new : State} {disk' : List ℕ}
     (sound : IsSound s) where
   pub performed_sound : Performed s disk p act reply new disk' → IsSound new
-  performed_sound (Moved by) = moves_sound disk s by.says new by.moves sound
+  performed_sound (Moved by) = moves_sound disk s by.effect new by.moves sound
   performed_sound (Marked number act_is reply_is made same) = marked_sound s p number new made sound
   performed_sound (Resized act_is reply_is made same) = resized_sound s p new made sound
   performed_sound (Flushed act_is made fine) = flushed_sound s sound disk p reply new disk' made fine

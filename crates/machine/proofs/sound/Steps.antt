@@ -55,8 +55,9 @@ module _ (s : State) (sound : IsSound s) where
         sources = all_after (λ (b : Batch). All source b.homes) answer batches still;
         marked = all_after (λ (b : Batch). (0 < b.mark) × (b.mark ≤ s.marks)) answer batches is.marked;
         few_marks = is.few_marks;
-        settled =
-            λ set. (ap (batches_after answer) (is.settled set).0 ∙ none_after answer, unset set, (is.settled set).2);
+        quiescent =
+            λ set.
+            (ap (batches_after answer) (is.quiescent set).0 ∙ none_after answer, unset set, (is.quiescent set).2);
         frozen = frozen;
       }
 

@@ -5,7 +5,7 @@ use Rattle.machine.proofs.Names.{AreHomes, WriteOut, entry_at, CheckpointState, 
 use Rattle.machine.proofs.Names.{place_of_fault, IsReachable, State, home_of, IsSound}
 use Rattle.shootdown.specs.Shootdown.{current as current_space}
 use Rattle.machine.proofs.sound.Frames.{in_use}
-use Rattle.machine.proofs.track.Faults.{led_to}
+use Rattle.machine.proofs.refining.Faults.{led_to}
 use Rattle.machine.proofs.Names.{mark_homes}
 use Rattle.machine.proofs.sound.Homes.{mark_homes_are}
 use Rattle.machine.proofs.sound.ByMark.{gathered_there}

@@ -15,7 +15,7 @@ use Rattle.journal.specs.WriteOuts.{current}
 abbrev pub blocks : WriteOut → ℕ
 blocks w = length w.batch.homes
 
--- a batch is committed once its records, its descriptor and its gate are written and sure
+-- a batch is committed once its records, its descriptor and its gate are written and durable
 pub committed_steps : (w : WriteOut) → has_committed w ≡ true → blocks w + 4 ≤ w.steps
 committed_steps w committed = by (next_stage w) (stage_is (blocks w) w.steps) committed
   where

@@ -23,7 +23,7 @@ pub record ActDone {D Z : Type 0} (disk : Ghosts D) (old : Layers D Z) (step : S
       (disk.seen old.device) (disk.seen new.device)
   pub left : (c : List ℕ) → disk.may_leave new.device c
       → TornFromWork (step_work (state_in old) step.act reply) (disk.may_leave old.device) c
-  pub sure : disk.is_honest old.device → reply ≢ replies.Refused refusals.Device
+  pub durable : disk.is_honest old.device → reply ≢ replies.Refused refusals.Device
       → step_work (state_in old) step.act reply ≡ Sync → Only (disk.may_leave new.device) (disk.seen old.device)
   pub time : LeavesOnly disk.moment disk.left_since old.device new.device
       (TornFromWork (step_work (state_in old) step.act reply) (disk.may_leave old.device))

@@ -1,4 +1,4 @@
--- What acts do to a machine, taken apart into moves: what each changes, and what it tells of a run.
+-- What acts do to a machine, taken apart into moves: what each changes, and its effect on what is observed of a run.
 use Rattle.std.specs.Prelude.{ℕ, ◌≡◌, ◌≢◌, ◌<◌, ◌↔◌, ◌==◌, ◌||◌, Bool, true, false, List, [], ◌∷◌}
 use Rattle.std.specs.Prelude.{◌++◌, length, Option, Some, None, IsSome, slice_set, slice_get}
 use Rattle.std.specs.FinMap as maps
@@ -35,67 +35,68 @@ use Rattle.machine.specs.Rules.{with_hardware, with_shootdown, with_spaces, begi
 use Rattle.machine.specs.Rules.{MayLeave, SpaceDestroyed, MarkMade, ResizeMade, FlushMade, FlushFailed}
 use Rattle.machine.specs.Durability.{IsInFile}
 use Rattle.machine.specs.Steps.{step_work}
-use Rattle.machine.specs.Told.{Told, Pending, with_running, with_places, begun_by}
-use Rattle.machine.specs.Told.{ended_by, changed, store_at, place_told, places_in, tell}
+use Rattle.machine.specs.Observed.{Observed, Pending, with_running, with_places, begun_by}
+use Rattle.machine.specs.Observed.{ended_by, changed, store_at, place_observed, places_in, observe}
 use Rattle.machine.specs.inside.Sound.{IsPrepared}
-use Rattle.machine.specs.inside.Tracking.{pending_in}
+use Rattle.machine.specs.inside.Refining.{pending_in}
 
--- ---- what a move tells
+-- ---- the effect of a move on what is observed
 
-pub data Saying : Type 0 where
+pub data Effect : Type 0 where
   -- nothing
-  Silent : Saying
+  Silent : Effect
   -- processor p goes on from now on, or doesn't
-  Running : (p : ℕ) (goes : Bool) → Saying
+  Running : (p : ℕ) (goes : Bool) → Effect
   -- processor p is in another space
-  Entering : (p space : ℕ) → Saying
+  Entering : (p space : ℕ) → Effect
   -- the places of a space change so, or a space is made with them
-  Mapping : (space : ℕ) (change : Places → Places) → Saying
+  Mapping : (space : ℕ) (change : Places → Places) → Effect
   -- a space is gone
-  Leaving : (space : ℕ) → Saying
+  Leaving : (space : ℕ) → Effect
   -- processor p begins a change
-  Beginning : (p : ℕ) (pending : Option Pending) → Saying
+  Beginning : (p : ℕ) (pending : Option Pending) → Effect
   -- processor p ends its change, and with `Changing` its unmap or protect takes effect
-  Ending : (p : ℕ) → Saying
-  Changing : (p : ℕ) → Saying
+  Ending : (p : ℕ) → Effect
+  Changing : (p : ℕ) → Effect
   -- processor p stored these bytes
-  Storing : (p va : ℕ) (bytes : List ℕ) → Saying
+  Storing : (p va : ℕ) (bytes : List ℕ) → Effect
 
--- what is told after it
-abbrev pub said : Told → Saying → Told
-said told Silent = told
-said told (Running p goes) = with_running told p goes
-said told (Entering p space) = record told { current = slice_set told.current p space }
-said told (Mapping space change) = with_places told space (change (places_in told space))
-said told (Leaving space) = record told { spaces = maps.remove told.spaces space }
-said told (Beginning p pending) = begun_by told p pending
-said told (Ending p) = ended_by told p
-said told (Changing p) = ended_by (changed told told.pending) p
-said told (Storing p va bytes) = record told { history = told.history ++ store_at (place_told told p va) va bytes }
+-- what is observed after it
+abbrev pub after_effect : Observed → Effect → Observed
+after_effect observed Silent = observed
+after_effect observed (Running p goes) = with_running observed p goes
+after_effect observed (Entering p space) = record observed { current = slice_set observed.current p space }
+after_effect observed (Mapping space change) = with_places observed space (change (places_in observed space))
+after_effect observed (Leaving space) = record observed { spaces = maps.remove observed.spaces space }
+after_effect observed (Beginning p pending) = begun_by observed p pending
+after_effect observed (Ending p) = ended_by observed p
+after_effect observed (Changing p) = ended_by (changed observed observed.pending) p
+after_effect observed (Storing p va bytes) =
+    record observed { history = observed.history ++ store_at (place_observed observed p va) va bytes }
 
-abbrev pub said_all : Told → List Saying → Told
-said_all told [] = told
-said_all told (says ∷ more) = said_all (said told says) more
+abbrev pub after_effects : Observed → List Effect → Observed
+after_effects observed [] = observed
+after_effects observed (effect ∷ more) = after_effects (after_effect observed effect) more
 
 -- ---- processors
 
--- processor p is x from now on, and this tells it
-abbrev pub IsProcessorTold : ShootdownState → ℕ → Processor → Saying → Type 0
-IsProcessorTold s p x Silent = (x.space ≡ current s p) × (is_running x.state ≡ is_running (state_of s p))
-IsProcessorTold s p x (Running q goes) = (q ≡ p) × (x.space ≡ current s p) × (is_running x.state ≡ goes)
-IsProcessorTold s p x (Entering q space) =
+-- processor p is x from now on, and this is the effect
+abbrev pub IsProcessorObserved : ShootdownState → ℕ → Processor → Effect → Type 0
+IsProcessorObserved s p x Silent = (x.space ≡ current s p) × (is_running x.state ≡ is_running (state_of s p))
+IsProcessorObserved s p x (Running q goes) = (q ≡ p) × (x.space ≡ current s p) × (is_running x.state ≡ goes)
+IsProcessorObserved s p x (Entering q space) =
     (q ≡ p) × (x.space ≡ space) × (is_running x.state ≡ is_running (state_of s p))
-IsProcessorTold s p x says = ⊥
+IsProcessorObserved s p x effect = ⊥
 
 -- one processor is another, in a space that is there
-pub record ReplacesProcessor (s : State) (says : Saying) (new : State) : Type 0 where
+pub record ReplacesProcessor (s : State) (effect : Effect) (new : State) : Type 0 where
   pub p : ℕ
   pub x : Processor
   pub there : p < length s.hardware.shootdown.processors
   pub is_shootdown : IsShootdown (with_processor s.hardware.shootdown p x)
   pub coheres : Coheres s.hardware.spaces (with_processor s.hardware.shootdown p x)
   pub space : has_space s.hardware.spaces x.space ≡ true
-  pub told : IsProcessorTold s.hardware.shootdown p x says
+  pub observed : IsProcessorObserved s.hardware.shootdown p x effect
   pub done : new ≡ with_shootdown s (with_processor s.hardware.shootdown p x)
 
 -- ---- spaces
@@ -111,10 +112,10 @@ pub record ChangesPlaces (space : ℕ) (change : Places → Places) (old new : S
   pub here : (space_at new space).places ≡ change (space_at old space).places
   pub others : (q : ℕ) → q ≢ space → (space_at new q).places ≡ (space_at old q).places
 
-abbrev pub AreSpacesTold : Saying → Spaces → Spaces → Type 0
-AreSpacesTold Silent old new = SamePlaces old new
-AreSpacesTold (Mapping space change) old new = ChangesPlaces space change old new
-AreSpacesTold says old new = ⊥
+abbrev pub AreSpacesObserved : Effect → Spaces → Spaces → Type 0
+AreSpacesObserved Silent old new = SamePlaces old new
+AreSpacesObserved (Mapping space change) old new = ChangesPlaces space change old new
+AreSpacesObserved effect old new = ⊥
 
 -- only files of the table are mapped
 abbrev pub AreInTable : State → Spaces → Type 0
@@ -127,44 +128,44 @@ SameDirty s spaces checkpoint =
     (frame : ℕ) → IsDirty s.hardware.spaces s.checkpoint frame ↔ IsDirty spaces checkpoint frame
 
 -- other spaces, which no change that is under way depends on, and with which the processors cohere
-pub record ReplacesSpaces (s : State) (spaces : Spaces) (says : Saying) (new : State) : Type 0 where
+pub record ReplacesSpaces (s : State) (spaces : Spaces) (effect : Effect) (new : State) : Type 0 where
   pub are_spaces : AreSpaces spaces
   pub coheres : Coheres spaces s.hardware.shootdown
   pub in_table : AreInTable s spaces
   pub prepared : (lock : Lock) → s.hardware.shootdown.lock ≡ Some lock → IsPrepared (with_spaces s spaces) lock.change
   pub backed : AreBacked s.hardware.memory s.checkpoint spaces
-  pub told : AreSpacesTold says s.hardware.spaces spaces
+  pub observed : AreSpacesObserved effect s.hardware.spaces spaces
   pub done : new ≡ with_spaces s spaces
 
 -- a space is destroyed
-pub record DestroysSpace (s : State) (says : Saying) (new : State) : Type 0 where
+pub record DestroysSpace (s : State) (effect : Effect) (new : State) : Type 0 where
   pub p : ℕ
   pub pcid : ℕ
   pub allowed : reason_against s p (acts.Destroy pcid) ≡ None
   pub made : SpaceDestroyed s pcid new
-  pub says_is : says ≡ Leaving pcid
+  pub effect_is : effect ≡ Leaving pcid
 
 -- ---- changes
 
-pub record BeginsChange (s : State) (says : Saying) (new : State) : Type 0 where
+pub record BeginsChange (s : State) (effect : Effect) (new : State) : Type 0 where
   pub p : ℕ
   pub change : Change
   pub free : not_free s.hardware.shootdown p ≡ None
   pub prepared : IsPrepared s change
   -- no checkpoint is begun of a broken machine
   pub whole : change ≡ Checkpoint → s.write_outs.broken ≡ false
-  pub says_is : says ≡ Beginning p (pending_in (Some change))
+  pub effect_is : effect ≡ Beginning p (pending_in (Some change))
   pub done : new ≡ begin_change s p change
 
--- what the end of a change does to places, and what it tells
-abbrev pub effect_of : Change → Saying
+-- what the end of a change does to places, and its effect
+abbrev pub effect_of : Change → Effect
 effect_of (Unmap pcid range) = Mapping pcid (λ places. without_range places range.first range.count)
 effect_of (Protect pcid range rights) = Mapping pcid (λ places. with_rights places range.first range.count rights)
 effect_of (Reclaim owner) = Silent
 effect_of (SetLength file to) = Silent
 effect_of Checkpoint = Silent
 
-abbrev pub ending_of : ℕ → Change → Saying
+abbrev pub ending_of : ℕ → Change → Effect
 ending_of p (Unmap pcid range) = Changing p
 ending_of p (Protect pcid range rights) = Changing p
 ending_of p (Reclaim owner) = Ending p
@@ -172,7 +173,7 @@ ending_of p (SetLength file to) = Changing p
 ending_of p Checkpoint = Ending p
 
 -- a change ends that leaves lengths alone, and with it entries change that it affects; frames stay
-pub record EndsChange (s : State) (says : Saying) (new : State) : Type 0 where
+pub record EndsChange (s : State) (effect : Effect) (new : State) : Type 0 where
   pub p : ℕ
   pub change : Change
   pub same_lengths : (file to : ℕ) → change ≢ SetLength file to
@@ -189,24 +190,24 @@ pub record EndsChange (s : State) (says : Saying) (new : State) : Type 0 where
   pub noted : (frame : ℕ) → is_noted checkpoint frame ≡ true → IsSome (frame_at s.hardware.memory frame)
   pub backed : AreBacked s.hardware.memory checkpoint spaces
   pub dirty : SameDirty s spaces checkpoint
-  pub told : AreSpacesTold (effect_of change) s.hardware.spaces spaces
-  pub says_is : says ≡ ending_of p change
+  pub observed : AreSpacesObserved (effect_of change) s.hardware.spaces spaces
+  pub effect_is : effect ≡ ending_of p change
   pub done : new ≡ end_change s p spaces s.hardware.memory checkpoint
 
 -- ---- frames
 
 -- bytes are stored in a page
-pub record StoresBytes (s : State) (says : Saying) (new : State) : Type 0 where
+pub record StoresBytes (s : State) (effect : Effect) (new : State) : Type 0 where
   pub p : ℕ
   pub va : ℕ
   pub bytes : List ℕ
   pub hardware : Hardware
   pub made : StoreMade s.hardware p va bytes hardware
-  pub says_is : says ≡ Storing p va bytes
+  pub effect_is : effect ≡ Storing p va bytes
   pub done : new ≡ with_hardware s hardware
 
 -- a page that isn't in memory is read into a free frame
-pub record BringsPage (disk : List ℕ) (s : State) (says : Saying) (new : State) : Type 0 where
+pub record BringsPage (disk : List ℕ) (s : State) (effect : Effect) (new : State) : Type 0 where
   pub owner : FilePage
   pub frame : ℕ
   pub in_file : IsInFile s owner
@@ -215,59 +216,61 @@ pub record BringsPage (disk : List ℕ) (s : State) (says : Saying) (new : State
   pub whole : s.write_outs.broken ≡ false
   pub unlocked : s.hardware.shootdown.lock ≡ None
   pub free : slice_get s.hardware.memory.frames frame ≡ Some None
-  pub says_is : says ≡ Silent
+  pub effect_is : effect ≡ Silent
   pub done : new ≡ with_hardware s
       (record s.hardware { memory = with_page s.hardware.memory frame owner (page_from s disk owner) })
 
 -- a page that is held is copied
-pub record CopiesPage (s : State) (says : Saying) (new : State) : Type 0 where
+pub record CopiesPage (s : State) (effect : Effect) (new : State) : Type 0 where
   pub owner : FilePage
   pub frame : ℕ
   pub copy : ℕ
   pub holds : Holds s.hardware.memory frame owner
   pub held : is_held s.hardware.memory s.checkpoint owner ≡ true
   pub free : slice_get s.hardware.memory.copies copy ≡ Some None
-  pub says_is : says ≡ Silent
+  pub effect_is : effect ≡ Silent
   pub done : new ≡ with_hardware s (record s.hardware { memory = with_copy s.hardware.memory copy frame })
 
 -- a page leaves memory, while the lock is free
-pub record DropsPage (s : State) (says : Saying) (new : State) : Type 0 where
+pub record DropsPage (s : State) (effect : Effect) (new : State) : Type 0 where
   pub owner : FilePage
   pub frame : ℕ
   pub leaves : MayLeave s owner frame
   pub unmapped : (pcid page : ℕ) (entry : Mapped) → entry_at s.hardware.spaces pcid page ≡ Some entry
       → entry.frame ≢ frame
   pub free : s.hardware.shootdown.lock ≡ None
-  pub says_is : says ≡ Silent
+  pub effect_is : effect ≡ Silent
   pub done : new ≡ with_hardware s (record s.hardware { memory = without_frame s.hardware.memory frame })
 
 -- ---- moves
 
 -- one of them; the disk is what a read of the device gives
-pub data Move (disk : List ℕ) (s : State) (says : Saying) (new : State) : Type 0 where
-  Replace : ReplacesProcessor s says new → Move disk s says new
-  Remap : (spaces : Spaces) → ReplacesSpaces s spaces says new → SameDirty s spaces s.checkpoint → Move disk s says new
-  Destroy : DestroysSpace s says new → Move disk s says new
-  Begin : BeginsChange s says new → Move disk s says new
-  End : EndsChange s says new → Move disk s says new
-  Store : StoresBytes s says new → Move disk s says new
-  Bring : BringsPage disk s says new → Move disk s says new
-  Copy : CopiesPage s says new → Move disk s says new
-  Drop : DropsPage s says new → Move disk s says new
+pub data Move (disk : List ℕ) (s : State) (effect : Effect) (new : State) : Type 0 where
+  Replace : ReplacesProcessor s effect new → Move disk s effect new
+  Remap : (spaces : Spaces) → ReplacesSpaces s spaces effect new → SameDirty s spaces s.checkpoint
+      → Move disk s effect new
+  Destroy : DestroysSpace s effect new → Move disk s effect new
+  Begin : BeginsChange s effect new → Move disk s effect new
+  End : EndsChange s effect new → Move disk s effect new
+  Store : StoresBytes s effect new → Move disk s effect new
+  Bring : BringsPage disk s effect new → Move disk s effect new
+  Copy : CopiesPage s effect new → Move disk s effect new
+  Drop : DropsPage s effect new → Move disk s effect new
 
 -- one after the other
-abbrev pub Moves : List ℕ → State → List Saying → State → Type 0
+abbrev pub Moves : List ℕ → State → List Effect → State → Type 0
 Moves disk s [] new = new ≡ s
-Moves disk s (says ∷ more) new = (mid : State) × Move disk s says mid × Moves disk mid more new
+Moves disk s (effect ∷ more) new = (mid : State) × Move disk s effect mid × Moves disk mid more new
 
 -- ---- acts
 
--- an act of moves: it asks nothing of the device but reads, and what it tells is what they tell
+-- an act of moves: it asks nothing of the device but reads, and its effects are theirs
 pub record IsMoved (s : State) (disk : List ℕ) (p : ℕ) (act : Act) (reply : Reply) (new : State) (disk' : List ℕ)
     : Type 0 where
-  pub says : List Saying
-  pub moves : Moves disk s says new
-  pub tells : (told : Told) → tell told (record { p = p; act = act }) reply ≡ said_all told says
+  pub effect : List Effect
+  pub moves : Moves disk s effect new
+  pub observes : (observed : Observed)
+      → observe observed (record { p = p; act = act }) reply ≡ after_effects observed effect
   pub no_work : step_work s act reply ≡ Nothing
   pub same_disk : disk' ≡ disk
 

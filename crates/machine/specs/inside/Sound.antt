@@ -113,7 +113,7 @@ pub record AreWriteOutsSound (s : State) : Type 0 where
   pub marked : All (λ w. (0 < w.batch.mark) × (w.batch.mark ≤ s.marks)) s.write_outs.batches
   pub few_marks : s.marks < 2 ^ 32
   -- lengths are set only where each batch is done, of a machine that isn't broken, in a layout with a block for them
-  pub settled : s.resized ≡ true
+  pub quiescent : s.resized ≡ true
       → (s.write_outs.batches ≡ []) × (s.write_outs.broken ≡ false) × (0 < lengths_blocks s.table.layout)
   pub frozen : map (home_of s.table) s.checkpoint.frozen ≡ frozen_homes s
 

@@ -23,9 +23,9 @@ pub record DiffersAt (texts : List (List ℕ)) (replies : List Reply) (number : 
   pub other : slice_get texts (length earlier) ≢ Some (reply_text last)
 
 -- what is said of the texts of a trace and the replies of a run of its steps
-abbrev pub Says : List (List ℕ) → List Reply → Verdict → Type 0
-Says texts replies (Same count) = (map reply_text replies ≡ texts) × (count ≡ length texts)
-Says texts replies (Differs number) = DiffersAt texts replies number
+abbrev pub IsVerdict : List (List ℕ) → List Reply → Verdict → Type 0
+IsVerdict texts replies (Same count) = (map reply_text replies ≡ texts) × (count ≡ length texts)
+IsVerdict texts replies (Differs number) = DiffersAt texts replies number
 
 -- what a comparer says in the end: nothing where memory was refused
 abbrev pub verdict_by : Bool → Bool → ℕ → Option Verdict

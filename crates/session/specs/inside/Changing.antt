@@ -8,7 +8,7 @@ use Rattle.shootdown.specs.Shootdown.{state_of}
 use Rattle.machine.specs.declared.act.Reply.{Reply}
 use Rattle.machine.specs.declared.act.Reply.TheVariants.{Unmapped, Protected, Resized}
 use Rattle.machine.specs.State.{State}
-use Rattle.session.specs.Steps.{tells_reclaim, tells_mark}
+use Rattle.session.specs.Steps.{reports_reclaim, reports_mark}
 
 -- the phase of a processor after the change that is under way
 abbrev pub phase_after : ProcState → ProcState
@@ -38,22 +38,22 @@ pub record IsOver (old new : State) : Type 0 where
   pub phases : (q : ℕ) → state_of new.hardware.shootdown q ≡ phase_after (state_of old.hardware.shootdown q)
 
 -- that pages were unmapped, got other rights, or a file another length
-abbrev pub tells_unmapped : Reply → Bool
-tells_unmapped Unmapped = true
-tells_unmapped _ = false
+abbrev pub reports_unmapped : Reply → Bool
+reports_unmapped Unmapped = true
+reports_unmapped _ = false
 
-abbrev pub tells_protected : Reply → Bool
-tells_protected Protected = true
-tells_protected _ = false
+abbrev pub reports_protected : Reply → Bool
+reports_protected Protected = true
+reports_protected _ = false
 
-abbrev pub tells_resized : Reply → Bool
-tells_resized Resized = true
-tells_resized _ = false
+abbrev pub reports_resized : Reply → Bool
+reports_resized Resized = true
+reports_resized _ = false
 
 -- that this change was made
-abbrev pub tells_made : Change → Reply → Bool
-tells_made (Unmap pcid range) reply = tells_unmapped reply
-tells_made (Protect pcid range rights) reply = tells_protected reply
-tells_made (Reclaim owner) reply = tells_reclaim reply
-tells_made (SetLength file length) reply = tells_resized reply
-tells_made Checkpoint reply = tells_mark reply
+abbrev pub reports_made : Change → Reply → Bool
+reports_made (Unmap pcid range) reply = reports_unmapped reply
+reports_made (Protect pcid range rights) reply = reports_protected reply
+reports_made (Reclaim owner) reply = reports_reclaim reply
+reports_made (SetLength file length) reply = reports_resized reply
+reports_made Checkpoint reply = reports_mark reply

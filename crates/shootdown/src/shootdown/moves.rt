@@ -7,7 +7,7 @@ ghost use Rattle.shootdown.specs.Calls.{IdleAnswers, GoesOn, SwitchAnswers, is_i
 ghost use Rattle.shootdown.specs.Coherence.{Coheres, KeepsCoherence, IsForgotten};
 
 use super::Shootdown;
-use super::telling::tell_all;
+use super::notifying::notify_all;
 use crate::ProcState;
 use page_entry::{Pcid, ProcessorNumber, Refusal};
 use pcid_tlb::Invpcid;
@@ -93,13 +93,13 @@ impl<A: Allocator + Copy> Shootdown<A> {
         Ok(())
     }
 
-    /// A space goes: whoever may cache entries of its PCID is told to drop them, so that the PCID may be given out
+    /// A space goes: whoever may cache entries of its PCID is notified to drop them, so that the PCID may be given out
     /// again.
     pub fn forget(&mut self, pcid: Pcid)
         requires { is_current self.old pcid ≡ false }
-        ensures told { self.new ≡ destroyed self.old pcid }
+        ensures notified { self.new ≡ destroyed self.old pcid }
         ensures forgotten { IsForgotten self.new pcid }
     {
-        tell_all(&mut self.processors, Invpcid::SingleContext(pcid));
+        notify_all(&mut self.processors, Invpcid::SingleContext(pcid));
     }
 }

@@ -7,7 +7,7 @@ ghost use Rattle.shootdown.specs.Calls.{HasUserPages, Acks, HandsOut, GoesOn, ho
 ghost use Rattle.shootdown.specs.Coherence.{Coheres, KeepsCoherence, IsUnused, IsNoWider};
 
 use super::Shootdown;
-use super::telling::begin_change;
+use super::notifying::begin_change;
 use crate::{Lock, ProcState};
 use page_entry::{ProcessorNumber, Refusal};
 use spaces::{Change, Spaces};
@@ -15,8 +15,8 @@ use std::alloc::Allocator;
 
 impl<A: Allocator + Copy> Shootdown<A> {
     /// The first phase: processor p, which was admitted while the lock was free, takes it for a change. Whoever may
-    /// cache what the change affects is told to drop it, and the other active processors are interrupted whose spaces
-    /// it touches. It takes no memory.
+    /// cache what the change affects is notified to drop it, and the other active processors are interrupted whose
+    /// spaces it touches. It takes no memory.
     pub fn begin(&mut self, p: ProcessorNumber, spaces: &Spaces<A>, change: Change)
         requires free { not_free self.old p ≡ None }
         requires pages { HasUserPages change }

@@ -5,7 +5,7 @@ use Rattle.std.specs.String.{string_bytes}
 use Rattle.std.specs.declared.string.String.{String}
 use Rattle.volume_codec.specs.declared.file_spec.FileSpec.{FileSpec}
 use Rattle.volume_codec.specs.declared.layout.Layout.{Layout}
-use Rattle.volume_codec.specs.declared.super_block.Place.{Place}
+use Rattle.volume_codec.specs.declared.super_block.Extent.{Extent}
 use Rattle.volume_codec.specs.Files.{TableFile}
 use Rattle.volume_codec.specs.Layout.{first_file_home}
 use Rattle.volume_codec.specs.Super.{SuperValue, Fits, IsLengthIn, pages_of, block_count}
@@ -31,11 +31,11 @@ abbrev pub AreFull : List FileSpec → Type 0
 AreFull files = AllByRecursion (λ f. f.length ≡ f.capacity) files
 
 -- the files that a map from names to places holds, in its order
-abbrev pub rows_of : {Z : Type 0} → List (String Z × Place) → List TableFile
+abbrev pub rows_of : {Z : Type 0} → List (String Z × Extent) → List TableFile
 rows_of rows = map (λ row. record { name = string_bytes row.0; capacity = row.1.capacity }) rows
 
 -- the first home block that it holds beside each
-abbrev pub homes_of : {Z : Type 0} → List (String Z × Place) → List ℕ
+abbrev pub homes_of : {Z : Type 0} → List (String Z × Extent) → List ℕ
 homes_of rows = map (λ row. row.1.first_home) rows
 
 -- the first home block of each of these files, where the first file's is this one

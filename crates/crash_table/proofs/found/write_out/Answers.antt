@@ -12,9 +12,9 @@ returns g c =
     (λ acknowledged. record {
       below = first.0;
       is_new = first.1;
-      told = c.in_ok-told.told.items;
+      replied = c.in_ok-replied.replied.items;
       marked = c.make.new.machine;
-      made = c.in_ok-told.ensures;
+      made = c.in_ok-replied.ensures;
       same = sym c.deref.ensures.value ∙ c.are_same_replies.ensures.0 alike;
       acknowledged = acknowledged;
     })

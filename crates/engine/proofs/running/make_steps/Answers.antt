@@ -9,29 +9,29 @@ use Rattle.engine.proofs.running.make_steps.Goals as goal
 pub returns-then-not-make_portion : goal.returns-then-not-make_portion
 returns-then-not-make_portion g c =
     let i = c.loop-from.invariant in
-    let told = c.if-not-make_portion.ensures in
+    let replied = c.if-not-make_portion.ensures in
     let steps = c.args.steps.now in
     let within : c.loop-from.from + c.min-count.result ≤ length steps = omega (arith, i.2, c.min-count.ensures) in (
-      i.0 ++ told.0,
+      i.0 ++ replied.0,
       inr (stopped_then g.L.Listener.hears c.args.listener.now c.loop-from.listener c.make_portion.new.listener i.0
-          told.0 i.3 (told.2 refl)),
+          replied.0 i.3 (replied.2 refl)),
       taken_portion g.D.Device c.steps_after_steps.ensures c.args.machine.now c.loop-from.machine
-          c.make_portion.new.machine steps _ c.loop-from.from c.min-count.result i.0 told.0 within (fetched steps
+          c.make_portion.new.machine steps _ c.loop-from.from c.min-count.result i.0 replied.0 within (fetched steps
           c.loop-from.portion _ c.loop-from.from c.min-count.result within c.copy_from_slice.ensures.after)
-          i.1 i.4 told.3,
+          i.1 i.4 replied.3,
     )
 
 pub loop-from-preserved : goal.loop-from-preserved
 loop-from-preserved g c =
     let i = c.loop-from.invariant in
-    let told = c.if-not-make_portion.ensures in
+    let replied = c.if-not-make_portion.ensures in
     let steps = c.args.steps.now in
-    let heard = told.1 refl in
+    let heard = replied.1 refl in
     let within : c.loop-from.from + c.min-count.result ≤ length steps = omega (arith, i.2, c.min-count.ensures) in
     let same =
     fetched steps c.loop-from.portion _ c.loop-from.from c.min-count.result within c.copy_from_slice.ensures.after in
-    let count : length (i.0 ++ told.0) ≡ c.loop-from.from + c.min-count.result =
-    length-append i.0 told.0
+    let count : length (i.0 ++ replied.0) ≡ c.loop-from.from + c.min-count.result =
+    length-append i.0 replied.0
     ∙ omega (
       arith,
       i.1,
@@ -42,12 +42,13 @@ loop-from-preserved g c =
       within,
     ) in
     let P : ℕ → Type 0 =
-    λ n. StepsTaken g.D.Device c.args.machine.now (take n steps) (i.0 ++ told.0) c.make_portion.new.machine in (
-      i.0 ++ told.0,
+    λ n. StepsTaken g.D.Device c.args.machine.now (take n steps) (i.0 ++ replied.0) c.make_portion.new.machine in (
+      i.0 ++ replied.0,
       count,
       within,
       heard_then g.L.Listener.hears c.args.listener.now c.loop-from.listener c.make_portion.new.listener i.0
-          told.0 i.3 heard.0,
+          replied.0 i.3 heard.0,
       subst P count (taken_portion g.D.Device c.steps_after_steps.ensures c.args.machine.now c.loop-from.machine
-          c.make_portion.new.machine steps _ c.loop-from.from c.min-count.result i.0 told.0 within same i.1 i.4 told.3),
+          c.make_portion.new.machine steps _ c.loop-from.from c.min-count.result i.0 replied.0 within
+          same i.1 i.4 replied.3),
     )

@@ -10,7 +10,7 @@ pub returns-in-Ok-boot-clause-started : goal.returns-in-Ok-boot-clause-started
 returns-in-Ok-boot-clause-started g c = record {
   volume = c.in-Ok.volume;
   opened = c.in-Ok.ensures.opens;
-  settled = c.in-Ok.ensures.settled;
+  well_formed = c.in-Ok.ensures.well_formed;
   shaped = c.in-Ok-boot.ensures.shaped;
   booted = c.in-Ok-boot.ensures.booted;
 }

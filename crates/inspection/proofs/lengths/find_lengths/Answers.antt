@@ -1,7 +1,7 @@
 use Rattle.std.proofs.Common.{◌≡◌, ◌<◌, ap, subst, sym, ◌∙◌, arith}
 use Rattle.std.proofs.lemmas.Result.{err_from_is_err_and}
 use Rattle.volume_codec.specs.Layout.{GeometryValue, journals_of, lengths_blocks, first_home}
-use Rattle.volume_codec.specs.Recovery.{standing_block}
+use Rattle.volume_codec.specs.Recovery.{recovered_block}
 use Rattle.inspection.specs.Found.{AreJournals}
 use Rattle.inspection.specs.inside.Order.{batches_of}
 use Rattle.inspection.proofs.Looked.{found_fixed, found_said, refuses_stored}
@@ -15,7 +15,7 @@ standing_first-requires g c =
 pub read_lengths_at-requires : goal.read_lengths_at-requires
 read_lengths_at-requires g c =
     let blocks = ap (λ (h : GeometryValue). h.blocks) c.geometry-geometry.ensures.value in
-    omega (arith, blocks, c.standing_first.ensures.within, c.requires.long)
+    omega (arith, blocks, c.recovered_first.ensures.within, c.requires.long)
 
 -- the lengths are in a block, and it is the one that is read
 in_block : (g : _) (c : After-standing_first g) → g.D.Device.is_honest c.args.device.now

@@ -1,6 +1,6 @@
 use Rattle.std.proofs.Common.{◌∷◌, Some, true≢false, sym, ap, ◌∙◌}
 use Rattle.volume_codec.specs.Layout.{first_home}
-use Rattle.volume_codec.specs.Recovery.{Batch, standing_block}
+use Rattle.volume_codec.specs.Recovery.{Batch, recovered_block}
 use Rattle.inspection.proofs.Newest.{first_here, others_above}
 use Rattle.inspection.proofs.lengths.first_or.Goals as goal
 

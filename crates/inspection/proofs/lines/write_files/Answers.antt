@@ -25,7 +25,7 @@ loop-file-preserved g c =
       volume_read_then g.D.Device old mid c.write_file.new.volume before.0 c.write_file.ensures.read,
       λ honest.
           let files = files_of old.table (g.D.Device.seen old.device) in
-          let are = files_of_settled g.D.Device old c.file_count-file-end.ensures.settled honest in
+          let are = files_of_well_formed g.D.Device old c.file_count-file-end.ensures.well_formed honest in
           let below : i < length old.table.files = search rules in
           let f = some_at files i (omega (arith, below, as_many_files old (g.D.Device.seen old.device) are)) in
           let at = ap (λ fs. slice_get fs i) (files_read g.D.Device old mid before.0 honest) ∙ f.1 in
@@ -37,7 +37,7 @@ pub returns : goal.returns
 returns g c = λ honest.
     let old = c.args.volume.now in
     let files = files_of old.table (g.D.Device.seen old.device) in
-    let are = files_of_settled g.D.Device old c.file_count-file-end.ensures.settled honest in
+    let are = files_of_well_formed g.D.Device old c.file_count-file-end.ensures.well_formed honest in
     let past : length old.table.files ≤ c.loop-file.file = search rules in
     let all : take c.loop-file.file files ≡ files =
     take_all c.loop-file.file files (omega (arith, past, as_many_files old (g.D.Device.seen old.device) are)) in

@@ -5,7 +5,7 @@ use Rattle.journal.specs.declared.flushed.Flushed.TheVariants.{Broken}
 use Rattle.journal.specs.Work.{has_done}
 use Rattle.journal.specs.WriteOut.{FlushValue, next_stage, advanced_of, flush_work, flush_answer}
 use Rattle.journal.specs.inside.Finishing.{after_steps, IsUnderWay}
-use Rattle.journal.proofs.StandsKept.{done_unless}
+use Rattle.journal.proofs.KeptConsistent.{done_unless}
 use Rattle.journal.proofs.UnderWay.{late_stage, first_step, under_step, under_failed}
 use Rattle.journal.proofs.UnderWay.{under_end, after_value, late_answer_of}
 use Rattle.journal.proofs.finishing.make_steps.Goals as goal

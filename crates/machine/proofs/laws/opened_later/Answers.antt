@@ -1,9 +1,9 @@
 use Rattle.machine.proofs.laws.opened_later.Goals as goal
-use Rattle.machine.proofs.durable.Later.{found_settled, found_durable}
+use Rattle.machine.proofs.durable.Later.{found_permanent, found_durable}
 
-pub returns-clause-settled : goal.returns-clause-settled
-returns-clause-settled g c = λ files n first later honest only recovers is.
-    found_settled g.D.Device g.met.D.Device.seen_is_left c.opened_again.ensures.honest c.opened_again.ensures.left
+pub returns-clause-permanent : goal.returns-clause-permanent
+returns-clause-permanent g c = λ files n first later honest only recovers is.
+    found_permanent g.D.Device g.met.D.Device.seen_is_left c.opened_again.ensures.honest c.opened_again.ensures.left
     c.opened_as_recovered.ensures.files c.kinds_of_bytes.ensures.volume c.one_reading.ensures.files files n first
     later honest only recovers is
 

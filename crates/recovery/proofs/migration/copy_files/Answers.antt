@@ -74,7 +74,7 @@ loop-file-preserved g c =
           (4096 * total_pages table.files) (omega (arith, home)) (omega (arith, home, ends, last, length_stays)));
       copied = λ honest other.
           let seen = g.D.Device.seen old.device in
-          let settled = c.file_count-file-end.ensures.settled in
+          let well_formed = c.file_count-file-end.ensures.well_formed in
           let ready = copies_honest i.copies in
           let size = length_of_bytes old.table old.lengths settled.lengths seen file
           (omega (arith, there, c.requires.same)) (settled.at_rest honest).lengths_are settled.long in

@@ -2,21 +2,21 @@ use Rattle.std.proofs.Common.{◌<◌, ap, subst, sym, ◌∙◌, arith}
 use Rattle.std.specs.List.{AllByRecursion}
 use Rattle.std.proofs.lemmas.Result.{err_from_is_err_and}
 use Rattle.volume_codec.specs.Layout.{GeometryValue, lengths_blocks, first_home}
-use Rattle.volume_codec.specs.Recovery.{standing_block}
+use Rattle.volume_codec.specs.Recovery.{recovered_block}
 use Rattle.journal.specs.WriteOut.{IsBatch}
 use Rattle.recovery.specs.inside.Reading.{batches_of}
-use Rattle.recovery.proofs.StandingLengths.{found_said, refuses_stored}
+use Rattle.recovery.proofs.RecoveredLengths.{found_said, refuses_stored}
 use Rattle.recovery.proofs.opening.find_lengths.Goals as goal
 
-pub standing_first-requires : goal.standing_first-requires
-standing_first-requires g c =
+pub recovered_first-requires : goal.recovered_first-requires
+recovered_first-requires g c =
     let P : GeometryValue → Type 0 = λ h. AllByRecursion (IsBatch h) (batches_of c.args.found.now) in
     subst P (sym c.geometry-geometry.ensures.value) c.requires.carry
 
 pub read_lengths_at-requires : goal.read_lengths_at-requires
 read_lengths_at-requires g c =
     let blocks = ap (λ (h : GeometryValue). h.blocks) c.geometry-geometry.ensures.value in
-    omega (arith, blocks, c.standing_first.ensures.within, c.requires.long)
+    omega (arith, blocks, c.recovered_first.ensures.within, c.requires.long)
 
 pub returns-in_err-lengths-clause-refused : goal.returns-in_err-lengths-clause-refused
 returns-in_err-lengths-clause-refused g c = λ honest volume.

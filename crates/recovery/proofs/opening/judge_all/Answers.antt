@@ -2,7 +2,7 @@ use Rattle.std.proofs.Common.{List, ℕ, Err, ap, sym, subst, ◌∙◌, inr, ar
 use Rattle.std.proofs.lemmas.Result.{err_from_is_err_and}
 use Rattle.recovery.specs.Opening.{RefusesOpening}
 use Rattle.recovery.proofs.Kept.{kept_then, kept_ok, kept_err, unwritten_then, synced_after}
-use Rattle.recovery.proofs.StandingLengths.{finds_of_judges, carried_of, volume_of, found_of}
+use Rattle.recovery.proofs.RecoveredLengths.{finds_of_judges, carried_of, volume_of, found_of}
 use Rattle.recovery.proofs.opening.judge_all.Goals as goal
 
 pub returns-in_err-table-clause-most : goal.returns-in_err-table-clause-most

@@ -9,7 +9,7 @@ use Rattle.recovery.specs.inside.Carrying.{AreShut}
 use Rattle.recovery.specs.inside.Reading.{batch_of, batches_of, table_found}
 use Rattle.device.proofs.Moments.{leaves_weaker}
 use Rattle.recovery.proofs.Kept.{kept_then, kept_ok, kept_err}
-use Rattle.recovery.proofs.Opened.{holds, left_within, has_opened, has_failed, is_settled}
+use Rattle.recovery.proofs.Opened.{holds, left_within, has_opened, has_failed, is_well_formed}
 use Rattle.recovery.proofs.opening.recover.Goals as goal
 
 pub returns-in_err-table-clause-opens : goal.returns-in_err-table-clause-opens
@@ -90,8 +90,8 @@ returns-clause-opens g c =
           (e.kept.honest.1 honest) (e.synced honest)));
     }
 
-pub returns-clause-settled : goal.returns-clause-settled
-returns-clause-settled g c =
+pub returns-clause-well_formed : goal.returns-clause-well_formed
+returns-clause-well_formed g c =
     let e = c.in_ok-table.ensures in
     let f = c.in_ok-carry_out_all.ensures in
     is_settled g.D.Device c.args.device.now c.carry_out_all.new.device c.in_ok-table.table

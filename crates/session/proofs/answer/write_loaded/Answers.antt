@@ -1,5 +1,5 @@
 use Rattle.std.proofs.Common.{◌∙◌}
-use Rattle.session.proofs.Writing.{ok_after, tells_reached}
+use Rattle.session.proofs.Writing.{ok_after, reports_reached}
 use Rattle.session.proofs.answer.write_loaded.Goals as goal
 
 pub returns-in-Ok : goal.returns-in-Ok

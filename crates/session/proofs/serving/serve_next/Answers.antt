@@ -16,17 +16,17 @@ pub returns-in-Ok-End-clause-answered : goal.returns-in-Ok-End-clause-answered
 returns-in-Ok-End-clause-answered g c =
     let input = g.I.Read.remaining c.args.input.now in
     let rest = g.I.Read.remaining c.read_line.new.input in
-    let told = c.read_line.new.line.items in
-    let read = subst (λ (found : Line). ReadsLine input rest found told) c.in-Ok-End.field-0-is c.in-Ok-End.ensures in
-    answers_none g.D.Device _ _ input rest (g.W.Write.contents c.args.out.now) (reads_none input rest told read).0
+    let given = c.read_line.new.line.items in
+    let read = subst (λ (found : Line). ReadsLine input rest found given) c.in-Ok-End.field-0-is c.in-Ok-End.ensures in
+    answers_none g.D.Device _ _ input rest (g.W.Write.contents c.args.out.now) (reads_none input rest given read).0
 
 pub returns-in-Ok-End-clause-end : goal.returns-in-Ok-End-clause-end
 returns-in-Ok-End-clause-end g c =
     let input = g.I.Read.remaining c.args.input.now in
     let rest = g.I.Read.remaining c.read_line.new.input in
-    let told = c.read_line.new.line.items in
-    let read = subst (λ (found : Line). ReadsLine input rest found told) c.in-Ok-End.field-0-is c.in-Ok-End.ensures in
-    λ _. (reads_none input rest told read).1
+    let given = c.read_line.new.line.items in
+    let read = subst (λ (found : Line). ReadsLine input rest found given) c.in-Ok-End.field-0-is c.in-Ok-End.ensures in
+    λ _. (reads_none input rest given read).1
 
 pub returns-in-Ok-Long-clause-made : goal.returns-in-Ok-Long-clause-made
 returns-in-Ok-Long-clause-made g c = made_none g.D.Device _ _
@@ -35,8 +35,8 @@ pub returns-in-Ok-Long-clause-answered : goal.returns-in-Ok-Long-clause-answered
 returns-in-Ok-Long-clause-answered g c =
     let input = g.I.Read.remaining c.args.input.now in
     let rest = g.I.Read.remaining c.read_line.new.input in
-    let told = c.read_line.new.line.items in
-    let read = subst (λ (found : Line). ReadsLine input rest found told) c.in-Ok-Long.field-0-is c.in-Ok-Long.ensures in
+    let given = c.read_line.new.line.items in
+    let read = subst (λ (found : Line). ReadsLine input rest found given) c.in-Ok-Long.field-0-is c.in-Ok-Long.ensures in
     let contents = g.W.Write.contents in
     bad_flushed g.D.Device _ _ (Long 262144) input rest (contents c.args.out.now) (contents c.write_bad-told.new.out)
     (contents c.flushed.new.out) c.write_bad-told.result c.flushed.result (reads_too_long input rest told read)

@@ -1,4 +1,4 @@
-use Rattle.volume_codec.proofs.Recovered.{standing_block-at, standing_block-other}
+use Rattle.volume_codec.proofs.Recovered.{recovered_block-at, recovered_block-other}
 use Rattle.volume_codec.proofs.Batches.{recovers_front, length-recovered}
 use Rattle.volume_codec.proofs.laws.recovered_from.Goals as goal
 

@@ -1,7 +1,7 @@
 use Rattle.std.proofs.Common.{rules}
 use Rattle.device.specs.Deferred.{as_recorded}
 use Rattle.device.proofs.Deferring.{as_written, as_synced, as_refused, deferred_time}
-use Rattle.device.proofs.Overlays.{length_after_write, sure_after_sync}
+use Rattle.device.proofs.Overlays.{length_after_write, durable_after_sync}
 use Rattle.device.proofs.Replay.{write_left, write_keeps, write_time, sync_time}
 use Rattle.device.proofs.deferred.DeferredDiskDevice.TheImpl.Goals as goal
 
@@ -35,7 +35,7 @@ sync-tells g c =
     let refused = as_refused c.result c.args.self.now c.new.self.now _ c.ensures.refused in
     record {
       same = search rules;
-      durable = λ honest. sure_after_sync c.result old new done;
+      durable = λ honest. durable_after_sync c.result old new done;
       left = search rules;
       time = deferred_time c.args.self.now c.new.self.now _ (sync_time c.result old new done refused);
       honest = search rules;

@@ -2,7 +2,7 @@ use Rattle.std.proofs.Common.{rules}
 use Rattle.device.specs.Memory.DiskChange.{write, sync}
 use Rattle.device.specs.Overlay.{as_recorded}
 use Rattle.device.proofs.Replay.{write_left, write_keeps, write_time, sync_time}
-use Rattle.device.proofs.Overlays.{as_changed, as_refused, overlay_time, length_after_write, sure_after_sync}
+use Rattle.device.proofs.Overlays.{as_changed, as_refused, overlay_time, length_after_write, durable_after_sync}
 use Rattle.device.proofs.overlay.OverlayDiskDevice.TheImpl.Goals as goal
 
 pub write-tells : goal.write-tells
@@ -36,7 +36,7 @@ sync-tells g c =
     let refused = as_refused g.D.Device.seen c.result c.args.self.now c.new.self.now c.ensures.refused in
     record {
       same = search rules;
-      durable = λ honest. sure_after_sync c.result old new done;
+      durable = λ honest. durable_after_sync c.result old new done;
       left = search rules;
       time = overlay_time g.D.Device.seen c.args.self.now c.new.self.now _ (sync_time c.result old new done refused);
       honest = search rules;

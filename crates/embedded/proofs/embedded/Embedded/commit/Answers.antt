@@ -6,7 +6,7 @@ use Rattle.session.specs.Commits.{AnswersCommit}
 use Rattle.embedded.specs.Embedded.{EmbeddedState, ServesWell, are_made, last_committed, last_needed, made_of}
 use Rattle.embedded.specs.Recorded.{deferred_disk}
 use Rattle.embedded.proofs.Serving.{serves_commits}
-use Rattle.embedded.proofs.Tended.{serves_settled}
+use Rattle.embedded.proofs.Tended.{serves_confirmed}
 use Rattle.embedded.proofs.embedded.Embedded.commit.Goals as goal
 
 pub invariant_of-self : goal.invariant_of-self
@@ -25,11 +25,11 @@ invariant_of-self g c =
     ServesWell new.machine new.notes committed c.needed_by-needed.result inside.made inside.acknowledged in
     let Q : ℕ → Type 0 = λ needed. ServesWell new.machine new.notes
     (last_committed done.result inside.committed) needed inside.made inside.acknowledged in
-    serves_settled c.needed_by-needed.result inside.made inside.made new.machine new.notes
-    (λ _. omega arith) c.committed_by-committed.result inside.acknowledged c.settled-acknowledged.result
-    c.made_now-made.result c.is_made-is_sure.result
-    (c.made_now-made.ensures ∙ ap (λ (d : Deferred). made_of d inside.made) counts) (c.is_made-is_sure.ensures
-    ∙ ap (λ n. are_made n c.needed_by-needed.result c.made_now-made.result) waits) c.settled-acknowledged.ensures
+    serves_confirmed c.needed_by-needed.result inside.made inside.made new.machine new.notes
+    (λ _. omega arith) c.committed_by-committed.result inside.acknowledged c.confirmed-acknowledged.result
+    c.made_now-made.result c.is_made-is_durable.result
+    (c.made_now-made.ensures ∙ ap (λ (d : Deferred). made_of d inside.made) counts) (c.is_made-is_durable.ensures
+    ∙ ap (λ n. are_made n c.needed_by-needed.result c.made_now-made.result) waits) c.confirmed-acknowledged.ensures
     (subst P (sym c.committed_by-committed.ensures) (subst Q (sym needs) served))
 
 pub returns-clause-answers : goal.returns-clause-answers

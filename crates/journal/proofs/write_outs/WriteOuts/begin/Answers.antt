@@ -4,7 +4,7 @@ use Rattle.std.specs.Vec.{vec_capacity}
 use Rattle.std.specs.List.{AllByRecursion}
 use Rattle.std.proofs.lemmas.Bool.{cond-true}
 use Rattle.volume_codec.specs.Descriptor.{AreHomes}
-use Rattle.journal.specs.inside.Listed.{listed_of}
+use Rattle.journal.specs.inside.Queued.{queued_of}
 use Rattle.journal.specs.WriteOuts.{WriteOutsValue, is_busy, next_batch, begun}
 use Rattle.journal.specs.inside.Room.{outs_of, HasRoom}
 use Rattle.journal.specs.inside.Sound.{IsSound}
@@ -14,7 +14,7 @@ use Rattle.journal.proofs.write_outs.WriteOuts.begin.Goals as goal
 
 module _ (g : _) (c : goal.After-self-1 g) where
   abbrev outs : WriteOutsValue
-  outs = outs_of c.self.inside.geometry c.self.inside.next c.self.inside.listed.items c.self.inside.broken
+  outs = outs_of c.self.inside.geometry c.self.inside.next c.self.inside.queued.items c.self.inside.broken
 
   free : IsFree outs
   free = not_busy outs c.self.invariant.sound (ap is_busy c.self.view_is ∙ c.requires.free)
@@ -35,34 +35,34 @@ module _ (g : _) (c : goal.After-self-1 g) where
       c.unwrap.result c.pop.ensures.items c.unwrap.ensures
 
   pushed : c.push.new.self.items
-      ≡ c.self.inside.listed.items
-      ++ listed_of (next_batch outs c.args.mark c.args.homes.now) (vec_capacity c.refilled-list.result) ∷ []
+      ≡ c.self.inside.queued.items
+      ++ queued_of (next_batch outs c.args.mark c.args.homes.now) (vec_capacity c.refilled-list.result) ∷ []
   pushed =
-      let size = c.self.inside.listed.ok.0 in
+      let size = c.self.inside.queued.ok.0 in
       let ok : IsOk c.push.result = c.push.ensures.succeeds (omega (
         arith,
         free.fewer,
-        length-write_outs c.self.inside.listed.items,
+        length-write_outs c.self.inside.queued.items,
         size,
         c.self.invariant.room,
       )) in
       c.push.ensures.items
       ∙ cond-true (is_ok c.push.result)
-      (c.self.inside.listed.items ++ c.new-one.result ∷ []) c.self.inside.listed.items ok
-      ∙ ap (λ f. c.self.inside.listed.items ++ f ∷ [])
-      (c.new-one.ensures ∙ ap (λ l. listed_of (next_batch outs c.args.mark l) (vec_capacity c.refilled-list.result))
+      (c.self.inside.queued.items ++ c.new-one.result ∷ []) c.self.inside.queued.items ok
+      ∙ ap (λ f. c.self.inside.queued.items ++ f ∷ [])
+      (c.new-one.ensures ∙ ap (λ l. queued_of (next_batch outs c.args.mark l) (vec_capacity c.refilled-list.result))
       c.refilled-list.ensures.items)
 
 pub invariant_of-self : goal.invariant_of-self
 invariant_of-self g c =
-    let has = begun_room (outs g c) c.self.inside.listed.items c.push.new.self.items
+    let has = begun_room (outs g c) c.self.inside.queued.items c.push.new.self.items
     (map (λ list. vec_capacity list) c.self.inside.spare.items) (map (λ list. vec_capacity list) c.pop.new.self.items)
-    (vec_capacity c.self.inside.listed) (vec_capacity c.push.new.self) (vec_capacity c.self.inside.spare)
+    (vec_capacity c.self.inside.queued) (vec_capacity c.push.new.self) (vec_capacity c.self.inside.spare)
     (vec_capacity c.pop.new.self) c.args.mark c.args.homes.now (vec_capacity c.unwrap.result)
     (vec_capacity c.refilled-list.result)
     c.self.invariant (sound g c) (pushed g c) (popped g c) c.refilled-list.ensures.room c.push.ensures.capacity
     (omega (arith, c.pop.ensures.capacity)) in
-    let same = begun_view (outs g c) c.self.inside.listed.items c.push.new.self.items c.args.mark c.args.homes.now
+    let same = begun_view (outs g c) c.self.inside.queued.items c.push.new.self.items c.args.mark c.args.homes.now
     (vec_capacity c.refilled-list.result) c.journal_after-self-inside.result refl
     (pushed g c) c.journal_after-self-inside.ensures in
     subst (λ o. HasRoom o c.push.new.self.items (vec_capacity c.push.new.self)
@@ -71,7 +71,7 @@ invariant_of-self g c =
 
 pub returns : goal.returns
 returns g c =
-    begun_view (outs g c) c.self.inside.listed.items c.push.new.self.items c.args.mark c.args.homes.now
+    begun_view (outs g c) c.self.inside.queued.items c.push.new.self.items c.args.mark c.args.homes.now
     (vec_capacity c.refilled-list.result) c.journal_after-self-inside.result refl
     (pushed g c) c.journal_after-self-inside.ensures
     ∙ ap (λ o. begun o c.args.mark c.args.homes.now) c.self.view_is

@@ -9,14 +9,14 @@ use Rattle.journal.proofs.write_outs.WriteOuts.next_record.Goals as goal
 
 pub returns : goal.returns
 returns g c =
-    let listed = c.self.inside.listed.items in
+    let queued = c.self.inside.queued.items in
     let f = c.index.result.now in
-    let is : IsCurrent (write_outs_in listed) c.in_ok-at.at =
+    let is : IsCurrent (write_outs_in queued) c.in_ok-at.at =
     subst (λ o. IsCurrent o.batches c.in_ok-at.at) (sym c.self.view_is) c.in_ok-at.ensures.some in
-    let lt : c.in_ok-at.at < length listed = omega (arith, is.within, length-write_outs listed) in
+    let lt : c.in_ok-at.at < length queued = omega (arith, is.within, length-write_outs queued) in
     c.next_record.ensures.place
     ∙ sym (ap (option_and_then next_record)
-    (is.current f.write_out ∙ ap Some (at_place listed c.in_ok-at.at f lt c.index.ensures f.write_out)))
+    (is.current f.write_out ∙ ap Some (at_place queued c.in_ok-at.at f lt c.index.ensures f.write_out)))
     ∙ sym (cond-false c.self.inside.broken None
-    (option_and_then next_record (current (write_outs_in listed))) c.if-self.false)
+    (option_and_then next_record (current (write_outs_in queued))) c.if-self.false)
     ∙ ap outs_record c.self.view_is

@@ -8,12 +8,12 @@ use Rattle.journal.proofs.write_outs.WriteOuts.stage.Goals as goal
 
 pub returns : goal.returns
 returns g c =
-    let listed = c.self.inside.listed.items in
+    let queued = c.self.inside.queued.items in
     let w = c.index.result.now.write_out in
-    let is : IsCurrent (write_outs_in listed) c.in_ok-at.at =
+    let is : IsCurrent (write_outs_in queued) c.in_ok-at.at =
     subst (λ o. IsCurrent o.batches c.in_ok-at.at) (sym c.self.view_is) c.in_ok-at.ensures.some in
-    let lt : c.in_ok-at.at < length listed = omega (arith, is.within, length-write_outs listed) in
+    let lt : c.in_ok-at.at < length queued = omega (arith, is.within, length-write_outs queued) in
     c.stage.ensures
     ∙ sym (ap (option_and_then next_stage)
-    (is.current w ∙ ap Some (at_place listed c.in_ok-at.at c.index.result.now lt c.index.ensures w)))
+    (is.current w ∙ ap Some (at_place queued c.in_ok-at.at c.index.result.now lt c.index.ensures w)))
     ∙ ap (λ o. option_and_then next_stage (current o.batches)) c.self.view_is

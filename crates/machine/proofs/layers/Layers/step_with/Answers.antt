@@ -7,8 +7,8 @@ use Rattle.machine.proofs.code.Records.{is_next_page, small-next_answer}
 use Rattle.machine.proofs.code.Flushes.{stepped, flushes_by, answer_work, answer_done}
 use Rattle.machine.proofs.layers.Layers.step_with.Goals as goal
 
-pub settle-requires-clause-some : goal.settle-requires-clause-some
-settle-requires-clause-some g c = λ writes.
+pub release_by-requires-clause-some : goal.release_by-requires-clause-some
+release_by-requires-clause-some g c = λ writes.
     (is_next_page (state_in c.args.self.now) c.requires.sound (sym c.requires.record ∙ writes)).some
 
 pub reply_to_flush-requires : goal.reply_to_flush-requires
@@ -42,7 +42,7 @@ returns-clause-rules g c = λ p allowed.
     let there = subst (λ (n : State). AnswersBy honest (λ d d'. Acts s d p acts.Flush
     (reply_by c.reply_to_flush.result) n d') disk (seen c.step-answer.new.device)) (sym state) replied in
     subst (λ (w : Layers g.row.D.Denot g.row.A.Denot). AnswersBy honest (λ d d'. Acts s d p acts.Flush
-    (reply_by c.reply_to_flush.result) (state_in w) d') disk (seen w.device)) (sym c.settle.ensures) there
+    (reply_by c.reply_to_flush.result) (state_in w) d') disk (seen w.device)) (sym c.release_by.ensures) there
 
 pub returns-clause-did : goal.returns-clause-did
 returns-clause-did g c =
@@ -55,4 +55,4 @@ returns-clause-did g c =
     (reply_by r)) (not (has_failed (reply_by r))) c.step-answer.new.device) (sym c.reply_to_flush.ensures) did in
     subst (λ (w : Layers g.row.D.Denot g.row.A.Denot). Did g.D.Device c.args.self.now.device (step_work s acts.Flush
     (reply_by c.reply_to_flush.result)) (not (has_failed (reply_by c.reply_to_flush.result))) w.device)
-    (sym c.settle.ensures) replied
+    (sym c.release_by.ensures) replied

@@ -1,7 +1,7 @@
-use Rattle.machine.proofs.Names.{StepTaken, told_first, tell_all}
+use Rattle.machine.proofs.Names.{StepTaken, observed_first, observe_all}
 use Rattle.machine.proofs.machine.Machine.enter.Goals as goal
 use Rattle.machine.proofs.durable.Steps.{step_safe, step_stopped}
-use Rattle.machine.proofs.Tracks.{follows}
+use Rattle.machine.proofs.Refinement.{follows}
 use Rattle.machine.proofs.code.Runs.{steps_more}
 
 module _ (g : _) (c : goal.After-step g) where
@@ -23,11 +23,12 @@ returns-clause-longer g c = λ start steps replies before. steps_more g.D.Device
 pub returns-clause-safe : goal.returns-clause-safe
 returns-clause-safe g c = λ files start steps replies on.
     let f = follows g.D.Device files start steps replies c.args.self.now on in
-    step_safe g.D.Device files (tell_all (told_first files start.state) steps replies) c.args.self.now c.args.step.now
-    c.step.result c.step.new.self f.tracked (taken g c) f.honest
+    step_safe g.D.Device files
+    (observe_all (observed_first files start.state) steps replies) c.args.self.now c.args.step.now
+    c.step.result c.step.new.self f.refines (taken g c) f.honest
 
 pub returns-clause-stops : goal.returns-clause-stops
 returns-clause-stops g c = λ files start steps replies on.
     let f = follows g.D.Device files start steps replies c.args.self.now on in
-    step_stopped g.D.Device files (tell_all (told_first files start.state) steps replies) c.args.self.now
-    c.args.step.now c.step.result c.step.new.self f.tracked (taken g c) f.honest
+    step_stopped g.D.Device files (observe_all (observed_first files start.state) steps replies) c.args.self.now
+    c.args.step.now c.step.result c.step.new.self f.refines (taken g c) f.honest

@@ -1,8 +1,8 @@
-use Rattle.machine.proofs.Names.{told_first, tell_all}
+use Rattle.machine.proofs.Names.{observed_first, observe_all}
 use Rattle.machine.proofs.machine.Machine.keeps_the_laws.Goals as goal
-use Rattle.machine.proofs.Tracks.{follows}
+use Rattle.machine.proofs.Refinement.{follows}
 use Rattle.machine.proofs.durable.ReadsBack.{reads_now}
-use Rattle.machine.proofs.track.Lawful.{served_throughout}
+use Rattle.machine.proofs.refining.Lawful.{served_throughout}
 
 pub returns-clause-headline : goal.returns-clause-headline
 returns-clause-headline g c =
@@ -15,12 +15,13 @@ returns-clause-lawful g c =
 pub returns-clause-left : goal.returns-clause-left
 returns-clause-left g c = λ files start steps replies list on.
     let now = c.args.self.now in
-    let t = (follows g.D.Device files start steps replies now on).tracked in
-    reads_now files (tell_all (told_first files start.state) steps replies) now.state (g.D.Device.seen now.device)
+    let t = (follows g.D.Device files start steps replies now on).refines in
+    reads_now files (observe_all (observed_first files start.state) steps replies) now.state
+    (g.D.Device.seen now.device)
     (g.D.Device.may_leave now.device) t.sound t.files_are
-    (record { old = t.old; new = t.new; stands = t.stands; written = t.written }) list
+    (record { old = t.old; new = t.new; consistent = t.consistent; written = t.written }) list
 
 pub returns-clause-served : goal.returns-clause-served
 returns-clause-served g c = λ files start steps replies on.
     let through = (follows g.D.Device files start steps replies c.args.self.now on).through in
-    served_throughout g.D.Device files (told_first files start.state) start steps replies c.args.self.now through
+    served_throughout g.D.Device files (observed_first files start.state) start steps replies c.args.self.now through

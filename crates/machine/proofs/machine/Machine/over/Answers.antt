@@ -7,8 +7,8 @@ pub invariant_of-result : goal.invariant_of-result
 invariant_of-result g c =
     let table = c.args.volume.table in
     let room = c.requires.room in
-    let settled = c.into_parts-table.ensures.settled in
-    let are = subst (AreLengths table) (sym room.lengths_are) settled.lengths in
+    let well_formed = c.into_parts-table.ensures.well_formed in
+    let are = subst (AreLengths table) (sym room.lengths_are) well_formed.lengths in
     rw (c.into_parts-table.ensures.table, c.into_parts-table.ensures.device) (record {
       sound = fresh_sound _ (record {
         shape = c.args.shape;
@@ -22,7 +22,7 @@ invariant_of-result g c =
           marks = 0;
           resized = false;
         };
-      }) settled.fits are.count (lengths_within table.files _ are.count are.within);
-      long = settled.long;
+      }) well_formed.fits are.count (lengths_within table.files _ are.count are.within);
+      long = well_formed.long;
       reserved = reserved_free _ _ (ap (λ (s : ShootdownState). s.lock) room.shootdown);
     })

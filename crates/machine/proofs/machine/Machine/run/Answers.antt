@@ -1,5 +1,5 @@
 use Rattle.machine.proofs.machine.Machine.run.Goals as goal
-use Rattle.machine.proofs.Tracks.{taken_then}
+use Rattle.machine.proofs.Refinement.{taken_then}
 
 pub returns-clause-headline : goal.returns-clause-headline
 returns-clause-headline g c = λ files begins.
@@ -17,5 +17,6 @@ returns-clause-served g c = λ files begins.
     (record { begins = begins; taken = c.make_all.ensures.steps })
 
 pub returns-clause-longer : goal.returns-clause-longer
-returns-clause-longer g c = λ start earlier told taken. taken_then g.D.Device start c.args.self.now c.make_all.new.self
-    earlier told c.args.steps.now c.make_all.new.replies taken c.make_all.ensures.steps
+returns-clause-longer g c =
+    λ start earlier observed taken. taken_then g.D.Device start c.args.self.now c.make_all.new.self
+    earlier observed c.args.steps.now c.make_all.new.replies taken c.make_all.ensures.steps

@@ -2,7 +2,7 @@ use Rattle.std.proofs.Common.{ℕ, List, [], ◌∷◌, ◌++◌, OnOk, refl, su
 use Rattle.std.proofs.lemmas.Result.{on_ok_weaker}
 use Rattle.std.specs.Io.KnownBytes.{Appends}
 use Rattle.session.specs.declared.ranges.Reached.TheVariants.{NoMemory}
-use Rattle.session.specs.Answers.{TellsLoaded}
+use Rattle.session.specs.Answers.{ReportsLoaded}
 use Rattle.session.proofs.Phases.{keeps_none}
 use Rattle.session.proofs.Pieces.{does_more}
 use Rattle.session.proofs.Stretches.{makes_none}
@@ -30,7 +30,7 @@ returns g c =
     let reached = c.load-reached.result in
     let done = c.load-reached.ensures in
     let P : List ℕ → Type 0 = λ bytes. OnOk c.write_loaded.result
-    ((answer : List ℕ) × TellsLoaded reached bytes answer × Appends old new (answer ++ 10 ∷ [])) in
+    ((answer : List ℕ) × ReportsLoaded reached bytes answer × Appends old new (answer ++ 10 ∷ [])) in
     record {
       does = does_more g.D.Device _ _ _ _ _ _ (λ steps replies holds. (bytes, reached, holds)) done.makes;
       answers = on_ok_weaker c.write_loaded.result

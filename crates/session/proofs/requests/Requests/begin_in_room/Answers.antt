@@ -1,10 +1,10 @@
 use Rattle.std.proofs.Common.{refl, sym, ◌∙◌, ap}
 use Rattle.std.proofs.lemmas.Bool.{false≢true}
-use Rattle.session.specs.Lengths.{IsTry, tells_begun, tells_later}
-use Rattle.session.proofs.Lengths.{IsAttempt, attempts_first, attempts_later, attempts_one, tries_aside, tries_one}
+use Rattle.session.specs.Lengths.{IsTry, reports_begun, reports_later}
+use Rattle.session.proofs.Lengths.{IsAttempt, attempts_first, attempts_later, attempts_one, tries_paging, tries_one}
 use Rattle.session.proofs.Phases.{begins_kept, keeps_none, keeps_then, length_begins, lengths_keep}
 use Rattle.session.proofs.Pieces.{does_more, does_nothing}
-use Rattle.session.proofs.Rooms.{are_aside}
+use Rattle.session.proofs.Rooms.{are_paging}
 use Rattle.session.proofs.Each.{each_then}
 use Rattle.session.proofs.Stretches.{does_one, does_then}
 use Rattle.session.proofs.requests.Requests.begin_in_room.Goals as goal

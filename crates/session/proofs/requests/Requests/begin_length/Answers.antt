@@ -1,7 +1,7 @@
 use Rattle.std.proofs.Common.{inl, inr, refl, sym, ◌∙◌, ap, subst, arith}
 use Rattle.std.proofs.lemmas.Bool.{false≢true}
 use Rattle.machine.specs.declared.act.Reply.{Reply}
-use Rattle.session.specs.Lengths.{IsTry, tells_begun, tells_later}
+use Rattle.session.specs.Lengths.{IsTry, reports_begun, reports_later}
 use Rattle.session.specs.Ranges.{MakesStepsThat}
 use Rattle.session.specs.inside.Made.{AttemptsLength}
 use Rattle.session.proofs.Changes.{flush_is_other}

@@ -2,7 +2,7 @@ use Rattle.std.proofs.Common.{inl, inr, [], ◌∷◌, refl, sym, ◌∙◌, ap,
 use Rattle.std.proofs.lemmas.Bool.{false≢true}
 use Rattle.machine.specs.declared.act.Reply.{Reply}
 use Rattle.session.specs.Commits.{msync_by}
-use Rattle.session.specs.Lengths.{tells_begun}
+use Rattle.session.specs.Lengths.{reports_begun}
 use Rattle.session.specs.Steps.{Makes}
 use Rattle.session.proofs.Changes.{flush_is_other}
 use Rattle.session.proofs.Commits.{attempt_then, begin_refused, both_told, begins_later}

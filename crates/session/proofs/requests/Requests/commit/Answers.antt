@@ -31,7 +31,7 @@ change-changed-requires g c = (_, (c.begin_mark-begun.ensures.held (sym c.if-not
 pub returns-in_default : goal.returns-in_default
 returns-in_default g c =
     let held = c.begin_mark-begun.ensures.held (sym c.if-not-is_begun.ensures) in
-    mark_told _ (c.change-changed.ensures.made _ held.held) c.in_default.ensures.none
+    mark_replied _ (c.change-changed.ensures.made _ held.held) c.in_default.ensures.none
 
 pub returns-then-not-before : goal.returns-then-not-before
 returns-then-not-before g c =

@@ -1,6 +1,6 @@
 use Rattle.std.proofs.Common.{[], refl, sym, ◌∙◌, ap}
 use Rattle.std.proofs.lemmas.Bool.{false≢true}
-use Rattle.session.specs.Steps.{tells_fixed}
+use Rattle.session.specs.Steps.{reports_fixed}
 use Rattle.session.proofs.Phases.{fixes_keep, keeps_then}
 use Rattle.session.proofs.Rooms.{serves_again, serves_one, unserved_after_room, unserved_one, unserved_vain}
 use Rattle.session.proofs.Stretches.{does_one}

@@ -5,7 +5,7 @@ use Rattle.machine.specs.declared.act.Act.TheVariants.{Load}
 use Rattle.machine.specs.declared.act.Reply.{Reply}
 use Rattle.session.specs.Ranges.{MakesStepsThat, LoadsRange}
 use Rattle.session.specs.Steps.{behind}
-use Rattle.session.specs.inside.Aside.{StopsAt, AnswersAfter}
+use Rattle.session.specs.inside.Paging.{StopsAt, AnswersAfter}
 use Rattle.session.proofs.AtOnce.{loads_on_more}
 use Rattle.session.proofs.Pieces.{loads_more, loads_refused, loads_cut, loads_all}
 use Rattle.session.proofs.Phases.{keeps_none, keeps_then}

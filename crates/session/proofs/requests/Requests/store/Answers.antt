@@ -6,7 +6,7 @@ use Rattle.machine.specs.AtOnce.{store_steps, store_replies}
 use Rattle.machine.specs.declared.act.Act.TheVariants.{Store}
 use Rattle.machine.specs.declared.act.Reply.{Reply}
 use Rattle.session.specs.Steps.{Makes, behind}
-use Rattle.session.specs.inside.Aside.{StopsAt, AnswersAfter}
+use Rattle.session.specs.inside.Paging.{StopsAt, AnswersAfter}
 use Rattle.session.proofs.AtOnce.{stores_run_keep, stores_run_more}
 use Rattle.session.proofs.Pieces.{stores_more, stores_refused, stores_all}
 use Rattle.session.proofs.Phases.{keeps_none, keeps_then}

@@ -1,7 +1,7 @@
 use Rattle.std.proofs.Common.{List, map, sym, ap, ◌∙◌, subst, arith}
 use Rattle.std.proofs.lemmas.List.{with_items_is}
 use Rattle.pcid_tlb.specs.declared.Invpcid.TheVariants.{SingleContext}
-use Rattle.shootdown.specs.Processors.{Processor, fresh_processor, told}
+use Rattle.shootdown.specs.Processors.{Processor, fresh_processor, notified}
 use Rattle.shootdown.specs.Shootdown.{ShootdownState, destroyed, IsShootdown}
 use Rattle.shootdown.specs.Coherence.{IsForgotten}
 use Rattle.shootdown.proofs.ShootdownLaws.{IsShootdown-destroyed, elsewhere}
@@ -11,8 +11,8 @@ use Rattle.shootdown.proofs.shootdown.Shootdown.forget.Goals as goal
 pub invariant_of-self : goal.invariant_of-self
 invariant_of-self g c =
     rw (
-      with_items_is c.self.inside.processors c.tell_all.new.processors (omega arith),
-      c.tell_all.ensures,
+      with_items_is c.self.inside.processors c.notify_all.new.processors (omega arith),
+      c.notify_all.ensures,
       c.deref_mut.ensures.value,
     ) (IsShootdown-destroyed _ c.args.pcid c.self.invariant)
 
@@ -21,9 +21,9 @@ returns-clause-forgotten g c =
     let old = c.args.self.now in
     let is : IsShootdown old = subst IsShootdown c.self.view_is c.self.invariant in
     let processors =
-    with_items_is c.self.inside.processors c.tell_all.new.processors (omega arith)
-    ∙ c.tell_all.ensures
-    ∙ ap (map (λ (x : Processor). told x (SingleContext c.args.pcid))) c.deref_mut.ensures.value in
+    with_items_is c.self.inside.processors c.notify_all.new.processors (omega arith)
+    ∙ c.notify_all.ensures
+    ∙ ap (map (λ (x : Processor). notified x (SingleContext c.args.pcid))) c.deref_mut.ensures.value in
     let with_processors : List Processor → ShootdownState =
     λ xs. record { processors = xs; lock = c.self.inside.lock } in
     let new = ap with_processors processors ∙ ap (λ (s : ShootdownState). destroyed s c.args.pcid) c.self.view_is in

@@ -1,0 +1,240 @@
+// A batch on its way, as a list of write-outs holds it: where the volume has its parts is said once, for all of them.
+ghost use Rattle.std.specs.Prelude.{◌≡◌, ◌≢◌, ◌↔◌, ◌⊎◌, ◌*◌, ◌<◌, ◌≤◌, is_ok, IsTrue, IsSome, length, slice_index, Contains, Some, IfSome};
+ghost use Rattle.std.specs.Vec.{vec_capacity};
+ghost use Rattle.device.specs.Did.{Did};
+ghost use Rattle.volume_codec.specs.Layout.{GeometryValue, IsHome};
+ghost use Rattle.journal.specs.Work.{work_at, has_done};
+ghost use Rattle.journal.specs.WriteOut.{IsBatch, next_stage, has_committed, next_record, next_home, work_of, answer_of};
+ghost use Rattle.journal.specs.inside.Sound.{IsFlush};
+ghost use Rattle.journal.specs.inside.Queued.{queued_of, committed_queued, queued_after};
+
+use crate::copying::apply_record;
+use crate::gate::{close_gate, open_gate};
+use crate::{Flushed, Stage, stage_at};
+use device::{Device, DeviceFault, make_durable, write_at};
+use std::alloc::Allocator;
+use std::marker::Model;
+use volume_codec::{Geometry, write_descriptor};
+
+/// A batch and how many steps of its write-out were made.
+#[derive(Drop)]
+pub(crate) struct Queued<A: Allocator + Copy> {
+    journal: u32,
+    mark: u64,
+    homes: Vec<u32, A>,
+    steps: u32,
+}
+
+impl<A: Allocator + Copy> Model for Queued<A> {
+    ghost use Rattle.std.specs.Vec.{vec_capacity};
+    ghost use Rattle.volume_codec.specs.Layout.{GeometryValue};
+    ghost use Rattle.journal.specs.inside.Queued.{QueuedWriteOut};
+    ghost use Rattle.journal.specs.inside.Sound.{IsFlush};
+
+    ghost Value = { QueuedWriteOut };
+
+    ghost view = { λ w. record {
+      write_out = record {
+        batch = record { journal = w.journal; mark = w.mark; homes = w.homes.items };
+        steps = w.steps;
+      };
+      room = vec_capacity w.homes;
+    } };
+
+    // It is a batch of some volume.
+    ghost invariant = { λ w. (g : GeometryValue)
+        × IsFlush g (record { journal = w.journal; mark = w.mark; homes = w.homes.items }) };
+}
+
+impl<A: Allocator + Copy> Queued<A> {
+    /// A batch before its first step: of these home blocks, in rising order, through this journal, committed under
+    /// this mark.
+    pub(crate) fn new(geometry: &Geometry, journal: u32, mark: u64, homes: Vec<u32, A>) -> Self
+        requires { IsBatch geometry.now (record { journal = journal; mark = mark; homes = homes.items }) }
+        ensures { result ≡ queued_of (record { journal = journal; mark = mark; homes = homes.items })
+            (vec_capacity homes) }
+    {
+        prove!(geometry.slots() <= 1020);
+        Queued {
+            journal,
+            mark,
+            homes,
+            steps: 0,
+        }
+    }
+
+    /// A batch that is committed, before the first step after that.
+    pub(crate) fn committed(
+        geometry: &Geometry,
+        journal: u32,
+        mark: u64,
+        homes: Vec<u32, A>,
+    ) -> Self
+        requires { IsBatch geometry.now (record { journal = journal; mark = mark; homes = homes.items }) }
+        ensures { result ≡ committed_queued (record { journal = journal; mark = mark; homes = homes.items })
+            (vec_capacity homes) }
+    {
+        prove!(geometry.slots() <= 1020);
+        let steps = homes.len() as u32 + 4;
+        Queued {
+            journal,
+            mark,
+            homes,
+            steps,
+        }
+    }
+
+    /// The journal, counted from 0.
+    pub(crate) fn journal(&self) -> u32
+        ensures { result ≡ self.now.write_out.batch.journal }
+    {
+        self.journal
+    }
+
+    /// The mark that the batch is committed under.
+    pub(crate) fn mark(&self) -> u64
+        ensures { result ≡ self.now.write_out.batch.mark }
+    {
+        self.mark
+    }
+
+    /// The home blocks, in rising order.
+    pub(crate) fn homes(&self) -> &[u32]
+        ensures { result.now ≡ self.now.write_out.batch.homes }
+    {
+        &self.homes
+    }
+
+    /// The stage of the next step; `None` once the write-out is done.
+    pub(crate) fn stage(&self) -> Option<Stage>
+        ensures { result ≡ next_stage self.now.write_out }
+    {
+        stage_at(self.homes.len() as u32, self.steps)
+    }
+
+    /// Whether the batch is committed.
+    pub(crate) fn is_committed(&self) -> bool
+        ensures { result ≡ has_committed self.now.write_out }
+    {
+        match self.stage() {
+            Some(stage) => stage.is_committed(),
+            None => true,
+        }
+    }
+
+    /// The place of the record that the next step writes; `None` where that step is another.
+    pub(crate) fn next_record(&self) -> Option<u32>
+        ensures place { result ≡ next_record self.now.write_out }
+        ensures within { IfSome result (λ place. place < length self.now.write_out.batch.homes) }
+    {
+        match self.stage() {
+            Some(Stage::Recording(record)) => Some(record),
+            _ => None,
+        }
+    }
+
+    /// The home block of that record.
+    pub(crate) fn next_home(&self) -> Option<u32>
+        ensures { result ≡ next_home self.now.write_out }
+    {
+        let record = self.next_record()?;
+        Some(self.home_at(record))
+    }
+
+    // The home block at a place.
+    fn home_at(&self, place: u32) -> u32
+        requires { place < length self.now.write_out.batch.homes }
+        ensures value { result ≡ slice_index self.now.write_out.batch.homes place }
+        ensures home { (g : GeometryValue) → IsBatch g self.now.write_out.batch → IsHome g result }
+    {
+        self.homes[place as usize]
+    }
+
+    /// Whether the home block belongs to the batch.
+    pub(crate) fn has_block(&self, home: u32) -> bool
+        ensures { IsTrue result ↔ Contains self.now.write_out.batch.homes home }
+    {
+        self.homes.binary_search(&home).is_ok()
+    }
+
+    // Does what the step of this stage asks of the device.
+    fn carry_out<D: Device>(
+        &self,
+        geometry: &Geometry,
+        device: &mut D,
+        stage: Stage,
+        bytes: &[u8; 4096],
+        buffer: &mut [u8; 4096],
+    ) -> Result<(), DeviceFault>
+        requires long { 4096 * geometry.now.blocks ≤ length (D.seen device.old) }
+        requires batch { IsBatch geometry.now self.now.write_out.batch }
+        requires stage { next_stage self.now.write_out ≡ Some stage }
+        ensures { Did D.Device device.old (work_at geometry.now self.now.write_out.batch bytes.now stage)
+            (is_ok result) device.new }
+    {
+        match stage {
+            Stage::Recording(slot) => {
+                let block = geometry.record_block(self.journal, slot);
+                prove!(block < geometry.block_count());
+                write_at(device, 4096 * u64::from(block), bytes)
+            }
+            Stage::Describing => {
+                let block = geometry.descriptor_block(self.journal);
+                prove!(block < geometry.block_count());
+                let descriptor = write_descriptor(geometry, self.mark, &self.homes);
+                write_at(device, 4096 * u64::from(block), &descriptor)
+            }
+            Stage::Opening => open_gate(device, geometry, self.journal),
+            Stage::Applying(slot) => {
+                let home = self.home_at(slot);
+                apply_record(device, geometry, self.journal, slot, home, buffer)
+            }
+            Stage::Closing => close_gate(device, geometry, self.journal),
+            Stage::SyncingRecords | Stage::Committing | Stage::SyncingHomes | Stage::Finishing =>
+                make_durable(device),
+        }
+    }
+
+    /// The next step: what its stage asks is done. It answers what the stage does, or `Device` where a device call
+    /// failed. `bytes` are the new ones of the block `next_home`, where there is one. A record that is applied is read
+    /// into `buffer`. It takes no memory.
+    pub(crate) fn step<D: Device>(
+        &mut self,
+        geometry: &Geometry,
+        device: &mut D,
+        bytes: &[u8; 4096],
+        buffer: &mut [u8; 4096],
+    ) -> Flushed
+        requires long { 4096 * geometry.now.blocks ≤ length (D.seen device.old) }
+        requires batch { IsBatch geometry.now self.old.write_out.batch }
+        requires going { IsSome (next_stage self.old.write_out) }
+        ensures answer { (result ≡ answer_of self.old.write_out) ⊎ (result ≡ Flushed.Device) }
+        ensures sane { result ≢ Flushed.Broken }
+        ensures value { self.new ≡ queued_after self.old result }
+        ensures did { Did D.Device device.old (work_of geometry.now bytes.now self.old.write_out)
+            (has_done result) device.new }
+    {
+        let stage = self.stage().unwrap();
+        match self.carry_out(geometry, device, stage, bytes, buffer) {
+            Ok(()) => {
+                self.steps += 1;
+                stage.answer(self.mark)
+            }
+            Err(_) => Flushed::Device,
+        }
+    }
+
+    /// The list of home blocks, so that its memory serves again.
+    pub(crate) fn into_homes(self) -> Vec<u32, A>
+        ensures items { result.items ≡ self.write_out.batch.homes }
+        ensures room { vec_capacity result ≡ self.room }
+    {
+        let Queued {
+            journal: _,
+            mark: _,
+            homes,
+            steps: _,
+        } = self;
+        homes
+    }
+}

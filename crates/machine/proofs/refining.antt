@@ -1,0 +1,9 @@
+pub mod Translations
+pub mod ObservedSpaces
+pub mod Arranged
+pub mod DirtyFrames
+pub mod Pages
+pub mod Moved
+pub mod Faults
+pub mod Lawful
+pub mod Resized

@@ -1,0 +1,179 @@
+-- How a machine's state and its device agree with what is observed of its run.
+use Rattle.std.specs.Prelude.{ℕ, ◌≡◌, ◌≢◌, ◌<◌, ◌≤◌, ◌↔◌, ◌⊎◌, ◌*◌, Bool, true, false, List, ◌++◌}
+use Rattle.std.specs.Prelude.{length, map, Option, Some, None, is_some, Contains, slice_index_or}
+use Rattle.std.specs.List.{All, list_any}
+use Rattle.std.specs.FinMap as maps
+use Rattle.page_entry.specs.declared.numbers.FilePage.{FilePage}
+use Rattle.frames.specs.Frames.{frame_at, bytes_of}
+use Rattle.volume_codec.specs.Files.{File}
+use Rattle.volume_codec.specs.Super.{SuperValue}
+use Rattle.volume_codec.specs.Lengths.{HasLengths, lengths_in}
+use Rattle.journal.specs.WriteOut.{WriteOut, has_committed}
+use Rattle.journal.specs.WriteOuts.{has_uncommitted}
+use Rattle.journal.specs.inside.Consistent.{IsConsistent}
+use Rattle.spaces.specs.declared.change.Change.{Change}
+use Rattle.spaces.specs.declared.change.Change.TheVariants.{Unmap, Protect, Reclaim, SetLength, Checkpoint}
+use Rattle.spaces.specs.Spaces.{has_space, space_at}
+use Rattle.shootdown.specs.declared.lock.Lock.{Lock}
+use Rattle.shootdown.specs.Processors.{is_running}
+use Rattle.shootdown.specs.Shootdown.{state_of, current}
+use Rattle.checkpoint.specs.Checkpoint.{Holds, IsDirty}
+use Rattle.fault.specs.Fault.{is_in_memory}
+use Rattle.machine.specs.History.{Event, SetLength, Memory, memory_of, after, lengths_of}
+use Rattle.machine.specs.History.{lengths_after, since_mark, is_touched, Mark, Acknowledge, IsMarked}
+use Rattle.machine.specs.State.{State, home_of, part, cut_at_end}
+use Rattle.machine.specs.Rules.{bytes_at_mark}
+use Rattle.machine.specs.Durability.{IsInFile, within_file}
+use Rattle.machine.specs.inside.Sound.{IsSound}
+use Rattle.machine.specs.Observed.{Observed, Pending, Unmapping, Protecting, Resizing, places_in}
+
+-- the unmap, protect or change of a length that a lock is held for
+abbrev pub pending_in : Option Change → Option Pending
+pending_in None = None
+pending_in (Some (Unmap pcid range)) = Some (Unmapping pcid range)
+pending_in (Some (Protect pcid range rights)) = Some (Protecting pcid range rights)
+pending_in (Some (Reclaim owner)) = None
+pending_in (Some (SetLength file to)) = Some (Resizing file to)
+pending_in (Some Checkpoint) = None
+
+abbrev pub change_in : Option Lock → Option Change
+change_in None = None
+change_in (Some lock) = Some lock.change
+
+-- the machine's spaces and processors are as observed
+pub record IsArranged (observed : Observed) (s : State) : Type 0 where
+  pub same_spaces : (pcid : ℕ) → maps.contains_key observed.spaces pcid ≡ has_space s.hardware.spaces pcid
+  pub same_places : (pcid : ℕ) → places_in observed pcid ≡ (space_at s.hardware.spaces pcid).places
+  pub processors : length observed.current ≡ length s.hardware.shootdown.processors
+  pub same_current : (p : ℕ) → p < length observed.current
+      → slice_index_or observed.current p 0 ≡ current s.hardware.shootdown p
+  pub as_many : length observed.running ≡ length s.hardware.shootdown.processors
+  pub same_running : (p : ℕ) → p < length observed.running
+      → slice_index_or observed.running p false ≡ is_running (state_of s.hardware.shootdown p)
+  pub same_locked : observed.locked ≡ is_some s.hardware.shootdown.lock
+  pub same_pending : observed.pending ≡ pending_in (change_in s.hardware.shootdown.lock)
+  pub same_lengths : observed.lengths ≡ s.lengths
+
+-- whether a length was set since the last mark
+abbrev pub is_resize : Event → Bool
+is_resize (SetLength file from to) = true
+is_resize event = false
+
+abbrev pub has_resized : List Event → Bool
+has_resized history = list_any is_resize (since_mark history)
+
+-- the machine's table has these files, and its lengths are those after the history
+pub record HasFiles (files : List File) (history : List Event) (s : State) : Type 0 where
+  pub named : map (λ f. record { name = f.name; capacity = f.capacity }) files ≡ s.table.files
+  pub lengths : lengths_after (lengths_of files) history ≡ s.lengths
+  -- and it knows whether one was set since the last mark
+  pub resized : has_resized history ≡ s.resized
+
+-- the memory after the history has whole pages, and frames have it
+pub record IsLatest (files : List File) (observed : Observed) (s : State) : Type 0 where
+  pub whole : (file page : ℕ) → length (after (memory_of files) observed.history file page) ≡ 4096
+  pub latest : (frame : ℕ) (owner : FilePage) → Holds s.hardware.memory frame owner
+      → bytes_of (frame_at s.hardware.memory frame) ≡ after (memory_of files) observed.history owner.file owner.page
+
+-- the dirty pages are those of files that were touched since the last mark; a file loses pages only by a change of its
+-- length
+pub record AreTouched (observed : Observed) (s : State) : Type 0 where
+  pub each : (owner : FilePage) → (IsInFile s owner × (is_touched observed.history owner.file owner.page ≡ true))
+      ↔ ((frame : ℕ) × Holds s.hardware.memory frame owner × IsDirty s.hardware.spaces s.checkpoint frame)
+  pub inside : s.resized ≡ false → (owner : FilePage) → is_touched observed.history owner.file owner.page ≡ true
+      → IsInFile s owner
+
+-- a page that isn't in memory has zeros past its file's end
+abbrev pub ArePlain : List File → Observed → State → Type 0
+ArePlain files observed s = (owner : FilePage) → IsInFile s owner → is_in_memory s.hardware.memory owner ≡ false
+    → after (memory_of files) observed.history owner.file owner.page
+    ≡ cut_at_end s owner (after (memory_of files) observed.history owner.file owner.page)
+
+-- ---- what the device recovers to
+
+-- the contents have the parts of the files of a table, with these lengths, in this memory
+abbrev pub HasParts : SuperValue → List ℕ → (ℕ → List ℕ) → Memory → Type 0
+HasParts table lengths contents memory = (owner : FilePage) → owner.file < length table.files
+    → 4096 * owner.page < slice_index_or lengths owner.file 0
+    → part lengths owner (contents (home_of table owner)) ≡ part lengths owner (memory owner.file owner.page)
+
+-- the contents are those after a marked prefix of the history, with the lengths after that prefix
+pub record AreContentsOf (files : List File) (history : List Event) (table : SuperValue) (contents : ℕ → List ℕ)
+    (prefix : List Event) : Type 0 where
+  pub rest : List Event
+  pub begins : prefix ++ rest ≡ history
+  pub marked : IsMarked prefix
+  pub whole : (file page : ℕ) → length (after (memory_of files) prefix file page) ≡ 4096
+  pub fits : HasLengths table contents
+  pub same_lengths : lengths_in table contents ≡ lengths_after (lengths_of files) prefix
+  pub parts : HasParts table (lengths_after (lengths_of files) prefix) contents (after (memory_of files) prefix)
+
+-- every mark that the history acknowledges is in the prefix
+abbrev pub HasAcknowledged : List Event → List Event → Type 0
+HasAcknowledged prefix history = (number : ℕ) → Contains history (Acknowledge number) → Contains prefix (Mark number)
+
+-- A mark was made of a broken machine, so that its pages weren't written; no later mark comes.
+pub record IsLost (s : State) : Type 0 where
+  pub broken : s.write_outs.broken ≡ true
+  pub no_mark : change_in s.hardware.shootdown.lock ≢ Some Checkpoint
+
+-- a batch of this mark isn't committed
+pub record IsWaiting (batches : List WriteOut) (number : ℕ) : Type 0 where
+  pub w : WriteOut
+  pub there : Contains batches w
+  pub early : has_committed w ≡ false
+  pub mark : w.batch.mark ≡ number
+
+-- Each mark of the history is acknowledged, or its batch isn't committed, or it was lost. The first prefix has
+-- acknowledged marks alone, the second these and the one whose batch isn't committed.
+pub record AreMarks (history before marked : List Event) (s : State) : Type 0 where
+  pub each : (number : ℕ) → Contains history (Mark number)
+      → Contains history (Acknowledge number) ⊎ (IsWaiting s.write_outs.batches number ⊎ IsLost s)
+  pub in_before : (number : ℕ) → Contains before (Mark number) → Contains history (Acknowledge number)
+  pub in_marked : (number : ℕ) → Contains marked (Mark number)
+      → Contains history (Acknowledge number) ⊎ IsWaiting s.write_outs.batches number
+
+-- Contents before the batch that isn't committed yet and with it, each those after a marked prefix of the history that
+-- has every acknowledged mark. Where each batch is committed, the second alone count.
+pub record IsWritten (files : List File) (observed : Observed) (s : State) (old new : ℕ → List ℕ) : Type 0 where
+  pub before : List Event
+  pub old_are : AreContentsOf files observed.history s.table old before
+  pub acknowledged : HasAcknowledged before observed.history
+  pub marked : List Event
+  pub new_are : AreContentsOf files observed.history s.table new marked
+  pub grown : HasAcknowledged marked observed.history
+  -- what the uncommitted batch will acknowledge is in the second prefix
+  pub marks : All (λ w. Contains marked (Mark w.batch.mark)) s.write_outs.batches
+  -- and not in the first; a mark is given a number that no mark before it has
+  pub fresh : (w : WriteOut) → Contains s.write_outs.batches w → has_committed w ≡ false
+      → Contains before (Mark w.batch.mark) → ⊥
+  pub only : AreMarks observed.history before marked s
+  pub numbered : (number : ℕ) → Contains observed.history (Mark number) → number ≤ s.marks
+  -- a machine that broke while a mark was under way has no batch that isn't committed
+  pub ready : s.write_outs.broken ≡ true → change_in s.hardware.shootdown.lock ≡ Some Checkpoint
+      → has_uncommitted s.write_outs.batches ≡ false
+  -- a page that got no store since the last mark has its bytes there, unless a mark was lost
+  pub clean : IsLost s ⊎ ((owner : FilePage) → IsInFile s owner
+      → is_touched observed.history owner.file owner.page ≡ false
+      → within_file s owner (new (home_of s.table owner))
+      ≡ within_file s owner (after (memory_of files) observed.history owner.file owner.page))
+  -- where no length was set since the last mark, the lengths there are the machine's
+  pub same_lengths : s.resized ≡ false → lengths_in s.table new ≡ s.lengths
+  -- the records of frozen pages are what was gathered
+  pub frozen : All (λ owner. new (home_of s.table owner)
+      ≡ cut_at_end s owner (bytes_at_mark s.hardware.memory owner)) s.checkpoint.frozen
+
+-- a machine over a device that reads `seen`, and of which a crash may leave these lists, agrees with what was observed
+pub record Refines (files : List File) (observed : Observed) (s : State) (seen : List ℕ)
+    (may_leave : List ℕ → Type 0) : Type 0 where
+  pub sound : IsSound s
+  pub files_are : HasFiles files observed.history s
+  pub arranged : IsArranged observed s
+  pub latest : IsLatest files observed s
+  pub touched : AreTouched observed s
+  pub plain : ArePlain files observed s
+  -- what the device recovers to
+  pub old : ℕ → List ℕ
+  pub new : ℕ → List ℕ
+  pub consistent : IsConsistent s.table s.write_outs old new seen may_leave
+  pub written : IsWritten files observed s old new

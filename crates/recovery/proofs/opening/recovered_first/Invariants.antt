@@ -1,0 +1,15 @@
+use Rattle.std.proofs.Common.{◌≡◌, drop}
+use Rattle.std.specs.List.{AllByRecursion}
+use Rattle.volume_codec.specs.Layout.{first_home}
+use Rattle.volume_codec.specs.Recovery.{recovered_block}
+use Rattle.journal.specs.WriteOut.{IsBatch}
+use Rattle.recovery.specs.inside.Reading.{batches_of}
+use Rattle.recovery.proofs.opening.recovered_first.Given as goal
+
+abbrev pub invariant-loop-newest : goal.invariant-loop-newest
+invariant-loop-newest g l = record {
+  stands : standing_block l.geometry.slots (batches_of (drop l.newest-index l.found))
+      (first_home l.geometry.layout l.geometry.slots)
+      ≡ standing_block l.geometry.slots (batches_of l.found) (first_home l.geometry.layout l.geometry.slots);
+  carry : AllByRecursion (IsBatch l.geometry) (batches_of (drop l.newest-index l.found));
+}

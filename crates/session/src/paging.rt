@@ -1,0 +1,231 @@
+// Steps that a session makes beside those that it was asked for: faults are served, and frames are made free.
+ghost use Rattle.std.specs.Prelude.{◌≡◌, ◌↔◌, [], ◌∷◌, true, false, IsTrue};
+ghost use Rattle.page_entry.specs.declared.refusal.Refusal.{Refusal};
+ghost use Rattle.spaces.specs.declared.change.Change.{Change};
+ghost use Rattle.shootdown.specs.declared.proc_state.ProcState.TheVariants.{Interrupted};
+ghost use Rattle.shootdown.specs.Shootdown.{state_of};
+ghost use Rattle.machine.specs.declared.act.Act.TheVariants as acts;
+ghost use Rattle.machine.specs.declared.act.Reply.TheVariants as replied;
+ghost use Rattle.session.specs.Ends.{MakesRoom, AreFruitless, reports_reclaimed, IsUnserved};
+ghost use Rattle.session.specs.Lengths.{reports_begun, reports_flushed, AnswersChange};
+ghost use Rattle.session.specs.Locks.{KeepsPhases};
+ghost use Rattle.session.specs.Ranges.{MakesStepsThat};
+ghost use Rattle.session.specs.Steps.{Makes, reports_fixed};
+ghost use Rattle.session.specs.inside.Paging.{Serves, IsUnservedPaging};
+ghost use Rattle.session.specs.inside.Changing.{AreCalm, HoldsLock, IsOver, reports_made};
+
+use crate::requests::Requests;
+use device::Device;
+use machine::{Act, ProcState, Reply, Step};
+use page_entry::{FilePage, ProcessorNumber, Refusal};
+use std::alloc::Allocator;
+
+/// The most processors that a machine has.
+const PROCESSORS: u8 = 16;
+
+impl<D: Device, A: Allocator + Copy> Requests<D, A> {
+    /// Serves a fault of a processor, and makes a frame free for it where none is. Answers `Fixed`, or why it isn't
+    /// served.
+    pub(crate) fn fix(&mut self, p: ProcessorNumber, va: u64, write: bool) -> Reply
+        ensures served { reports_fixed result ≡ true → MakesStepsThat D.Device self.old.machine self.old.notes
+            (Serves p va write) self.new.machine self.new.notes }
+        ensures ends { reports_fixed result ≡ false → MakesStepsThat D.Device self.old.machine self.old.notes
+            (IsUnservedPaging p va result) self.new.machine self.new.notes }
+        ensures phases { KeepsPhases self.old.machine.state self.new.machine.state }
+    {
+        let fix = Step {
+            p,
+            act: Act::Fix { va, write },
+        };
+        let reply = self.make(&fix);
+        if !is_no_frame(&reply) {
+            return reply;
+        }
+        if !self.make_room(p) {
+            return reply;
+        }
+        self.make(&fix)
+    }
+
+    /// Makes a frame free, if that can be done. Answers whether one is.
+    pub(crate) fn make_room(&mut self, p: ProcessorNumber) -> bool
+        ensures room { MakesStepsThat D.Device self.old.machine self.old.notes (MakesRoom p result)
+            self.new.machine self.new.notes }
+        ensures phases { KeepsPhases self.old.machine.state self.new.machine.state }
+    {
+        if self.take_next_out(p) {
+            return true;
+        }
+        self.make_room_later(p)
+    }
+
+    // Makes a frame free, once the write-outs are done: a page that belongs to one stays in memory until then.
+    fn make_room_later(&mut self, p: ProcessorNumber) -> bool
+        ensures room { MakesStepsThat D.Device self.old.machine self.old.notes (MakesRoom p result)
+            self.new.machine self.new.notes }
+        ensures phases { KeepsPhases self.old.machine.state self.new.machine.state }
+    {
+        if !self.write_home(p) {
+            return false;
+        }
+        self.take_next_out(p)
+    }
+
+    // Takes the next page that is clean out of memory. Answers whether there was one.
+    fn take_next_out(&mut self, p: ProcessorNumber) -> bool
+        ensures room { MakesStepsThat D.Device self.old.machine self.old.notes (MakesRoom p result)
+            self.new.machine self.new.notes }
+        ensures phases { KeepsPhases self.old.machine.state self.new.machine.state }
+    {
+        for _ in 0..self.files().pages() {
+            let page = self.turn();
+            if self.take_out(p, page) {
+                return true;
+            }
+        }
+        false
+    }
+
+    // Makes all steps of the write-outs that are left. Answers whether there was one.
+    fn write_home(&mut self, p: ProcessorNumber) -> bool
+        ensures fruitless { MakesStepsThat D.Device self.old.machine self.old.notes (AreFruitless p)
+            self.new.machine self.new.notes }
+        ensures phases { KeepsPhases self.old.machine.state self.new.machine.state }
+    {
+        let mut has_made = false;
+        for _ in 0..u64::MAX {
+            let flushed = self.flush(p);
+            if !is_flushed(&flushed) {
+                return has_made;
+            }
+            has_made = true;
+        }
+        has_made
+    }
+
+    /// Makes a step of the write-outs.
+    pub(crate) fn flush(&mut self, p: ProcessorNumber) -> Reply
+        ensures { Makes D.Device self.old.machine self.old.notes (record { p = p; act = acts.Flush } ∷ []) (result ∷ [])
+            self.new.machine self.new.notes }
+    {
+        let flush = Step { p, act: Act::Flush };
+        self.make(&flush)
+    }
+
+    // Takes a page out of memory, if it is there and clean. Answers whether it was.
+    fn take_out(&mut self, p: ProcessorNumber, page: FilePage) -> bool
+        ensures room { MakesStepsThat D.Device self.old.machine self.old.notes (MakesRoom p result)
+            self.new.machine self.new.notes }
+        ensures phases { KeepsPhases self.old.machine.state self.new.machine.state }
+    {
+        let reclaim = Step {
+            p,
+            act: Act::Reclaim {
+                file: page.file,
+                page: page.page,
+            },
+        };
+        self.has_phases();
+        let begun = self.make(&reclaim);
+        if !is_begun(&begun) {
+            return false;
+        }
+        let changed = self.change(p);
+        is_reclaimed(&changed)
+    }
+
+    /// Makes the change that a processor began. Those that it interrupted stall before, and go on after it.
+    pub(crate) fn change(&mut self, p: ProcessorNumber) -> Reply
+        requires { (change : Change) × HoldsLock p change self.old.machine.state }
+        ensures answers { MakesStepsThat D.Device self.old.machine self.old.notes (AnswersChange p result)
+            self.new.machine self.new.notes }
+        ensures over { IsOver self.old.machine.state self.new.machine.state }
+        ensures made { (change : Change) → HoldsLock p change self.old.machine.state
+            → reports_made change result ≡ true }
+    {
+        self.change_from(p, 0)
+    }
+
+    // The same, where no processor below a number is interrupted.
+    fn change_from(&mut self, p: ProcessorNumber, next: ProcessorNumber) -> Reply
+        requires held { (change : Change) × HoldsLock p change self.old.machine.state }
+        requires calm { AreCalm next self.old.machine.state }
+        ensures answers { MakesStepsThat D.Device self.old.machine self.old.notes (AnswersChange p result)
+            self.new.machine self.new.notes }
+        ensures over { IsOver self.old.machine.state self.new.machine.state }
+        ensures made { (change : Change) → HoldsLock p change self.old.machine.state
+            → reports_made change result ≡ true }
+    {
+        if next >= PROCESSORS {
+            return self.make_change(p);
+        }
+        self.has_phases();
+        if !self.is_interrupted(next) {
+            return self.change_from(p, next + 1);
+        }
+        let ack = Step {
+            p: next,
+            act: Act::Ack,
+        };
+        self.make(&ack);
+        let reply = self.change_from(p, next + 1);
+        let resume = Step {
+            p: next,
+            act: Act::Resume,
+        };
+        self.make(&resume);
+        reply
+    }
+
+    // The same, where no processor is interrupted.
+    fn make_change(&mut self, p: ProcessorNumber) -> Reply
+        requires held { (change : Change) × HoldsLock p change self.old.machine.state }
+        requires calm { AreCalm 16 self.old.machine.state }
+        ensures answers { MakesStepsThat D.Device self.old.machine self.old.notes (AnswersChange p result)
+            self.new.machine self.new.notes }
+        ensures over { IsOver self.old.machine.state self.new.machine.state }
+        ensures made { (change : Change) → HoldsLock p change self.old.machine.state
+            → reports_made change result ≡ true }
+    {
+        self.has_phases();
+        let change = Step {
+            p,
+            act: Act::Change,
+        };
+        self.make(&change)
+    }
+
+    fn is_interrupted(&self, p: ProcessorNumber) -> bool
+        ensures { IsTrue result ↔ (state_of self.now.machine.state.hardware.shootdown p ≡ Interrupted) }
+    {
+        matches!(self.machine().state(p), Ok(ProcState::Interrupted))
+    }
+}
+
+/// Whether a change was begun.
+pub(crate) fn is_begun(reply: &Reply) -> bool
+    ensures { result ≡ reports_begun reply.now }
+{
+    matches!(reply, Reply::Begun)
+}
+
+// Whether a page left memory.
+fn is_reclaimed(reply: &Reply) -> bool
+    ensures { result ≡ reports_reclaimed reply.now }
+{
+    matches!(reply, Reply::Reclaimed)
+}
+
+/// Whether no frame, or too few, were free.
+pub(crate) fn is_no_frame(reply: &Reply) -> bool
+    ensures { IsTrue result ↔ (reply.now ≡ replied.Refused Refusal.NoFrame) }
+{
+    matches!(reply, Reply::Refused(Refusal::NoFrame))
+}
+
+/// Whether a step of a write-out was made.
+pub(crate) fn is_flushed(reply: &Reply) -> bool
+    ensures { result ≡ reports_flushed reply.now }
+{
+    matches!(reply, Reply::Going | Reply::Committed(_) | Reply::Done(_))
+}
