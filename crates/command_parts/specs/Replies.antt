@@ -11,6 +11,6 @@ is_device Device = true
 is_device _ = false
 
 -- a reply that the device failed
-abbrev pub tells_failure : Reply → Bool
-tells_failure (Refused refusal) = is_device refusal
-tells_failure _ = false
+abbrev pub reports_failure : Reply → Bool
+reports_failure (Refused refusal) = is_device refusal
+reports_failure _ = false

@@ -1,13 +1,13 @@
 // Which replies make a command fail.
 ghost use Rattle.std.specs.Prelude.{◌≡◌};
-ghost use Rattle.command_parts.specs.Replies.{tells_failure};
+ghost use Rattle.command_parts.specs.Replies.{reports_failure};
 
 use machine::Reply;
 use page_entry::Refusal;
 
 /// Whether a reply says that the device failed.
 pub fn is_failure(reply: &Reply) -> bool
-    ensures { result ≡ tells_failure reply.now }
+    ensures { result ≡ reports_failure reply.now }
 {
     matches!(reply, Reply::Refused(Refusal::Device))
 }

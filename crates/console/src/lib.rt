@@ -3,6 +3,6 @@
 #![tactic(auto)]
 
 mod program;
-mod told;
+mod reporting;
 
 pub use program::perform;

@@ -1,7 +1,7 @@
 // What the program does, from its words to its status.
 ghost use Rattle.std.specs.Prelude.{◌≤◌, IfOk};
 
-use crate::told::{asks_for_json, tell_failure};
+use crate::reporting::{asks_for_json, report_failure};
 use command_line::{Job, read_words};
 use command_parts::Failure;
 use crashes_command::crashes;

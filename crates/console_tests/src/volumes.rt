@@ -219,10 +219,10 @@ const SPOILT_JOURNAL: &str =
 
 // Whether an image is refused with status 3 and for this cause, to print and to run, and isn't written to.
 fn is_refused<R: Host>(rt: &R, image: &[u8], cause: &str) -> bool {
-    let told = ["famsync: disk \"images.img\": ", cause, "\n"];
+    let observed = ["famsync: disk \"images.img\": ", cause, "\n"];
     fs::write(rt, "images.img", image).is_ok()
-        && prints(rt, "dump|images.img", 3, &[], &told)
-        && prints(rt, "run|images.img|images.json", 3, &[], &told)
+        && prints(rt, "dump|images.img", 3, &[], &observed)
+        && prints(rt, "run|images.img|images.json", 3, &[], &observed)
         && holds(rt, "images.img", image)
 }
 

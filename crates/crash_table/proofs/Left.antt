@@ -23,7 +23,8 @@ use Rattle.crash_table.specs.Disks.{failing_memory}
 use Rattle.crash_table.specs.Crashes.{history_of, HasEnded, IsUpTo, LeavesMark}
 use Rattle.crash_table.specs.declared.found.MarkFiles.{MarkFiles}
 use Rattle.crash_table.specs.inside.Kept.{contents_of, AreKept, IsNewest, HasKept}
-use Rattle.crash_table.proofs.Marks.{IsOneReading, OpensAsRecovered, ReadsBackLater, is_reached, observed_is, taken_length}
+use Rattle.crash_table.proofs.Marks.{IsOneReading, OpensAsRecovered, ReadsBackLater}
+use Rattle.crash_table.proofs.Marks.{is_reached, observed_is, taken_length}
 use Rattle.crash_table.proofs.Newest.{at_mark}
 
 -- as many steps were made as there are replies
@@ -39,16 +40,16 @@ few_replies disk before shape steps replies after (inr refused) =
 module _ {D : Type 0} (disk : Ghosts D) (one : IsOneReading) (opened : OpensAsRecovered disk) (before : D)
     (shape : Shape) (honest : disk.is_honest before) (files : List File)
     (recovered : RecoversTo (disk.seen before) files) where
-  -- after a run, by the law of a machine on the track of one
+  -- after a run, by the law of a machine that it reached
   pub back_after_run : (start : Whole D) → HasStarted disk before shape start
       → (steps : List Step) (replies : List Reply) (now : Whole D) → StepsTaken disk start steps replies now
       → ReadsBackLater disk now → (c : List ℕ) → disk.may_leave now.device c
       → ReadsBack files (history_of files shape steps replies) c
   back_after_run start started steps replies now taken left c may =
-      subst (λ (t : Told). ReadsBack files (tell_all t steps replies).history c)
-      (told_is disk before shape start started files)
+      subst (λ (t : Observed). ReadsBack files (observe_all t steps replies).history c)
+      (observed_is disk before shape start started files)
       (left files start steps replies c
-      (on_track disk one opened before shape start started honest files recovered steps replies now taken) may)
+      (is_reached disk one opened before shape start started honest files recovered steps replies now taken) may)
 
   -- after a refusal nothing was stored
   pub back_after_refusal : ((files : List File) → files_after files [] ≡ files)
@@ -115,14 +116,15 @@ pub leaves_newest : {A E : Type 0} → IsOneReading → (image : List ℕ) (shap
     → after.inner.faults ≡ 0 → IsUpTo calls fails steps replies after
     → (stopped : Recorded) → stopped ≡ after_stop after.inner choice → may_leave_of after.inner (seen_of stopped)
     → (read : List (List ℕ)) → (found : List File) × RecoversTo (seen_of stopped) found × (read ≡ contents_of found)
-    → (result : Result ℕ E) (kept_marks : List (MarkFiles A)) (told again : List Reply) (bytes : List (List ℕ))
-    → kept_marks ≡ marks → told ≡ first → again ≡ replies → bytes ≡ read
-    → ((files : List File) (shape : Shape) (steps : List Step) → AreKept files shape steps told kept_marks
+    → (result : Result ℕ E) (kept_marks : List (MarkFiles A)) (replied again : List Reply) (bytes : List (List ℕ))
+    → kept_marks ≡ marks → replied ≡ first → again ≡ replies → bytes ≡ read
+    → ((files : List File) (shape : Shape) (steps : List Step) → AreKept files shape steps replied kept_marks
     → IfOk result (IsNewest files shape steps again bytes))
     → IfOk result (LeavesMark image shape steps calls fails choice)
 leaves_newest {A} {E} one image shape steps first marks kept calls fails choice replies after ended back sound up
-    stopped is left read opened result kept_marks told again bytes marks_are told_are again_are bytes_are newest =
-    let M : List (MarkFiles A) → Type 0 = λ l. AreKept kept.files shape steps told l in
+    stopped is left read opened result kept_marks replied again bytes marks_are observed_are
+    again_are bytes_are newest =
+    let M : List (MarkFiles A) → Type 0 = λ l. AreKept kept.files shape steps replied l in
     let T : List Reply → Type 0 = λ l. AreKept kept.files shape steps l marks in
     IfOk-weaker result _ _
     (λ number has.
@@ -130,4 +132,4 @@ leaves_newest {A} {E} one image shape steps first marks kept calls fails choice 
     let B : List (List ℕ) → Type 0 = λ l. IsNewest kept.files shape steps replies l number in
     leaves_mark one image shape steps first marks kept calls fails choice replies after ended back sound up stopped is
     left read opened number (subst B bytes_are (subst R again_are has)))
-    (newest kept.files shape steps (subst M (sym marks_are) (subst T (sym told_are) kept.kept)))
+    (newest kept.files shape steps (subst M (sym marks_are) (subst T (sym observed_are) kept.kept)))

@@ -31,7 +31,7 @@ use Rattle.engine.specs.Engine.{HasStarted}
 use Rattle.engine.proofs.Runs.{taken_kept}
 use Rattle.crash_table.specs.inside.Kept.{up_to_mark, bytes_at, unmarked_after, IsAcknowledged}
 use Rattle.crash_table.proofs.Histories.{mark_at, up_to_begins, events_of_mark}
-use Rattle.crash_table.proofs.Histories.{events_of_commit, tell_then, unmarked_told, nothing_in}
+use Rattle.crash_table.proofs.Histories.{events_of_commit, observe_then, unmarked_observed, nothing_in}
 
 -- ---- results
 
@@ -45,30 +45,31 @@ abbrev up_to : Observed → List Step → List Reply → ℕ → ℕ → List Ev
 up_to observed steps answers at n = (observe_all observed (take at steps) (take at answers)).history ++ Mark n ∷ []
 
 -- those up to an earlier mark begin those up to a later one
-pub no_later : (told : Told) (steps : List Step) (answers : List Reply) (early m late n : ℕ) → early ≤ late
+pub no_later : (observed : Observed) (steps : List Step) (answers : List Reply) (early m late n : ℕ) → early ≤ late
     → late < length steps → slice_get answers early ≡ Some (replies.Marked m)
     → slice_get answers late ≡ Some (replies.Marked n)
-    → (rest : List Event) × (up_to told steps answers early m ++ rest ≡ up_to told steps answers late n)
-no_later told steps answers early m late n order below here there =
+    → (rest : List Event) × (up_to observed steps answers early m ++ rest ≡ up_to observed steps answers late n)
+no_later observed steps answers early m late n order below here there =
     elim (cases_order early late) [
       | inl same ↦ (
           let both : m ≡ n = (let at_late : slice_get answers late
           ≡ Some (replies.Marked m) = ap (slice_get answers) (sym same) ∙ here in cc) in (
             [],
-            append-nil (up_to told steps answers early m) ∙ ap (λ i. up_to told steps answers i m) same
-                ∙ ap (λ k. up_to told steps answers late k) both,
+            append-nil (up_to observed steps answers early m) ∙ ap (λ i. up_to observed steps answers i m) same
+                ∙ ap (λ k. up_to observed steps answers late k) both,
           ))
       | inr other ↦ elim other [
         | inl less ↦ (
             let cut : length (take late steps) ≡ late = length-take-le late steps (omega (arith, below)) in
-            let found = up_to_begins told (take late steps) (take late answers) early m (omega (arith, less, cut))
+            let found = up_to_begins observed (take late steps) (take late answers) early m (omega (arith, less, cut))
             (slice_get_take answers early late less ∙ here) in (
               found.0 ++ Mark n ∷ [],
-              sym (append_assoc (up_to told steps answers early m) found.0 (Mark n ∷ []))
+              sym (append_assoc (up_to observed steps answers early m) found.0 (Mark n ∷ []))
                   ∙ ap (λ (l : List Event). l ++ Mark n ∷ []) (ap
-                  (λ (l : List Step). ((tell_all told l (take early answers)).history ++ Mark m ∷ []) ++ found.0)
+                  (λ (l : List Step). ((observe_all observed l (take early answers)).history ++ Mark m ∷ []) ++ found.0)
                   (sym (take-take early late steps (omega (arith, less))))
-                  ∙ ap (λ (l : List Reply). ((tell_all told (take early (take late steps)) l).history ++ Mark m ∷ [])
+                  ∙ ap (λ (l : List Reply).
+                  ((observe_all observed (take early (take late steps)) l).history ++ Mark m ∷ [])
                   ++ found.0) (sym (take-take early late answers (omega (arith, less))))
                   ∙ found.1),
             ))
@@ -83,18 +84,20 @@ no_later told steps answers early m late n order below here there =
     slice_get_take xs i zero less = absurd (omega (arith, less))
 
 -- a durable prefix is empty, or stands at the mark of a step
-pub record EndsAtMark (observed : Observed) (steps : List Step) (answers : List Reply) (prefix : List Event) : Type 0 where
+pub record EndsAtMark (observed : Observed) (steps : List Step) (answers : List Reply)
+    (prefix : List Event) : Type 0 where
   pub at : ℕ
   pub n : ℕ
   pub here : slice_get answers at ≡ Some (replies.Marked n)
   pub is : prefix ≡ up_to observed steps answers at n
 
-pub stands : (told : Told) (steps : List Step) (answers : List Reply) (prefix rest : List Event) → told.history ≡ []
-    → prefix ++ rest ≡ (tell_all told steps answers).history → IsMarked prefix
-    → (prefix ≡ []) ⊎ StandsAt told steps answers prefix
-stands told steps answers prefix rest none whole (inl empty) = inl empty
-stands told steps answers prefix rest none whole (inr (front, n, is)) =
-    elim (mark_at told steps answers front rest n
+pub ends_at_mark : (observed : Observed) (steps : List Step) (answers : List Reply) (prefix rest : List Event)
+    → observed.history ≡ []
+    → prefix ++ rest ≡ (observe_all observed steps answers).history → IsMarked prefix
+    → (prefix ≡ []) ⊎ EndsAtMark observed steps answers prefix
+ends_at_mark observed steps answers prefix rest none whole (inl empty) = inl empty
+ends_at_mark observed steps answers prefix rest none whole (inr (front, n, is)) =
+    elim (mark_at observed steps answers front rest n
     (sym (append_assoc front (Mark n ∷ []) rest) ∙ ap (λ l. l ++ rest) (sym is) ∙ whole)) [
       | inl (more, within) ↦ absurd (nothing_in front more (Mark n) (sym none ∙ sym within))
       | inr up ↦ inr (record { at = up.at; n = n; here = up.here; is = is ∙ ap (λ l. l ++ Mark n ∷ []) up.front_is })
@@ -116,27 +119,27 @@ OpensAsRecovered {D} disk = (before after : D) (table : SuperValue) → HasOpene
 -- what a crash may leave of a machine that a run reached reads back by its history (`Machine::keeps_the_laws`)
 abbrev pub ReadsBackLater : {D : Type 0} → Ghosts D → Whole D → Type 0
 ReadsBackLater {D} disk now = (files : List File) (start : Whole D) (steps : List Step) (replies : List Reply)
-    (c : List ℕ) → IsOnTrack disk files start steps replies now → disk.may_leave now.device c
-    → ReadsBack files (tell_all (told_first files start.state) steps replies).history c
+    (c : List ℕ) → IsReached disk files start steps replies now → disk.may_leave now.device c
+    → ReadsBack files (observe_all (observed_first files start.state) steps replies).history c
 
 -- ---- a machine that was started over files
 
 module _ {D : Type 0} (disk : Ghosts D) where
   pub taken_then : (old mid new : Whole D) (steps : List Step) (replies : List Reply) (later : List Step)
-      (told : List Reply) → StepsTaken disk old steps replies mid → StepsTaken disk mid later told new
-      → StepsTaken disk old (steps ++ later) (replies ++ told) new
-  taken_then old mid new [] [] later told first rest =
-      let P : Whole D → Type 0 = λ m. StepsTaken disk m later told new in subst P first rest
-  taken_then old mid new (step ∷ steps) (reply ∷ replies) later told (next, here, first) rest =
-      (next, here, taken_then next mid new steps replies later told first rest)
-  taken_then old mid new [] (r ∷ replies) later told first rest = absurd first
-  taken_then old mid new (x ∷ steps) [] later told first rest = absurd first
+      (observed : List Reply) → StepsTaken disk old steps replies mid → StepsTaken disk mid later observed new
+      → StepsTaken disk old (steps ++ later) (replies ++ observed) new
+  taken_then old mid new [] [] later observed first rest =
+      let P : Whole D → Type 0 = λ m. StepsTaken disk m later observed new in subst P first rest
+  taken_then old mid new (step ∷ steps) (reply ∷ replies) later observed (next, here, first) rest =
+      (next, here, taken_then next mid new steps replies later observed first rest)
+  taken_then old mid new [] (r ∷ replies) later observed first rest = absurd first
+  taken_then old mid new (x ∷ steps) [] later observed first rest = absurd first
 
-  pub told_is : (before : D) (shape : Shape) (start : Whole D) → HasStarted disk before shape start
-      → (files : List File) → told_first files start.state ≡ told_at_start files shape.cpus
-  told_is before shape start started files =
-      ap (λ (w : Whole D). told_first files w.state) started.booted
-      ∙ ap (told_at_start files) (length-replicate shape.cpus _)
+  pub observed_is : (before : D) (shape : Shape) (start : Whole D) → HasStarted disk before shape start
+      → (files : List File) → observed_first files start.state ≡ observed_at_start files shape.cpus
+  observed_is before shape start started files =
+      ap (λ (w : Whole D). observed_first files w.state) started.booted
+      ∙ ap (observed_at_start files) (length-replicate shape.cpus _)
 
   booted_begins : (volume : VolumeState D) (shape : Shape) → IsShape volume.table shape → IsAtRest disk volume
       → disk.is_honest volume.device
@@ -162,15 +165,16 @@ module _ {D : Type 0} (disk : Ghosts D) where
       let P : Whole D → Type 0 = λ w. Begins disk files w in (
         files,
         opened before volume.device volume.table (started.opened.ended honest),
-        subst P (sym started.booted) (booted_begins volume shape started.shaped (started.settled.at_rest here) here),
+        subst P (sym started.booted)
+            (booted_begins volume shape started.shaped (started.well_formed.at_rest here) here),
       )
 
-  pub on_track : IsOneReading → OpensAsRecovered disk → (before : D) (shape : Shape) (start : Whole D)
+  pub is_reached : IsOneReading → OpensAsRecovered disk → (before : D) (shape : Shape) (start : Whole D)
       → HasStarted disk before shape start → disk.is_honest before → (files : List File)
       → RecoversTo (disk.seen before) files
       → (steps : List Step) (answers : List Reply) (now : Whole D) → StepsTaken disk start steps answers now
-      → IsOnTrack disk files start steps answers now
-  on_track one opened before shape start started honest files recovered steps answers now taken =
+      → IsReached disk files start steps answers now
+  is_reached one opened before shape start started honest files recovered steps answers now taken =
       let found = begun opened before shape start started honest in
       record {
         begins = subst (λ fs. Begins disk fs start) (one (disk.seen before) found.0 files found.1 recovered) found.2;
@@ -212,8 +216,8 @@ module _ (one : IsOneReading) (files : List File) (shape : Shape)
     (is_new : (i : ℕ) → slice_get (take at answers) i ≡ Some (replies.Marked n) → ⊥)
     (flushes : List Step) (more : List Reply)
     (unmarked : (i k : ℕ) → slice_get more i ≡ Some (replies.Marked k) → ⊥) where
-  abbrev told : Told
-  told = told_at_start files shape.cpus
+  abbrev observed : Observed
+  observed = observed_at_start files shape.cpus
 
   abbrev all_steps : List Step
   all_steps = take (suc at) steps ++ flushes
@@ -249,7 +253,8 @@ module _ (one : IsOneReading) (files : List File) (shape : Shape)
   -- no step before made this mark
   mark_is_new : Contains (observe_all observed (take at steps) (take at answers)).history (Mark n) → ⊥
   mark_is_new has =
-      let split = split_from (observe_all observed (take at steps) (take at answers)).history (Mark n) has.0 has.1 has.2 in
+      let split = split_from (observe_all observed (take at steps) (take at answers)).history
+      (Mark n) has.0 has.1 has.2 in
       elim (mark_at observed (take at steps) (take at answers) split.0 split.1 n (sym split.2)) [
         | inl (wider, within) ↦ nothing_in split.0 wider (Mark n) (sym within)
         | inr up ↦ is_new up.at up.here
@@ -260,14 +265,14 @@ module _ (one : IsOneReading) (files : List File) (shape : Shape)
       → found ≡ files_after files (up_to_mark files shape steps answers at n)
   at_the_mark acked seen read found recovers =
       one seen found (files_after files read.prefix) recovers read.recovers
-      ∙ ap (files_after files) (by (stands told all_steps all_answers read.prefix read.durable.rest refl
+      ∙ ap (files_after files) (by (ends_at_mark observed all_steps all_answers read.prefix read.durable.rest refl
       read.durable.begins read.durable.marked))
     where
       has : Contains read.prefix (Mark n)
       has = read.durable.acknowledged n acked
 
-      by : (read.prefix ≡ []) ⊎ StandsAt told all_steps all_answers read.prefix
-          → read.prefix ≡ up_to told steps answers at n
+      by : (read.prefix ≡ []) ⊎ EndsAtMark observed all_steps all_answers read.prefix
+          → read.prefix ≡ up_to observed steps answers at n
       by (inl empty) =
           absurd (let none : Contains [] (Mark n) = subst (λ l. Contains l (Mark n)) empty has in omega (arith, none.1))
       by (inr s) =
@@ -277,8 +282,8 @@ module _ (one : IsOneReading) (files : List File) (shape : Shape)
                 ≡ Some (replies.Marked s.n) = ap (slice_get all_answers) (sym same) ∙ s.here in
                 let given : slice_get all_answers at ≡ Some (replies.Marked n) = get_left (take (suc at) answers) more
                 at (omega (arith, answers_long)) ∙ get_take answers at (suc at) (omega arith) ∙ here in cc) in
-                s.is ∙ ap (λ i. up_to told all_steps all_answers i s.n) same ∙ same_up_to at s.n (omega arith)
-                ∙ ap (up_to told steps answers at) k_is)
+                s.is ∙ ap (λ i. up_to observed all_steps all_answers i s.n) same ∙ same_up_to at s.n (omega arith)
+                ∙ ap (up_to observed steps answers at) k_is)
             | inr other ↦ elim other [
               | inl less ↦ absurd (earlier less)
               | inr later ↦ absurd (unmarked (s.at - suc at) s.n
@@ -313,13 +318,13 @@ module _ (one : IsOneReading) (files : List File) (shape : Shape)
               let there : slice_get (take at answers) s.at ≡ Some (replies.Marked s.n) =
               get_take answers s.at at less ∙ sym (get_take answers s.at (suc at) (omega (arith, less)))
               ∙ sym (get_left (take (suc at) answers) more s.at (omega (arith, less, answers_long))) ∙ s.here in
-              let part = up_to_begins told (take at steps) (take at answers) s.at s.n
+              let part = up_to_begins observed (take at steps) (take at answers) s.at s.n
               (omega (arith, less, cut)) there in
-              let again : (tell_all told (take s.at (take at steps)) (take s.at (take at answers))).history
+              let again : (observe_all observed (take s.at (take at steps)) (take s.at (take at answers))).history
               ++ Mark s.n ∷ [] ≡ read.prefix =
-              ap (λ (l : List Step). (tell_all told l (take s.at (take at answers))).history ++ Mark s.n ∷ [])
+              ap (λ (l : List Step). (observe_all observed l (take s.at (take at answers))).history ++ Mark s.n ∷ [])
               (take-take s.at at steps few)
-              ∙ ap (λ (l : List Reply). (tell_all told (take s.at steps) l).history ++ Mark s.n ∷ [])
+              ∙ ap (λ (l : List Reply). (observe_all observed (take s.at steps) l).history ++ Mark s.n ∷ [])
               (take-take s.at at answers few)
               ∙ sym (same_up_to s.at s.n few) ∙ sym s.is in
               mark_is_new (subst (λ l. Contains l (Mark n)) part.1
@@ -328,15 +333,17 @@ module _ (one : IsOneReading) (files : List File) (shape : Shape)
   -- ---- how the mark is acknowledged
 
   -- the history with the mark
-  marked_history : (tell_all told (take (suc at) steps) (take (suc at) answers)).history
-      ≡ (tell_all told (take at steps) (take at answers)).history ++ Mark n
-      ∷ (if has_unmarked (tell_all told (take at steps) (take at answers)).history then [] else Acknowledge n ∷ [])
-  marked_history = last_of told steps answers at below here
+  marked_history : (observe_all observed (take (suc at) steps) (take (suc at) answers)).history
+      ≡ (observe_all observed (take at steps) (take at answers)).history ++ Mark n
+      ∷ (if has_unmarked (observe_all observed (take at steps) (take at answers)).history then []
+      else Acknowledge n ∷ [])
+  marked_history = last_of observed steps answers at below here
     where
-      last_of : (t : Told) (ss : List Step) (rs : List Reply) (i : ℕ) → i < length ss
+      last_of : (t : Observed) (ss : List Step) (rs : List Reply) (i : ℕ) → i < length ss
           → slice_get rs i ≡ Some (replies.Marked n)
-          → (tell_all t (take (suc i) ss) (take (suc i) rs)).history ≡ (tell_all t (take i ss) (take i rs)).history
-          ++ Mark n ∷ (if has_unmarked (tell_all t (take i ss) (take i rs)).history then [] else Acknowledge n ∷ [])
+          → (observe_all t (take (suc i) ss) (take (suc i) rs)).history
+          ≡ (observe_all t (take i ss) (take i rs)).history
+          ++ Mark n ∷ (if has_unmarked (observe_all t (take i ss) (take i rs)).history then [] else Acknowledge n ∷ [])
       last_of t [] rs i less is = absurd (omega (arith, less))
       last_of t (s ∷ ss) [] i less is = cc
       last_of t (s ∷ ss) (r ∷ rs) zero less is =
@@ -347,22 +354,23 @@ module _ (one : IsOneReading) (files : List File) (shape : Shape)
   -- at once, where no store was answered since the mark before it
   pub acked_at_once : flushes ≡ [] → more ≡ [] → unmarked_after false (take at answers) ≡ false
       → Contains whole (Acknowledge n)
-  acked_at_once none_made none_told down =
-      let history = (tell_all told (take at steps) (take at answers)).history in
+  acked_at_once none_made none_observed down =
+      let history = (observe_all observed (take at steps) (take at answers)).history in
       let same_length : length (take at answers) ≡ length (take at steps) =
       length-take-le at answers (omega (arith, within)) ∙ sym (length-take-le at steps (omega (arith, below))) in
       let quiet : has_unmarked history ≡ false =
-      unmarked_told told (take at steps) (take at answers) false (λ e. e) same_length down in
-      let made : (tell_all told (take (suc at) steps) (take (suc at) answers)).history
+      unmarked_observed observed (take at steps) (take at answers) false (λ e. e) same_length down in
+      let made : (observe_all observed (take (suc at) steps) (take (suc at) answers)).history
       ≡ history ++ Mark n ∷ Acknowledge n ∷ [] =
       marked_history ∙ ap (λ b. history ++ Mark n ∷ (if b then [] else Acknowledge n ∷ [])) quiet in
       let all : whole ≡ history ++ Mark n ∷ Acknowledge n ∷ [] =
-      ap (λ (l : List Step). (tell_all told (take (suc at) steps ++ l) all_answers).history) none_made
-      ∙ ap (λ (l : List Reply). (tell_all told (take (suc at) steps ++ []) (take (suc at) answers ++ l)).history)
-      none_told
-      ∙ ap (λ (l : List Step). (tell_all told l (take (suc at) answers ++ [])).history)
+      ap (λ (l : List Step). (observe_all observed (take (suc at) steps ++ l) all_answers).history) none_made
+      ∙ ap (λ (l : List Reply). (observe_all observed (take (suc at) steps ++ []) (take (suc at) answers ++ l)).history)
+      none_observed
+      ∙ ap (λ (l : List Step). (observe_all observed l (take (suc at) answers ++ [])).history)
       (append-nil (take (suc at) steps))
-      ∙ ap (λ (l : List Reply). (tell_all told (take (suc at) steps) l).history) (append-nil (take (suc at) answers))
+      ∙ ap (λ (l : List Reply). (observe_all observed (take (suc at) steps) l).history)
+      (append-nil (take (suc at) answers))
       ∙ made in
       subst (λ l. Contains l (Acknowledge n)) (sym all)
       (Contains-append_right history (Mark n ∷ Acknowledge n ∷ []) (Acknowledge n) (1, omega arith, refl))
@@ -370,7 +378,7 @@ module _ (one : IsOneReading) (files : List File) (shape : Shape)
   -- or by the step that commits it
   pub acked_by_commit : (step : Step) (earlier : List Step) (going : List Reply) → flushes ≡ earlier ++ step ∷ []
       → more ≡ going ++ replies.Committed n ∷ [] → length going ≡ length earlier → Contains whole (Acknowledge n)
-  acked_by_commit step earlier going made told_so same =
+  acked_by_commit step earlier going made observed_so same =
       let front_steps = take (suc at) steps ++ earlier in
       let front_answers = take (suc at) answers ++ going in
       let before_it = observe_all observed front_steps front_answers in
@@ -380,12 +388,12 @@ module _ (one : IsOneReading) (files : List File) (shape : Shape)
       let split_steps : all_steps ≡ front_steps ++ step ∷ [] =
       ap (λ l. take (suc at) steps ++ l) made ∙ sym (append_assoc (take (suc at) steps) earlier (step ∷ [])) in
       let split_answers : all_answers ≡ front_answers ++ replies.Committed n ∷ [] = ap (λ l. take (suc at) answers ++ l)
-      told_so ∙ sym (append_assoc (take (suc at) answers) going (replies.Committed n ∷ [])) in
+      observed_so ∙ sym (append_assoc (take (suc at) answers) going (replies.Committed n ∷ [])) in
       let all : whole ≡ before_it.history ++ events_of before_it step.p step.act (replies.Committed n) =
-      ap (λ (l : List Step). (tell_all told l all_answers).history) split_steps
-      ∙ ap (λ (l : List Reply). (tell_all told (front_steps ++ step ∷ []) l).history) split_answers
-      ∙ ap (λ (t : Told). t.history)
-      (tell_then told front_steps front_answers (step ∷ []) (replies.Committed n ∷ []) long) in
+      ap (λ (l : List Step). (observe_all observed l all_answers).history) split_steps
+      ∙ ap (λ (l : List Reply). (observe_all observed (front_steps ++ step ∷ []) l).history) split_answers
+      ∙ ap (λ (t : Observed). t.history)
+      (observe_then observed front_steps front_answers (step ∷ []) (replies.Committed n ∷ []) long) in
       subst (λ l. Contains l (Acknowledge n))
       (sym (all ∙ ap (λ l. before_it.history ++ l) (events_of_commit before_it step.p step.act n)))
       (Contains-push before_it.history (Acknowledge n))
@@ -415,8 +423,8 @@ module _ {D : Type 0} (disk : Ghosts D) (seen_is_left : (device : D) → disk.is
     (steps : List Step) (answers : List Reply) (at n : ℕ) (below : at < length steps)
     (here : slice_get answers at ≡ Some (replies.Marked n))
     (is_new : (i : ℕ) → slice_get (take at answers) i ≡ Some (replies.Marked n) → ⊥)
-    (told : List Reply) (marked now : Whole D) (made : StepsTaken disk start
-    (take (length told) (take (at + 1) steps)) told marked) (same : told ≡ take (at + 1) answers)
+    (observed : List Reply) (marked now : Whole D) (made : StepsTaken disk start
+    (take (length observed) (take (at + 1) steps)) observed marked) (same : observed ≡ take (at + 1) answers)
     (acknowledged : IsAcknowledged disk marked (take at answers) n now) (left : ReadsBackLater disk now) where
   long : length (take (suc at) answers) ≡ suc at
   long = length-take-le (suc at) answers
@@ -433,7 +441,7 @@ module _ {D : Type 0} (disk : Ghosts D) (seen_is_left : (device : D) → disk.is
       subst (λ (l : List Step). StepsTaken disk start l (take (suc at) answers) marked)
       (ap (λ (i : ℕ). take i (take (at + 1) steps)) count ∙ ap (λ (i : ℕ). take (suc at) (take i steps)) next
       ∙ take-take (suc at) (suc at) steps (omega arith))
-      (subst (λ (l : List Reply). StepsTaken disk start (take (length told) (take (at + 1) steps)) l marked)
+      (subst (λ (l : List Reply). StepsTaken disk start (take (length observed) (take (at + 1) steps)) l marked)
       (same ∙ ap (λ (i : ℕ). take i answers) next) made)
 
   honest_now : disk.is_honest now.device
@@ -441,12 +449,13 @@ module _ {D : Type 0} (disk : Ghosts D) (seen_is_left : (device : D) → disk.is
       (take (suc at) answers) marked first (take at answers) n now acknowledged
 
   back : (all_steps : List Step) (all_answers : List Reply) → StepsTaken disk start all_steps all_answers now
-      → ReadsBack files (tell_all (told_at_start files shape.cpus) all_steps all_answers).history (disk.seen now.device)
+      → ReadsBack files (observe_all (observed_at_start files shape.cpus) all_steps all_answers).history
+      (disk.seen now.device)
   back all_steps all_answers taken =
       let on =
-      on_track disk one opened before shape start started honest files recovered all_steps all_answers now taken in
-      subst (λ (t : Told). ReadsBack files (tell_all t all_steps all_answers).history (disk.seen now.device))
-      (told_is disk before shape start started files)
+      is_reached disk one opened before shape start started honest files recovered all_steps all_answers now taken in
+      subst (λ (t : Observed). ReadsBack files (observe_all t all_steps all_answers).history (disk.seen now.device))
+      (observed_is disk before shape start started files)
       (left files start all_steps all_answers (disk.seen now.device) on (seen_is_left now.device honest_now))
 
   files_at_mark : (found : List File) → RecoversTo (disk.seen now.device) found

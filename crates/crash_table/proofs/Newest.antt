@@ -77,7 +77,7 @@ kept_alike files shape steps first replies at kept same is =
     let before : take at first ≡ take at replies =
     sym (take-take at (at + 1) first (omega arith)) ∙ ap (take at) same ∙ take-take at (at + 1) replies (omega arith) in
     let B : List Reply → List (List ℕ) =
-    λ told. contents_of (files_after files (history_of files shape (take at steps) told ++ Mark is.0 ∷ [])) in
+    λ replied. contents_of (files_after files (history_of files shape (take at steps) replied ++ Mark is.0 ∷ [])) in
     (is.0, here ∙ is.1, is.2, is.3 ∙ ap B before)
 
 -- the mark at this index has these files
@@ -120,9 +120,10 @@ module _ (one : IsOneReading) (files : List File) (shape : Shape) (steps : List 
   whole = history_of files shape cut replies
 
   up_to_cut : (i number : ℕ) → i ≤ length replies
-      → (tell_all (told_at_start files shape.cpus) (take i cut) (take i replies)).history ++ Mark number ∷ []
+      → (observe_all (observed_at_start files shape.cpus) (take i cut) (take i replies)).history ++ Mark number ∷ []
       ≡ up_to_mark files shape steps replies i number
-  up_to_cut i number few = ap (λ (l : List Step). (tell_all (told_at_start files shape.cpus) l (take i replies)).history
+  up_to_cut i number few =
+      ap (λ (l : List Step). (observe_all (observed_at_start files shape.cpus) l (take i replies)).history
       ++ Mark number ∷ []) (take-take i (length replies) steps few)
 
   abbrev bytes_of_all : List File → List (List ℕ)
@@ -144,7 +145,8 @@ module _ (one : IsOneReading) (files : List File) (shape : Shape) (steps : List 
 
       empty : (p : List Event) → IsDurablePrefix p whole → found ≡ files_after files p → p ≡ []
       empty p durable is =
-          elim (ends_at_mark (observed_at_start files shape.cpus) cut replies p durable.rest refl durable.begins durable.marked) [
+          elim (ends_at_mark (observed_at_start files shape.cpus) cut replies p durable.rest refl
+          durable.begins durable.marked) [
             | inl e ↦ e
             | inr s ↦ (
                 let within = slice_get_within replies s.at (Marked s.n) s.here in
@@ -176,9 +178,10 @@ module _ (one : IsOneReading) (files : List File) (shape : Shape) (steps : List 
       cut_long = length-take-le (length replies) steps long
 
       begins : (rest : List Event)
-          × (((tell_all (told_at_start files shape.cpus) (take at cut) (take at replies)).history ++ Mark number ∷ [])
+          × (((observe_all (observed_at_start files shape.cpus) (take at cut) (take at replies)).history ++ Mark number
+          ∷ [])
           ++ rest ≡ whole)
-      begins = up_to_begins (told_at_start files shape.cpus) cut replies at number
+      begins = up_to_begins (observed_at_start files shape.cpus) cut replies at number
           (omega (arith, inside, cut_long)) here
 
       same : found ≡ files_after files read.prefix
@@ -188,7 +191,8 @@ module _ (one : IsOneReading) (files : List File) (shape : Shape) (steps : List 
       part : (p : List Event) → IsDurablePrefix p whole → found ≡ files_after files p
           → (rest : List Event) × (p ++ rest ≡ prefix)
       part p durable is =
-          elim (ends_at_mark (observed_at_start files shape.cpus) cut replies p durable.rest refl durable.begins durable.marked) [
+          elim (ends_at_mark (observed_at_start files shape.cpus) cut replies p durable.rest refl
+          durable.begins durable.marked) [
             | inl e ↦ (prefix, ap (λ (l : List Event). l ++ prefix) e)
             | inr s ↦ (
                 let within = slice_get_within replies s.at (Marked s.n) s.here in
@@ -197,7 +201,7 @@ module _ (one : IsOneReading) (files : List File) (shape : Shape) (steps : List 
                       (ap bytes_of_all is ∙ ap (λ (e : List Event). bytes_of_all (files_after files e))
                       (s.is ∙ up_to_cut s.at s.n (omega (arith, within)))))
                   | inr early ↦ (
-                      let w = no_later (told_at_start files shape.cpus) cut replies s.at s.n at number early
+                      let w = no_later (observed_at_start files shape.cpus) cut replies s.at s.n at number early
                       (omega (arith, inside, cut_long)) s.here here in
                       (w.0, ap (λ (l : List Event). l ++ w.0) s.is ∙ w.1 ∙ up_to_cut at number (omega (arith, inside))))
                 ])

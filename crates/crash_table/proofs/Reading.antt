@@ -28,14 +28,14 @@ lengths_from contents b (f ∷ fs) (n ∷ ns) count within whole =
     λ i. first i ∷ rest i
 
 -- a volume as it was opened
-pub lengths_of_settled : {D : Type 0} (disk : Ghosts D) (volume : VolumeState D) → IsSettled disk volume
+pub lengths_of_well_formed : {D : Type 0} (disk : Ghosts D) (volume : VolumeState D) → IsWellFormed disk volume
     → disk.is_honest volume.device → HasLengthsOf volume (disk.seen volume.device)
-lengths_of_settled disk volume settled honest =
+lengths_of_well_formed disk volume well_formed honest =
     let bytes = disk.seen volume.device in
     let b = first_file_home volume.table.layout volume.table.slots in
-    let rest = settled.at_rest honest in
+    let rest = well_formed.at_rest honest in
     let whole : (i : ℕ) → i < b + total_pages volume.table.files → length (block_at bytes i) ≡ 4096 =
-    λ i high. length-block_at bytes i (let long = settled.long in omega arith) in
+    λ i high. length-block_at bytes i (let long = well_formed.long in omega arith) in
     lengths_from (block_at bytes) b volume.table.files (lengths_in volume.table (block_at bytes))
     rest.lengths_fit.are.count rest.lengths_fit.are.within whole ∙ sym rest.lengths_are
 
@@ -72,12 +72,12 @@ length_of_file volume bytes file n are long =
     length_at (files_of volume.table bytes) file n (ap (λ lengths. slice_get lengths file) are ∙ long)
 
 -- as many files as the table has
-pub as_many_files : {D : Type 0} (disk : Ghosts D) (volume : VolumeState D) → IsSettled disk volume
+pub as_many_files : {D : Type 0} (disk : Ghosts D) (volume : VolumeState D) → IsWellFormed disk volume
     → disk.is_honest volume.device
     → length (files_of volume.table (disk.seen volume.device)) ≡ length volume.table.files
-as_many_files disk volume settled honest =
+as_many_files disk volume well_formed honest =
     sym (length-map (files_of volume.table (disk.seen volume.device)) (λ (f : File). length f.bytes))
-    ∙ ap (λ (l : List ℕ). length l) (lengths_of_settled disk volume settled honest) ∙ settled.lengths.count
+    ∙ ap (λ (l : List ℕ). length l) (lengths_of_well_formed disk volume well_formed honest) ∙ well_formed.lengths.count
 
 -- all of it
 pub whole_range : (xs : List ℕ) (n : ℕ) → length xs ≡ n → slice_range xs 0 (0 + n) ≡ xs

@@ -55,11 +55,11 @@ all_closed g bytes j (journal ∷ journals) are closed =
 -- how a volume is of which this was found
 pub health_of_found : {Z : Type 0} (bytes : List ℕ) (found : Found Z) → IsFound bytes found
     → IsHealth bytes (health_by (list_any is_open found.journals.items))
-health_of_found {Z} bytes found is = told is.batches is.volume
+health_of_found {Z} bytes found is = derived is.batches is.volume
   where
-    told : (batches : List Batch) → IsVolume found.table batches bytes
+    derived : (batches : List Batch) → IsVolume found.table batches bytes
         → IsHealth bytes (health_by (list_any is_open found.journals.items))
-    told [] volume =
+    derived [] volume =
         let none : list_any is_open found.journals.items ≡ false =
         all_closed (geometry_of found.table) bytes 0 found.journals.items is.journals.1 (λ k below o.
         let no : false ≡ true = volume.journals.all k (omega (arith, is.journals.0)) o in cc) in

@@ -8,7 +8,7 @@ use Rattle.volume_codec.specs.Layout.{IsHome, first_home, lengths_blocks, block_
 use Rattle.volume_codec.specs.Super.{SuperValue, Fits, geometry_of, capacities_in}
 use Rattle.volume_codec.specs.Lengths.{IsLengths, HasLengths, lengths_in}
 use Rattle.volume_codec.specs.Recovery.{Batch, IsVolume, Recovers, RecoversTo, IsNotAVolume}
-use Rattle.volume_codec.specs.Recovery.{IsDamaged, contents_in, standing_block}
+use Rattle.volume_codec.specs.Recovery.{IsDamaged, contents_in, recovered_block}
 use Rattle.volume_codec.proofs.Public.{fixed_lengths, fixed_has_lengths, said_lengths, reads_lengths, has_lengths-same}
 use Rattle.recovery.specs.Counts.{Rises}
 use Rattle.recovery.specs.Opening.{RefusesOpening, opening_calls}
@@ -34,7 +34,7 @@ found_fixed table batches bytes lengths none are =
 
 -- with one they are what it says
 pub found_said : (table : SuperValue) (batches : List Batch) (bytes lengths : List ℕ) (at : ℕ) → Fits table
-    → 0 < lengths_blocks table.layout → at ≡ standing_block table.slots batches (first_home table.layout table.slots)
+    → 0 < lengths_blocks table.layout → at ≡ recovered_block table.slots batches (first_home table.layout table.slots)
     → IsLengths table lengths (block_at bytes at) → AreFound table batches bytes lengths
 found_said table batches bytes lengths at fits some is says =
     let contents = contents_in table.slots batches bytes in
@@ -56,7 +56,7 @@ IsOneContents = (v w : SuperValue) (contents others : ℕ → List ℕ) (bytes :
 -- a block that says no lengths is damaged
 pub refuses_stored : IsOneContents → (table : SuperValue) (batches : List Batch) (bytes : List ℕ) (at : ℕ) (e : Refusal)
     → 4096 ≤ length bytes → 0 < lengths_blocks table.layout
-    → at ≡ standing_block table.slots batches (first_home table.layout table.slots) → IsVolume table batches bytes
+    → at ≡ recovered_block table.slots batches (first_home table.layout table.slots) → IsVolume table batches bytes
     → RefusesStored table (block_at bytes at) e → RefusesOpening bytes e
 refuses_stored one table batches bytes at Damaged long some is volume refuses = record {
   long = long;

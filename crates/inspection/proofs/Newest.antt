@@ -22,21 +22,21 @@ Describes g bytes i o = MatchOption o (i < journals_of g.layout → IsOpen bytes
 say_of : (g : GeometryValue) (bytes : List ℕ) (i : ℕ) (o : Option DescriptorValue) → i < journals_of g.layout
     → MatchOption o (¬ (IsOpen bytes g.slots i))
     (λ d. IsOpen bytes g.slots i × IsDescriptor g d (block_at bytes (descriptor_block g.slots i)))
-    → Says g bytes i o
+    → Describes g bytes i o
 say_of g bytes i None there is = λ _. is
 say_of g bytes i (Some d) there is = record { there = there; gate = is.0; descriptor = is.1 }
 
-pub says_of : {Z : Type 0} (g : GeometryValue) (bytes : List ℕ) (journals : List (Journal Z))
+pub describes_of : {Z : Type 0} (g : GeometryValue) (bytes : List ℕ) (journals : List (Journal Z))
     → AreJournals g bytes journals
-    → Says g bytes 0 (descriptor_at 0 journals) × Says g bytes 1 (descriptor_at 1 journals)
-says_of g bytes [] are = absurd (omega (arith, are.0, (few_journals g.layout).0, (few_journals g.layout).1))
-says_of g bytes (a ∷ []) are =
+    → Describes g bytes 0 (descriptor_at 0 journals) × Describes g bytes 1 (descriptor_at 1 journals)
+describes_of g bytes [] are = absurd (omega (arith, are.0, (few_journals g.layout).0, (few_journals g.layout).1))
+describes_of g bytes (a ∷ []) are =
     (say_of g bytes 0 a.descriptor (omega (arith, are.0)) are.1.0.descriptor, λ there. absurd (omega (arith, are.0)))
-says_of g bytes (a ∷ b ∷ []) are = (
+describes_of g bytes (a ∷ b ∷ []) are = (
   say_of g bytes 0 a.descriptor (omega (arith, are.0)) are.1.0.descriptor,
   say_of g bytes 1 b.descriptor (omega (arith, are.0)) are.1.1.0.descriptor,
 )
-says_of g bytes (a ∷ b ∷ c ∷ journals) are =
+describes_of g bytes (a ∷ b ∷ c ∷ journals) are =
     absurd (omega (arith, are.0, (few_journals g.layout).0, (few_journals g.layout).1))
 
 -- what holds of two journals holds of all
@@ -75,7 +75,8 @@ both_open g bytes x y false less other first second is_x is_y =
     }
 
 -- the open journals of a volume are these
-pub open_of : (g : GeometryValue) (bytes : List ℕ) (d e : Option DescriptorValue) → Says g bytes 0 d → Says g bytes 1 e
+pub open_of : (g : GeometryValue) (bytes : List ℕ) (d e : Option DescriptorValue) → Describes g bytes 0 d
+    → Describes g bytes 1 e
     → have_one_mark d e ≡ false → AreOpen g (batches_by d e) bytes
 open_of g bytes None None first second other = record {
   each = tt;
@@ -102,8 +103,9 @@ open_of g bytes (Some d) (Some e) first second other =
     (nat_lt d.mark e.mark) refl apart refl refl first second
 
 -- two with one mark are no open journals of a volume
-pub one_mark : (g : GeometryValue) (bytes : List ℕ) (d e : Option DescriptorValue) → IsGeometry g → Says g bytes 0 d
-    → Says g bytes 1 e → have_one_mark d e ≡ true → (batches : List Batch) → AreOpen g batches bytes → ⊥
+pub one_mark : (g : GeometryValue) (bytes : List ℕ) (d e : Option DescriptorValue) → IsGeometry g
+    → Describes g bytes 0 d
+    → Describes g bytes 1 e → have_one_mark d e ≡ true → (batches : List Batch) → AreOpen g batches bytes → ⊥
 one_mark g bytes None None is first second same = absurd cc
 one_mark g bytes (Some d) None is first second same = absurd cc
 one_mark g bytes None (Some e) is first second same = absurd cc
@@ -166,8 +168,8 @@ first_here (n ∷ ns) home here = (omega arith, let same : Some n ≡ Some home 
 abbrev pub IsWith : GeometryValue → ℕ → Option DescriptorValue → ℕ → ℕ → Type 0
 IsWith g j o other result =
     (older : List Batch) → MatchOption o (Unit {0}) (λ d. RiseWithin (first_home g.layout g.slots) g.blocks d.homes)
-    → other ≡ standing_block g.slots older (first_home g.layout g.slots)
-    → result ≡ standing_block g.slots (batch_by j o ++ older) (first_home g.layout g.slots)
+    → other ≡ recovered_block g.slots older (first_home g.layout g.slots)
+    → result ≡ recovered_block g.slots (batch_by j o ++ older) (first_home g.layout g.slots)
 
 module _ {Z : Type 0} (g : GeometryValue) (bytes : List ℕ) (journals : List (Journal Z))
     (are : AreJournals g bytes journals) (x y : Option DescriptorValue) (first : x ≡ descriptor_at 0 journals)
@@ -175,39 +177,39 @@ module _ {Z : Type 0} (g : GeometryValue) (bytes : List ℕ) (journals : List (J
   rises_x : MatchOption x (Unit {0}) (λ d. RiseWithin (first_home g.layout g.slots) g.blocks d.homes)
   rises_x = let P : Option DescriptorValue → Type 0 =
       λ o. MatchOption o (Unit {0}) (λ d. RiseWithin (first_home g.layout g.slots) g.blocks d.homes) in
-      subst P (sym first) (rises g bytes 0 (descriptor_at 0 journals) (says_of g bytes journals are).0)
+      subst P (sym first) (rises g bytes 0 (descriptor_at 0 journals) (describes_of g bytes journals are).0)
 
   rises_y : MatchOption y (Unit {0}) (λ d. RiseWithin (first_home g.layout g.slots) g.blocks d.homes)
   rises_y = let P : Option DescriptorValue → Type 0 =
       λ o. MatchOption o (Unit {0}) (λ d. RiseWithin (first_home g.layout g.slots) g.blocks d.homes) in
-      subst P (sym second) (rises g bytes 1 (descriptor_at 1 journals) (says_of g bytes journals are).1)
+      subst P (sym second) (rises g bytes 1 (descriptor_at 1 journals) (describes_of g bytes journals are).1)
 
   all_same : batches_by x y ≡ batches_by (descriptor_at 0 journals) (descriptor_at 1 journals)
   all_same = ap (λ o. batches_by o y) first ∙ ap (batches_by (descriptor_at 0 journals)) second
 
   -- the second journal is the newer one
-  pub standing_second : (home other result : ℕ) → home ≡ first_home g.layout g.slots → is_below x y ≡ true
-      → IsWith g 0 x home other → IsWith g 1 y other result → result ≡ standing_block g.slots
+  pub recovered_second : (home other result : ℕ) → home ≡ first_home g.layout g.slots → is_below x y ≡ true
+      → IsWith g 0 x home other → IsWith g 1 y other result → result ≡ recovered_block g.slots
       (batches_by (descriptor_at 0 journals) (descriptor_at 1 journals)) (first_home g.layout g.slots)
-  standing_second home other result at below older newer =
+  recovered_second home other result at below older newer =
       let b = first_home g.layout g.slots in
       newer (batch_by 0 x ++ []) rises_y (older [] rises_x at)
-      ∙ ap (λ (l : List Batch). standing_block g.slots (batch_by 1 y ++ l) b) (append-nil (batch_by 0 x))
-      ∙ ap (λ (t : Bool). standing_block g.slots
+      ∙ ap (λ (l : List Batch). recovered_block g.slots (batch_by 1 y ++ l) b) (append-nil (batch_by 0 x))
+      ∙ ap (λ (t : Bool). recovered_block g.slots
       (if t then batch_by 1 y ++ batch_by 0 x else batch_by 0 x ++ batch_by 1 y) b) (sym below)
-      ∙ ap (λ (l : List Batch). standing_block g.slots l b) all_same
+      ∙ ap (λ (l : List Batch). recovered_block g.slots l b) all_same
 
   -- or it isn't
-  pub standing_first : (home other result : ℕ) → home ≡ first_home g.layout g.slots → is_below x y ≡ false
-      → IsWith g 1 y home other → IsWith g 0 x other result → result ≡ standing_block g.slots
+  pub recovered_first : (home other result : ℕ) → home ≡ first_home g.layout g.slots → is_below x y ≡ false
+      → IsWith g 1 y home other → IsWith g 0 x other result → result ≡ recovered_block g.slots
       (batches_by (descriptor_at 0 journals) (descriptor_at 1 journals)) (first_home g.layout g.slots)
-  standing_first home other result at below older newer =
+  recovered_first home other result at below older newer =
       let b = first_home g.layout g.slots in
       newer (batch_by 1 y ++ []) rises_x (older [] rises_y at)
-      ∙ ap (λ (l : List Batch). standing_block g.slots (batch_by 0 x ++ l) b) (append-nil (batch_by 1 y))
-      ∙ ap (λ (t : Bool). standing_block g.slots
+      ∙ ap (λ (l : List Batch). recovered_block g.slots (batch_by 0 x ++ l) b) (append-nil (batch_by 1 y))
+      ∙ ap (λ (t : Bool). recovered_block g.slots
       (if t then batch_by 1 y ++ batch_by 0 x else batch_by 0 x ++ batch_by 1 y) b) (sym below)
-      ∙ ap (λ (l : List Batch). standing_block g.slots l b) all_same
+      ∙ ap (λ (l : List Batch). recovered_block g.slots l b) all_same
 
 -- whether two journals have one mark, of equal journals
 pub marks_as : {Z : Type 0} {first second journals : List (Journal Z)} {x y : Option DescriptorValue} {result : Bool}

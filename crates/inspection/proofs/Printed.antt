@@ -37,14 +37,14 @@ lengths_from contents b (f ∷ fs) (n ∷ ns) count within whole =
     λ i. first i ∷ rest i
 
 -- a volume as it was opened
-pub files_of_settled : {D : Type 0} (disk : Ghosts D) (volume : VolumeState D) → IsSettled disk volume
+pub files_of_well_formed : {D : Type 0} (disk : Ghosts D) (volume : VolumeState D) → IsWellFormed disk volume
     → disk.is_honest volume.device → AreFilesOf volume (disk.seen volume.device)
-files_of_settled disk volume settled honest =
+files_of_well_formed disk volume well_formed honest =
     let bytes = disk.seen volume.device in
     let b = first_file_home volume.table.layout volume.table.slots in
-    let rest = settled.at_rest honest in
+    let rest = well_formed.at_rest honest in
     let whole : (i : ℕ) → i < b + total_pages volume.table.files → length (block_at bytes i) ≡ 4096 =
-    λ i high. length-block_at bytes i (let long = settled.long in omega arith) in
+    λ i high. length-block_at bytes i (let long = well_formed.long in omega arith) in
     record {
       names = named_from (block_at bytes) b volume.table.files
           (lengths_in volume.table (block_at bytes)) rest.lengths_fit.are.count;

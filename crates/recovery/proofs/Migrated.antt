@@ -237,7 +237,7 @@ module _ (table : SuperValue) (lengths laid copied final : List ℕ) (fits : Fit
   }
 
 -- what is asked for of a volume
-module _ {D : Type 0} (disk : Ghosts D) (volume : VolumeState D) (settled : IsSettled disk volume) (slots : ℕ)
+module _ {D : Type 0} (disk : Ghosts D) (volume : VolumeState D) (well_formed : IsWellFormed disk volume) (slots : ℕ)
     (table : SuperValue) (asked : IsAsked 3 (asked_of volume) slots table) where
   pub asked_files : table.files ≡ volume.table.files
   asked_files = asked.files_are ∙ again_files volume.table.files volume.lengths well_formed.lengths.count
@@ -250,7 +250,7 @@ module _ {D : Type 0} (disk : Ghosts D) (volume : VolumeState D) (settled : IsSe
       subst P asked_lengths (asked_are 3 slots (asked_of volume) table asked)
 
 -- all of it but its block 0
-module _ {D : Type 0} (disk : Ghosts D) (volume : VolumeState D) (settled : IsSettled disk volume) (slots : ℕ)
+module _ {D : Type 0} (disk : Ghosts D) (volume : VolumeState D) (well_formed : IsWellFormed disk volume) (slots : ℕ)
     (table : SuperValue) (asked : IsAsked 3 (asked_of volume) slots table)
     (laid copied final : List ℕ) (rest : IsEmptied table volume.lengths laid)
     (torn : Torn (4096 * first_file_home table.layout table.slots) (4096 * total_pages table.files) laid copied)
@@ -266,7 +266,7 @@ module _ {D : Type 0} (disk : Ghosts D) (volume : VolumeState D) (settled : IsSe
   pub spelled : 0 < lengths_blocks table.layout
       → block_at final (first_home table.layout table.slots) ≡ lengths_text (lengths_asked (asked_of volume))
   spelled some = says_lengths table volume.lengths laid copied final are rest torn first some
-      ∙ ap lengths_text (sym (asked_lengths disk volume settled slots table asked))
+      ∙ ap lengths_text (sym (asked_lengths disk volume well_formed slots table asked))
 
   pub filled : IsFilled disk volume table final
   filled = record {
@@ -275,18 +275,18 @@ module _ {D : Type 0} (disk : Ghosts D) (volume : VolumeState D) (settled : IsSe
     files = λ honest.
         same_files table volume.table volume.lengths final (disk.seen volume.device) are named
         (sym (asked_lengths_in 3 slots (asked_of volume) table (block_at final) asked spelled
-        ∙ asked_lengths disk volume settled slots table asked))
-        (settled.at_rest honest).lengths_are
+        ∙ asked_lengths disk volume well_formed slots table asked))
+        (well_formed.at_rest honest).lengths_are
         (λ file there. part_there table volume.lengths laid copied final are rest torn first _ (each honest) file there
-        ∙ file_bytes volume.table volume.lengths settled.lengths (disk.seen volume.device) file
-        (omega (arith, there, ap length named)) (settled.at_rest honest).lengths_are);
+        ∙ file_bytes volume.table volume.lengths well_formed.lengths (disk.seen volume.device) file
+        (omega (arith, there, ap length named)) (well_formed.at_rest honest).lengths_are);
     tails = λ honest. tails table volume.lengths laid copied final are rest torn first _ (each honest);
   }
 
 pub migrated : {D E : Type 0} (disk : Ghosts D) (other : Ghosts E) (slots : ℕ) (volume : VolumeState D)
     (before laid copied after : E) (table : SuperValue)
     → HasShape 3 (asked_of volume) slots (length (other.seen before)) table
-    → IsSettled disk volume → disk.is_honest volume.device → IsEmptied table volume.lengths (other.seen laid)
+    → IsWellFormed disk volume → disk.is_honest volume.device → IsEmptied table volume.lengths (other.seen laid)
     → Torn 4096 (4096 * block_count table - 4096) (other.seen before) (other.seen laid)
     → Torn (4096 * first_file_home table.layout table.slots) (4096 * total_pages table.files)
     (other.seen laid) (other.seen copied)
@@ -294,14 +294,14 @@ pub migrated : {D E : Type 0} (disk : Ghosts D) (other : Ghosts E) (slots : ℕ)
     (other.seen laid) (other.seen copied)
     → other.seen after ≡ written (other.seen copied) 0 (super_text table)
     → Only (other.may_leave after) (other.seen after) → HasMigrated disk other slots volume before after
-migrated disk other slots volume before laid copied after table shape settled honest rest laying torn each is only =
+migrated disk other slots volume before laid copied after table shape well_formed honest rest laying torn each is only =
     record {
       table = table;
       shape = shape;
       holds = held table volume.lengths (other.seen laid) (other.seen copied) (other.seen after) shape.asked.fits
-          (asked_lengths_are disk volume settled slots table shape.asked) rest torn is;
+          (asked_lengths_are disk volume well_formed slots table shape.asked) rest torn is;
       lengths_fit = asked_has_lengths 3 slots (asked_of volume) table (block_at (other.seen after)) shape.asked
-          (spelled disk volume settled slots table shape.asked (other.seen laid) (other.seen copied)
+          (spelled disk volume well_formed slots table shape.asked (other.seen laid) (other.seen copied)
           (other.seen after) rest torn zeroth (λ h. each));
       files = rests.files honest;
       tails = rests.tails honest;
@@ -315,7 +315,7 @@ migrated disk other slots volume before laid copied after table shape settled ho
         (omega (arith, rest.long, torn.same_length)) is).1
 
     rests : IsFilled disk volume table (other.seen after)
-    rests = filled disk volume settled slots table shape.asked (other.seen laid) (other.seen copied)
+    rests = filled disk volume well_formed slots table shape.asked (other.seen laid) (other.seen copied)
         (other.seen after) rest torn zeroth (λ h. each)
 
 -- ---- what a crash leaves of it
@@ -382,14 +382,14 @@ module _ {D E : Type 0} (disk : Ghosts D) (other : Ghosts E) (slots : ℕ) (volu
         (λ c torn. filling_left c (copied_within c torn))
 
     -- while the table is written
-    pub time_of_filling : {Y : Type 0} {last : Result Y Refusal} {final : E} {block : List ℕ} → IsSettled disk volume
+    pub time_of_filling : {Y : Type 0} {last : Result Y Refusal} {final : E} {block : List ℕ} → IsWellFormed disk volume
         → IsEmptied table volume.lengths (other.seen laid)
         → (disk.is_honest volume.device
         → AreCopied table volume.lengths (bytes_of (files_of volume.table (disk.seen volume.device)))
         (length table.files) (other.seen laid) (other.seen copied))
         → other.is_honest laid → other.is_honest copied → HasFinished other block copied last final
         → LeavesOnly other.moment other.left_since before final (LeftByMigration disk other slots volume before)
-    time_of_filling {Y} {last} {final} {block} settled rest each honest honest_1 finishing =
+    time_of_filling {Y} {last} {final} {block} well_formed rest each honest honest_1 finishing =
         leaves_on time_of_copying (finishing.time honest_1) by
       where
         by : (c : List ℕ) → other.may_leave copied c
@@ -401,7 +401,7 @@ module _ {D E : Type 0} (disk : Ghosts D) (other : Ghosts E) (slots : ℕ) (volu
           shape,
           partly_filled disk volume table (omega arith) (other.may_leave before) (other.seen copied) c
               (copied_within (other.seen copied) (copies.left (other.seen copied) torn.0)) torn.1
-              (filled disk volume settled slots table shape.asked (other.seen laid) (other.seen copied) c rest
+              (filled disk volume well_formed slots table shape.asked (other.seen laid) (other.seen copied) c rest
               (copies.torn honest) torn.1 each),
         )
 
@@ -454,10 +454,10 @@ pub shape_again : (slots bytes size : ℕ) (asked others : List AskedFile) (tabl
 shape_again slots bytes size asked others table same long shape = let P : List AskedFile → Type 0 = λ files.
     IsAsked 3 files slots table in record { asked = subst P same shape.asked; long = omega (arith, long, shape.long) }
 
-pub laid_again : {D : Type 0} (disk : Ghosts D) (volume : VolumeState D) → IsSettled disk volume
+pub laid_again : {D : Type 0} (disk : Ghosts D) (volume : VolumeState D) → IsWellFormed disk volume
     → (asked : List AskedFile) (table : SuperValue) (bytes : List ℕ) → asked ≡ asked_of volume
     → IsEmptied table (lengths_asked asked) bytes → IsEmptied table volume.lengths bytes
-laid_again disk volume settled asked table bytes same laid =
+laid_again disk volume well_formed asked table bytes same laid =
     let P : List ℕ → Type 0 = λ lengths. IsEmptied table lengths bytes in
     subst P (ap (λ (files : List AskedFile). lengths_asked files) same
-    ∙ again_lengths volume.table.files volume.lengths settled.lengths.count) laid
+    ∙ again_lengths volume.table.files volume.lengths well_formed.lengths.count) laid

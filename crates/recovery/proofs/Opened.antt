@@ -117,13 +117,13 @@ module _ {D : Type 0} (disk : Ghosts D) (before mid : D) (table : SuperValue) (b
       }
 
 -- an opened volume is settled
-pub is_settled : {D : Type 0} (disk : Ghosts D) (before after : D) (table : SuperValue) (batches : List Batch)
+pub is_well_formed : {D : Type 0} (disk : Ghosts D) (before after : D) (table : SuperValue) (batches : List Batch)
     (lengths : List ℕ) → Fits table → 4096 * block_count table ≤ length (disk.seen after) → AreLengths table lengths
     → (lengths_blocks table.layout ≡ 0 → lengths ≡ capacities_in table)
     → (disk.is_honest after → HoldsVolume disk table [] (contents_in table.slots batches (disk.seen before)) after
     × AreFound table batches (disk.seen before) lengths)
-    → IsSettled disk (record { table = table; lengths = lengths; device = after })
-is_settled disk before after table batches lengths fits long are fixed rests = record {
+    → IsWellFormed disk (record { table = table; lengths = lengths; device = after })
+is_well_formed disk before after table batches lengths fits long are fixed rests = record {
   fits = fits;
   long = long;
   lengths = are;

@@ -13,7 +13,7 @@ use Rattle.volume_codec.specs.Recovery.{Batch, IsVolume, recovered_block, conten
 use Rattle.volume_codec.proofs.Batches.{one_contents}
 use Rattle.volume_codec.proofs.Lengths.{fixed_lengths, fixed_has_lengths, said_lengths}
 use Rattle.volume_codec.proofs.Lengths.{lengths_block-home, reads_lengths, has_lengths-same}
-use Rattle.volume_codec.proofs.Recovered.{standing_block-at, standing_block-other}
+use Rattle.volume_codec.proofs.Recovered.{recovered_block-at, recovered_block-other}
 use Rattle.journal.specs.WriteOut.{IsBatch}
 use Rattle.recovery.specs.declared.opening.OpenJournal.{OpenJournal}
 use Rattle.recovery.specs.Opening.{FindsWithin, RefusesOpening}
@@ -47,34 +47,34 @@ others_above low high [] rise other = tt
 others_above low high (n ∷ ns) rise other = (other, all_above (n + 1) high low ns rise.2 (omega (arith, rise.0)))
 
 -- a journal whose first record is for another block has no record of the first home block
-pub standing_past : {Z : Type 0} (g : GeometryValue) (found : List (OpenJournal Z)) (i : ℕ) (e : OpenJournal Z)
+pub recovered_past : {Z : Type 0} (g : GeometryValue) (found : List (OpenJournal Z)) (i : ℕ) (e : OpenJournal Z)
     → i < length found → e ≡ get_or found i e → IsBatch g (batch_of e)
     → get_or (batch_of e).homes 0 0 ≢ first_home g.layout g.slots
-    → standing_block g.slots (batches_of (drop (i + 1) found)) (first_home g.layout g.slots)
-    ≡ standing_block g.slots (batches_of (drop i found)) (first_home g.layout g.slots)
-standing_past {Z} g found i e h is batch other =
+    → recovered_block g.slots (batches_of (drop (i + 1) found)) (first_home g.layout g.slots)
+    ≡ recovered_block g.slots (batches_of (drop i found)) (first_home g.layout g.slots)
+recovered_past {Z} g found i e h is batch other =
     let home = first_home g.layout g.slots in
-    sym (ap (λ (l : List (OpenJournal Z)). standing_block g.slots (batches_of l) home) (next_is found i e h is)
-    ∙ standing_block-other g.slots home (batch_of e) (batches_of (drop (i + 1) found))
+    sym (ap (λ (l : List (OpenJournal Z)). recovered_block g.slots (batches_of l) home) (next_is found i e h is)
+    ∙ recovered_block-other g.slots home (batch_of e) (batches_of (drop (i + 1) found))
     (others_above home g.blocks _ batch.described.homes.rising other))
 
 -- and one whose first record is for it has it there
-pub standing_here : {Z : Type 0} (g : GeometryValue) (found : List (OpenJournal Z)) (i : ℕ) (e : OpenJournal Z)
+pub recovered_here : {Z : Type 0} (g : GeometryValue) (found : List (OpenJournal Z)) (i : ℕ) (e : OpenJournal Z)
     → i < length found → e ≡ get_or found i e → IsBatch g (batch_of e)
     → get_or (batch_of e).homes 0 0 ≡ first_home g.layout g.slots → record_block g.slots e.journal 0
-    ≡ standing_block g.slots (batches_of (drop i found)) (first_home g.layout g.slots)
-standing_here {Z} g found i e h is batch first =
+    ≡ recovered_block g.slots (batches_of (drop i found)) (first_home g.layout g.slots)
+recovered_here {Z} g found i e h is batch first =
     let home = first_home g.layout g.slots in
-    sym (ap (λ (l : List (OpenJournal Z)). standing_block g.slots (batches_of l) home) (next_is found i e h is)
-    ∙ ap (standing_block g.slots (batch_of e ∷ batches_of (drop (i + 1) found))) (sym first)
-    ∙ standing_block-at g.slots home g.blocks (batch_of e)
+    sym (ap (λ (l : List (OpenJournal Z)). recovered_block g.slots (batches_of l) home) (next_is found i e h is)
+    ∙ ap (recovered_block g.slots (batch_of e ∷ batches_of (drop (i + 1) found))) (sym first)
+    ∙ recovered_block-at g.slots home g.blocks (batch_of e)
     (batches_of (drop (i + 1) found)) 0 batch.described.homes.rising batch.described.homes.some)
 
 -- where none has it, it is where it belongs
-pub standing_none : {Z : Type 0} (g : GeometryValue) (found : List (OpenJournal Z)) (i : ℕ) → length found ≤ i
-    → first_home g.layout g.slots ≡ standing_block g.slots (batches_of (drop i found)) (first_home g.layout g.slots)
-standing_none {Z} g found i h = sym (ap (λ (l : List (OpenJournal Z)).
-    standing_block g.slots (batches_of l) (first_home g.layout g.slots)) (drop_all i found h))
+pub recovered_none : {Z : Type 0} (g : GeometryValue) (found : List (OpenJournal Z)) (i : ℕ) → length found ≤ i
+    → first_home g.layout g.slots ≡ recovered_block g.slots (batches_of (drop i found)) (first_home g.layout g.slots)
+recovered_none {Z} g found i h = sym (ap (λ (l : List (OpenJournal Z)).
+    recovered_block g.slots (batches_of l) (first_home g.layout g.slots)) (drop_all i found h))
 
 -- without a block for lengths the capacities are found
 pub found_fixed : (table : SuperValue) (batches : List Batch) (bytes lengths : List ℕ) → lengths_blocks table.layout ≡ 0
@@ -85,7 +85,7 @@ found_fixed table batches bytes lengths none are =
 
 -- with one they are what it says
 pub found_said : (table : SuperValue) (batches : List Batch) (bytes lengths : List ℕ) (at : ℕ) → Fits table
-    → 0 < lengths_blocks table.layout → at ≡ standing_block table.slots batches (first_home table.layout table.slots)
+    → 0 < lengths_blocks table.layout → at ≡ recovered_block table.slots batches (first_home table.layout table.slots)
     → IsLengths table lengths (block_at bytes at) → AreFound table batches bytes lengths
 found_said table batches bytes lengths at fits some is says =
     let contents = contents_in table.slots batches bytes in
@@ -101,7 +101,7 @@ found_said table batches bytes lengths at fits some is says =
 -- a block that says none is damaged
 pub refuses_stored : (table : SuperValue) (batches : List Batch) (bytes : List ℕ) (at : ℕ) (e : Refusal)
     → 4096 ≤ length bytes → 0 < lengths_blocks table.layout
-    → at ≡ standing_block table.slots batches (first_home table.layout table.slots) → IsVolume table batches bytes
+    → at ≡ recovered_block table.slots batches (first_home table.layout table.slots) → IsVolume table batches bytes
     → RefusesStored table (block_at bytes at) e → RefusesOpening bytes e
 refuses_stored table batches bytes at Damaged long some is volume refuses = record {
   long = long;

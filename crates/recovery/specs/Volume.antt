@@ -24,7 +24,7 @@ pub record IsAtRest {D : Type 0} (disk : Ghosts D) (volume : VolumeState D) : Ty
 
 -- the device is long enough for a volume with this table and these lengths, which are the capacities in a layout
 -- without a lengths block, and an honest one is at rest
-pub record IsSettled {D : Type 0} (disk : Ghosts D) (volume : VolumeState D) : Type 0 where
+pub record IsWellFormed {D : Type 0} (disk : Ghosts D) (volume : VolumeState D) : Type 0 where
   pub fits : Fits volume.table
   pub long : 4096 * block_count volume.table ≤ length (disk.seen volume.device)
   pub lengths : AreLengths volume.table volume.lengths

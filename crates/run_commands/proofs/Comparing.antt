@@ -13,7 +13,7 @@ use Rattle.traces.specs.declared.line.Line.{Line}
 use Rattle.run_commands.specs.declared.replaying.Comparer.{Comparer}
 use Rattle.run_commands.specs.declared.replaying.Verdict.{Verdict}
 use Rattle.run_commands.specs.declared.replaying.Verdict.TheVariants.{Same, Differs}
-use Rattle.run_commands.specs.inside.Replay.{is_text, texts_of, verdict_by, Says, Compares}
+use Rattle.run_commands.specs.inside.Replay.{is_text, texts_of, verdict_by, IsVerdict, Compares}
 
 abbrev this_or : {X : Type 0} → X → Option X → X
 this_or x None = x
@@ -86,15 +86,15 @@ verdict_is false true same P other equal = other refl refl
 verdict_is false false same P other equal = equal refl refl
 
 -- a comparer that was told the replies of a run from its first entry on
-pub verdict_says : (old : Comparer) (replies : List Reply) (new : Comparer) → old.same ≡ 0 → old.differs ≡ false
+pub verdict_follows : (old : Comparer) (replies : List Reply) (new : Comparer) → old.same ≡ 0 → old.differs ≡ false
     → old.refused ≡ false → HasListened Compares (length old.entries.now) old replies new
-    → IfSome (verdict_by new.refused new.differs new.same) (Says (texts_of old.entries.now) replies)
-verdict_says old replies new none equal given (inl (heard, all)) =
+    → IfSome (verdict_by new.refused new.differs new.same) (IsVerdict (texts_of old.entries.now) replies)
+verdict_follows old replies new none equal given (inl (heard, all)) =
     let is = matched old replies new heard in
     let texts = texts_of old.entries.now in
     let lengths = length-map old.entries.now (λ line. string_bytes line.reply) in
     let count : new.same ≡ length texts = omega (arith, is.same, none, all, lengths) in
-    verdict_is new.refused new.differs new.same (Says texts replies)
+    verdict_is new.refused new.differs new.same (IsVerdict texts replies)
     (λ r d. absurd (true≢false (sym d ∙ is.differs ∙ equal)))
     (λ r d. (
       ap (λ n. take n texts ++ map reply_text replies) (sym none)
@@ -102,7 +102,7 @@ verdict_says old replies new none equal given (inl (heard, all)) =
           ∙ take_all new.same texts (omega (arith, count)),
       count,
     ))
-verdict_says old replies new none equal given (inr stopped) =
+verdict_follows old replies new none equal given (inr stopped) =
     let is = matched old stopped.earlier stopped.before stopped.heard in
     let texts = texts_of old.entries.now in
     let end = stopped.stopped in

@@ -5,7 +5,7 @@ use Rattle.std.specs.List.{flat_map}
 use Rattle.std.specs.Io.KnownBytes.{Appends}
 use Rattle.machine.specs.declared.act.Reply.{Reply}
 use Rattle.machine.specs.Words.{reply_text}
-use Rattle.command_parts.specs.Replies.{tells_failure}
+use Rattle.command_parts.specs.Replies.{reports_failure}
 use Rattle.run_commands.specs.declared.printer.Printer.{Printer}
 
 -- a reply on a line of its own

@@ -3,7 +3,7 @@ ghost use Rattle.std.specs.Prelude.{◌≡◌, ◌<◌, ◌≤◌, List, map, le
 ghost use Rattle.machine.specs.declared.act.Reply.{Reply};
 ghost use Rattle.machine.specs.Words.{reply_text};
 ghost use Rattle.engine.specs.Engine.{HasNotStarted, HasRun};
-ghost use Rattle.run_commands.specs.inside.Replay.{is_text, texts_of, verdict_by, Says, Compares};
+ghost use Rattle.run_commands.specs.inside.Replay.{is_text, texts_of, verdict_by, IsVerdict, Compares};
 
 use command_parts::{Failure, is_failure, refused_to_run};
 use device::{Device, OverlayDisk};

@@ -61,8 +61,8 @@ pub has_entered : {D : Type 0} (disk : Ghosts D) (old : SharedState D) (entry : 
     → StepTaken disk old.machine entry.step entry.reply machine
     → ((start : Whole D) (steps : List Step) (replies : List Reply) → StepsTaken disk start steps replies old.machine
     → StepsTaken disk start (steps ++ entry.step ∷ []) (replies ++ entry.reply ∷ []) machine)
-    → ((files : List File) (start : Whole D) → IsOnTrack disk files start (steps_of old.trace) (replies_of old.trace)
-    old.machine → StepIsSafe disk files (told_by files start old.trace) old.machine entry.step entry.reply machine)
+    → ((files : List File) (start : Whole D) → IsReached disk files start (steps_of old.trace) (replies_of old.trace)
+    old.machine → StepIsSafe disk files (observed_by files start old.trace) old.machine entry.step entry.reply machine)
     → HasEntered disk old entry.step entry.reply
     (record { machine = machine; trace = old.trace ++ entry ∷ []; capacity = old.capacity; progress = progress })
 has_entered disk old entry machine progress room counted taken longer safe = record {

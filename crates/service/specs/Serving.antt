@@ -56,7 +56,8 @@ pub record KeepsLaws {D : Type 0} (disk : Ghosts D) (files : List File) (start :
   pub headline : Throughout (StepIsSafe disk files) (observed_first files start.state) start (steps_of s.trace)
       (replies_of s.trace) s.machine
   -- and a crash now what reads back so of the whole trace
-  pub left : (c : List ℕ) → disk.may_leave s.machine.device c → ReadsBack files (observed_by files start s.trace).history c
+  pub left : (c : List ℕ) → disk.may_leave s.machine.device c
+      → ReadsBack files (observed_by files start s.trace).history c
   -- loads, stores and faults are answered by what was observed before them, and a served fault is served
   pub lawful : EachStep (IsLawful files) (observed_first files start.state) (steps_of s.trace) (replies_of s.trace)
   pub served : FaultsAreServed (steps_of s.trace) (replies_of s.trace)

@@ -13,9 +13,9 @@ use Rattle.machine.specs.Rules.{Acts}
 use Rattle.machine.specs.State.{State, Whole}
 use Rattle.session.specs.declared.notes.Notes.{Notes}
 use Rattle.session.specs.Commits.{AreWaits, BeginsMark, RefusesMark, IsLastAttempt, IsOfOther, IsWritten}
-use Rattle.session.specs.Commits.{WritesUntil, CommitsMark, StopsCommit, AnswersCommit, msync_by, tells_unmade}
+use Rattle.session.specs.Commits.{WritesUntil, CommitsMark, StopsCommit, AnswersCommit, msync_by, reports_unmade}
 use Rattle.session.specs.Lengths.{AnswersChange, AreOthers, change_steps, change_replies}
-use Rattle.session.specs.Lengths.{flush_by, tells_begun, tells_flushed, tells_refused}
+use Rattle.session.specs.Lengths.{flush_by, reports_begun, reports_flushed, reports_refused}
 use Rattle.session.specs.Notes.{noted_all}
 use Rattle.session.specs.Ranges.{MakesStepsThat}
 use Rattle.session.specs.Steps.{Makes, is_of_commit, Passes, AreOfCommit, reports_mark}
@@ -28,14 +28,14 @@ use Rattle.session.proofs.Stretches.{makes_then}
 
 -- an attempt to begin a mark begins it or is refused
 msync_refused : (s : State) (d : List ℕ) (p va len : ℕ) (flags : MsyncFlags) (reply : Reply) (new : State) (d' : List ℕ)
-    → Acts s d p (acts.Msync va len flags) reply new d' → tells_begun reply ≡ false → tells_refused reply ≡ true
+    → Acts s d p (acts.Msync va len flags) reply new d' → reports_begun reply ≡ false → reports_refused reply ≡ true
 msync_refused s d p va len flags replies.Begun new d' rule is = absurd (false≢true (sym is))
 msync_refused s d p va len flags (replies.Refused why) new d' rule is = refl
 msync_refused s d p va len flags reply new d' ((reason, it), same) is = absurd it
 
 -- a step of the write-outs is made, or there is none left, or it is refused
 flush_unmade : (s : State) (d : List ℕ) (p : ℕ) (reply : Reply) (new : State) (d' : List ℕ)
-    → Acts s d p acts.Flush reply new d' → tells_flushed reply ≡ false → tells_unmade reply ≡ true
+    → Acts s d p acts.Flush reply new d' → reports_flushed reply ≡ false → reports_unmade reply ≡ true
 flush_unmade s d p replies.Going new d' rule is = absurd (false≢true (sym is))
 flush_unmade s d p (replies.Committed number) new d' rule is = absurd (false≢true (sym is))
 flush_unmade s d p (replies.Done number) new d' rule is = absurd (false≢true (sym is))
@@ -54,15 +54,15 @@ unmade_refused (replies.Refused why) is = refl
 unmade_refused reply is = absurd (false≢true is)
 
 module _ {D : Type 0} (disk : Ghosts D) (old new : Whole D) (before after : Notes) (p : ℕ) (reply : Reply) where
-  pub begin_refused : Makes disk old before (msync_by p ∷ []) (reply ∷ []) new after → tells_begun reply ≡ false
-      → tells_refused reply ≡ true
+  pub begin_refused : Makes disk old before (msync_by p ∷ []) (reply ∷ []) new after → reports_begun reply ≡ false
+      → reports_refused reply ≡ true
   begin_refused makes is =
       let here = makes.taken.1 in
       msync_refused old.state here.answered.0 p 0 0
       (record { 0 = 4 }) reply makes.taken.0.state here.answered.1 here.answered.2 is
 
-  pub step_unmade : Makes disk old before (flush_by p ∷ []) (reply ∷ []) new after → tells_flushed reply ≡ false
-      → tells_unmade reply ≡ true
+  pub step_unmade : Makes disk old before (flush_by p ∷ []) (reply ∷ []) new after → reports_flushed reply ≡ false
+      → reports_unmade reply ≡ true
   step_unmade makes is =
       let here = makes.taken.1 in
       flush_unmade old.state here.answered.0 p reply makes.taken.0.state here.answered.1 here.answered.2 is
@@ -70,26 +70,26 @@ module _ {D : Type 0} (disk : Ghosts D) (old new : Whole D) (before after : Note
 -- ---- the mark is begun
 
 module _ (p : ℕ) where
-  pub waits_then : (steps : List Step) (told : List Reply) (steps' : List Step) (told' : List Reply)
-      → AreWaits p steps told → AreWaits p steps' told' → AreWaits p (steps ++ steps') (told ++ told')
-  waits_then [] [] steps' told' first later = later
-  waits_then (attempt ∷ step ∷ steps) (busy ∷ reply ∷ told) steps' told' (a, b, s, r, first) later =
-      (a, b, s, r, waits_then steps told steps' told' first later)
-  waits_then [] (reply ∷ told) steps' told' first later = absurd first
-  waits_then (step ∷ []) [] steps' told' first later = absurd first
-  waits_then (step ∷ []) (reply ∷ told) steps' told' first later = absurd first
-  waits_then (attempt ∷ step ∷ steps) [] steps' told' first later = absurd first
-  waits_then (attempt ∷ step ∷ steps) (reply ∷ []) steps' told' first later = absurd first
+  pub waits_then : (steps : List Step) (replied : List Reply) (steps' : List Step) (replied' : List Reply)
+      → AreWaits p steps replied → AreWaits p steps' replied' → AreWaits p (steps ++ steps') (replied ++ replied')
+  waits_then [] [] steps' replied' first later = later
+  waits_then (attempt ∷ step ∷ steps) (busy ∷ reply ∷ replied) steps' replied' (a, b, s, r, first) later =
+      (a, b, s, r, waits_then steps replied steps' replied' first later)
+  waits_then [] (reply ∷ replied) steps' replied' first later = absurd first
+  waits_then (step ∷ []) [] steps' replied' first later = absurd first
+  waits_then (step ∷ []) (reply ∷ replied) steps' replied' first later = absurd first
+  waits_then (attempt ∷ step ∷ steps) [] steps' replied' first later = absurd first
+  waits_then (attempt ∷ step ∷ steps) (reply ∷ []) steps' replied' first later = absurd first
 
   -- one more attempt that was busy, and the step that was made for it
-  pub waits_one : (busy reply : Reply) → busy ≡ replies.Refused Busy → tells_flushed reply ≡ true
+  pub waits_one : (busy reply : Reply) → busy ≡ replies.Refused Busy → reports_flushed reply ≡ true
       → AreWaits p (msync_by p ∷ flush_by p ∷ []) (busy ∷ reply ∷ [])
   waits_one busy reply is made = (refl, is, refl, made, tt)
 
-  pub begins_later : (reply : Reply) → tells_begun reply ≡ true
-      → (steps : List Step) (told : List Reply) (last : List Step) (now : List Reply) → AreWaits p steps told
-      → (last ≡ msync_by p ∷ []) × (now ≡ reply ∷ []) → BeginsMark p (steps ++ last) (told ++ now)
-  begins_later reply is steps told last now busy (attempt, answered) = record {
+  pub begins_later : (reply : Reply) → reports_begun reply ≡ true
+      → (steps : List Step) (replied : List Reply) (last : List Step) (now : List Reply) → AreWaits p steps replied
+      → (last ≡ msync_by p ∷ []) × (now ≡ reply ∷ []) → BeginsMark p (steps ++ last) (replied ++ now)
+  begins_later reply is steps replied last now busy (attempt, answered) = record {
     waits = steps;
     waited = replied;
     busy = busy;
@@ -97,9 +97,10 @@ module _ (p : ℕ) where
     replies_are = ap (λ l. replied ++ l) (answered ∙ ap (λ r. r ∷ []) (begun_is reply is));
   }
 
-  pub refused_later : (answer : Reply) (steps : List Step) (told : List Reply) (last : List Step) (now : List Reply)
-      → AreWaits p steps told → IsLastAttempt p answer last now → RefusesMark p answer (steps ++ last) (told ++ now)
-  refused_later answer steps told last now busy refused = record {
+  pub refused_later : (answer : Reply) (steps : List Step) (replied : List Reply) (last : List Step) (now : List Reply)
+      → AreWaits p steps replied → IsLastAttempt p answer last now
+      → RefusesMark p answer (steps ++ last) (replied ++ now)
+  refused_later answer steps replied last now busy refused = record {
     waits = steps;
     waited = replied;
     busy = busy;
@@ -115,26 +116,27 @@ module _ (p : ℕ) where
   -- steps of the write-outs that were made, none of which commits this mark
   abbrev pub AreOfOthers : ℕ → List Step → List Reply → Type 0
   AreOfOthers mark [] [] = Unit {0}
-  AreOfOthers mark (step ∷ steps) (reply ∷ told) =
-      (step ≡ flush_by p) × IsOfOther mark reply × AreOfOthers mark steps told
-  AreOfOthers mark steps told = ⊥
+  AreOfOthers mark (step ∷ steps) (reply ∷ replied) =
+      (step ≡ flush_by p) × IsOfOther mark reply × AreOfOthers mark steps replied
+  AreOfOthers mark steps replied = ⊥
 
-  pub others_then : (mark : ℕ) (steps : List Step) (told : List Reply) (steps' : List Step) (told' : List Reply)
-      → AreOfOthers mark steps told → AreOfOthers mark steps' told' → AreOfOthers mark (steps ++ steps') (told ++ told')
-  others_then mark [] [] steps' told' first later = later
-  others_then mark (step ∷ steps) (reply ∷ told) steps' told' (is, other, first) later =
-      (is, other, others_then mark steps told steps' told' first later)
-  others_then mark [] (reply ∷ told) steps' told' first later = absurd first
-  others_then mark (step ∷ steps) [] steps' told' first later = absurd first
+  pub others_then : (mark : ℕ) (steps : List Step) (replied : List Reply) (steps' : List Step) (replied' : List Reply)
+      → AreOfOthers mark steps replied → AreOfOthers mark steps' replied'
+      → AreOfOthers mark (steps ++ steps') (replied ++ replied')
+  others_then mark [] [] steps' replied' first later = later
+  others_then mark (step ∷ steps) (reply ∷ replied) steps' replied' (is, other, first) later =
+      (is, other, others_then mark steps replied steps' replied' first later)
+  others_then mark [] (reply ∷ replied) steps' replied' first later = absurd first
+  others_then mark (step ∷ steps) [] steps' replied' first later = absurd first
 
-  pub writes_then : (mark : ℕ) (answer : Reply) (steps : List Step) (told : List Reply) (steps' : List Step)
-      (told' : List Reply) → AreOfOthers mark steps told → WritesUntil p mark answer steps' told'
-      → WritesUntil p mark answer (steps ++ steps') (told ++ told')
-  writes_then mark answer [] [] steps' told' first later = later
-  writes_then mark answer (step ∷ steps) (reply ∷ told) steps' told' (is, other, first) later =
-      (is, inr (other, writes_then mark answer steps told steps' told' first later))
-  writes_then mark answer [] (reply ∷ told) steps' told' first later = absurd first
-  writes_then mark answer (step ∷ steps) [] steps' told' first later = absurd first
+  pub writes_then : (mark : ℕ) (answer : Reply) (steps : List Step) (replied : List Reply) (steps' : List Step)
+      (replied' : List Reply) → AreOfOthers mark steps replied → WritesUntil p mark answer steps' replied'
+      → WritesUntil p mark answer (steps ++ steps') (replied ++ replied')
+  writes_then mark answer [] [] steps' replied' first later = later
+  writes_then mark answer (step ∷ steps) (reply ∷ replied) steps' replied' (is, other, first) later =
+      (is, inr (other, writes_then mark answer steps replied steps' replied' first later))
+  writes_then mark answer [] (reply ∷ replied) steps' replied' first later = absurd first
+  writes_then mark answer (step ∷ steps) [] steps' replied' first later = absurd first
 
   pub writes_one : (mark : ℕ) (answer : Reply) → WritesUntil p mark answer (flush_by p ∷ []) (answer ∷ [])
   writes_one mark answer = (refl, inl (refl, refl, refl))
@@ -145,13 +147,14 @@ of_step : (p : ℕ) (step other : Step) (reply : Reply) → step ≡ other → P
     → Passes is_of_commit p step reply
 of_step p step other reply is of = subst (λ (s : Step). Passes is_of_commit p s reply) (sym is) of
 
-waits_of_commit : (p : ℕ) (steps : List Step) (replied : List Reply) → AreWaits p steps replied → AreOfCommit p steps replied
+waits_of_commit : (p : ℕ) (steps : List Step) (replied : List Reply) → AreWaits p steps replied
+    → AreOfCommit p steps replied
 waits_of_commit p [] [] waits = tt
-waits_of_commit p (attempt ∷ step ∷ steps) (busy ∷ reply ∷ told) (a, b, s, r, more) = (
+waits_of_commit p (attempt ∷ step ∷ steps) (busy ∷ reply ∷ replied) (a, b, s, r, more) = (
   of_step p attempt (msync_by p) busy a (refl, refl),
-  (of_step p step (flush_by p) reply s (refl, refl), waits_of_commit p steps told more),
+  (of_step p step (flush_by p) reply s (refl, refl), waits_of_commit p steps replied more),
 )
-waits_of_commit p [] (reply ∷ told) waits = absurd waits
+waits_of_commit p [] (reply ∷ replied) waits = absurd waits
 waits_of_commit p (step ∷ []) [] waits = absurd waits
 waits_of_commit p (step ∷ []) (reply ∷ replied) waits = absurd waits
 waits_of_commit p (attempt ∷ step ∷ steps) [] waits = absurd waits
@@ -162,78 +165,82 @@ change_list : (p : ℕ) (answer : Reply) (others : List ℕ) → AreOthers p oth
 change_list p answer others differ is = each_of_change (Passes is_of_commit p) p answer others differ (is, refl)
     (λ other not. (refl, not)) (λ other not. (refl, not))
 
-pub change_of_commit : (p : ℕ) (answer : Reply) → tells_mark answer ≡ true → (steps : List Step) (told : List Reply)
-    → AnswersChange p answer steps told → AreOfCommit p steps told
-change_of_commit p answer is steps told it =
-    change_has (AreOfCommit p) p answer steps told it (change_list p answer it.others it.differ is)
+pub change_of_commit : (p : ℕ) (answer : Reply) → reports_mark answer ≡ true
+    → (steps : List Step) (replied : List Reply)
+    → AnswersChange p answer steps replied → AreOfCommit p steps replied
+change_of_commit p answer is steps replied it =
+    change_has (AreOfCommit p) p answer steps replied it (change_list p answer it.others it.differ is)
 
-writes_of_commit : (p mark : ℕ) (answer : Reply) (steps : List Step) (told : List Reply)
-    → WritesUntil p mark answer steps told → AreOfCommit p steps told
-writes_of_commit p mark answer (step ∷ steps) (reply ∷ told) (is, inl (last, none, silent)) = (
+writes_of_commit : (p mark : ℕ) (answer : Reply) (steps : List Step) (replied : List Reply)
+    → WritesUntil p mark answer steps replied → AreOfCommit p steps replied
+writes_of_commit p mark answer (step ∷ steps) (reply ∷ replied) (is, inl (last, none, silent)) = (
   of_step p step (flush_by p) reply is (refl, refl),
-  subst (λ l. AreOfCommit p l told) (sym none) (subst (λ l. AreOfCommit p [] l) (sym silent) tt),
+  subst (λ l. AreOfCommit p l replied) (sym none) (subst (λ l. AreOfCommit p [] l) (sym silent) tt),
 )
-writes_of_commit p mark answer (step ∷ steps) (reply ∷ told) (is, inr (other, more)) =
-    (of_step p step (flush_by p) reply is (refl, refl), writes_of_commit p mark answer steps told more)
+writes_of_commit p mark answer (step ∷ steps) (reply ∷ replied) (is, inr (other, more)) =
+    (of_step p step (flush_by p) reply is (refl, refl), writes_of_commit p mark answer steps replied more)
 writes_of_commit p mark answer [] [] it = absurd it
 writes_of_commit p mark answer [] (reply ∷ replied) it = absurd it
 writes_of_commit p mark answer (step ∷ steps) [] it = absurd it
 
-are : (p : ℕ) (steps front : List Step) (told now : List Reply) → steps ≡ front → told ≡ now → AreOfCommit p front now
-    → AreOfCommit p steps told
-are p steps front told now s r of =
-    subst (λ l. AreOfCommit p l told) (sym s) (subst (λ l. AreOfCommit p front l) (sym r) of)
+are : (p : ℕ) (steps front : List Step) (replied now : List Reply) → steps ≡ front → replied ≡ now
+    → AreOfCommit p front now
+    → AreOfCommit p steps replied
+are p steps front replied now s r of =
+    subst (λ l. AreOfCommit p l replied) (sym s) (subst (λ l. AreOfCommit p front l) (sym r) of)
 
-pub begins_of_commit : (p : ℕ) (steps : List Step) (told : List Reply) → BeginsMark p steps told
-    → AreOfCommit p steps told
-begins_of_commit p steps told it =
-    are p steps _ told _ it.steps_are it.replies_are (each_then (Passes is_of_commit p) it.waits it.waited
+pub begins_of_commit : (p : ℕ) (steps : List Step) (replied : List Reply) → BeginsMark p steps replied
+    → AreOfCommit p steps replied
+begins_of_commit p steps replied it =
+    are p steps _ replied _ it.steps_are it.replies_are (each_then (Passes is_of_commit p) it.waits it.waited
     (msync_by p ∷ []) (replies.Begun ∷ []) (waits_of_commit p it.waits it.waited it.busy) ((refl, refl), tt))
 
-last_of_commit : (p : ℕ) (answer : Reply) (steps : List Step) (told : List Reply) → IsLastAttempt p answer steps told
-    → AreOfCommit p steps told
-last_of_commit p answer steps told (inl (s, r, refused, other)) = are p steps _ told _ s r ((refl, refl), tt)
-last_of_commit p answer steps told (inr (inl (s, r, busy))) =
-    are p steps _ told _ s r ((refl, refl), ((refl, refl), tt))
-last_of_commit p answer steps told (inr (inr (s, r, refused))) =
-    are p steps _ told _ s r ((refl, refl), ((refl, refl), tt))
+last_of_commit : (p : ℕ) (answer : Reply) (steps : List Step) (replied : List Reply)
+    → IsLastAttempt p answer steps replied
+    → AreOfCommit p steps replied
+last_of_commit p answer steps replied (inl (s, r, refused, other)) = are p steps _ replied _ s r ((refl, refl), tt)
+last_of_commit p answer steps replied (inr (inl (s, r, busy))) =
+    are p steps _ replied _ s r ((refl, refl), ((refl, refl), tt))
+last_of_commit p answer steps replied (inr (inr (s, r, refused))) =
+    are p steps _ replied _ s r ((refl, refl), ((refl, refl), tt))
 
-written_of_commit : (p : ℕ) (before : Notes) (mark : ℕ) (steps : List Step) (told : List Reply)
-    → IsWritten p before mark steps told → AreOfCommit p steps told
-written_of_commit p before mark steps told (inl (none, s, r)) = are p steps [] told [] s r tt
-written_of_commit p before mark steps told (inr (some, writes)) =
-    writes_of_commit p mark (replies.Committed mark) steps told writes
+written_of_commit : (p : ℕ) (before : Notes) (mark : ℕ) (steps : List Step) (replied : List Reply)
+    → IsWritten p before mark steps replied → AreOfCommit p steps replied
+written_of_commit p before mark steps replied (inl (none, s, r)) = are p steps [] replied [] s r tt
+written_of_commit p before mark steps replied (inr (some, writes)) =
+    writes_of_commit p mark (replies.Committed mark) steps replied writes
 
-pub commits_of_commit : (p : ℕ) (before : Notes) (mark : ℕ) (steps : List Step) (told : List Reply)
-    → CommitsMark p before mark steps told → AreOfCommit p steps told
-commits_of_commit p before mark steps told it = are p steps _ told _ it.steps_are it.replies_are
+pub commits_of_commit : (p : ℕ) (before : Notes) (mark : ℕ) (steps : List Step) (replied : List Reply)
+    → CommitsMark p before mark steps replied → AreOfCommit p steps replied
+commits_of_commit p before mark steps replied it = are p steps _ replied _ it.steps_are it.replies_are
     (each_then (Passes is_of_commit p) it.beginning it.begun (it.marking ++ it.writing) (it.marked ++ it.written)
     (begins_of_commit p it.beginning it.begun it.begins)
     (each_then (Passes is_of_commit p) it.marking it.marked it.writing it.written
     (change_of_commit p (replies.Marked mark) refl it.marking it.marked it.makes)
     (written_of_commit p (noted_all before it.begun) mark it.writing it.written it.durable)))
 
-pub stops_of_commit : (p : ℕ) (before : Notes) (answer : Reply) (steps : List Step) (told : List Reply)
-    → StopsCommit p before answer steps told → AreOfCommit p steps told
-stops_of_commit p before answer steps told (inl it) =
-    are p steps _ told _ it.steps_are it.replies_are (each_then (Passes is_of_commit p) it.waits it.waited it.last
-    it.told (waits_of_commit p it.waits it.waited it.busy) (last_of_commit p answer it.last it.told it.refused))
-stops_of_commit p before answer steps told (inr it) = are p steps _ told _ it.steps_are it.replies_are
+pub stops_of_commit : (p : ℕ) (before : Notes) (answer : Reply) (steps : List Step) (replied : List Reply)
+    → StopsCommit p before answer steps replied → AreOfCommit p steps replied
+stops_of_commit p before answer steps replied (inl it) =
+    are p steps _ replied _ it.steps_are it.replies_are (each_then (Passes is_of_commit p) it.waits it.waited it.last
+    it.replied (waits_of_commit p it.waits it.waited it.busy) (last_of_commit p answer it.last it.replied it.refused))
+stops_of_commit p before answer steps replied (inr it) = are p steps _ replied _ it.steps_are it.replies_are
     (each_then (Passes is_of_commit p) it.beginning it.begun (it.marking ++ it.writing) (it.marked ++ it.written)
     (begins_of_commit p it.beginning it.begun it.begins)
     (each_then (Passes is_of_commit p) it.marking it.marked it.writing it.written
     (change_of_commit p (replies.Marked it.mark) refl it.marking it.marked it.makes)
     (writes_of_commit p it.mark answer it.writing it.written it.writes)))
 
-pub answers_of_commit : (p : ℕ) (before : Notes) (committed : Result ℕ Reply) (steps : List Step) (told : List Reply)
-    → AnswersCommit p before committed steps told → AreOfCommit p steps told
-answers_of_commit p before (Ok mark) steps told it = commits_of_commit p before mark steps told it
-answers_of_commit p before (Err answer) steps told it = stops_of_commit p before answer steps told it.0
+pub answers_of_commit : (p : ℕ) (before : Notes) (committed : Result ℕ Reply) (steps : List Step) (replied : List Reply)
+    → AnswersCommit p before committed steps replied → AreOfCommit p steps replied
+answers_of_commit p before (Ok mark) steps replied it = commits_of_commit p before mark steps replied it
+answers_of_commit p before (Err answer) steps replied it = stops_of_commit p before answer steps replied it.0
 
 -- ---- what a commit came to
 
 -- what makes a mark is answered by its number
-pub mark_replied : {A : Type 0} (reply : Reply) → reports_mark reply ≡ true → ((mark : ℕ) → reply ≢ replies.Marked mark) → A
+pub mark_replied : {A : Type 0} (reply : Reply) → reports_mark reply ≡ true → ((mark : ℕ) → reply ≢ replies.Marked mark)
+    → A
 mark_replied (replies.Marked mark) is other = absurd (other mark refl)
 mark_replied reply is other = absurd (false≢true is)
 
@@ -241,7 +248,7 @@ module _ {D : Type 0} (disk : Ghosts D) where
   pub came_to : (old new : Whole D) (before after : Notes) (p : ℕ) (committed : Result ℕ Reply)
       → IfOk committed (λ mark. MakesStepsThat disk old before (CommitsMark p before mark) new after)
       → IfErr committed (λ reply. MakesStepsThat disk old before (StopsCommit p before reply) new after)
-      → IfErr committed (λ reply. tells_unmade reply ≡ true)
+      → IfErr committed (λ reply. reports_unmade reply ≡ true)
       → MakesStepsThat disk old before (AnswersCommit p before committed) new after
   came_to old new before after p (Ok mark) ok err unmade = ok
   came_to old new before after p (Err reply) ok err unmade =
@@ -308,7 +315,7 @@ module _ {D : Type 0} (disk : Ghosts D) where
       }
 
       pub stops_writing : (answer : Reply) → MakesStepsThat disk marked next (WritesUntil p mark answer) new after
-          → tells_unmade answer ≡ true → MakesStepsThat disk old before (StopsCommit p before answer) new after
+          → reports_unmade answer ≡ true → MakesStepsThat disk old before (StopsCommit p before answer) new after
       stops_writing answer last unmade = record {
         steps = begins.steps ++ (it.steps ++ last.steps);
         replies = begins.replies ++ (it.replies ++ last.replies);
@@ -350,15 +357,17 @@ attempt_then disk old mid new before between after p busy reply what holds first
   holds = holds;
 }
 
-last_refused : (p : ℕ) (answer : Reply) (steps : List Step) (told : List Reply) → IsLastAttempt p answer steps told
-    → tells_refused answer ≡ true
-last_refused p answer steps told (inl (s, r, refused, other)) = refused
-last_refused p answer steps told (inr (inl (s, r, busy))) = ap tells_refused busy
-last_refused p answer steps told (inr (inr (s, r, refused))) = refused
+last_refused : (p : ℕ) (answer : Reply) (steps : List Step) (replied : List Reply)
+    → IsLastAttempt p answer steps replied
+    → reports_refused answer ≡ true
+last_refused p answer steps replied (inl (s, r, refused, other)) = refused
+last_refused p answer steps replied (inr (inl (s, r, busy))) = ap reports_refused busy
+last_refused p answer steps replied (inr (inr (s, r, refused))) = refused
 
-pub mark_refuses_is : (p : ℕ) (answer : Reply) (steps : List Step) (told : List Reply) → RefusesMark p answer steps told
-    → tells_refused answer ≡ true
-mark_refuses_is p answer steps told it = last_refused p answer it.last it.told it.refused
+pub mark_refuses_is : (p : ℕ) (answer : Reply) (steps : List Step) (replied : List Reply)
+    → RefusesMark p answer steps replied
+    → reports_refused answer ≡ true
+mark_refuses_is p answer steps replied it = last_refused p answer it.last it.replied it.refused
 
 pub mark_stops : {D : Type 0} (disk : Ghosts D) (old new : Whole D) (before after : Notes) (p : ℕ) (answer : Reply)
     → MakesStepsThat disk old before (RefusesMark p answer) new after

@@ -9,7 +9,8 @@ use Rattle.session.specs.Steps.{AreEach}
 
 -- one after the other
 pub each_then : (Is : Step → Reply → Type 0) (steps : List Step) (replied : List Reply) (later : List Step)
-    (more : List Reply) → AreEach Is steps replied → AreEach Is later more → AreEach Is (steps ++ later) (replied ++ more)
+    (more : List Reply) → AreEach Is steps replied → AreEach Is later more
+    → AreEach Is (steps ++ later) (replied ++ more)
 each_then Is [] [] later more first rest = rest
 each_then Is (step ∷ steps) (reply ∷ replied) later more (is, first) rest =
     (is, each_then Is steps replied later more first rest)

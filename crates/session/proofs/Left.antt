@@ -84,7 +84,7 @@ module _ (s : State) (d : List ℕ) (p : ℕ) (new : State) (d' : List ℕ) wher
   made_left answer made = ap left_of made.done ∙ ap (λ a. all_left (batches_after a s.write_outs.batches)) made.answered
 
   -- a step of the write-outs that was made
-  pub flush_fewer : (reply : Reply) → Acts s d p acts.Flush reply new d' → tells_flushed reply ≡ true
+  pub flush_fewer : (reply : Reply) → Acts s d p acts.Flush reply new d' → reports_flushed reply ≡ true
       → left_of new < left_of s
   flush_fewer replies.Going made is = subst (λ n. n < left_of s) (sym (made_left flushed.Going made))
       (advanced_fewer s.write_outs.batches (answered_current s.write_outs flushed.Going made.answered (λ e. cc)))
@@ -133,25 +133,25 @@ module _ (s : State) (d : List ℕ) (p : ℕ) (new : State) (d' : List ℕ) wher
   reclaim_keeps file page (replies.Refused why) ((reason, done), same) = same_left done
   reclaim_keeps file page reply ((reason, it), same) = absurd it
 
-  change_keeps : (reply : Reply) → tells_reclaim reply ≡ true → Acts s d p acts.Change reply new d'
+  change_keeps : (reply : Reply) → reports_reclaim reply ≡ true → Acts s d p acts.Change reply new d'
       → left_of new ≤ left_of s
   change_keeps replies.Reclaimed is ((reason, made), same) = omega (arith, ap left_of made.done)
   change_keeps replies.Kept is ((reason, made), same) = omega (arith, ap left_of made.done)
   change_keeps reply is rule = absurd (false≢true is)
 
-  aside_keeps : (act : Act) (reply : Reply) → is_aside act reply ≡ true → Acts s d p act reply new d'
+  paging_keeps : (act : Act) (reply : Reply) → is_paging act reply ≡ true → Acts s d p act reply new d'
       → left_of new ≤ left_of s
-  aside_keeps (acts.Load va count) reply is rule = omega (arith, ap left_of rule.0.2)
-  aside_keeps (acts.Store va bytes) reply is rule = omega (arith, ap left_of rule.0.2)
-  aside_keeps (acts.Fix va write) reply is rule = fix_keeps va write reply rule
-  aside_keeps (acts.Reclaim file page) reply is rule = reclaim_keeps file page reply rule
-  aside_keeps acts.Ack reply is rule = ack_keeps reply rule
-  aside_keeps acts.Change reply is rule = change_keeps reply is rule
-  aside_keeps acts.Resume reply is rule = resume_keeps reply rule
-  aside_keeps acts.Flush reply is rule = flush_keeps reply rule
-  aside_keeps act reply is rule = absurd (false≢true is)
+  paging_keeps (acts.Load va count) reply is rule = omega (arith, ap left_of rule.0.2)
+  paging_keeps (acts.Store va bytes) reply is rule = omega (arith, ap left_of rule.0.2)
+  paging_keeps (acts.Fix va write) reply is rule = fix_keeps va write reply rule
+  paging_keeps (acts.Reclaim file page) reply is rule = reclaim_keeps file page reply rule
+  paging_keeps acts.Ack reply is rule = ack_keeps reply rule
+  paging_keeps acts.Change reply is rule = change_keeps reply is rule
+  paging_keeps acts.Resume reply is rule = resume_keeps reply rule
+  paging_keeps acts.Flush reply is rule = flush_keeps reply rule
+  paging_keeps act reply is rule = absurd (false≢true is)
 
-  later_keeps : (file to : ℕ) (reply : Reply) → tells_later reply ≡ true
+  later_keeps : (file to : ℕ) (reply : Reply) → reports_later reply ≡ true
       → Acts s d p (acts.SetLength file to) reply new d' → left_of new ≤ left_of s
   later_keeps file to (replies.Refused why) is ((reason, done), same) = same_left done
   later_keeps file to reply is rule = absurd (false≢true is)
@@ -163,7 +163,7 @@ module _ {D : Type 0} (disk : Ghosts D) where
   LeftAfter old new = left_of new.state ≤ left_of old.state
 
   pub flushed_fewer : (old new : Whole D) (before after : Notes) (p : ℕ) (reply : Reply)
-      → Makes disk old before (flush_by p ∷ []) (reply ∷ []) new after → tells_flushed reply ≡ true
+      → Makes disk old before (flush_by p ∷ []) (reply ∷ []) new after → reports_flushed reply ≡ true
       → left_of new.state < left_of old.state
   flushed_fewer old new before after p reply makes is =
       let (mid, here, ends) = makes.taken in
@@ -177,13 +177,13 @@ module _ {D : Type 0} (disk : Ghosts D) where
       let (mid, here, ends) = makes.taken in
       omega (arith, ap (λ (m : Whole D). left_of m.state) ends, ap left_of here.answered.2.0.1)
 
-  aside_taken : (old mid : Whole D) (step : Step) (reply : Reply) → is_aside step.act reply ≡ true
+  paging_taken : (old mid : Whole D) (step : Step) (reply : Reply) → is_paging step.act reply ≡ true
       → StepTaken disk old step reply mid → LeftAfter old mid
-  aside_taken old mid step reply is here =
-      aside_keeps old.state here.answered.0 step.p mid.state here.answered.1 step.act reply is here.answered.2
+  paging_taken old mid step reply is here =
+      paging_keeps old.state here.answered.0 step.p mid.state here.answered.1 step.act reply is here.answered.2
 
   later_taken : (old mid : Whole D) (p file to : ℕ) (step : Step) (reply : Reply) → step ≡ set_length_by p file to
-      → tells_later reply ≡ true → StepTaken disk old step reply mid → LeftAfter old mid
+      → reports_later reply ≡ true → StepTaken disk old step reply mid → LeftAfter old mid
   later_taken old mid p file to step reply is later here =
       let P : Step → Type 0 = λ s. Acts old.state here.answered.0 s.p s.act reply mid.state here.answered.1 in
       later_keeps old.state here.answered.0 p mid.state here.answered.1 file to reply later (subst P is here.answered.2)
@@ -194,25 +194,27 @@ module _ {D : Type 0} (disk : Ghosts D) where
   try_taken old mid p file to step reply (inr paging) here = paging_taken old mid step reply paging.0 here
 
   -- attempts to begin to set a length, the last of which is busy
-  attempts_keep : (old new : Whole D) (p file to : ℕ) (steps : List Step) (told : List Reply)
-      → AttemptsLength p file to (replies.Refused refusals.Busy) steps told → StepsTaken disk old steps told new
+  attempts_keep : (old new : Whole D) (p file to : ℕ) (steps : List Step) (replied : List Reply)
+      → AttemptsLength p file to (replies.Refused refusals.Busy) steps replied → StepsTaken disk old steps replied new
       → LeftAfter old new
-  attempts_keep old new p file to (step ∷ steps) (reply ∷ told) (inl (try, more)) (mid, here, rest) =
+  attempts_keep old new p file to (step ∷ steps) (reply ∷ replied) (inl (try, more)) (mid, here, rest) =
       omega (
         arith,
         try_taken old mid p file to step reply try here,
-        attempts_keep mid new p file to steps told more rest,
+        attempts_keep mid new p file to steps replied more rest,
       )
-  attempts_keep old new p file to (step ∷ steps) (reply ∷ told) (inr (is, busy, inl (none, silent))) (mid, here, rest) =
-      let S : List Step → Type 0 = λ l. StepsTaken disk mid l told new in
+  attempts_keep old new p file to (step ∷ steps) (reply ∷ replied)
+      (inr (is, busy, inl (none, silent))) (mid, here, rest) =
+      let S : List Step → Type 0 = λ l. StepsTaken disk mid l replied new in
       let T : List Reply → Type 0 = λ l. StepsTaken disk mid [] l new in
       let ends : new ≡ mid = subst T silent (subst S none rest) in
       omega (
         arith,
         ap (λ (m : Whole D). left_of m.state) ends,
-        later_taken old mid p file to step reply is (ap tells_later busy) here,
+        later_taken old mid p file to step reply is (ap reports_later busy) here,
       )
-  attempts_keep old new p file to (step ∷ steps) (reply ∷ told) (inr (is, busy, inr (other, vain))) taken = absurd (cc)
+  attempts_keep old new p file to (step ∷ steps) (reply ∷ replied)
+      (inr (is, busy, inr (other, vain))) taken = absurd (cc)
   attempts_keep old new p file to [] [] it taken = absurd it
   attempts_keep old new p file to [] (reply ∷ replied) it taken = absurd it
   attempts_keep old new p file to (step ∷ steps) [] it taken = absurd it

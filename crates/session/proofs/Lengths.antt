@@ -6,9 +6,9 @@ use Rattle.machine.specs.declared.act.Reply.{Reply}
 use Rattle.machine.specs.declared.act.Reply.TheVariants.{Begun, Nothing, Refused}
 use Rattle.machine.specs.declared.act.Step.{Step}
 use Rattle.session.specs.Ends.{AreFruitless}
-use Rattle.session.specs.Lengths.{tells_begun, tells_later, tells_refused, flush_by, set_length_by}
+use Rattle.session.specs.Lengths.{reports_begun, reports_later, reports_refused, flush_by, set_length_by}
 use Rattle.session.specs.Lengths.{AnswersChange, IsTry, IsLeft, ChangesLength, RefusesLength}
-use Rattle.session.specs.Steps.{IsAside, AreAside}
+use Rattle.session.specs.Steps.{IsPaging, ArePaging}
 use Rattle.session.specs.inside.Made.{AreTries, BeginsLength, AttemptsLength}
 use Rattle.session.proofs.Phases.{begun_is}
 use Rattle.session.proofs.Each.{each_so}
@@ -42,7 +42,7 @@ module _ (p file to : ℕ) where
       → ChangesLength p file to answer (steps ++ steps') (replies ++ replies')
   begins_then answer (step ∷ steps) (reply ∷ replies) steps' replies' (inl (try, more)) later =
       inl (try, begins_then answer steps replies steps' replies' more later)
-  begins_then answer (step ∷ steps) (reply ∷ replies) steps' replies' (inr (is, told, none, silent)) later =
+  begins_then answer (step ∷ steps) (reply ∷ replies) steps' replies' (inr (is, replied, none, silent)) later =
       let P : List Step → Type 0 = λ l. AnswersChange p answer (l ++ steps') (replies ++ replies') in
       let Q : List Reply → Type 0 = λ l. AnswersChange p answer steps' (l ++ replies') in
       inr (is, replied, subst P (sym none) (subst Q (sym silent) later))
@@ -79,7 +79,7 @@ module _ (p file to : ℕ) where
       subst S (sym first.0) (subst T (sym first.1) (inr (refl, refl, inr (is, vain))))
 
   -- an attempt that is refused for a while is made again
-  pub tries_one : (reply : Reply) → tells_later reply ≡ true
+  pub tries_one : (reply : Reply) → reports_later reply ≡ true
       → AreTries p file to (set_length_by p file to ∷ []) (reply ∷ [])
   tries_one reply later = (inl (refl, later), tt)
 
@@ -87,21 +87,21 @@ module _ (p file to : ℕ) where
   pub tries_flush : (reply : Reply) → AreTries p file to (flush_by p ∷ []) (reply ∷ [])
   tries_flush reply = (inr (refl, refl), tt)
 
-  tries_step : (step : Step) (reply : Reply) → step ≡ set_length_by p file to → tells_later reply ≡ true
+  tries_step : (step : Step) (reply : Reply) → step ≡ set_length_by p file to → reports_later reply ≡ true
       → IsTry p file to step reply
   tries_step step reply is later = inl (is, later)
 
-  pub tries_attempted : (answer : Reply) → tells_later answer ≡ true → (steps : List Step) (replies : List Reply)
+  pub tries_attempted : (answer : Reply) → reports_later answer ≡ true → (steps : List Step) (replies : List Reply)
       → AttemptsLength p file to answer steps replies → AreTries p file to steps replies
   tries_attempted answer later (step ∷ steps) (reply ∷ replies) (inl (try, more)) =
       (try, tries_attempted answer later steps replies more)
-  tries_attempted answer later (step ∷ steps) (reply ∷ replies) (inr (is, told, inl (none, silent))) =
+  tries_attempted answer later (step ∷ steps) (reply ∷ replies) (inr (is, replied, inl (none, silent))) =
       let S : List Step → Type 0 = λ l. AreTries p file to l replies in
       let T : List Reply → Type 0 = λ l. AreTries p file to [] l in
-      (tries_step step reply is (ap tells_later told ∙ later), subst S (sym none) (subst T (sym silent) tt))
-  tries_attempted answer later (step ∷ steps) (reply ∷ replies) (inr (is, told, inr (no-frame, vain))) = (
-    tries_step step reply is (ap tells_later told ∙ later),
-    tries_aside steps replies (vain_aside p steps replies vain),
+      (tries_step step reply is (ap reports_later replied ∙ later), subst S (sym none) (subst T (sym silent) tt))
+  tries_attempted answer later (step ∷ steps) (reply ∷ replies) (inr (is, replied, inr (no-frame, vain))) = (
+    tries_step step reply is (ap reports_later replied ∙ later),
+    tries_paging steps replies (vain_paging p steps replies vain),
   )
   tries_attempted answer later [] [] it = absurd it
   tries_attempted answer later [] (reply ∷ replies) it = absurd it
@@ -109,14 +109,14 @@ module _ (p file to : ℕ) where
 
   -- ---- the last one begins it
 
-  pub begins_attempted : (answer : Reply) → tells_begun answer ≡ true → (steps : List Step) (replies : List Reply)
+  pub begins_attempted : (answer : Reply) → reports_begun answer ≡ true → (steps : List Step) (replies : List Reply)
       → AttemptsLength p file to answer steps replies → BeginsLength p file to steps replies
   begins_attempted answer is (step ∷ steps) (reply ∷ replies) (inl (try, more)) =
       inl (try, begins_attempted answer is steps replies more)
-  begins_attempted answer is (step ∷ steps) (reply ∷ replies) (inr (attempt, told, inl (none, silent))) =
-      inr (attempt, told ∙ begun_is answer is, none, silent)
-  begins_attempted answer is (step ∷ steps) (reply ∷ replies) (inr (attempt, told, inr (no-frame, vain))) =
-      absurd (false≢true (ap tells_begun (sym no-frame) ∙ is))
+  begins_attempted answer is (step ∷ steps) (reply ∷ replies) (inr (attempt, replied, inl (none, silent))) =
+      inr (attempt, replied ∙ begun_is answer is, none, silent)
+  begins_attempted answer is (step ∷ steps) (reply ∷ replies) (inr (attempt, replied, inr (no-frame, vain))) =
+      absurd (false≢true (ap reports_begun (sym no-frame) ∙ is))
   begins_attempted answer is [] [] it = absurd it
   begins_attempted answer is [] (reply ∷ replies) it = absurd it
   begins_attempted answer is (step ∷ steps) [] it = absurd it
@@ -124,10 +124,10 @@ module _ (p file to : ℕ) where
   -- ---- or it isn't begun
 
   -- for good, or for want of frames
-  left_unbusy : (answer reply : Reply) → reply ≡ answer → tells_begun answer ≡ false → answer ≢ Refused Busy
+  left_unbusy : (answer reply : Reply) → reply ≡ answer → reports_begun answer ≡ false → answer ≢ Refused Busy
       → (steps : List Step) (replies : List Reply) → steps ≡ [] → replies ≡ [] → IsLeft p answer reply steps replies
-  left_unbusy (Refused Busy) reply told vain other steps replies none silent = absurd (other refl)
-  left_unbusy (Refused NoFrame) reply told vain other steps replies none silent =
+  left_unbusy (Refused Busy) reply replied vain other steps replies none silent = absurd (other refl)
+  left_unbusy (Refused NoFrame) reply replied vain other steps replies none silent =
       let S : List Step → Type 0 = λ l. AreFruitless p l replies in
       let T : List Reply → Type 0 = λ l. AreFruitless p [] l in
       inr (inl (replied, refl, subst S (sym none) (subst T (sym silent) tt)))
@@ -135,53 +135,54 @@ module _ (p file to : ℕ) where
   left_unbusy Begun reply replied vain other steps replies none silent = absurd (false≢true (sym vain))
   left_unbusy answer reply replied vain other steps replies none silent = inl (replied, refl, refl, none, silent)
 
-  pub refuses_attempted : (answer : Reply) → tells_begun answer ≡ false → answer ≢ Refused Busy
+  pub refuses_attempted : (answer : Reply) → reports_begun answer ≡ false → answer ≢ Refused Busy
       → (steps : List Step) (replies : List Reply) → AttemptsLength p file to answer steps replies
       → RefusesLength p file to answer steps replies
   refuses_attempted answer vain other (step ∷ steps) (reply ∷ replies) (inl (try, more)) =
       inl (try, refuses_attempted answer vain other steps replies more)
-  refuses_attempted answer vain other (step ∷ steps) (reply ∷ replies) (inr (is, told, inl (none, silent))) =
-      inr (is, left_unbusy answer reply told vain other steps replies none silent)
-  refuses_attempted answer vain other (step ∷ steps) (reply ∷ replies) (inr (is, told, inr (no-frame, fruitless))) =
-      inr (is, inr (inl (told ∙ no-frame, no-frame, fruitless)))
+  refuses_attempted answer vain other (step ∷ steps) (reply ∷ replies) (inr (is, replied, inl (none, silent))) =
+      inr (is, left_unbusy answer reply replied vain other steps replies none silent)
+  refuses_attempted answer vain other (step ∷ steps) (reply ∷ replies) (inr (is, replied, inr (no-frame, fruitless))) =
+      inr (is, inr (inl (replied ∙ no-frame, no-frame, fruitless)))
   refuses_attempted answer vain other [] [] it = absurd it
   refuses_attempted answer vain other [] (reply ∷ replies) it = absurd it
   refuses_attempted answer vain other (step ∷ steps) [] it = absurd it
 
   -- the write-outs have no step left, or the next one is refused
   ends_busy : (answer reply : Reply)
-      → ((reply ≡ Nothing) × (answer ≡ Refused Busy)) ⊎ ((reply ≡ answer) × (tells_refused answer ≡ true))
+      → ((reply ≡ Nothing) × (answer ≡ Refused Busy)) ⊎ ((reply ≡ answer) × (reports_refused answer ≡ true))
       → (steps : List Step) (replies : List Reply) → AttemptsLength p file to (Refused Busy) steps replies
       → RefusesLength p file to answer (steps ++ flush_by p ∷ []) (replies ++ reply ∷ [])
   ends_busy answer reply why (step ∷ steps) (busy ∷ replies) (inl (try, more)) =
       inl (try, ends_busy answer reply why steps replies more)
-  ends_busy answer reply (inl (nothing, is-busy)) (step ∷ steps) (busy ∷ replies) (inr (is, told, inl (none, silent))) =
+  ends_busy answer reply (inl (nothing, is-busy)) (step ∷ steps) (busy ∷ replies)
+      (inr (is, replied, inl (none, silent))) =
       inr (
         is,
         inr (inr (inl (
-          told,
+          replied,
           is-busy,
           ap (λ l. l ++ flush_by p ∷ []) none,
           ap (λ l. l ++ reply ∷ []) silent ∙ ap (λ r. r ∷ []) nothing,
         ))),
       )
-  ends_busy answer reply (inr (same, refused)) (step ∷ steps) (busy ∷ replies) (inr (is, told, inl (none, silent))) =
+  ends_busy answer reply (inr (same, refused)) (step ∷ steps) (busy ∷ replies) (inr (is, replied, inl (none, silent))) =
       inr (
         is,
         inr (inr (inr (
-          told,
+          replied,
           refused,
           ap (λ l. l ++ flush_by p ∷ []) none,
           ap (λ l. l ++ reply ∷ []) silent ∙ ap (λ r. r ∷ []) same,
         ))),
       )
-  ends_busy answer reply why (step ∷ steps) (busy ∷ replies) (inr (is, told, inr (no-frame, vain))) = absurd (cc)
+  ends_busy answer reply why (step ∷ steps) (busy ∷ replies) (inr (is, replied, inr (no-frame, vain))) = absurd (cc)
   ends_busy answer reply why [] [] it = absurd it
   ends_busy answer reply why [] (busy ∷ replies) it = absurd it
   ends_busy answer reply why (step ∷ steps) [] it = absurd it
 
   pub refuses_busy : (answer reply : Reply)
-      → ((reply ≡ Nothing) × (answer ≡ Refused Busy)) ⊎ ((reply ≡ answer) × (tells_refused answer ≡ true))
+      → ((reply ≡ Nothing) × (answer ≡ Refused Busy)) ⊎ ((reply ≡ answer) × (reports_refused answer ≡ true))
       → (steps : List Step) (replies : List Reply) (steps' : List Step) (replies' : List Reply)
       → AttemptsLength p file to (Refused Busy) steps replies → IsNext p reply steps' replies'
       → RefusesLength p file to answer (steps ++ steps') (replies ++ replies')

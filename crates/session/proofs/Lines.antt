@@ -114,28 +114,28 @@ some_bytes [] some is = absurd (omega (arith, some))
 some_bytes (x ∷ line) some is = absurd (cc)
 
 -- nothing was read
-pub reads_end : (a b : Option (List ℕ)) (read told : List ℕ) → ReadsPart a b read true → length read ≡ 0
-    → ReadsLine a b End told
-reads_end None b read told it none = tt
-reads_end (Some x) None read told it none = absurd it.0
-reads_end (Some x) (Some y) read told (is, inl (front, fed, before, short)) none =
+pub reads_end : (a b : Option (List ℕ)) (read given : List ℕ) → ReadsPart a b read true → length read ≡ 0
+    → ReadsLine a b End given
+reads_end None b read given it none = tt
+reads_end (Some x) None read given it none = absurd it.0
+reads_end (Some x) (Some y) read given (is, inl (front, fed, before, short)) none =
     absurd (omega (arith, ap length fed, length-append front (10 ∷ []), none))
-reads_end (Some x) (Some y) read told (is, inr (before, inl long)) none = absurd (omega (arith, long, none))
-reads_end (Some x) (Some y) read told (is, inr (before, inr (short, end))) none =
+reads_end (Some x) (Some y) read given (is, inr (before, inl long)) none = absurd (omega (arith, long, none))
+reads_end (Some x) (Some y) read given (is, inr (before, inr (short, end))) none =
     (is ∙ ap (λ l. l ++ y) (no_bytes read none) ∙ end, end)
 
 -- a line and its line feed were read
-pub reads_fed : (a b : Option (List ℕ)) (read told : List ℕ) (count byte : ℕ) → ReadsPart a b read true
+pub reads_fed : (a b : Option (List ℕ)) (read given : List ℕ) (count byte : ℕ) → ReadsPart a b read true
     → count ≡ length read → 0 < length read → byte ≡ get_or read (count - 1) byte → byte ≡ 10
-    → told ≡ take (count - 1) read
-    → ReadsLine a b Whole told
-reads_fed None b read told count byte it long some last feed is = tt
-reads_fed (Some x) None read told count byte it long some last feed is = absurd it.0
-reads_fed (Some x) (Some y) read told count byte (from, inl (front, fed, before, short)) long some last feed is =
+    → given ≡ take (count - 1) read
+    → ReadsLine a b Whole given
+reads_fed None b read given count byte it long some last feed is = tt
+reads_fed (Some x) None read given count byte it long some last feed is = absurd it.0
+reads_fed (Some x) (Some y) read given count byte (from, inl (front, fed, before, short)) long some last feed is =
     let P : List ℕ → Type 0 = λ l. BeginsWith x Whole l y in
     subst P (sym (is ∙ front_of read front count fed long))
     ((before, inl (from ∙ ap (λ l. l ++ y) fed ∙ append_assoc front (10 ∷ []) y)), short)
-reads_fed (Some x) (Some y) read told count byte (from, inr (before, how)) long some last feed is =
+reads_fed (Some x) (Some y) read given count byte (from, inr (before, how)) long some last feed is =
     absurd (not_fed read count byte before long some last feed)
 
 -- the last line, which no line feed ends, was read
@@ -172,7 +172,7 @@ rest_of_line (x ∷ bytes) = at (rest_of_line bytes) (eqb x 10) refl
 
 long_line : (bytes read line : List ℕ) (rest more : List ℕ) → HasNoFeed read → 262144 < length read
     → bytes ≡ read ++ rest → RestOfLine rest more → BeginsWith bytes Long line more
-long_line bytes read told rest more before long from (line, none, inl is) = (
+long_line bytes read given rest more before long from (line, none, inl is) = (
   read ++ line,
   (
     All-append (λ byte. byte ≢ 10) read line before none,
@@ -212,8 +212,8 @@ nothing_read a line none =
 are_lines_then : (bytes part rest : List ℕ) (lines more : List (Option (List ℕ))) → AreLines bytes lines part
     → AreLines part more rest → AreLines bytes (lines ++ more) rest
 are_lines_then bytes part rest [] more same later = subst (λ b. AreLines b more rest) same later
-are_lines_then bytes part rest (told ∷ lines) more (line, after, is, tells, are) later =
-    (line, after, is, tells, are_lines_then after part rest lines more are later)
+are_lines_then bytes part rest (given ∷ lines) more (line, after, is, reports, are) later =
+    (line, after, is, reports, are_lines_then after part rest lines more are later)
 
 pub reads_both : (a b c : Option (List ℕ)) (lines more : List (Option (List ℕ))) → ReadsLines a b lines
     → ReadsLines b c more → ReadsLines a c (lines ++ more)
@@ -234,11 +234,11 @@ pub reads_same : (a : Option (List ℕ)) → ReadsLines a a []
 reads_same None = tt
 reads_same (Some x) = refl
 
-pub reads_none : (a b : Option (List ℕ)) (told : List ℕ) → ReadsLine a b End told
+pub reads_none : (a b : Option (List ℕ)) (given : List ℕ) → ReadsLine a b End given
     → ReadsLines a b [] × OnSome a (IsAtEnd b)
-reads_none None b told read = (tt, tt)
-reads_none (Some x) None told read = absurd read
-reads_none (Some x) (Some y) told (none, end) = (end ∙ sym none, end)
+reads_none None b given read = (tt, tt)
+reads_none (Some x) None given read = absurd read
+reads_none (Some x) (Some y) given (none, end) = (end ∙ sym none, end)
 
 -- one was
 pub reads_one : (a b : Option (List ℕ)) (given : List ℕ) → ReadsLine a b Whole given → ReadsLines a b (Some given ∷ [])

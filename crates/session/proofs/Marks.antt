@@ -49,8 +49,8 @@ even_commit p [] (reply ∷ replied) of = absurd of
 even_commit p (step ∷ steps) [] of = absurd of
 
 module _ {D : Type 0} (disk : Ghosts D) where
-  even_taken : (old new : Whole D) (steps : List Step) (told : List Reply) → StepsTaken disk old steps told new
-      → AreEven steps told
+  even_taken : (old new : Whole D) (steps : List Step) (replied : List Reply) → StepsTaken disk old steps replied new
+      → AreEven steps replied
   even_taken old new [] [] taken = tt
   even_taken old new (step ∷ steps) (reply ∷ replied) taken = even_taken taken.0 new steps replied taken.2
   even_taken old new [] (reply ∷ replied) taken = absurd taken
@@ -58,19 +58,21 @@ module _ {D : Type 0} (disk : Ghosts D) where
 
 -- ---- what is observed
 
-told_then : (t : Told) (first : List Step) (told : List Reply) (later : List Step) (more : List Reply)
-    → AreEven first told → tell_all t (first ++ later) (told ++ more) ≡ tell_all (tell_all t first told) later more
-told_then t [] [] later more even = refl
-told_then t (step ∷ first) (reply ∷ told) later more even = told_then (tell t step reply) first told later more even
-told_then t [] (reply ∷ told) later more even = absurd even
-told_then t (step ∷ first) [] later more even = absurd even
+observed_then : (t : Observed) (first : List Step) (replied : List Reply) (later : List Step) (more : List Reply)
+    → AreEven first replied
+    → observe_all t (first ++ later) (replied ++ more) ≡ observe_all (observe_all t first replied) later more
+observed_then t [] [] later more even = refl
+observed_then t (step ∷ first) (reply ∷ replied) later more even =
+    observed_then (observe t step reply) first replied later more even
+observed_then t [] (reply ∷ replied) later more even = absurd even
+observed_then t (step ∷ first) [] later more even = absurd even
 
--- what was told stays
-stays : (t : Told) (steps : List Step) (told : List Reply) (event : Event) → Contains t.history event
-    → Contains (tell_all t steps told).history event
-stays t [] told event is = is
+-- what was observed stays
+stays : (t : Observed) (steps : List Step) (replied : List Reply) (event : Event) → Contains t.history event
+    → Contains (observe_all t steps replied).history event
+stays t [] replied event is = is
 stays t (step ∷ steps) [] event is = is
-stays t (step ∷ steps) (reply ∷ told) event is = stays (tell t step reply) steps told event
+stays t (step ∷ steps) (reply ∷ replied) event is = stays (observe t step reply) steps replied event
     (Contains-append_left t.history (events_of t step.p step.act reply) event is)
 
 -- a reply that tells nothing of stores, lengths and marks
@@ -88,12 +90,12 @@ plain_events t p act replies.Resized is = absurd (false≢true is)
 plain_events t p act (replies.Committed number) is = absurd (false≢true is)
 plain_events t p act reply is = refl
 
-marked_events : (t : Told) (p : ℕ) (act : Act) (number : ℕ) → events_of t p act (replies.Marked number)
+marked_events : (t : Observed) (p : ℕ) (act : Act) (number : ℕ) → events_of t p act (replies.Marked number)
     ≡ Mark number ∷ (if has_unmarked t.history then [] else Acknowledge number ∷ [])
 marked_events t p (acts.Store va bytes) number = refl
 marked_events t p act number = refl
 
-committed_events : (t : Told) (p : ℕ) (act : Act) (number : ℕ)
+committed_events : (t : Observed) (p : ℕ) (act : Act) (number : ℕ)
     → events_of t p act (replies.Committed number) ≡ Acknowledge number ∷ []
 committed_events t p (acts.Store va bytes) number = refl
 committed_events t p act number = refl
@@ -119,8 +121,8 @@ quiet_acknowledged h number quiet =
 abbrev Agree : Observed → Notes → Type 0
 Agree t n = n.has_unmarked ≡ false → has_unmarked t.history ≡ false
 
-agree_step : (t : Told) (n : Notes) (step : Step) (reply : Reply) → Agree t n
-    → Agree (tell t step reply) (noted_after n reply)
+agree_step : (t : Observed) (n : Notes) (step : Step) (reply : Reply) → Agree t n
+    → Agree (observe t step reply) (noted_after n reply)
 agree_step t n step replies.Stored agree none = absurd (false≢true (sym none))
 agree_step t n step replies.Resized agree none = absurd (false≢true (sym none))
 agree_step t n step (replies.Marked number) agree none = ap (λ e. has_unmarked (t.history ++ e))
@@ -130,20 +132,21 @@ agree_step t n step (replies.Committed number) agree none = ap (λ e. has_unmark
 agree_step t n step reply agree none = ap (λ e. has_unmarked (t.history ++ e))
     (plain_events t step.p step.act reply refl) ∙ ap has_unmarked (append-nil t.history) ∙ agree none
 
-agree_all : (t : Told) (n : Notes) (steps : List Step) (told : List Reply) → AreEven steps told → Agree t n
-    → Agree (tell_all t steps told) (noted_all n told)
+agree_all : (t : Observed) (n : Notes) (steps : List Step) (replied : List Reply) → AreEven steps replied → Agree t n
+    → Agree (observe_all t steps replied) (noted_all n replied)
 agree_all t n [] [] even agree = agree
-agree_all t n (step ∷ steps) (reply ∷ told) even agree =
-    agree_all (tell t step reply) (noted_after n reply) steps told even (agree_step t n step reply agree)
-agree_all t n [] (reply ∷ told) even agree = absurd even
+agree_all t n (step ∷ steps) (reply ∷ replied) even agree =
+    agree_all (observe t step reply) (noted_after n reply) steps replied even (agree_step t n step reply agree)
+agree_all t n [] (reply ∷ replied) even agree = absurd even
 agree_all t n (step ∷ steps) [] even agree = absurd even
 
 -- ---- the mark
 
 module _ {D : Type 0} (disk : Ghosts D) (p mark : ℕ) where
-  even_change : (steps : List Step) (told : List Reply) → AnswersChange p (replies.Marked mark) steps told
-      → AreEven steps told
-  even_change steps told it = even_commit p steps told (change_of_commit p (replies.Marked mark) refl steps told it)
+  even_change : (steps : List Step) (replied : List Reply) → AnswersChange p (replies.Marked mark) steps replied
+      → AreEven steps replied
+  even_change steps replied it =
+      even_commit p steps replied (change_of_commit p (replies.Marked mark) refl steps replied it)
 
   even_list : (others : List ℕ) → AreOthers p others
       → AreEven (change_steps p others) (change_replies (replies.Marked mark) others)
@@ -151,80 +154,88 @@ module _ {D : Type 0} (disk : Ghosts D) (p mark : ℕ) where
       (record { made = refl; others = others; differ = differ; steps_are = refl; replies_are = refl })
 
   -- it is acknowledged as it is made, where nothing is unmarked
-  at_once_list : (t : Told) (others : List ℕ) → AreOthers p others → has_unmarked t.history ≡ false → Contains
-      (tell_all t (change_steps p others) (change_replies (replies.Marked mark) others)).history (Acknowledge mark)
+  at_once_list : (t : Observed) (others : List ℕ) → AreOthers p others → has_unmarked t.history ≡ false → Contains
+      (observe_all t (change_steps p others) (change_replies (replies.Marked mark) others)).history (Acknowledge mark)
   at_once_list t [] differ quiet =
       let events : events_of t p acts.Change (replies.Marked mark) ≡ Mark mark ∷ Acknowledge mark ∷ [] =
       marked_events t p acts.Change mark ∙ ap (λ b. Mark mark ∷ (if b then [] else Acknowledge mark ∷ [])) quiet in
       subst (λ e. Contains (t.history ++ e) (Acknowledge mark)) (sym events) (Contains-append_right t.history
       (Mark mark ∷ Acknowledge mark ∷ []) (Acknowledge mark) (Contains-push (Mark mark ∷ []) (Acknowledge mark)))
   at_once_list t (other ∷ others) differ quiet =
-      let stalled : Told = tell t (record { p = other; act = acts.Ack }) replies.Acked in
+      let stalled : Observed = observe t (record { p = other; act = acts.Ack }) replies.Acked in
       let more = at_once_list stalled others differ.1 (ap (λ e. has_unmarked (t.history ++ e))
       (plain_events t other acts.Ack replies.Acked refl) ∙ ap has_unmarked (append-nil t.history) ∙ quiet) in
-      subst (λ (x : Told). Contains x.history (Acknowledge mark))
-      (sym (told_then stalled (change_steps p others) (change_replies (replies.Marked mark) others)
+      subst (λ (x : Observed). Contains x.history (Acknowledge mark))
+      (sym (observed_then stalled (change_steps p others) (change_replies (replies.Marked mark) others)
       (record { p = other; act = acts.Resume } ∷ []) (replies.Resumed ∷ []) (even_list others differ.1)))
-      (stays (tell_all stalled (change_steps p others) (change_replies (replies.Marked mark) others))
+      (stays (observe_all stalled (change_steps p others) (change_replies (replies.Marked mark) others))
       (record { p = other; act = acts.Resume } ∷ []) (replies.Resumed ∷ []) (Acknowledge mark) more)
 
-  at_once : (t : Told) (steps : List Step) (told : List Reply) → AnswersChange p (replies.Marked mark) steps told
-      → has_unmarked t.history ≡ false → Contains (tell_all t steps told).history (Acknowledge mark)
-  at_once t steps told it quiet = change_has (λ steps told. Contains (tell_all t steps told).history (Acknowledge mark))
-      p (replies.Marked mark) steps told it (at_once_list t it.others it.differ quiet)
+  at_once : (t : Observed) (steps : List Step) (replied : List Reply)
+      → AnswersChange p (replies.Marked mark) steps replied
+      → has_unmarked t.history ≡ false → Contains (observe_all t steps replied).history (Acknowledge mark)
+  at_once t steps replied it quiet =
+      change_has (λ steps replied. Contains (observe_all t steps replied).history (Acknowledge mark))
+      p (replies.Marked mark) steps replied it (at_once_list t it.others it.differ quiet)
 
   -- or as it is committed
-  later : (t : Told) (steps : List Step) (told : List Reply) → WritesUntil p mark (replies.Committed mark) steps told
-      → Contains (tell_all t steps told).history (Acknowledge mark)
-  later t (step ∷ steps) (reply ∷ told) (is, inl (answered, none, silent)) =
+  later : (t : Observed) (steps : List Step) (replied : List Reply)
+      → WritesUntil p mark (replies.Committed mark) steps replied
+      → Contains (observe_all t steps replied).history (Acknowledge mark)
+  later t (step ∷ steps) (reply ∷ replied) (is, inl (answered, none, silent)) =
       let events : events_of t step.p step.act reply ≡ Acknowledge mark ∷ [] =
       ap (events_of t step.p step.act) answered ∙ committed_events t step.p step.act mark in
-      stays (tell t step reply) steps told (Acknowledge mark) (subst (λ e. Contains (t.history ++ e) (Acknowledge mark))
+      stays (observe t step reply) steps replied (Acknowledge mark)
+      (subst (λ e. Contains (t.history ++ e) (Acknowledge mark))
       (sym events) (Contains-push t.history (Acknowledge mark)))
-  later t (step ∷ steps) (reply ∷ told) (is, inr (other, more)) = later (tell t step reply) steps told more
+  later t (step ∷ steps) (reply ∷ replied) (is, inr (other, more)) = later (observe t step reply) steps replied more
   later t [] [] it = absurd it
   later t [] (reply ∷ replied) it = absurd it
   later t (step ∷ steps) [] it = absurd it
 
-  made : (t : Told) (n : Notes) (steps : List Step) (told : List Reply) → Agree t n → CommitsMark p n mark steps told
-      → Contains (tell_all t steps told).history (Acknowledge mark)
-  made t n steps told agree it =
+  made : (t : Observed) (n : Notes) (steps : List Step) (replied : List Reply) → Agree t n
+      → CommitsMark p n mark steps replied
+      → Contains (observe_all t steps replied).history (Acknowledge mark)
+  made t n steps replied agree it =
       let begun = even_commit p it.beginning it.begun (begins_of_commit p it.beginning it.begun it.begins) in
       let marked = even_change it.marking it.marked it.makes in
-      let there = tell_all t it.beginning it.begun in
-      let is : tell_all t steps told ≡ tell_all (tell_all there it.marking it.marked) it.writing it.written =
-      ap (λ l. tell_all t l told) it.steps_are
-      ∙ ap (tell_all t (it.beginning ++ (it.marking ++ it.writing))) it.replies_are
-      ∙ told_then t it.beginning it.begun (it.marking ++ it.writing) (it.marked ++ it.written) begun
-      ∙ told_then there it.marking it.marked it.writing it.written marked in
+      let there = observe_all t it.beginning it.begun in
+      let is : observe_all t steps replied
+      ≡ observe_all (observe_all there it.marking it.marked) it.writing it.written =
+      ap (λ l. observe_all t l replied) it.steps_are
+      ∙ ap (observe_all t (it.beginning ++ (it.marking ++ it.writing))) it.replies_are
+      ∙ observed_then t it.beginning it.begun (it.marking ++ it.writing) (it.marked ++ it.written) begun
+      ∙ observed_then there it.marking it.marked it.writing it.written marked in
       let agreed = agree_all t n it.beginning it.begun begun agree in
       subst (λ (x : Observed). Contains x.history (Acknowledge mark)) (sym is) (go it.durable there agreed)
     where
-      go : IsWritten p (noted_all n it.begun) mark it.writing it.written → (there : Told)
+      go : IsWritten p (noted_all n it.begun) mark it.writing it.written → (there : Observed)
           → Agree there (noted_all n it.begun)
-          → Contains (tell_all (tell_all there it.marking it.marked) it.writing it.written).history (Acknowledge mark)
+          → Contains (observe_all (observe_all there it.marking it.marked) it.writing it.written).history
+          (Acknowledge mark)
       go (inl (none, no-steps, silent)) there agreed =
-          stays (tell_all there it.marking it.marked) it.writing it.written (Acknowledge mark)
+          stays (observe_all there it.marking it.marked) it.writing it.written (Acknowledge mark)
           (at_once there it.marking it.marked it.makes (agreed none))
-      go (inr (some, writes)) there agreed = later (tell_all there it.marking it.marked) it.writing it.written writes
+      go (inr (some, writes)) there agreed = later (observe_all there it.marking it.marked) it.writing it.written writes
 
   pub acknowledged : (files : List File) (start mid new : Whole D) (between after : Notes)
-      (earlier steps later : List Step) (told now more : List Reply)
-      → Makes disk start no_notes earlier told mid between → Makes disk mid between steps now new after
+      (earlier steps later : List Step) (replied now more : List Reply)
+      → Makes disk start no_notes earlier replied mid between → Makes disk mid between steps now new after
       → CommitsMark p between mark steps now
-      → Contains (history_of files start (earlier ++ (steps ++ later)) (told ++ (now ++ more))) (Acknowledge mark)
-  acknowledged files start mid new between after earlier steps later told now more before makes it =
-      let first = even_taken disk start mid earlier told before.taken in
+      → Contains (history_of files start (earlier ++ (steps ++ later)) (replied ++ (now ++ more))) (Acknowledge mark)
+  acknowledged files start mid new between after earlier steps later replied now more before makes it =
+      let first = even_taken disk start mid earlier replied before.taken in
       let even = even_commit p steps now (commits_of_commit p between mark steps now it) in
-      let t = told_first files start.state in
-      let there = tell_all t earlier told in
+      let t = observed_first files start.state in
+      let there = observe_all t earlier replied in
       let agree : Agree there between =
-      subst (Agree there) (sym before.notes) (agree_all t no_notes earlier told first (λ _. refl)) in
-      let is : tell_all t (earlier ++ (steps ++ later)) (told ++ (now ++ more))
-      ≡ tell_all (tell_all there steps now) later more =
-      told_then t earlier told (steps ++ later) (now ++ more) first ∙ told_then there steps now later more even in
-      subst (λ (x : Told). Contains x.history (Acknowledge mark)) (sym is)
-      (stays (tell_all there steps now) later more (Acknowledge mark) (made there between steps now agree it))
+      subst (Agree there) (sym before.notes) (agree_all t no_notes earlier replied first (λ _. refl)) in
+      let is : observe_all t (earlier ++ (steps ++ later)) (replied ++ (now ++ more))
+      ≡ observe_all (observe_all there steps now) later more =
+      observed_then t earlier replied (steps ++ later) (now ++ more) first
+      ∙ observed_then there steps now later more even in
+      subst (λ (x : Observed). Contains x.history (Acknowledge mark)) (sym is)
+      (stays (observe_all there steps now) later more (Acknowledge mark) (made there between steps now agree it))
 
 -- ---- the line
 
@@ -236,14 +247,14 @@ refused_apart why number is = go why (ap (λ l. get_or l 0 0 == 99) is)
     go (refusals.NotYet count) same = false≢true same
     go w same = false≢true same
 
-unmade_apart : (answer : Reply) (number : List ℕ) → tells_unmade answer ≡ true
+unmade_apart : (answer : Reply) (number : List ℕ) → reports_unmade answer ≡ true
     → committed_text (Err answer) ≢ codes "committed " ++ number
 unmade_apart replies.Nothing number unmade is = false≢true (ap (λ l. get_or l 0 0 == 99) is)
 unmade_apart (replies.Refused why) number unmade is = refused_apart why number is
 unmade_apart answer number unmade is = false≢true unmade
 
-pub line_mark : (p : ℕ) (before : Notes) (number : List ℕ) (steps : List Step) (told : List Reply)
-    → AnswersRequest before (asks_commit p) (codes "committed " ++ number) steps told
-    → (mark : ℕ) × (number ≡ decimal mark) × CommitsMark p before mark steps told
-line_mark p before number steps told (Ok mark, it, is) = (mark, ap (drop 10) is, it)
-line_mark p before number steps told (Err answer, it, is) = absurd (unmade_apart answer number it.1 (sym is))
+pub line_mark : (p : ℕ) (before : Notes) (number : List ℕ) (steps : List Step) (replied : List Reply)
+    → AnswersRequest before (asks_commit p) (codes "committed " ++ number) steps replied
+    → (mark : ℕ) × (number ≡ decimal mark) × CommitsMark p before mark steps replied
+line_mark p before number steps replied (Ok mark, it, is) = (mark, ap (drop 10) is, it)
+line_mark p before number steps replied (Err answer, it, is) = absurd (unmade_apart answer number it.1 (sym is))

@@ -453,7 +453,7 @@ flush_keeps s d p (replies.Refused refusals.BadShape) new d' ((reason, done), sa
 
 -- a change that isn't begun
 reclaim_keeps : (s : State) (d : List ℕ) (p file page : ℕ) (reply : Reply) (new : State) (d' : List ℕ)
-    → Acts s d p (acts.Reclaim file page) reply new d' → tells_begun reply ≡ false → KeepsPhases s new
+    → Acts s d p (acts.Reclaim file page) reply new d' → reports_begun reply ≡ false → KeepsPhases s new
 reclaim_keeps s d p file page (replies.Bytes few) new d' ((reason, it), same) not = absurd it
 reclaim_keeps s d p file page replies.Stored new d' ((reason, it), same) not = absurd it
 reclaim_keeps s d p file page replies.Filled new d' ((reason, it), same) not = absurd it
@@ -484,7 +484,7 @@ reclaim_keeps s d p file page (replies.Refused why) new d' ((reason, done), same
     keeps_is s new (ap (λ (t : State). t.hardware.shootdown) done)
 
 length_keeps : (s : State) (d : List ℕ) (p file to : ℕ) (reply : Reply) (new : State) (d' : List ℕ)
-    → Acts s d p (acts.SetLength file to) reply new d' → tells_begun reply ≡ false → KeepsPhases s new
+    → Acts s d p (acts.SetLength file to) reply new d' → reports_begun reply ≡ false → KeepsPhases s new
 length_keeps s d p file to (replies.Bytes few) new d' ((reason, it), same) not = absurd it
 length_keeps s d p file to replies.Stored new d' ((reason, it), same) not = absurd it
 length_keeps s d p file to replies.Filled new d' ((reason, it), same) not = absurd it
@@ -515,7 +515,7 @@ length_keeps s d p file to (replies.Refused why) new d' ((reason, done), same) n
     keeps_is s new (ap (λ (t : State). t.hardware.shootdown) done)
 
 mark_keeps : (s : State) (d : List ℕ) (p va len : ℕ) (flags : MsyncFlags) (reply : Reply) (new : State) (d' : List ℕ)
-    → Acts s d p (acts.Msync va len flags) reply new d' → tells_begun reply ≡ false → KeepsPhases s new
+    → Acts s d p (acts.Msync va len flags) reply new d' → reports_begun reply ≡ false → KeepsPhases s new
 mark_keeps s d p va len flags (replies.Bytes few) new d' ((reason, it), same) not = absurd it
 mark_keeps s d p va len flags replies.Stored new d' ((reason, it), same) not = absurd it
 mark_keeps s d p va len flags replies.Filled new d' ((reason, it), same) not = absurd it
@@ -614,9 +614,9 @@ same_change lock p q first second is also = ap (λ (l : Option Lock). change_in 
 
 -- so the answer says that it was made
 made_for : (s : State) (p : ℕ) (first second : Change) (reply : Reply) → HoldsLock p first s → HoldsLock p second s
-    → tells_made first reply ≡ true → tells_made second reply ≡ true
-made_for s p first second reply is also tells = subst (λ (c : Change). tells_made c reply ≡ true)
-    (same_change s.hardware.shootdown.lock p p first second is also) tells
+    → reports_made first reply ≡ true → reports_made second reply ≡ true
+made_for s p first second reply is also reports = subst (λ (c : Change). reports_made c reply ≡ true)
+    (same_change s.hardware.shootdown.lock p p first second is also) reports
 
 -- an interrupted processor stalls
 ack_made : (s : State) (d : List ℕ) (p : ℕ) (reply : Reply) (new : State) (d' : List ℕ)
@@ -688,7 +688,7 @@ resume_made s d p (replies.Refused why) new d' free is ((reason, done), same) = 
 change_made : (s : State) (d : List ℕ) (p : ℕ) (reply : Reply) (new : State) (d' : List ℕ) (change : Change)
     → IsShootdown s.hardware.shootdown → HoldsLock p change s → interrupted s.hardware.shootdown ≡ 0
     → Acts s d p acts.Change reply new d'
-    → (tells_changed reply ≡ true) × (tells_made change reply ≡ true)
+    → (reports_changed reply ≡ true) × (reports_made change reply ≡ true)
     × (new.hardware.shootdown ≡ finished s.hardware.shootdown p)
 change_made s d p (replies.Bytes few) new d' change is held calm ((reason, it), same) = absurd it
 change_made s d p replies.Stored new d' change is held calm ((reason, it), same) = absurd it
@@ -998,49 +998,50 @@ module _ {D : Type 0} (disk : Ghosts D) (old new : Whole D) (before after : Note
       → KeepsPhases old.state new.state
   flushes_keep p reply makes = let r = rules_of _ reply makes in flush_keeps old.state r.0 p reply new.state r.1 r.2
 
-  pub reclaims_keep : (p file page : ℕ) (reply : Reply) → tells_begun reply ≡ false
+  pub reclaims_keep : (p file page : ℕ) (reply : Reply) → reports_begun reply ≡ false
       → Makes disk old before (record { p = p; act = acts.Reclaim file page } ∷ []) (reply ∷ []) new after
       → KeepsPhases old.state new.state
   reclaims_keep p file page reply not makes = let r = rules_of _ reply makes in
       reclaim_keeps old.state r.0 p file page reply new.state r.1 r.2 not
 
-  pub lengths_keep : (p file to : ℕ) (reply : Reply) → tells_begun reply ≡ false
+  pub lengths_keep : (p file to : ℕ) (reply : Reply) → reports_begun reply ≡ false
       → Makes disk old before (record { p = p; act = acts.SetLength file to } ∷ []) (reply ∷ []) new after
       → KeepsPhases old.state new.state
   lengths_keep p file to reply not makes = let r = rules_of _ reply makes in
       length_keeps old.state r.0 p file to reply new.state r.1 r.2 not
 
-  pub marks_keep : (p va len : ℕ) (flags : MsyncFlags) (reply : Reply) → tells_begun reply ≡ false
+  pub marks_keep : (p va len : ℕ) (flags : MsyncFlags) (reply : Reply) → reports_begun reply ≡ false
       → Makes disk old before (record { p = p; act = acts.Msync va len flags } ∷ []) (reply ∷ []) new after
       → KeepsPhases old.state new.state
   marks_keep p va len flags reply not makes = let r = rules_of _ reply makes in
       mark_keeps old.state r.0 p va len flags reply new.state r.1 r.2 not
 
   -- a change is begun
-  begun_rules : (step : Step) (reply : Reply) → tells_begun reply ≡ true
+  begun_rules : (step : Step) (reply : Reply) → reports_begun reply ≡ true
       → Makes disk old before (step ∷ []) (reply ∷ []) new after
       → (d d' : List ℕ) × Acts old.state d step.p step.act replies.Begun new.state d'
   begun_rules step reply is makes =
       let r = rules_of step reply makes in (
         r.0,
         r.1,
-        subst (λ (told : Reply). Acts old.state r.0 step.p step.act told new.state r.1) (begun_is reply is) r.2,
+        subst (λ (replied : Reply). Acts old.state r.0 step.p step.act replied new.state r.1) (begun_is reply is) r.2,
       )
 
-  pub reclaim_begins : (p file page : ℕ) (reply : Reply) → IsShootdown old.state.hardware.shootdown → tells_begun reply
+  pub reclaim_begins : (p file page : ℕ) (reply : Reply) → IsShootdown old.state.hardware.shootdown
+      → reports_begun reply
       ≡ true → Makes disk old before (record { p = p; act = acts.Reclaim file page } ∷ []) (reply ∷ []) new after
       → HasBegun p (changes.Reclaim (record { file = file; page = page })) old.state new.state
   reclaim_begins p file page reply sound is makes = let r = begun_rules _ reply is makes in
       reclaim_has old.state r.0 p file page new.state r.1 sound r.2
 
-  pub length_begins : (p file to : ℕ) (reply : Reply) → IsShootdown old.state.hardware.shootdown → tells_begun reply
+  pub length_begins : (p file to : ℕ) (reply : Reply) → IsShootdown old.state.hardware.shootdown → reports_begun reply
       ≡ true → Makes disk old before (record { p = p; act = acts.SetLength file to } ∷ []) (reply ∷ []) new after
       → HasBegun p (changes.SetLength file to) old.state new.state
   length_begins p file to reply sound is makes = let r = begun_rules _ reply is makes in
       length_has old.state r.0 p file to new.state r.1 sound r.2
 
   pub mark_begins : (p va len : ℕ) (flags : MsyncFlags) (reply : Reply) → IsShootdown old.state.hardware.shootdown
-      → tells_begun reply ≡ true
+      → reports_begun reply ≡ true
       → Makes disk old before (record { p = p; act = acts.Msync va len flags } ∷ []) (reply ∷ []) new after
       → HasBegun p changes.Checkpoint old.state new.state
   mark_begins p va len flags reply sound is makes = let r = begun_rules _ reply is makes in
@@ -1062,7 +1063,7 @@ module _ {D : Type 0} (disk : Ghosts D) (old new : Whole D) (before after : Note
   pub change_is : (p : ℕ) (reply : Reply) (change : Change) → IsShootdown old.state.hardware.shootdown
       → HoldsLock p change old.state → AreCalm 16 old.state
       → Makes disk old before (record { p = p; act = acts.Change } ∷ []) (reply ∷ []) new after
-      → (tells_changed reply ≡ true) × (tells_made change reply ≡ true) × IsOver old.state new.state
+      → (reports_changed reply ≡ true) × (reports_made change reply ≡ true) × IsOver old.state new.state
   change_is p reply change sound held calm makes =
       let r = rules_of _ reply makes in
       let everywhere = calm_everywhere old.state sound calm in

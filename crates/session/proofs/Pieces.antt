@@ -18,12 +18,12 @@ use Rattle.session.specs.inside.Made.{HasMade}
 use Rattle.session.proofs.Stretches.{makes_none, makes_then}
 
 -- steps that read and store nothing
-pub loads_none : (p va at : ℕ) (steps : List Step) (replies : List Reply) → AreAside p steps replies
+pub loads_none : (p va at : ℕ) (steps : List Step) (replies : List Reply) → ArePaging p steps replies
     → AreLoads p va at at steps replies []
-loads_none p va at [] [] aside = (refl, refl)
-loads_none p va at (step ∷ steps) (reply ∷ replies) aside = inl (aside.0, loads_none p va at steps replies aside.1)
-loads_none p va at [] (reply ∷ replies) aside = absurd aside
-loads_none p va at (step ∷ steps) [] aside = absurd aside
+loads_none p va at [] [] paging = (refl, refl)
+loads_none p va at (step ∷ steps) (reply ∷ replies) paging = inl (paging.0, loads_none p va at steps replies paging.1)
+loads_none p va at [] (reply ∷ replies) paging = absurd paging
+loads_none p va at (step ∷ steps) [] paging = absurd paging
 
 -- one piece
 pub loads_one : (p va from count : ℕ) (few : List ℕ)
@@ -38,8 +38,8 @@ loads_then p va from mid to [] [] bytes steps' replies' bytes' first later =
     let P : ℕ → Type 0 = λ n. AreLoads p va n to steps' replies' bytes' in
     let Q : List ℕ → Type 0 = λ b. AreLoads p va from to steps' replies' (b ++ bytes') in
     subst Q (sym first.1) (subst P (sym first.0) later)
-loads_then p va from mid to (step ∷ steps) (reply ∷ replies) bytes steps' replies' bytes' (inl aside) later =
-    inl (aside.0, loads_then p va from mid to steps replies bytes steps' replies' bytes' aside.1 later)
+loads_then p va from mid to (step ∷ steps) (reply ∷ replies) bytes steps' replies' bytes' (inl paging) later =
+    inl (paging.0, loads_then p va from mid to steps replies bytes steps' replies' bytes' paging.1 later)
 loads_then p va from mid to (step ∷ steps) (reply ∷ replies) bytes steps' replies' bytes'
     (inr (count, few, rest, step-is, reply-is, bytes-are, more)) later =
     inr (
@@ -55,12 +55,12 @@ loads_then p va from mid to [] (reply ∷ replies) bytes steps' replies' bytes' 
 loads_then p va from mid to (step ∷ steps) [] bytes steps' replies' bytes' first later = absurd first
 
 -- steps that read and store nothing
-pub stores_none : (p va at : ℕ) (steps : List Step) (replies : List Reply) → AreAside p steps replies
+pub stores_none : (p va at : ℕ) (steps : List Step) (replies : List Reply) → ArePaging p steps replies
     → AreStores p va at steps replies []
-stores_none p va at [] [] aside = refl
-stores_none p va at (step ∷ steps) (reply ∷ replies) aside = inl (aside.0, stores_none p va at steps replies aside.1)
-stores_none p va at [] (reply ∷ replies) aside = absurd aside
-stores_none p va at (step ∷ steps) [] aside = absurd aside
+stores_none p va at [] [] paging = refl
+stores_none p va at (step ∷ steps) (reply ∷ replies) paging = inl (paging.0, stores_none p va at steps replies paging.1)
+stores_none p va at [] (reply ∷ replies) paging = absurd paging
+stores_none p va at (step ∷ steps) [] paging = absurd paging
 
 -- one piece
 pub stores_one : (p va from : ℕ) (few : List ℕ)
@@ -76,8 +76,8 @@ stores_then p va from [] [] bytes steps' replies' bytes' first later =
     let Q : List ℕ → Type 0 = λ b. AreStores p va from steps' replies' (b ++ bytes') in
     let here : from + length bytes ≡ from = omega (arith, ap (λ (b : List ℕ). length b) first) in
     subst Q (sym first) (subst P here later)
-stores_then p va from (step ∷ steps) (reply ∷ replies) bytes steps' replies' bytes' (inl aside) later =
-    inl (aside.0, stores_then p va from steps replies bytes steps' replies' bytes' aside.1 later)
+stores_then p va from (step ∷ steps) (reply ∷ replies) bytes steps' replies' bytes' (inl paging) later =
+    inl (paging.0, stores_then p va from steps replies bytes steps' replies' bytes' paging.1 later)
 stores_then p va from (step ∷ steps) (reply ∷ replies) bytes steps' replies' bytes'
     (inr (few, rest, step-is, reply-is, bytes-are, more)) later =
     let P : ℕ → Type 0 = λ n. AreStores p va n steps' replies' bytes' in
@@ -100,8 +100,8 @@ loads_ended : (p va from to : ℕ) (steps : List Step) (replies : List Reply) (b
     → AreLoads p va from to steps replies bytes → EndsRange p at reply steps' replies'
     → EndsRange p at reply (steps ++ steps') (replies ++ replies')
 loads_ended p va from to [] [] bytes at reply steps' replies' first ended = ended
-loads_ended p va from to (step ∷ steps) (other ∷ replies) bytes at reply steps' replies' (inl aside) ended =
-    inl (loads_ended p va from to steps replies bytes at reply steps' replies' aside.1 ended)
+loads_ended p va from to (step ∷ steps) (other ∷ replies) bytes at reply steps' replies' (inl paging) ended =
+    inl (loads_ended p va from to steps replies bytes at reply steps' replies' paging.1 ended)
 loads_ended p va from to (step ∷ steps) (other ∷ replies) bytes at reply steps' replies'
     (inr (count, few, rest, step-is, reply-is, bytes-are, more)) ended =
     inl (loads_ended p va (from + count) to steps replies rest at reply steps' replies' more ended)
@@ -113,8 +113,8 @@ stores_ended : (p va from : ℕ) (steps : List Step) (replies : List Reply) (byt
     → AreStores p va from steps replies bytes → EndsRange p at reply steps' replies'
     → EndsRange p at reply (steps ++ steps') (replies ++ replies')
 stores_ended p va from [] [] bytes at reply steps' replies' first ended = ended
-stores_ended p va from (step ∷ steps) (other ∷ replies) bytes at reply steps' replies' (inl aside) ended =
-    inl (stores_ended p va from steps replies bytes at reply steps' replies' aside.1 ended)
+stores_ended p va from (step ∷ steps) (other ∷ replies) bytes at reply steps' replies' (inl paging) ended =
+    inl (stores_ended p va from steps replies bytes at reply steps' replies' paging.1 ended)
 stores_ended p va from (step ∷ steps) (other ∷ replies) bytes at reply steps' replies'
     (inr (few, rest, step-is, reply-is, bytes-are, more)) ended =
     inl (stores_ended p va (from + length few) steps replies rest at reply steps' replies' more ended)
@@ -136,7 +136,7 @@ loads_more disk old mid new before between after p va done count bytes few first
       holds = loads_then p va 0 done (done + count) first.steps first.replies bytes (answer.steps ++ step ∷ [])
           (answer.replies ++ Bytes few ∷ []) few first.holds
           (loads_then p va done done (done + count) answer.steps answer.replies [] (step ∷ []) (Bytes few ∷ []) few
-          (loads_none p va done answer.steps answer.replies answer.aside) (loads_one p va done count few));
+          (loads_none p va done answer.steps answer.replies answer.paging) (loads_one p va done count few));
     }
 
 -- and no further one
@@ -145,19 +145,21 @@ pub loads_refused : {D : Type 0} (disk : Ghosts D) (old mid new : Whole D) (befo
     → MakesStepsThat disk old before (LoadsRange p va done bytes) mid between
     → StopsAt disk mid between p (behind va done) reply new after
     → MakesStepsThat disk old before (LoadsReached p va count bytes (Refused done reply)) new after
-loads_refused disk old mid new before between after p va count done bytes reply fewer first told =
-    let P : List ℕ → Type 0 = λ b. AreLoads p va 0 done (first.steps ++ told.steps) (first.replies ++ told.replies) b in
+loads_refused disk old mid new before between after p va count done bytes reply fewer first replied =
+    let P : List ℕ → Type 0 =
+    λ b. AreLoads p va 0 done (first.steps ++ replied.steps) (first.replies ++ replied.replies) b in
     record {
-      steps = first.steps ++ told.steps;
-      replies = first.replies ++ told.replies;
-      makes = makes_then disk old mid new before between after first.steps first.replies told.steps
-          told.replies first.makes told.makes;
+      steps = first.steps ++ replied.steps;
+      replies = first.replies ++ replied.replies;
+      makes = makes_then disk old mid new before between after first.steps first.replies replied.steps
+          replied.replies first.makes replied.makes;
       holds = (
         fewer,
-        subst P (append-nil bytes) (loads_then p va 0 done done first.steps first.replies bytes told.steps told.replies
-            [] first.holds (loads_none p va done told.steps told.replies told.aside)),
+        subst P (append-nil bytes)
+            (loads_then p va 0 done done first.steps first.replies bytes replied.steps replied.replies
+            [] first.holds (loads_none p va done replied.steps replied.replies replied.paging)),
         loads_ended p va 0 done first.steps first.replies bytes
-            (behind va done) reply told.steps told.replies first.holds told.ends,
+            (behind va done) reply replied.steps replied.replies first.holds replied.ends,
       );
     }
 
@@ -177,7 +179,7 @@ stores_more disk old mid new before between after p va done bytes few now long a
     let R : ℕ → Type 0 = λ n. AreStores p va n (step ∷ []) (Stored ∷ []) few in
     let piece : AreStores p va done (answer.steps ++ step ∷ []) (answer.replies ++ Stored ∷ []) few =
     stores_then p va done answer.steps answer.replies [] (step ∷ []) (Stored ∷ []) few (stores_none p va done
-    answer.steps answer.replies answer.aside) (subst R (sym nothing) (stores_one p va done few)) in
+    answer.steps answer.replies answer.paging) (subst R (sym nothing) (stores_one p va done few)) in
     record {
       steps = first.steps ++ (answer.steps ++ step ∷ []);
       replies = first.replies ++ (answer.replies ++ Stored ∷ []);
@@ -193,20 +195,21 @@ pub stores_refused : {D : Type 0} (disk : Ghosts D) (old mid new : Whole D) (bef
     → MakesStepsThat disk old before (StoresRange p va (take done bytes)) mid between
     → StopsAt disk mid between p (behind va done) reply new after
     → MakesStepsThat disk old before (StoresReached p va bytes (Refused done reply)) new after
-stores_refused disk old mid new before between after p va done bytes reply fewer first told =
-    let P : List ℕ → Type 0 = λ b. AreStores p va 0 (first.steps ++ told.steps) (first.replies ++ told.replies) b in
+stores_refused disk old mid new before between after p va done bytes reply fewer first replied =
+    let P : List ℕ → Type 0 =
+    λ b. AreStores p va 0 (first.steps ++ replied.steps) (first.replies ++ replied.replies) b in
     record {
-      steps = first.steps ++ told.steps;
-      replies = first.replies ++ told.replies;
-      makes = makes_then disk old mid new before between after first.steps first.replies told.steps
-          told.replies first.makes told.makes;
+      steps = first.steps ++ replied.steps;
+      replies = first.replies ++ replied.replies;
+      makes = makes_then disk old mid new before between after first.steps first.replies replied.steps
+          replied.replies first.makes replied.makes;
       holds = (
         fewer,
         subst P (append-nil (take done bytes))
-            (stores_then p va 0 first.steps first.replies (take done bytes) told.steps told.replies [] first.holds
-            (stores_none p va (0 + length (take done bytes)) told.steps told.replies told.aside)),
+            (stores_then p va 0 first.steps first.replies (take done bytes) replied.steps replied.replies [] first.holds
+            (stores_none p va (0 + length (take done bytes)) replied.steps replied.replies replied.paging)),
         stores_ended p va 0 first.steps first.replies (take done bytes)
-            (behind va done) reply told.steps told.replies first.holds told.ends,
+            (behind va done) reply replied.steps replied.replies first.holds replied.ends,
       );
     }
 

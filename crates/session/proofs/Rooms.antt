@@ -16,13 +16,13 @@ use Rattle.machine.specs.Rules.{Acts}
 use Rattle.machine.specs.Runs.{StepsTaken}
 use Rattle.machine.specs.State.{State, Whole}
 use Rattle.session.specs.declared.notes.Notes.{Notes}
-use Rattle.session.specs.Ends.{tells_fault, tells_kept, tells_reclaimed, is_access, is_access_at, is_served}
+use Rattle.session.specs.Ends.{reports_fault, reports_kept, reports_reclaimed, is_access, is_access_at, is_served}
 use Rattle.session.specs.Ends.{is_for_room, AreForRoom, is_fruitless, AreFruitless, MakesRoom, IsUnserved, EndsRange}
 use Rattle.session.specs.Lengths.{AnswersChange, AreOthers, change_steps, change_replies, flush_by}
 use Rattle.session.specs.Ranges.{MakesStepsThat}
-use Rattle.session.specs.Steps.{Makes, is_aside, Passes, IsAside, IsMadeFor, AreAside}
-use Rattle.session.specs.Steps.{tells_bytes, tells_stored, tells_fixed, tells_reclaim}
-use Rattle.session.specs.inside.Aside.{IsAccessFor, LoadsOrStores, Serves, IsUnservedAside, AnswersAfter, StopsAt}
+use Rattle.session.specs.Steps.{Makes, is_paging, Passes, IsPaging, IsMadeFor, ArePaging}
+use Rattle.session.specs.Steps.{reports_bytes, reports_stored, reports_fixed, reports_reclaim}
+use Rattle.session.specs.inside.Paging.{IsAccessFor, LoadsOrStores, Serves, IsUnservedPaging, AnswersAfter, StopsAt}
 use Rattle.session.proofs.Each.{each_of_change, each_so, each_then}
 use Rattle.session.proofs.Stretches.{makes_then}
 
@@ -32,7 +32,8 @@ kept_reclaim : (reply : Reply) → reports_kept reply ≡ true → reports_recla
 kept_reclaim replies.Kept is = refl
 kept_reclaim reply is = absurd (false≢true is)
 
-reclaim_kept : (reply : Reply) → reports_reclaim reply ≡ true → reports_reclaimed reply ≡ false → reports_kept reply ≡ true
+reclaim_kept : (reply : Reply) → reports_reclaim reply ≡ true → reports_reclaimed reply ≡ false
+    → reports_kept reply ≡ true
 reclaim_kept replies.Reclaimed is other = absurd (false≢true (sym other))
 reclaim_kept replies.Kept is other = refl
 reclaim_kept reply is other = absurd (false≢true is)
@@ -66,32 +67,36 @@ room_not_served : (act : Act) (reply : Reply) → is_for_room act reply ≡ true
 room_not_served (acts.Fix va write) reply is = absurd (false≢true is)
 room_not_served act reply is = refl
 
-pub not_fault : (reply : Reply) → reports_fault reply ≡ true → (reports_bytes reply ≡ false) × (reports_stored reply ≡ false)
+pub not_fault : (reply : Reply) → reports_fault reply ≡ true
+    → (reports_bytes reply ≡ false) × (reports_stored reply ≡ false)
 not_fault (replies.Refused why) is = (refl, refl)
 not_fault reply is = absurd (false≢true is)
 
 -- ---- one after the other
 
-vain_room : (p : ℕ) (steps : List Step) (replied : List Reply) → AreFruitless p steps replied → AreForRoom p steps replied
+vain_room : (p : ℕ) (steps : List Step) (replied : List Reply) → AreFruitless p steps replied
+    → AreForRoom p steps replied
 vain_room p = each_so (Passes is_fruitless p) (Passes is_for_room p)
     (λ step reply is. (fruitless_room step.act reply is.0, is.1))
 
-pub are_paging : (p : ℕ) (steps : List Step) (replied : List Reply) → AreForRoom p steps replied → ArePaging p steps replied
+pub are_paging : (p : ℕ) (steps : List Step) (replied : List Reply) → AreForRoom p steps replied
+    → ArePaging p steps replied
 are_paging p = each_so (Passes is_for_room p) (IsPaging p) (λ step reply is. (room_paging step.act reply is.0, is.1))
 
-pub vain_paging : (p : ℕ) (steps : List Step) (replied : List Reply) → AreFruitless p steps replied → ArePaging p steps replied
+pub vain_paging : (p : ℕ) (steps : List Step) (replied : List Reply) → AreFruitless p steps replied
+    → ArePaging p steps replied
 vain_paging p steps replied vain = are_paging p steps replied (vain_room p steps replied vain)
 
 -- no frame became free, and then one did or didn't
-pub makes_room_then : (p : ℕ) (made : Bool) (steps : List Step) (told : List Reply) (steps' : List Step)
-    (told' : List Reply) → AreFruitless p steps told → MakesRoom p made steps' told'
-    → MakesRoom p made (steps ++ steps') (told ++ told')
-makes_room_then p true steps told steps' told' first later = (
-  each_then (Passes is_for_room p) steps told steps' told' (vain_room p steps told first) later.0,
-  Contains-append_right told told' replies.Reclaimed later.1,
+pub makes_room_then : (p : ℕ) (made : Bool) (steps : List Step) (replied : List Reply) (steps' : List Step)
+    (replied' : List Reply) → AreFruitless p steps replied → MakesRoom p made steps' replied'
+    → MakesRoom p made (steps ++ steps') (replied ++ replied')
+makes_room_then p true steps replied steps' replied' first later = (
+  each_then (Passes is_for_room p) steps replied steps' replied' (vain_room p steps replied first) later.0,
+  Contains-append_right replied replied' replies.Reclaimed later.1,
 )
-makes_room_then p false steps told steps' told' first later =
-    each_then (Passes is_fruitless p) steps told steps' told' first later
+makes_room_then p false steps replied steps' replied' first later =
+    each_then (Passes is_fruitless p) steps replied steps' replied' first later
 
 pub flush_vain : (p : ℕ) (reply : Reply) → AreFruitless p (flush_by p ∷ []) (reply ∷ [])
 flush_vain p reply = ((refl, refl), tt)
@@ -121,32 +126,34 @@ change_room p answer others differ is = each_of_change (Passes is_for_room p) p 
     (λ other not. (refl, not)) (λ other not. (refl, not))
 
 -- the answer is one of the replies
-change_told : (answer : Reply) (others : List ℕ) → Contains (change_replies answer others) answer
-change_told answer [] = Contains-push [] answer
-change_told answer (other ∷ others) =
+change_replied : (answer : Reply) (others : List ℕ) → Contains (change_replies answer others) answer
+change_replied answer [] = Contains-push [] answer
+change_replied answer (other ∷ others) =
     Contains-append_right (replies.Acked ∷ []) (change_replies answer others ++ replies.Resumed ∷ []) answer
-    (Contains-append_left (change_replies answer others) (replies.Resumed ∷ []) answer (change_told answer others))
+    (Contains-append_left (change_replies answer others) (replies.Resumed ∷ []) answer (change_replied answer others))
 
-pub reclaim_room : (p file page : ℕ) (begun answer : Reply) (steps : List Step) (told : List Reply)
-    → tells_reclaim answer ≡ true → AnswersChange p answer steps told
-    → MakesRoom p (tells_reclaimed answer) (record { p = p; act = acts.Reclaim file page } ∷ steps) (begun ∷ told)
-reclaim_room p file page begun answer steps told is change = go (tells_reclaimed answer) refl
+pub reclaim_room : (p file page : ℕ) (begun answer : Reply) (steps : List Step) (replied : List Reply)
+    → reports_reclaim answer ≡ true → AnswersChange p answer steps replied
+    → MakesRoom p (reports_reclaimed answer) (record { p = p; act = acts.Reclaim file page } ∷ steps) (begun ∷ replied)
+reclaim_room p file page begun answer steps replied is change = go (reports_reclaimed answer) refl
   where
     has : Contains replied answer
-    has = change_has (λ steps replied. Contains replied answer) p answer steps replied change (change_replied answer change.others)
+    has = change_has (λ steps replied. Contains replied answer) p answer steps replied change
+        (change_replied answer change.others)
 
-    go : (b : Bool) → tells_reclaimed answer ≡ b
-        → MakesRoom p b (record { p = p; act = acts.Reclaim file page } ∷ steps) (begun ∷ told)
+    go : (b : Bool) → reports_reclaimed answer ≡ b
+        → MakesRoom p b (record { p = p; act = acts.Reclaim file page } ∷ steps) (begun ∷ replied)
     go true made = (
       (
         (refl, refl),
-        change_has (AreForRoom p) p answer steps told change (change_room p answer change.others change.differ is),
+        change_has (AreForRoom p) p answer steps replied change (change_room p answer change.others change.differ is),
       ),
-      Contains-append_right (begun ∷ []) told replies.Reclaimed (subst (Contains told) (reclaimed_is answer made) has),
+      Contains-append_right (begun ∷ []) replied replies.Reclaimed
+          (subst (Contains replied) (reclaimed_is answer made) has),
     )
     go false kept = (
       (refl, refl),
-      change_has (AreFruitless p) p answer steps told change
+      change_has (AreFruitless p) p answer steps replied change
           (change_vain p answer change.others change.differ (reclaim_kept answer is kept)),
     )
 
@@ -159,62 +166,63 @@ module _ (p at : ℕ) (write : Bool) where
   abbrev pub fix_by : Step
   fix_by = record { p = p; act = acts.Fix at write }
 
-  pub serves_one : (reply : Reply) → tells_fixed reply ≡ true → Serves p at write (fix_by ∷ []) (reply ∷ [])
+  pub serves_one : (reply : Reply) → reports_fixed reply ≡ true → Serves p at write (fix_by ∷ []) (reply ∷ [])
   serves_one reply is = record {
     front = [];
-    told = [];
-    aside = tt;
+    replied = [];
+    paging = tt;
     steps_are = refl;
     replies_are = ap (λ r. r ∷ []) (fixed_is reply is);
   }
 
-  pub serves_later : (reply : Reply) → tells_fixed reply ≡ true → (steps : List Step) (told : List Reply)
-      → AreAside p steps told → Serves p at write (steps ++ fix_by ∷ []) (told ++ reply ∷ [])
-  serves_later reply is steps told aside = record {
+  pub serves_later : (reply : Reply) → reports_fixed reply ≡ true → (steps : List Step) (replied : List Reply)
+      → ArePaging p steps replied → Serves p at write (steps ++ fix_by ∷ []) (replied ++ reply ∷ [])
+  serves_later reply is steps replied paging = record {
     front = steps;
-    told = told;
-    aside = aside;
+    replied = replied;
+    paging = paging;
     steps_are = refl;
-    replies_are = ap (λ r. told ++ r ∷ []) (fixed_is reply is);
+    replies_are = ap (λ r. replied ++ r ∷ []) (fixed_is reply is);
   }
 
-  pub unserved_one : (answer : Reply) → tells_fixed answer ≡ false → (steps : List Step) (told : List Reply)
-      → AreFruitless p steps told → IsUnservedAside p at answer (fix_by ∷ steps) (answer ∷ told)
-  unserved_one answer not steps told vain =
-      (((refl, refl), vain_aside p steps told vain), inr (refl, same at, refl, not, vain))
+  pub unserved_one : (answer : Reply) → reports_fixed answer ≡ false → (steps : List Step) (replied : List Reply)
+      → AreFruitless p steps replied → IsUnservedPaging p at answer (fix_by ∷ steps) (answer ∷ replied)
+  unserved_one answer not steps replied vain =
+      (((refl, refl), vain_paging p steps replied vain), inr (refl, same at, refl, not, vain))
 
-  unserved_after : (answer : Reply) (steps : List Step) (told : List Reply) (steps' : List Step) (told' : List Reply)
-      → AreForRoom p steps told → IsUnserved p at answer steps' told'
-      → IsUnserved p at answer (steps ++ steps') (told ++ told')
-  unserved_after answer [] [] steps' told' room later = later
-  unserved_after answer (step ∷ steps) (reply ∷ told) steps' told' ((is, mine), more) later = inl (
+  unserved_after : (answer : Reply) (steps : List Step) (replied : List Reply)
+      (steps' : List Step) (replied' : List Reply)
+      → AreForRoom p steps replied → IsUnserved p at answer steps' replied'
+      → IsUnserved p at answer (steps ++ steps') (replied ++ replied')
+  unserved_after answer [] [] steps' replied' room later = later
+  unserved_after answer (step ∷ steps) (reply ∷ replied) steps' replied' ((is, mine), more) later = inl (
     room_no_access step.act reply is,
     room_not_served step.act reply is,
-    unserved_after answer steps told steps' told' more later,
+    unserved_after answer steps replied steps' replied' more later,
   )
-  unserved_after answer [] (reply ∷ told) steps' told' room later = absurd room
-  unserved_after answer (step ∷ steps) [] steps' told' room later = absurd room
+  unserved_after answer [] (reply ∷ replied) steps' replied' room later = absurd room
+  unserved_after answer (step ∷ steps) [] steps' replied' room later = absurd room
 
   -- a second attempt, after a frame was made free
-  pub unserved_again : (first answer : Reply) → tells_fixed first ≡ false → tells_fixed answer ≡ false
-      → (steps : List Step) (told : List Reply) → AreForRoom p steps told
-      → IsUnservedAside p at answer (fix_by ∷ (steps ++ fix_by ∷ [])) (first ∷ (told ++ answer ∷ []))
-  unserved_again first answer one not steps told room =
+  pub unserved_again : (first answer : Reply) → reports_fixed first ≡ false → reports_fixed answer ≡ false
+      → (steps : List Step) (replied : List Reply) → AreForRoom p steps replied
+      → IsUnservedPaging p at answer (fix_by ∷ (steps ++ fix_by ∷ [])) (first ∷ (replied ++ answer ∷ []))
+  unserved_again first answer one not steps replied room =
       let last = unserved_one answer not [] [] tt in (
         (
           (refl, refl),
-          each_then (IsAside p) steps told (fix_by ∷ []) (answer ∷ []) (are_aside p steps told room) last.0,
+          each_then (IsPaging p) steps replied (fix_by ∷ []) (answer ∷ []) (are_paging p steps replied room) last.0,
         ),
-        inl (refl, one, unserved_after answer steps told (fix_by ∷ []) (answer ∷ []) room last.1),
+        inl (refl, one, unserved_after answer steps replied (fix_by ∷ []) (answer ∷ []) room last.1),
       )
 
 -- ---- accesses
 
-pub access_aside : (at : ℕ) (write : Bool) (act : Act) (reply : Reply) → IsAccessFor at write act
-    → tells_fault reply ≡ true → is_aside act reply ≡ true
-access_aside at write (acts.Load va count) reply is fault = ap not (not_fault reply fault).0
-access_aside at write (acts.Store va bytes) reply is fault = ap not (not_fault reply fault).1
-access_aside at write act reply is fault = absurd is
+pub access_paging : (at : ℕ) (write : Bool) (act : Act) (reply : Reply) → IsAccessFor at write act
+    → reports_fault reply ≡ true → is_paging act reply ≡ true
+access_paging at write (acts.Load va count) reply is fault = ap not (not_fault reply fault).0
+access_paging at write (acts.Store va bytes) reply is fault = ap not (not_fault reply fault).1
+access_paging at write act reply is fault = absurd is
 
 -- whose it is
 pub access_own : (at : ℕ) (write : Bool) (p : ℕ) (act : Act) → IsAccessFor at write act → IsMadeFor p p act
@@ -233,42 +241,42 @@ access_loads at write (acts.Store va bytes) is = tt
 access_loads at write act is = absurd is
 
 -- what ends a range comes after other steps
-pub ends_after : (p at : ℕ) (answer : Reply) (steps : List Step) (told : List Reply) (steps' : List Step)
-    (told' : List Reply) → AreAside p steps told → EndsRange p at answer steps' told'
-    → EndsRange p at answer (steps ++ steps') (told ++ told')
-ends_after p at answer [] [] steps' told' aside ended = ended
-ends_after p at answer (step ∷ steps) (reply ∷ told) steps' told' aside ended =
-    inl (ends_after p at answer steps told steps' told' aside.1 ended)
-ends_after p at answer [] (reply ∷ told) steps' told' aside ended = absurd aside
-ends_after p at answer (step ∷ steps) [] steps' told' aside ended = absurd aside
+pub ends_after : (p at : ℕ) (answer : Reply) (steps : List Step) (replied : List Reply) (steps' : List Step)
+    (replied' : List Reply) → ArePaging p steps replied → EndsRange p at answer steps' replied'
+    → EndsRange p at answer (steps ++ steps') (replied ++ replied')
+ends_after p at answer [] [] steps' replied' paging ended = ended
+ends_after p at answer (step ∷ steps) (reply ∷ replied) steps' replied' paging ended =
+    inl (ends_after p at answer steps replied steps' replied' paging.1 ended)
+ends_after p at answer [] (reply ∷ replied) steps' replied' paging ended = absurd paging
+ends_after p at answer (step ∷ steps) [] steps' replied' paging ended = absurd paging
 
 module _ {D : Type 0} (disk : Ghosts D) (old mid new : Whole D) (before between after : Notes) where
   -- an access that met a fault, which isn't served
-  pub stops_unserved : (step : Step) (at : ℕ) (fault answer : Reply) → IsAside step.p step fault
-      → is_access_at at step.act ≡ true → tells_fault fault ≡ true
+  pub stops_unserved : (step : Step) (at : ℕ) (fault answer : Reply) → IsPaging step.p step fault
+      → is_access_at at step.act ≡ true → reports_fault fault ≡ true
       → Makes disk old before (step ∷ []) (fault ∷ []) mid between
-      → MakesStepsThat disk mid between (IsUnservedAside step.p at answer) new after
+      → MakesStepsThat disk mid between (IsUnservedPaging step.p at answer) new after
       → StopsAt disk old before step.p at answer new after
-  stops_unserved step at fault answer (aside, mine) here met first later = record {
+  stops_unserved step at fault answer (paging, mine) here met first later = record {
     steps = step ∷ later.steps;
     replies = fault ∷ later.replies;
     makes = makes_then disk old mid new before between after (step ∷ [])
         (fault ∷ []) later.steps later.replies first later.makes;
-    aside = ((aside, mine), later.holds.0);
+    paging = ((paging, mine), later.holds.0);
     ends = inr (inr (refl, here, met, later.holds.1));
   }
 
 -- an access that isn't made, and meets no fault
 pub stops_answered : {D : Type 0} (disk : Ghosts D) (old new : Whole D) (before after : Notes) (step : Step) (at : ℕ)
-    (answer : Reply) → IsAside step.p step answer → is_access_at at step.act ≡ true → tells_fault answer ≡ false
+    (answer : Reply) → IsPaging step.p step answer → is_access_at at step.act ≡ true → reports_fault answer ≡ false
     → AnswersAfter disk old before step answer new after → StopsAt disk old before step.p at answer new after
 stops_answered disk old new before after step at answer (paging, mine) here no-fault it = record {
   steps = it.steps ++ step ∷ [];
   replies = it.replies ++ answer ∷ [];
   makes = it.makes;
-  aside = each_then (IsAside step.p) it.steps it.replies (step ∷ []) (answer ∷ []) it.aside ((aside, mine), tt);
-  ends = ends_after step.p at answer it.steps it.replies (step ∷ []) (answer ∷ []) it.aside
-      (inr (inl (refl, here, aside, refl, no-fault, refl, refl)));
+  paging = each_then (IsPaging step.p) it.steps it.replies (step ∷ []) (answer ∷ []) it.paging ((paging, mine), tt);
+  ends = ends_after step.p at answer it.steps it.replies (step ∷ []) (answer ∷ []) it.paging
+      (inr (inl (refl, here, paging, refl, no-fault, refl, refl)));
 }
 
 -- ---- a fault that was served doesn't come again
@@ -276,7 +284,7 @@ stops_answered disk old new before after step at answer (paging, mine) here no-f
 -- a fault is met only by an access inside a page
 no_fault : (s : State) (d : List ℕ) (p at : ℕ) (write : Bool) (act : Act) (reply : Reply) (new : State) (d' : List ℕ)
     → IsAccessFor at write act → Acts s d p act reply new d'
-    → (IsAccessOf at write act → IsAnswered act reply) → tells_fault reply ≡ false
+    → (IsAccessOf at write act → IsAnswered act reply) → reports_fault reply ≡ false
 no_fault s d p at write (acts.Load va count) (replies.Refused (refusals.Fault code)) new d' is rule answered =
     absurd (answered (rule.0.1.access, ap (λ n. n / 4096) is))
 no_fault s d p at write (acts.Store va bytes) (replies.Refused (refusals.Fault code)) new d' is rule answered =
@@ -290,25 +298,25 @@ no_fault s d p at write act reply new d' is rule answered = absurd is
 module _ {D : Type 0} (disk : Ghosts D) where
   -- the last of the steps
   served_last : (p at : ℕ) (write : Bool) (step : Step) (reply : Reply) → step.p ≡ p → IsAccessFor at write step.act
-      → (old new : Whole D) (front : List Step) (told : List Reply) → AreAside p front told
+      → (old new : Whole D) (front : List Step) (replied : List Reply) → ArePaging p front replied
       → StepsTaken disk old ((front ++ record { p = p; act = acts.Fix at write } ∷ []) ++ step ∷ [])
-      ((told ++ replies.Fixed ∷ []) ++ reply ∷ []) new
+      ((replied ++ replies.Fixed ∷ []) ++ reply ∷ []) new
       → FaultsAreServed ((front ++ record { p = p; act = acts.Fix at write } ∷ []) ++ step ∷ [])
-      ((told ++ replies.Fixed ∷ []) ++ reply ∷ []) → tells_fault reply ≡ false
-  served_last p at write step reply mine is old new [] [] aside (mid, fixed, (last, here, ends)) served =
+      ((replied ++ replies.Fixed ∷ []) ++ reply ∷ []) → reports_fault reply ≡ false
+  served_last p at write step reply mine is old new [] [] paging (mid, fixed, (last, here, ends)) served =
       no_fault mid.state here.answered.0 step.p at write step.act reply last.state here.answered.1 is
       here.answered.2 (served.0 mine)
-  served_last p at write step reply mine is old new (first ∷ front) (other ∷ told) aside (mid, here, rest) served =
-      served_last p at write step reply mine is mid new front told aside.1 rest served.1
-  served_last p at write step reply mine is old new [] (other ∷ told) aside taken served = absurd aside
-  served_last p at write step reply mine is old new (first ∷ front) [] aside taken served = absurd aside
+  served_last p at write step reply mine is old new (first ∷ front) (other ∷ replied) paging (mid, here, rest) served =
+      served_last p at write step reply mine is mid new front replied paging.1 rest served.1
+  served_last p at write step reply mine is old new [] (other ∷ replied) paging taken served = absurd paging
+  served_last p at write step reply mine is old new (first ∷ front) [] paging taken served = absurd paging
 
   pub answered_no_fault : (old mid new : Whole D) (before between after : Notes) (at : ℕ) (write : Bool) (step : Step)
       (reply : Reply) → IsAccessFor at write step.act
-      → ((from to : Whole D) (steps : List Step) (told : List Reply) → StepsTaken disk from steps told to
-      → FaultsAreServed steps told)
+      → ((from to : Whole D) (steps : List Step) (replied : List Reply) → StepsTaken disk from steps replied to
+      → FaultsAreServed steps replied)
       → MakesStepsThat disk old before (Serves step.p at write) mid between
-      → Makes disk mid between (step ∷ []) (reply ∷ []) new after → tells_fault reply ≡ false
+      → Makes disk mid between (step ∷ []) (reply ∷ []) new after → reports_fault reply ≡ false
   answered_no_fault old mid new before between after at write step reply is law it made =
       let S : List Step → Type 0 = λ l. StepsTaken disk old (l ++ step ∷ []) (it.replies ++ reply ∷ []) new in
       let T : List Reply → Type 0 = λ l. StepsTaken disk old ((it.holds.front
@@ -316,23 +324,23 @@ module _ {D : Type 0} (disk : Ghosts D) where
       let all = makes_then disk old mid new before between after it.steps it.replies (step ∷ [])
       (reply ∷ []) it.makes made in
       let taken = subst T it.holds.replies_are (subst S it.holds.steps_are all.taken) in
-      served_last step.p at write step reply refl is old new it.holds.front it.holds.told it.holds.aside
+      served_last step.p at write step reply refl is old new it.holds.front it.holds.replied it.holds.paging
       taken (law old new _ _ taken)
 
   -- an access after its fault was served
   pub answers_served : (old mid last new : Whole D) (before between next after : Notes) (at : ℕ) (write : Bool)
-      (step : Step) (fault reply : Reply) → IsAside step.p step fault
+      (step : Step) (fault reply : Reply) → IsPaging step.p step fault
       → Makes disk old before (step ∷ []) (fault ∷ []) mid between
       → MakesStepsThat disk mid between (Serves step.p at write) last next
       → Makes disk last next (step ∷ []) (reply ∷ []) new after → AnswersAfter disk old before step reply new after
-  answers_served old mid last new before between next after at write step fault reply aside first it made =
-      let S : List Step → Type 0 = λ l. AreAside step.p l it.replies in
+  answers_served old mid last new before between next after at write step fault reply paging first it made =
+      let S : List Step → Type 0 = λ l. ArePaging step.p l it.replies in
       let T : List Reply → Type 0 =
-      λ l. AreAside step.p (it.holds.front ++ record { p = step.p; act = acts.Fix at write } ∷ []) l in
-      let front = each_then (IsAside step.p) it.holds.front it.holds.told (record {
+      λ l. ArePaging step.p (it.holds.front ++ record { p = step.p; act = acts.Fix at write } ∷ []) l in
+      let front = each_then (IsPaging step.p) it.holds.front it.holds.replied (record {
         p = step.p;
         act = acts.Fix at write;
-      } ∷ []) (replies.Fixed ∷ []) it.holds.aside ((refl, refl), tt) in
+      } ∷ []) (replies.Fixed ∷ []) it.holds.paging ((refl, refl), tt) in
       record {
         steps = step ∷ it.steps;
         replies = fault ∷ it.replies;
@@ -340,7 +348,7 @@ module _ {D : Type 0} (disk : Ghosts D) where
             (step ∷ []) (reply ∷ [])
             (makes_then disk old mid last before between next (step ∷ [])
             (fault ∷ []) it.steps it.replies first it.makes) made;
-        aside = (aside, subst S (sym it.holds.steps_are) (subst T (sym it.holds.replies_are) front));
+        paging = (paging, subst S (sym it.holds.steps_are) (subst T (sym it.holds.replies_are) front));
       }
 
 -- ---- attempts to serve a fault
@@ -348,9 +356,9 @@ module _ {D : Type 0} (disk : Ghosts D) where
 module _ {D : Type 0} (disk : Ghosts D) where
   -- no frame could be made free for it
   pub unserved_vain : (old mid new : Whole D) (before between after : Notes) (p at : ℕ) (write : Bool) (answer : Reply)
-      → tells_fixed answer ≡ false → Makes disk old before (fix_by p at write ∷ []) (answer ∷ []) mid between
+      → reports_fixed answer ≡ false → Makes disk old before (fix_by p at write ∷ []) (answer ∷ []) mid between
       → MakesStepsThat disk mid between (MakesRoom p false) new after
-      → MakesStepsThat disk old before (IsUnservedAside p at answer) new after
+      → MakesStepsThat disk old before (IsUnservedPaging p at answer) new after
   unserved_vain old mid new before between after p at write answer not made room = record {
     steps = fix_by p at write ∷ room.steps;
     replies = answer ∷ room.replies;
@@ -372,7 +380,7 @@ module _ {D : Type 0} (disk : Ghosts D) where
         (answer ∷ []) room.makes again)
 
     -- one was, and it was served
-    pub serves_again : tells_fixed answer ≡ true
+    pub serves_again : reports_fixed answer ≡ true
         → Makes disk old before (fix_by p at write ∷ []) (first ∷ []) mid between
         → MakesStepsThat disk mid between (MakesRoom p true) last next
         → Makes disk last next (fix_by p at write ∷ []) (answer ∷ []) new after
@@ -382,15 +390,15 @@ module _ {D : Type 0} (disk : Ghosts D) where
       replies = first ∷ (room.replies ++ answer ∷ []);
       makes = all_made made room again;
       holds = serves_later p at write answer is (fix_by p at write ∷ room.steps) (first ∷ room.replies)
-          ((refl, refl), are_aside p room.steps room.replies room.holds.0);
+          ((refl, refl), are_paging p room.steps room.replies room.holds.0);
     }
 
     -- and it wasn't
-    pub unserved_after_room : tells_fixed first ≡ false → tells_fixed answer ≡ false
+    pub unserved_after_room : reports_fixed first ≡ false → reports_fixed answer ≡ false
         → Makes disk old before (fix_by p at write ∷ []) (first ∷ []) mid between
         → MakesStepsThat disk mid between (MakesRoom p true) last next
         → Makes disk last next (fix_by p at write ∷ []) (answer ∷ []) new after
-        → MakesStepsThat disk old before (IsUnservedAside p at answer) new after
+        → MakesStepsThat disk old before (IsUnservedPaging p at answer) new after
     unserved_after_room one not made room again = record {
       steps = fix_by p at write ∷ (room.steps ++ fix_by p at write ∷ []);
       replies = first ∷ (room.replies ++ answer ∷ []);

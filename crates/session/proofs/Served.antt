@@ -22,11 +22,11 @@ answers_do : (before : Notes) (what : Asked) (answer : List ℕ) (steps : List S
     → AnswersRequest before what answer steps replies → IsDoneFor what steps replies
 answers_do before (asks_steps wanted) answer steps replies it =
     (length wanted, it.0 ∙ sym (take_all (length wanted) wanted (omega arith)))
-answers_do before (asks_load p va count) answer steps replies (bytes, reached, it, told) = (bytes, reached, it)
-answers_do before (asks_store p va bytes) answer steps replies (reached, it, told) = (reached, it)
-answers_do before (asks_commit p) answer steps replies (committed, it, told) =
+answers_do before (asks_load p va count) answer steps replies (bytes, reached, it, replied) = (bytes, reached, it)
+answers_do before (asks_store p va bytes) answer steps replies (reached, it, replied) = (reached, it)
+answers_do before (asks_commit p) answer steps replies (committed, it, replied) =
     answers_of_commit p before committed steps replies it
-answers_do before (asks_length p file to) answer steps replies (reply, it, told) = (reply, it)
+answers_do before (asks_length p file to) answer steps replies (reply, it, replied) = (reply, it)
 
 answers_serve : (before : Notes) (line answer : List ℕ) (steps : List Step) (replies : List Reply)
     → AnswersLine before line answer steps replies → IsServedFor line steps replies

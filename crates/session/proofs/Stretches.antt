@@ -18,14 +18,15 @@ noted_then before [] more = refl
 noted_then before (reply ∷ replies) more = noted_then (noted_after before reply) replies more
 
 taken_then : {D : Type 0} (disk : Ghosts D) (old mid new : Whole D) (steps : List Step) (replies : List Reply)
-    (later : List Step) (told : List Reply) → StepsTaken disk old steps replies mid → StepsTaken disk mid later told new
-    → StepsTaken disk old (steps ++ later) (replies ++ told) new
-taken_then {D} disk old mid new [] [] later told first rest =
-    let P : Whole D → Type 0 = λ m. StepsTaken disk m later told new in subst P first rest
-taken_then disk old mid new (step ∷ steps) (reply ∷ replies) later told (next, here, first) rest =
-    (next, here, taken_then disk next mid new steps replies later told first rest)
-taken_then disk old mid new [] (reply ∷ replies) later told first rest = absurd first
-taken_then disk old mid new (step ∷ steps) [] later told first rest = absurd first
+    (later : List Step) (replied : List Reply) → StepsTaken disk old steps replies mid
+    → StepsTaken disk mid later replied new
+    → StepsTaken disk old (steps ++ later) (replies ++ replied) new
+taken_then {D} disk old mid new [] [] later replied first rest =
+    let P : Whole D → Type 0 = λ m. StepsTaken disk m later replied new in subst P first rest
+taken_then disk old mid new (step ∷ steps) (reply ∷ replies) later replied (next, here, first) rest =
+    (next, here, taken_then disk next mid new steps replies later replied first rest)
+taken_then disk old mid new [] (reply ∷ replies) later replied first rest = absurd first
+taken_then disk old mid new (step ∷ steps) [] later replied first rest = absurd first
 
 -- no step
 pub makes_none : {D : Type 0} (disk : Ghosts D) (old : Whole D) (before : Notes)
@@ -68,7 +69,7 @@ does_then disk old mid new before between after what then both holds first later
 pub answers_one : {D : Type 0} (disk : Ghosts D) (old new : Whole D) (before after : Notes) (step : Step)
     (reply : Reply) → Makes disk old before (step ∷ []) (reply ∷ []) new after
     → AnswersAfter disk old before step reply new after
-answers_one disk old new before after step reply made = record { steps = []; replies = []; makes = made; aside = tt }
+answers_one disk old new before after step reply made = record { steps = []; replies = []; makes = made; paging = tt }
 
 -- whatever was made
 pub made_none : {D : Type 0} (disk : Ghosts D) (old : Whole D) (before : Notes) → HasMade disk old before old before

@@ -18,7 +18,7 @@ use Rattle.session.specs.declared.request_fault.RequestFault.{RequestFault}
 use Rattle.session.specs.declared.request_fault.RequestFault.TheVariants as fault
 use Rattle.session.specs.Notes.{noted_after, noted_all}
 use Rattle.session.specs.Answers.{steps_text, reply_after, refusal_text, reached_text, text_after_space}
-use Rattle.session.specs.Answers.{digits_text, TellsLoaded, stored_text, committed_text, AsksNothing}
+use Rattle.session.specs.Answers.{digits_text, ReportsLoaded, stored_text, committed_text, AsksNothing}
 use Rattle.session.specs.Answers.{WritesAnswer, WritesAnswerOf, AnswersLines, WritesAnswers, AnswersInput}
 use Rattle.session.specs.Commits.{AnswersCommit}
 use Rattle.session.specs.Lines.{HasNoFeed, ReadsLines}
@@ -143,27 +143,27 @@ digits_after_space [] = refl
 digits_after_space (byte ∷ bytes) = refl
 
 -- what is written of a range that was loaded as far as memory lasted
-pub tells_reached : (old new : Option (List ℕ)) (reached : Reached) (bytes digits : List ℕ) → (reached ≡ NoMemory → ⊥)
+pub reports_reached : (old new : Option (List ℕ)) (reached : Reached) (bytes digits : List ℕ) → (reached ≡ NoMemory → ⊥)
     → digits ≡ encode_lower bytes
     → Appends old new (reached_text reached ++ text_after_space digits ++ 10 ∷ [])
-    → ((answer : List ℕ) × TellsLoaded reached bytes answer × Appends old new (answer ++ 10 ∷ []))
-tells_reached old new All bytes digits some are wrote = (
+    → ((answer : List ℕ) × ReportsLoaded reached bytes answer × Appends old new (answer ++ 10 ∷ []))
+reports_reached old new All bytes digits some are wrote = (
   codes "loaded" ++ text_after_space digits,
   ap (λ text. codes "loaded" ++ text) (ap text_after_space are ∙ digits_after_space bytes),
   wrote,
 )
-tells_reached old new (Refused count reply) bytes digits some are wrote = (
+reports_reached old new (Refused count reply) bytes digits some are wrote = (
   refusal_text reply count ++ text_after_space digits,
   ap (λ text. refusal_text reply count ++ text) (ap text_after_space are ∙ digits_after_space bytes),
   wrote,
 )
-tells_reached old new NoMemory bytes digits some are wrote = absurd (some refl)
+reports_reached old new NoMemory bytes digits some are wrote = absurd (some refl)
 
 -- a range was loaded
 pub load_answered : {D : Type 0} (disk : Ghosts D) (old new : Whole D) (before after : Notes) (p va count : ℕ)
     (bytes : List ℕ) (reached : Reached) (a b : Option (List ℕ))
     → MakesStepsThat disk old before (LoadsReached p va count bytes reached) new after
-    → ((answer : List ℕ) × TellsLoaded reached bytes answer × Appends a b (answer ++ 10 ∷ []))
+    → ((answer : List ℕ) × ReportsLoaded reached bytes answer × Appends a b (answer ++ 10 ∷ []))
     → MakesStepsThat disk old before (WritesAnswer before (asks_load p va count) a b) new after
 load_answered disk old new before after p va count bytes reached a b it wrote =
     record {
@@ -290,10 +290,10 @@ are_answered_then before [] text steps replies lines' text' steps' replies' (no-
     let here : AnswersLines before lines' text' steps' replies' = subst S no-replies later in
     subst P (sym no-text) (subst Q (sym no-steps) (subst R (sym no-replies) here))
 are_answered_then before (line ∷ lines) text steps replies lines' text' steps' replies'
-    (answer, rest, first, after, told, more, is, are, text-is, steps-are, replies-are) later =
+    (answer, rest, first, after, replied, more, is, are, text-is, steps-are, replies-are) later =
     let S : Notes → Type 0 = λ n. AnswersLines n lines' text' steps' replies' in
-    let noted : noted_all before replies ≡ noted_all (noted_all before told) more =
-    ap (noted_all before) replies-are ∙ noted_then before told more in (
+    let noted : noted_all before replies ≡ noted_all (noted_all before replied) more =
+    ap (noted_all before) replies-are ∙ noted_then before replied more in (
       answer,
       rest ++ text',
       first,
@@ -301,7 +301,7 @@ are_answered_then before (line ∷ lines) text steps replies lines' text' steps'
       replied,
       more ++ replies',
       is,
-      are_answered_then (noted_all before told) lines rest after more lines' text' steps' replies'
+      are_answered_then (noted_all before replied) lines rest after more lines' text' steps' replies'
           are (subst S noted later),
       ap (λ t. t ++ text') text-is ∙ append_assoc answer (10 ∷ rest) text',
       ap (λ s. s ++ steps') steps-are ∙ append_assoc first after steps',
@@ -384,10 +384,10 @@ pub line_flushed : {D S E F : Type 0} (disk : Ghosts D) (old new : Whole D) (bef
     → OnOk written (MakesStepsThat disk old before (WritesAnswerOf before line a b) new after)
     → IfOk flushed (λ more. (more ≡ true) × IsOk written × Keeps b c)
     → IfOk flushed (WritesNext disk old new before after input rest a c)
-line_flushed disk old new before after line input rest a b c written (Err cause) read told is = tt
-line_flushed disk old new before after line input rest a b c written (Ok more) read told (was, wrote, kept) =
+line_flushed disk old new before after line input rest a b c written (Err cause) read replied is = tt
+line_flushed disk old new before after line input rest a b c written (Ok more) read replied (was, wrote, kept) =
     subst (WritesNext disk old new before after input rest a c) (sym was)
-    (answers_one disk old new before after line input rest a b c read (on_ok_at written wrote told) kept)
+    (answers_one disk old new before after line input rest a b c read (on_ok_at written wrote replied) kept)
 
 pub bad_flushed : {D S E F : Type 0} (disk : Ghosts D) (old : Whole D) (before : Notes) (cause : RequestFault)
     (input rest a b c : Option (List ℕ)) (written : Result S E) (flushed : Result Bool F)
@@ -396,10 +396,10 @@ pub bad_flushed : {D S E F : Type 0} (disk : Ghosts D) (old : Whole D) (before :
     (¬ (IsMemory cause) × ((text : List ℕ) × HasNoFeed text × Appends a b (codes "badline " ++ text ++ 10 ∷ [])))
     → IfOk flushed (λ more. (more ≡ true) × IsOk written × Keeps b c)
     → IfOk flushed (WritesNext disk old old before before input rest a c)
-bad_flushed disk old before cause input rest a b c written (Err fault) read told is = tt
-bad_flushed disk old before cause input rest a b c written (Ok more) read told (was, wrote, kept) =
+bad_flushed disk old before cause input rest a b c written (Err fault) read replied is = tt
+bad_flushed disk old before cause input rest a b c written (Ok more) read replied (was, wrote, kept) =
     subst (WritesNext disk old old before before input rest a c) (sym was)
-    (answers_bad disk old before input rest a b c read (on_ok_at written wrote told).1 kept)
+    (answers_bad disk old before input rest a b c read (on_ok_at written wrote replied).1 kept)
 
 -- an answer that was flushed was of a line
 pub flushed_line : {S E F : Type 0} (b c : Option (List ℕ)) (written : Result S E) (flushed : Result Bool F)

@@ -6,7 +6,8 @@ use Rattle.machine.specs.declared.act.Act.TheVariants.{Load, Store, Fix, Reclaim
 use Rattle.machine.specs.declared.act.Reply.{Reply}
 use Rattle.machine.specs.declared.act.Reply.TheVariants.{Reclaimed, Kept, Refused}
 use Rattle.machine.specs.declared.act.Step.{Step}
-use Rattle.session.specs.Steps.{is_paging, Passes, AreEach, reports_acked, reports_fixed, reports_reclaim, reports_resumed}
+use Rattle.session.specs.Steps.{is_paging, Passes, AreEach, reports_acked}
+use Rattle.session.specs.Steps.{reports_fixed, reports_reclaim, reports_resumed}
 
 -- that an access met a page fault
 abbrev pub reports_fault : Reply → Bool

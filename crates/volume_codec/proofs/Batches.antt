@@ -10,7 +10,7 @@ use Rattle.volume_codec.specs.Layout.{journals_of, gate_block, descriptor_block,
 use Rattle.volume_codec.specs.Super.{SuperValue, IsSuper, block_count, geometry_of}
 use Rattle.volume_codec.specs.Descriptor.{DescriptorValue, IsDescriptor}
 use Rattle.volume_codec.specs.Recovery.{IsOpen, Batch, IsOpenBatch, AreFalling, has_journal, AreOpen, record_or}
-use Rattle.volume_codec.specs.Recovery.{standing_block, contents_in, files_in, IsVolume, Recovers, RecoversTo}
+use Rattle.volume_codec.specs.Recovery.{recovered_block, contents_in, files_in, IsVolume, Recovers, RecoversTo}
 use Rattle.volume_codec.proofs.Layouts.{gate_block-low, descriptor_block-low, record_block-low, first_home-within}
 use Rattle.volume_codec.proofs.Blocks.{length-block_at}
 use Rattle.volume_codec.proofs.Functional.{one_table, one_descriptor}
@@ -130,17 +130,17 @@ one_recovery bytes files others r s =
     ∙ ap (λ (v : SuperValue). files_in v s.contents) same.0 ∙ sym s.files_are
 
 -- what stands for a block of the volume lies within it
-pub standing_block-within : (g : GeometryValue) (bytes : List ℕ) (batches : List Batch) (b : ℕ) → IsGeometry g
-    → AllByRecursion (IsOpenBatch g bytes) batches → b < g.blocks → standing_block g.slots batches b < g.blocks
-standing_block-within g bytes [] b is each h = h
-standing_block-within g bytes (batch ∷ older) b is each h = by (record_or-cases (standing_block g.slots older b)
-    (record_block g.slots batch.journal 0) batch.homes b) (standing_block-within g bytes older b is each.1 h)
+pub recovered_block-within : (g : GeometryValue) (bytes : List ℕ) (batches : List Batch) (b : ℕ) → IsGeometry g
+    → AllByRecursion (IsOpenBatch g bytes) batches → b < g.blocks → recovered_block g.slots batches b < g.blocks
+recovered_block-within g bytes [] b is each h = h
+recovered_block-within g bytes (batch ∷ older) b is each h = by (record_or-cases (recovered_block g.slots older b)
+    (record_block g.slots batch.journal 0) batch.homes b) (recovered_block-within g bytes older b is each.1 h)
   where
-    by : ((i : ℕ) × (i < length batch.homes) × (get_or batch.homes i 0 ≡ b) × (record_or (standing_block g.slots older
+    by : ((i : ℕ) × (i < length batch.homes) × (get_or batch.homes i 0 ≡ b) × (record_or (recovered_block g.slots older
         b) (record_block g.slots batch.journal 0) batch.homes b ≡ record_block g.slots batch.journal 0 + i))
-        ⊎ (AllByRecursion (λ home. home ≢ b) batch.homes × (record_or (standing_block g.slots older b)
-        (record_block g.slots batch.journal 0) batch.homes b ≡ standing_block g.slots older b))
-        → standing_block g.slots older b < g.blocks → standing_block g.slots (batch ∷ older) b < g.blocks
+        ⊎ (AllByRecursion (λ home. home ≢ b) batch.homes × (record_or (recovered_block g.slots older b)
+        (record_block g.slots batch.journal 0) batch.homes b ≡ recovered_block g.slots older b))
+        → recovered_block g.slots older b < g.blocks → recovered_block g.slots (batch ∷ older) b < g.blocks
     by (inl at) rest =
         let few = each.0.descriptor.described.homes.few in
         let low = record_block-low g.layout g.slots batch.journal at.0 each.0.there (omega (arith, at.1)) in
@@ -151,9 +151,9 @@ standing_block-within g bytes (batch ∷ older) b is each h = by (record_or-case
 pub length-contents_in : (v : SuperValue) (batches : List Batch) (bytes : List ℕ) (b : ℕ) → IsVolume v batches bytes
     → b < block_count v → length (contents_in v.slots batches bytes b) ≡ 4096
 length-contents_in v batches bytes b is h =
-    let within = standing_block-within (geometry_of v) bytes batches b
+    let within = recovered_block-within (geometry_of v) bytes batches b
     (fits_geometry v is.super_block.fits) is.journals.each h in
-    length-block_at bytes (standing_block v.slots batches b) (omega (arith, is.long))
+    length-block_at bytes (recovered_block v.slots batches b) (omega (arith, is.long))
 
 pub length-recovered : (v : SuperValue) (contents : ℕ → List ℕ) (bytes : List ℕ) (b : ℕ) → Recovers v contents bytes
     → IsHome (geometry_of v) b → length (contents b) ≡ 4096
@@ -229,6 +229,6 @@ recovers_front v contents bytes other r e =
             ))
             r.volume.journals;
       };
-      contents_are = λ b home. r.contents_are b home ∙ sym (same (standing_block v.slots r.batches b)
-          (standing_block-within g bytes r.batches b is r.volume.journals.each home.high));
+      contents_are = λ b home. r.contents_are b home ∙ sym (same (recovered_block v.slots r.batches b)
+          (recovered_block-within g bytes r.batches b is r.volume.journals.each home.high));
     }

@@ -202,14 +202,14 @@ record_or-other other records (n ∷ ns) b h =
     ∙ record_or-other other (records + 1) ns b h.1
 
 -- record i of the newest batch stands for its home block
-pub standing_block-at : (slots low high : ℕ) (batch : Batch) (older : List Batch) (i : ℕ)
+pub recovered_block-at : (slots low high : ℕ) (batch : Batch) (older : List Batch) (i : ℕ)
     → RiseWithin low high batch.homes → i < length batch.homes
-    → standing_block slots (batch ∷ older) (get_or batch.homes i 0) ≡ record_block slots batch.journal i
-standing_block-at slots low high batch older i rise h = record_or-at (standing_block slots older
+    → recovered_block slots (batch ∷ older) (get_or batch.homes i 0) ≡ record_block slots batch.journal i
+recovered_block-at slots low high batch older i rise h = record_or-at (recovered_block slots older
     (get_or batch.homes i 0)) (record_block slots batch.journal 0) low high batch.homes i rise h ∙ omega arith
 
-pub standing_block-other : (slots b : ℕ) (batch : Batch) (older : List Batch)
+pub recovered_block-other : (slots b : ℕ) (batch : Batch) (older : List Batch)
     → AllByRecursion (λ home. home ≢ b) batch.homes
-    → standing_block slots (batch ∷ older) b ≡ standing_block slots older b
-standing_block-other slots b batch older h =
-    record_or-other (standing_block slots older b) (record_block slots batch.journal 0) batch.homes b h
+    → recovered_block slots (batch ∷ older) b ≡ recovered_block slots older b
+recovered_block-other slots b batch older h =
+    record_or-other (recovered_block slots older b) (record_block slots batch.journal 0) batch.homes b h

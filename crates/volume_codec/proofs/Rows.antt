@@ -25,25 +25,25 @@ abbrev pub row : {Z : Type 0} → String Z × Extent → TableFile
 row r = record { name = string_bytes r.0; capacity = r.1.capacity }
 
 -- the file at a place
-pub row_at : {Z : Type 0} (rows : List (String Z × Place)) (i : ℕ) (r : String Z × Place) → slice_get rows i ≡ Some r
+pub row_at : {Z : Type 0} (rows : List (String Z × Extent)) (i : ℕ) (r : String Z × Extent) → slice_get rows i ≡ Some r
     → slice_get (rows_of rows) i ≡ Some (row r)
 row_at rows i r e = slice_get-map row rows i ∙ ap (option_map row) e
 
-pub name_at_row : {Z : Type 0} (rows : List (String Z × Place)) (i : ℕ) (r : String Z × Place)
+pub name_at_row : {Z : Type 0} (rows : List (String Z × Extent)) (i : ℕ) (r : String Z × Extent)
     → slice_get rows i ≡ Some r → slice_get (map (λ (f : TableFile). f.name) (rows_of rows)) i ≡ Some (string_bytes r.0)
 name_at_row rows i r e = slice_get-map (λ (f : TableFile). f.name) (rows_of rows) i
     ∙ ap (option_map (λ (f : TableFile). f.name)) (row_at rows i r e)
 
-pub capacity_at_row : {Z : Type 0} (rows : List (String Z × Place)) (i : ℕ) (r : String Z × Place)
+pub capacity_at_row : {Z : Type 0} (rows : List (String Z × Extent)) (i : ℕ) (r : String Z × Extent)
     → slice_get rows i ≡ Some r → slice_get (map (λ (f : TableFile). f.capacity) (rows_of rows)) i ≡ Some r.1.capacity
 capacity_at_row rows i r e = slice_get-map (λ (f : TableFile). f.capacity) (rows_of rows) i
     ∙ ap (option_map (λ (f : TableFile). f.capacity)) (row_at rows i r e)
 
 -- the first home block at a place
-pub home_at_row : {Z : Type 0} (rows : List (String Z × Place)) (i : ℕ) (r : String Z × Place)
+pub home_at_row : {Z : Type 0} (rows : List (String Z × Extent)) (i : ℕ) (r : String Z × Extent)
     → slice_get rows i ≡ Some r → slice_get (homes_of rows) i ≡ Some r.1.first_home
-home_at_row {Z} rows i r e = slice_get-map (λ (row : String Z × Place). row.1.first_home) rows i
-    ∙ ap (option_map (λ (row : String Z × Place). row.1.first_home)) e
+home_at_row {Z} rows i r e = slice_get-map (λ (row : String Z × Extent). row.1.first_home) rows i
+    ∙ ap (option_map (λ (row : String Z × Extent). row.1.first_home)) e
 
 -- the number at a place
 pub index_by_get : (xs : List ℕ) (i x : ℕ) → slice_get xs i ≡ Some x → slice_index xs i ≡ x
@@ -52,17 +52,17 @@ index_by_get (y ∷ ys) zero x e = cc
 index_by_get (y ∷ ys) (suc i) x e = index_by_get ys i x e
 
 -- a name that none of the files has isn't found
-pub absent : {Z S : Type 0} (m : HashMap (String Z) Place S) (key : String Z)
+pub absent : {Z S : Type 0} (m : HashMap (String Z) Extent S) (key : String Z)
     → AllByRecursion (λ name. name ≢ string_bytes key) (map (λ (f : TableFile). f.name) (rows_of m.entries))
     → get string_eq m key ≡ None
 absent {Z} m key = go m.entries
   where
-    tested : (e : String Z × Place) (b : Bool) (found : Option Place) → string_eq key e.0 ≡ b
+    tested : (e : String Z × Extent) (b : Bool) (found : Option Extent) → string_eq key e.0 ≡ b
         → string_bytes e.0 ≢ string_bytes key → found ≡ None → cond b (Some e.1) found ≡ None
     tested e true found is ne h = absurd (ne (sym ((bytes_eq-Decides (string_bytes key) (string_bytes e.0)).0 is)))
     tested e false found is ne h = h
 
-    go : (rows : List (String Z × Place))
+    go : (rows : List (String Z × Extent))
         → AllByRecursion (λ name. name ≢ string_bytes key) (map (λ (f : TableFile). f.name) (rows_of rows))
         → lookup (string_eq key) rows ≡ None
     go [] h = refl
@@ -83,14 +83,14 @@ distinct_before (n ∷ ns) (suc i) d h distinct =
     at (m ∷ ms) (suc k) l all = at ms k (omega arith) all.1
 
 -- the files of the map after a new one is inserted
-pub rows_of-new : {Z S : Type 0} (m : HashMap (String Z) Place S) (key : String Z) (place : Place)
+pub rows_of-new : {Z S : Type 0} (m : HashMap (String Z) Extent S) (key : String Z) (place : Extent)
     → AllByRecursion (λ name. name ≢ string_bytes key) (map (λ (f : TableFile). f.name) (rows_of m.entries))
     → insert_entry string_eq m.entries key place ≡ m.entries ++ (key, place) ∷ []
 rows_of-new m key place free = insert_entry-new string_eq m key place (absent m key free)
 
 -- one more of the files that a caller asks for
-pub rows_of-more : {Z S : Type 0} (m : HashMap (String Z) Place S) (key : String Z) (place : Place)
-    (new : List (String Z × Place)) (files : List FileSpec) (i : ℕ) (d : FileSpec) → i < length files
+pub rows_of-more : {Z S : Type 0} (m : HashMap (String Z) Extent S) (key : String Z) (place : Extent)
+    (new : List (String Z × Extent)) (files : List FileSpec) (i : ℕ) (d : FileSpec) → i < length files
     → AreDistinct (names_of files) → rows_of m.entries ≡ files_asked_for (take i files)
     → string_bytes key ≡ (get_or files i d).name.now → new ≡ insert_entry string_eq m.entries key place
     → new ≡ m.entries ++ (key, place) ∷ []
@@ -105,7 +105,7 @@ rows_of-more m key place new files i d h distinct done named is =
     let free = subst Q (sym same) (subst P (there ∙ sym named) before) in
     is ∙ rows_of-new m key place free
 
-pub rows_more : {Z : Type 0} (old new : List (String Z × Place)) (key : String Z) (place : Place)
+pub rows_more : {Z : Type 0} (old new : List (String Z × Extent)) (key : String Z) (place : Extent)
     (files : List FileSpec) (i : ℕ) (d : FileSpec) → i < length files
     → new ≡ old ++ (key, place) ∷ [] → rows_of old ≡ files_asked_for (take i files)
     → string_bytes key ≡ (get_or files i d).name.now → place.capacity ≡ (get_or files i d).capacity
@@ -118,14 +118,14 @@ rows_more old new key place files i d h is done named sized =
     ∙ ap (λ (n : ℕ). files_asked_for (take i files) ++ (let r : TableFile =
     record { name = f.name.now; capacity = n } in r) ∷ []) sized ∙ sym (map_more file_of files i d h)
 
-pub homes_more : {Z : Type 0} (old new : List (String Z × Place)) (key : String Z) (place : Place)
+pub homes_more : {Z : Type 0} (old new : List (String Z × Extent)) (key : String Z) (place : Extent)
     (files : List FileSpec) (i first : ℕ) (d : FileSpec) → i < length files
     → new ≡ old ++ (key, place) ∷ [] → homes_of old ≡ homes_from first (files_asked_for (take i files))
     → string_bytes key ≡ (get_or files i d).name.now
     → place.first_home ≡ first + total_pages (files_asked_for (take i files))
     → homes_of new ≡ homes_from first (files_asked_for (take (i + 1) files))
 homes_more {Z} old new key place files i first d h is done named at =
-    ap homes_of is ∙ map_push (λ (row : String Z × Place). row.1.first_home) old (key, place)
+    ap homes_of is ∙ map_push (λ (row : String Z × Extent). row.1.first_home) old (key, place)
     ∙ ap (λ (hs : List ℕ). hs ++ place.first_home ∷ []) done
     ∙ ap (λ n. homes_from first (files_asked_for (take i files)) ++ n ∷ []) at
     ∙ sym (homes_from-push first (files_asked_for (take i files)) (file_of (get_or files i d)))

@@ -68,7 +68,7 @@ module _ (s : State) (sound : IsSound s) where
       → (s.write_outs.broken ≡ false → s.write_outs.batches ≡ [] → (outs.broken ≡ false) × (outs.batches ≡ []))
       → AreSpacesSound
       (record s { hardware = record s.hardware { memory = memory }; checkpoint = checkpoint; write_outs = outs })
-  stepped_spaces memory checkpoint outs same free settled =
+  stepped_spaces memory checkpoint outs same free quiescent =
       spaces_stay sound.spaces (λ lock held. prepared_moved s (record s {
         hardware = record s.hardware { memory = memory };
         checkpoint = checkpoint;
@@ -80,7 +80,7 @@ module _ (s : State) (sound : IsSound s) where
         in_memory = λ owner there.
             ap (λ (frames : List (Option Frame)). list_any (is_of_page owner) frames) same ∙ there;
         lengths = refl;
-        settled = settled;
+        quiescent = quiescent;
         room = ap (λ (frames : List (Option Frame)). count_by is_none frames) same;
         marks = refl;
         free = free;

@@ -3,7 +3,7 @@ use Rattle.std.proofs.lemmas.List.{map-append}
 use Rattle.volume_codec.specs.Files.{File}
 use Rattle.recovery.specs.Volume.{files_of, bytes_of}
 use Rattle.crash_table.specs.inside.Kept.{contents_of}
-use Rattle.crash_table.proofs.Reading.{lengths_of_settled, lengths_after_reading, files_read}
+use Rattle.crash_table.proofs.Reading.{lengths_of_well_formed, lengths_after_reading, files_read}
 use Rattle.crash_table.proofs.Reading.{read_then, as_many_files, bytes_more, all_bytes}
 use Rattle.crash_table.proofs.files.read_files.Goals as goal
 
@@ -12,7 +12,7 @@ read_file-requires-clause-files g c = λ honest.
     let before = c.loop-file.invariant in
     let first = before.0.honest.0 honest in
     lengths_after_reading g.D.Device c.args.volume.now c.loop-file.volume before.0 first
-    (lengths_of_settled g.D.Device c.args.volume.now c.requires first)
+    (lengths_of_well_formed g.D.Device c.args.volume.now c.requires first)
 
 pub loop-file-preserved : goal.loop-file-preserved
 loop-file-preserved g c =

@@ -13,7 +13,7 @@ returns-then-begins_with-clause-value g c = λ older rise other.
     let law = c.recovered_from.ensures.record_of_newest geometry.slots
     (first_home geometry.layout geometry.slots) geometry.blocks batch older 0 rise here.0 in
     c.record_block.ensures.value ∙ sym law
-    ∙ ap (standing_block geometry.slots (batch ∷ older)) (here.1 ∙ c.first_home.ensures.value)
+    ∙ ap (recovered_block geometry.slots (batch ∷ older)) (here.1 ∙ c.first_home.ensures.value)
 
 pub returns-else-begins_with-clause-value : goal.returns-else-begins_with-clause-value
 returns-else-begins_with-clause-value g c = λ older rise other.

@@ -4,7 +4,7 @@ use Rattle.std.specs.Io.KnownBytes.{Appends}
 use Rattle.volume_codec.specs.Files.{File}
 use Rattle.recovery.specs.Volume.{files_of}
 use Rattle.inspection.specs.Lines.{files_json}
-use Rattle.inspection.proofs.Printed.{files_of_settled, files_after_reading, files_read}
+use Rattle.inspection.proofs.Printed.{files_of_well_formed, files_after_reading, files_read}
 use Rattle.inspection.proofs.Printed.{volume_read_then, file_more, as_many_files, some_at}
 use Rattle.inspection.proofs.lines.write_files.Goals as goal
 
@@ -13,7 +13,7 @@ write_file-requires-clause-files g c = λ honest.
     let before = c.loop-file.invariant in
     let first = before.0.honest.0 honest in
     files_after_reading g.D.Device c.args.volume.now c.loop-file.volume before.0 first
-    (files_of_settled g.D.Device c.args.volume.now c.file_count-file-end.ensures.settled first)
+    (files_of_well_formed g.D.Device c.args.volume.now c.file_count-file-end.ensures.well_formed first)
 
 pub loop-file-preserved : goal.loop-file-preserved
 loop-file-preserved g c =

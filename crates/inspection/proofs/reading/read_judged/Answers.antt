@@ -7,7 +7,7 @@ pub returns-then-is_same_mark-clause-refused : goal.returns-then-is_same_mark-cl
 returns-then-is_same_mark-clause-refused g c = λ honest.
     let seen = g.D.Device.seen c.args.device.now in
     let journals = c.in_ok-journals.journals.items in
-    let says = says_of c.args.geometry.now seen journals (c.in_ok-journals.ensures.say honest) in
+    let says = describes_of c.args.geometry.now seen journals (c.in_ok-journals.ensures.say honest) in
     one_mark c.args.geometry.now seen (descriptor_at 0 journals)
     (descriptor_at 1 journals) c.slots.ensures.geometry says.0 says.1
     (sym (marks_as c.deref.ensures.value c.deref-2.ensures.value c.descriptor_of.ensures.is c.descriptor_of-2.ensures.is

@@ -39,7 +39,7 @@ pub returns-clause-emptied : goal.returns-clause-emptied
 returns-clause-emptied g c = λ honest.
     let same = ap (λ n. asked_by (take n c.specs_of-specs.result)) c.file_count.ensures.value
     ∙ c.specs_of-specs.ensures.specs in
-    laid_again g.D.Device c.args.old.now c.specs_of-specs.ensures.settled _ c.in_ok-table.table _ same
+    laid_again g.D.Device c.args.old.now c.specs_of-specs.ensures.well_formed _ c.in_ok-table.table _ same
     (c.in_ok-lay_out.ensures.emptied honest)
 
 pub returns-clause-torn : goal.returns-clause-torn

@@ -31,9 +31,9 @@ loop-at-preserved g c =
           let seen = g.D.Device.seen old.device in
           let bytes = bytes_of (files_of old.table seen) c.args.file in
           let ready = copies_honest i.copies in
-          let rest = c.lengths.ensures.settled.at_rest honest in
-          let long = length_of_bytes old.table old.lengths c.lengths.ensures.settled.lengths seen c.args.file
-          c.requires.there rest.lengths_are c.lengths.ensures.settled.long in
+          let rest = c.lengths.ensures.well_formed.at_rest honest in
+          let long = length_of_bytes old.table old.lengths c.lengths.ensures.well_formed.lengths seen c.args.file
+          c.requires.there rest.lengths_are c.lengths.ensures.well_formed.long in
           let step = c.in_ok-copy_piece.ensures.copied (ready.0 honest) (ready.1 other)
           ∙ ap (λ files. written (g.E.Device.seen c.loop-at.new) (c.args.to + c.loop-at.at) (slice_range (bytes_of files
           c.args.file) c.loop-at.at (c.loop-at.at + c.min-piece.result))) (files_stay i.copies honest) in
@@ -62,9 +62,10 @@ returns-clause-copied g c = λ honest other.
     let old = c.args.old.now in
     let seen = g.D.Device.seen old.device in
     let bytes = bytes_of (files_of old.table seen) c.args.file in
-    let rest = c.lengths.ensures.settled.at_rest honest in
-    let long = length_of_bytes old.table old.lengths c.lengths.ensures.settled.lengths seen c.args.file c.requires.there
-    rest.lengths_are c.lengths.ensures.settled.long in
+    let rest = c.lengths.ensures.well_formed.at_rest honest in
+    let long =
+    length_of_bytes old.table old.lengths c.lengths.ensures.well_formed.lengths seen c.args.file c.requires.there
+    rest.lengths_are c.lengths.ensures.well_formed.long in
     let sized : get_or c.lengths.result.now c.args.file 0 ≡ slice_index c.args.old.now.lengths c.args.file =
     ap (λ (l : List ℕ). slice_index l c.args.file) c.lengths.ensures.lengths in
     let end : length bytes ≤ c.loop-at.at = omega (arith, long, sized, i.high, c.loop-at-test.false) in

@@ -76,8 +76,8 @@ loop-file-preserved g c =
           let seen = g.D.Device.seen old.device in
           let well_formed = c.file_count-file-end.ensures.well_formed in
           let ready = copies_honest i.copies in
-          let size = length_of_bytes old.table old.lengths settled.lengths seen file
-          (omega (arith, there, c.requires.same)) (settled.at_rest honest).lengths_are settled.long in
+          let size = length_of_bytes old.table old.lengths well_formed.lengths seen file
+          (omega (arith, there, c.requires.same)) (well_formed.at_rest honest).lengths_are well_formed.long in
           let is = c.in_ok-copy_file.ensures.copied (ready.0 honest) (ready.1 other)
           ∙ ap (λ (files : List File). written (g.E.Device.seen c.loop-file.new) (4096 * c.from-home.result)
           (bytes_of files file)) (files_stay i.copies honest) in

@@ -17,11 +17,11 @@ use Rattle.recovery.proofs.Migrated.{time_of_filling, asked_files, asked_lengths
 use Rattle.recovery.proofs.migration.migrate.Goals as goal
 
 pub copy_files-requires-clause-same : goal.copy_files-requires-clause-same
-copy_files-requires-clause-same g c = ap length (asked_files g.D.Device c.args.old.now c.in_ok-table.ensures.settled
+copy_files-requires-clause-same g c = ap length (asked_files g.D.Device c.args.old.now c.in_ok-table.ensures.well_formed
     c.args.slots c.in_ok-table.table c.in_ok-table.ensures.ok.asked)
 
 pub copy_files-requires-clause-lengths : goal.copy_files-requires-clause-lengths
-copy_files-requires-clause-lengths g c = asked_lengths_are g.D.Device c.args.old.now c.in_ok-table.ensures.settled
+copy_files-requires-clause-lengths g c = asked_lengths_are g.D.Device c.args.old.now c.in_ok-table.ensures.well_formed
     c.args.slots c.in_ok-table.table c.in_ok-table.ensures.ok.asked
 
 pub copy_files-requires-clause-fits : goal.copy_files-requires-clause-fits
@@ -130,7 +130,7 @@ returns-clause-migrated g c = λ honest other.
     (λ (both : (seen c.finish.new.device ≡ written (seen c.copy_files.new.new) 0 (super_text c.in_ok-table.table))
     × Only (g.E.Device.may_leave c.finish.new.device) (seen c.finish.new.device)).
     migrated g.D.Device g.E.Device c.args.slots c.args.old.now c.args.new.now c.begin.new.new c.copy_files.new.new
-    c.finish.new.device c.in_ok-table.table laid.ok laid.settled honest
+    c.finish.new.device c.in_ok-table.table laid.ok laid.well_formed honest
     (laid.emptied other) (laid.torn other c.in_ok-table.table laid.ok.asked) (copies.torn other_1)
     (c.in_ok-copy_files.ensures.copied honest other_1) both.0 both.1)
     (both_ok _ _ c.finish.result (finishes.done other_2) (finishes.synced other_2))
@@ -152,5 +152,5 @@ returns-clause-crash g c = λ honest.
     let honest_1 = laid.kept.honest.1 honest in
     time_of_filling g.D.Device g.E.Device c.args.slots c.args.old.now c.args.new.now c.begin.new.new c.in_ok-table.table
     laid.ok laid.time laid.left copies
-    laid.settled (laid.emptied honest) (λ on_volume. c.in_ok-copy_files.ensures.copied on_volume honest_1) honest_1
+    laid.well_formed (laid.emptied honest) (λ on_volume. c.in_ok-copy_files.ensures.copied on_volume honest_1) honest_1
     ((copies_honest copies).1 honest_1) c.finish.ensures.finishes

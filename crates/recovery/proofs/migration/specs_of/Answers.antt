@@ -14,5 +14,5 @@ loop-file-preserved g c =
 pub returns-clause-specs : goal.returns-clause-specs
 returns-clause-specs g c =
     specs_all c.loop-file.specs c.args.volume.now.table.files c.args.volume.now.lengths c.loop-file.file
-    c.file_count-file-end.ensures.settled.lengths.count
+    c.file_count-file-end.ensures.well_formed.lengths.count
     (omega (arith, c.loop-file-test.false)) c.loop-file.invariant.written

@@ -24,7 +24,7 @@ returns-in_err-lengths-clause-refused g c = λ honest volume.
     let block = ap (λ (h : GeometryValue). lengths_blocks h.layout) c.geometry-geometry.ensures.value in
     let some : 0 < lengths_blocks c.args.table.now.layout =
     omega (arith, block, ap lengths_blocks c.layout.ensures.value, c.lengths_blocks.ensures.value) in
-    let at = c.standing_first.ensures.value ∙ ap (λ (h : GeometryValue). standing_block h.slots
+    let at = c.recovered_first.ensures.value ∙ ap (λ (h : GeometryValue). recovered_block h.slots
     (batches_of c.args.found.now) (first_home h.layout h.slots)) c.geometry-geometry.ensures.value in
     rw (p.1, p.2) (refuses_stored c.args.table.now (batches_of c.args.found.now) _ _ _
     (omega (arith, c.requires.long)) some at volume (c.in_err-lengths.ensures.refused honest))
@@ -46,7 +46,7 @@ returns-clause-lengths g c = λ honest.
     let block = ap (λ (h : GeometryValue). lengths_blocks h.layout) c.geometry-geometry.ensures.value in
     let some : 0 < lengths_blocks c.args.table.now.layout =
     omega (arith, block, ap lengths_blocks c.layout.ensures.value, c.lengths_blocks.ensures.value) in
-    let at = c.standing_first.ensures.value ∙ ap (λ (h : GeometryValue). standing_block h.slots
+    let at = c.recovered_first.ensures.value ∙ ap (λ (h : GeometryValue). recovered_block h.slots
     (batches_of c.args.found.now) (first_home h.layout h.slots)) c.geometry-geometry.ensures.value in
     found_said c.args.table.now (batches_of c.args.found.now) _ _ _ c.geometry-geometry.ensures.fits some at
     (c.in_ok-lengths.ensures.said honest)

@@ -94,7 +94,7 @@ pub returns-clause-well_formed : goal.returns-clause-well_formed
 returns-clause-well_formed g c =
     let e = c.in_ok-table.ensures in
     let f = c.in_ok-carry_out_all.ensures in
-    is_settled g.D.Device c.args.device.now c.carry_out_all.new.device c.in_ok-table.table
+    is_well_formed g.D.Device c.args.device.now c.carry_out_all.new.device c.in_ok-table.table
     (batches_of c.in_ok-table.found.items) c.in_ok-table.lengths.items e.fits
     (omega (arith, e.long, e.kept.len, f.kept.len)) e.are e.fixed
     (λ honest. let was = (kept_then e.kept f.kept).honest.0 honest in (held g c was, e.lengths was))

@@ -22,9 +22,9 @@ returns-then-begins_with-clause-value g c =
     let is = (batch_next c.args.geometry.now c.args.found.now c.loop-newest.newest-index c.newest-item.result
     (omega arith) c.newest-item.is c.loop-newest.invariant.carry).0 in
     c.record_block.ensures.value
-    ∙ standing_here c.args.geometry.now c.args.found.now c.loop-newest.newest-index c.newest-item.result (omega arith)
+    ∙ recovered_here c.args.geometry.now c.args.found.now c.loop-newest.newest-index c.newest-item.result (omega arith)
     c.newest-item.is is (c.begins_with.ensures.0 c.if-begins_with.true ∙ c.first_home-home.ensures.value)
-    ∙ c.loop-newest.invariant.stands
+    ∙ c.loop-newest.invariant.recovered
 
 pub returns-then-begins_with-clause-within : goal.returns-then-begins_with-clause-within
 returns-then-begins_with-clause-within g c =
@@ -35,18 +35,18 @@ loop-newest-preserved g c =
     let next = batch_next c.args.geometry.now c.args.found.now c.loop-newest.newest-index c.newest-item.result
     (omega arith) c.newest-item.is c.loop-newest.invariant.carry in
     record {
-      stands = standing_past c.args.geometry.now c.args.found.now c.loop-newest.newest-index c.newest-item.result
+      recovered = recovered_past c.args.geometry.now c.args.found.now c.loop-newest.newest-index c.newest-item.result
           (omega arith) c.newest-item.is next.0
           (λ same. true≢false (sym (c.begins_with.ensures.1 (same ∙ sym c.first_home-home.ensures.value))
           ∙ c.if-begins_with.false))
-          ∙ c.loop-newest.invariant.stands;
+          ∙ c.loop-newest.invariant.recovered;
       carry = next.1;
     }
 
 pub returns-clause-value : goal.returns-clause-value
 returns-clause-value g c =
-    c.first_home-home.ensures.value ∙ standing_none c.args.geometry.now c.args.found.now c.loop-newest.newest-index
-    (omega arith) ∙ c.loop-newest.invariant.stands
+    c.first_home-home.ensures.value ∙ recovered_none c.args.geometry.now c.args.found.now c.loop-newest.newest-index
+    (omega arith) ∙ c.loop-newest.invariant.recovered
 
 pub returns-clause-within : goal.returns-clause-within
 returns-clause-within g c = omega (

@@ -8,8 +8,8 @@ use Rattle.recovery.proofs.opening.recovered_first.Given as goal
 
 abbrev pub invariant-loop-newest : goal.invariant-loop-newest
 invariant-loop-newest g l = record {
-  stands : standing_block l.geometry.slots (batches_of (drop l.newest-index l.found))
+  recovered : recovered_block l.geometry.slots (batches_of (drop l.newest-index l.found))
       (first_home l.geometry.layout l.geometry.slots)
-      ≡ standing_block l.geometry.slots (batches_of l.found) (first_home l.geometry.layout l.geometry.slots);
+      ≡ recovered_block l.geometry.slots (batches_of l.found) (first_home l.geometry.layout l.geometry.slots);
   carry : AllByRecursion (IsBatch l.geometry) (batches_of (drop l.newest-index l.found));
 }

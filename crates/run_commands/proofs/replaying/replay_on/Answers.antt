@@ -3,8 +3,8 @@ use Rattle.std.proofs.lemmas.List.{length-map}
 use Rattle.engine.specs.Listening.{HasListened}
 use Rattle.traces.specs.declared.line.Line.{Line}
 use Rattle.run_commands.specs.declared.replaying.Comparer.{Comparer}
-use Rattle.run_commands.specs.inside.Replay.{texts_of, verdict_by, Says, Compares}
-use Rattle.run_commands.proofs.Comparing.{verdict_says, said_so}
+use Rattle.run_commands.specs.inside.Replay.{texts_of, verdict_by, IsVerdict, Compares}
+use Rattle.run_commands.proofs.Comparing.{verdict_follows, said_so}
 use Rattle.run_commands.proofs.replaying.replay_on.Goals as goal
 
 pub returns-in-Ok-clause-ran : goal.returns-in-Ok-clause-ran
@@ -19,11 +19,11 @@ returns-in-Ok-clause-ran g c =
     ap length c.requires ∙ length-map lines (λ line. line.step) ∙ ap length (sym same) in
     let heard : HasListened Compares (length old.entries.now) old ran.0 new =
     subst (λ n. HasListened Compares n old ran.0 new) count ran.1 in
-    let says = verdict_says old ran.0 new (ap (λ (o : Comparer). o.same) made)
+    let says = verdict_follows old ran.0 new (ap (λ (o : Comparer). o.same) made)
     (ap (λ (o : Comparer). o.differs) made) (ap (λ (o : Comparer). o.refused) made) heard in
     let verdict = verdict_by new.refused new.differs new.same in (
       ran.0,
       ran.2,
-      said_so c.verdict.result verdict (Says (texts_of lines) ran.0) c.verdict.ensures
-          (subst (λ (entries : List Line). IfSome verdict (Says (texts_of entries) ran.0)) same says),
+      said_so c.verdict.result verdict (IsVerdict (texts_of lines) ran.0) c.verdict.ensures
+          (subst (λ (entries : List Line). IfSome verdict (IsVerdict (texts_of entries) ran.0)) same says),
     )

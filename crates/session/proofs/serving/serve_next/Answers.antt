@@ -36,17 +36,18 @@ returns-in-Ok-Long-clause-answered g c =
     let input = g.I.Read.remaining c.args.input.now in
     let rest = g.I.Read.remaining c.read_line.new.input in
     let given = c.read_line.new.line.items in
-    let read = subst (λ (found : Line). ReadsLine input rest found given) c.in-Ok-Long.field-0-is c.in-Ok-Long.ensures in
+    let read =
+    subst (λ (found : Line). ReadsLine input rest found given) c.in-Ok-Long.field-0-is c.in-Ok-Long.ensures in
     let contents = g.W.Write.contents in
-    bad_flushed g.D.Device _ _ (Long 262144) input rest (contents c.args.out.now) (contents c.write_bad-told.new.out)
-    (contents c.flushed.new.out) c.write_bad-told.result c.flushed.result (reads_too_long input rest told read)
-    c.write_bad-told.ensures c.flushed.ensures
+    bad_flushed g.D.Device _ _ (Long 262144) input rest (contents c.args.out.now) (contents c.write_bad-given.new.out)
+    (contents c.flushed.new.out) c.write_bad-given.result c.flushed.result (reads_too_long input rest given read)
+    c.write_bad-given.ensures c.flushed.ensures
 
 pub returns-in-Ok-Long-clause-end : goal.returns-in-Ok-Long-clause-end
 returns-in-Ok-Long-clause-end g c =
     let contents = g.W.Write.contents in
-    λ none. absurd (flushed_line (contents c.write_bad-told.new.out)
-    (contents c.flushed.new.out) c.write_bad-told.result c.flushed.result c.flushed.ensures none)
+    λ none. absurd (flushed_line (contents c.write_bad-given.new.out)
+    (contents c.flushed.new.out) c.write_bad-given.result c.flushed.result c.flushed.ensures none)
 
 pub returns-in-Ok-Whole-clause-made : goal.returns-in-Ok-Whole-clause-made
 returns-in-Ok-Whole-clause-made g c = made_does g.D.Device _ _ _ _ _ c.serve_line-served.ensures.served
@@ -55,11 +56,11 @@ pub returns-in-Ok-Whole-clause-answered : goal.returns-in-Ok-Whole-clause-answer
 returns-in-Ok-Whole-clause-answered g c =
     let input = g.I.Read.remaining c.args.input.now in
     let rest = g.I.Read.remaining c.read_line.new.input in
-    let told = c.read_line.new.line.items in
+    let given = c.read_line.new.line.items in
     let read =
-    subst (λ (found : Line). ReadsLine input rest found told) c.in-Ok-Whole.field-0-is c.in-Ok-Whole.ensures in
+    subst (λ (found : Line). ReadsLine input rest found given) c.in-Ok-Whole.field-0-is c.in-Ok-Whole.ensures in
     let given = subst (λ (line : List ℕ). ReadsLines input rest (Some line ∷ [])) (sym c.deref.ensures.value)
-    (reads_one input rest told read) in
+    (reads_one input rest given read) in
     let contents = g.W.Write.contents in
     line_flushed g.D.Device _ _ _ _ c.deref.result.now input rest (contents c.args.out.now)
     (contents c.serve_line-served.new.out)

@@ -4,8 +4,8 @@ use Rattle.volume_codec.proofs.laws.recovered_from.Goals as goal
 
 pub returns : goal.returns
 returns c = record {
-  record_of_newest = standing_block-at;
-  no_record = standing_block-other;
+  record_of_newest = recovered_block-at;
+  no_record = recovered_block-other;
   within = recovers_front;
   whole = length-recovered;
 }

@@ -3,4 +3,4 @@ use Rattle.volume_files.proofs.copying.copy_named.Goals as goal
 
 pub copy_found-requires-clause-files : goal.copy_found-requires-clause-files
 copy_found-requires-clause-files g c =
-    λ honest. files_of_settled g.D.Device c.args.volume.now c.find.ensures.settled honest
+    λ honest. files_of_well_formed g.D.Device c.args.volume.now c.find.ensures.well_formed honest

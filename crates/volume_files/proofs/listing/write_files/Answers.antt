@@ -5,7 +5,7 @@ use Rattle.volume_codec.specs.Files.{File}
 use Rattle.recovery.specs.Volume.{files_of}
 use Rattle.recovery.proofs.FileBytes.{some_at}
 use Rattle.volume_files.specs.Dump.{dump_text}
-use Rattle.volume_files.proofs.Dumped.{files_of_settled, files_after_reading}
+use Rattle.volume_files.proofs.Dumped.{files_of_well_formed, files_after_reading}
 use Rattle.volume_files.proofs.Dumped.{files_read, read_then, file_more, as_many_files}
 use Rattle.volume_files.proofs.listing.write_files.Goals as goal
 
@@ -14,7 +14,7 @@ write_file-requires-clause-files g c = λ honest.
     let before = c.loop-file.invariant in
     let first = before.0.honest.0 honest in
     files_after_reading g.D.Device c.args.volume.now c.loop-file.volume before.0 first
-    (files_of_settled g.D.Device c.args.volume.now c.file_count-file-end.ensures.settled first)
+    (files_of_well_formed g.D.Device c.args.volume.now c.file_count-file-end.ensures.well_formed first)
 
 pub loop-file-preserved : goal.loop-file-preserved
 loop-file-preserved g c =

@@ -1,6 +1,6 @@
 use Rattle.std.proofs.Common.{sym}
 use Rattle.session.proofs.Phases.{access_keeps, keeps_then}
-use Rattle.session.proofs.Rooms.{access_aside, access_at, access_loads, access_own}
+use Rattle.session.proofs.Rooms.{access_paging, access_at, access_loads, access_own}
 use Rattle.session.proofs.Rooms.{answered_no_fault, answers_served, stops_unserved}
 use Rattle.session.proofs.Stretches.{answers_one}
 use Rattle.session.proofs.requests.Requests.access.Goals as goal
@@ -15,7 +15,7 @@ pub returns-then-not-is_fixed-clause-err : goal.returns-then-not-is_fixed-clause
 returns-then-not-is_fixed-clause-err g c =
     let fault = sym c.if-not-is_fault.ensures in
     stops_unserved g.D.Device _ _ _ _ _ _ _ c.args.va _ _ (
-      access_aside c.args.va c.args.write _ _ c.requires fault,
+      access_paging c.args.va c.args.write _ _ c.requires fault,
       access_own c.args.va c.args.write c.args.step.now.p c.args.step.now.act c.requires,
     ) (access_at c.args.va c.args.write _ c.requires) fault c.make-reply.ensures
     (c.fix-fixed.ensures.ends (sym c.if-not-is_fixed.ensures))
@@ -23,7 +23,7 @@ returns-then-not-is_fixed-clause-err g c =
 pub returns-clause-ok : goal.returns-clause-ok
 returns-clause-ok g c =
     answers_served g.D.Device _ _ _ _ _ _ _ _ c.args.va c.args.write _ _ _ (
-      access_aside c.args.va c.args.write _ _ c.requires (sym c.if-not-is_fault.ensures),
+      access_paging c.args.va c.args.write _ _ c.requires (sym c.if-not-is_fault.ensures),
       access_own c.args.va c.args.write c.args.step.now.p c.args.step.now.act c.requires,
     ) c.make-reply.ensures
     (c.fix-fixed.ensures.served (sym c.if-not-is_fixed.ensures)) c.make-last.ensures

@@ -41,7 +41,7 @@ returns-then-not-make_room-clause-attempts g c =
 
 pub returns-then-not-make_room-clause-held : goal.returns-then-not-make_room-clause-held
 returns-then-not-make_room-clause-held g c =
-    λ is. absurd (false≢true (ap tells_begun (sym (c.if-not-is_no_frame.ensures.0 refl)) ∙ is))
+    λ is. absurd (false≢true (ap reports_begun (sym (c.if-not-is_no_frame.ensures.0 refl)) ∙ is))
 
 pub returns-then-not-make_room-clause-phases : goal.returns-then-not-make_room-clause-phases
 returns-then-not-make_room-clause-phases g c = λ not. keeps_then _ _ _ (keeps_then _ _ _ c.loop.invariant.1
@@ -53,11 +53,11 @@ loop-preserved g c =
     let file = c.args.file in
     let to = c.args.length in
     let vain = does_one g.D.Device _ _ _ _ _ _ _
-    (tries_one p file to _ (ap tells_later (c.if-not-is_no_frame.ensures.0 refl))) c.make-begun.ensures in
+    (tries_one p file to _ (ap reports_later (c.if-not-is_no_frame.ensures.0 refl))) c.make-begun.ensures in
     let room = does_more g.D.Device _ _ _ _ _ _ (λ steps replies room.
-    tries_aside p file to steps replies (are_aside p steps replies room.0)) c.if-not-make_room.ensures.room in
+    tries_paging p file to steps replies (are_paging p steps replies room.0)) c.if-not-make_room.ensures.room in
     let kept = keeps_then _ _ _ (keeps_then _ _ _ c.loop.invariant.1 (lengths_keep g.D.Device _ _ _ _ _ _ _ _ (ap
-    tells_begun (c.if-not-is_no_frame.ensures.0 refl)) c.make-begun.ensures)) c.if-not-make_room.ensures.phases in (
+    reports_begun (c.if-not-is_no_frame.ensures.0 refl)) c.make-begun.ensures)) c.if-not-make_room.ensures.phases in (
       does_then g.D.Device _ _ _ _ _ _ _ _ _ (each_then (IsTry p file to))
           (does_then g.D.Device _ _ _ _ _ _ _ _ _ (each_then (IsTry p file to)) c.loop.invariant.0 vain) room,
       kept,

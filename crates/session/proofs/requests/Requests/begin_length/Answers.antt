@@ -37,7 +37,7 @@ returns-then-not-is_busy-clause-refuses g c =
 
 pub returns-then-is_nothing-clause-begins : goal.returns-then-is_nothing-clause-begins
 returns-then-is_nothing-clause-begins g c =
-    λ is. absurd (false≢true (ap tells_begun (sym (c.if-not-is_busy.ensures.0 refl)) ∙ is))
+    λ is. absurd (false≢true (ap reports_begun (sym (c.if-not-is_busy.ensures.0 refl)) ∙ is))
 
 pub returns-then-is_nothing-clause-refuses : goal.returns-then-is_nothing-clause-refuses
 returns-then-is_nothing-clause-refuses g c =
@@ -75,10 +75,10 @@ loop-begun-preserved g c =
     let file = c.args.file in
     let to = c.args.length in
     let tried = does_then g.D.Device _ _ _ _ _ _ _ _ _ (each_then (IsTry p file to)) c.loop-begun.invariant.0
-    (does_more g.D.Device _ _ _ _ _ _ (tries_attempted p file to _ (ap tells_later (c.if-not-is_busy.ensures.0 refl)))
+    (does_more g.D.Device _ _ _ _ _ _ (tries_attempted p file to _ (ap reports_later (c.if-not-is_busy.ensures.0 refl)))
     c.begin_in_room-begun.ensures.attempts) in
     let kept = keeps_then _ _ _ (keeps_then _ _ _ c.loop-begun.invariant.1
-    (c.begin_in_room-begun.ensures.phases (ap tells_begun (c.if-not-is_busy.ensures.0 refl))))
+    (c.begin_in_room-begun.ensures.phases (ap reports_begun (c.if-not-is_busy.ensures.0 refl))))
     (flushes_keep g.D.Device _ _ _ _ _ _ c.flush-flushed.ensures) in (
       does_then g.D.Device _ _ _ _ _ _ _ _ _ (each_then (IsTry p file to)) tried
           (does_one g.D.Device _ _ _ _ _ _ _ (tries_flush p file to c.flush-flushed.result) c.flush-flushed.ensures),
@@ -107,7 +107,7 @@ returns-then-not-is_busy-clause-phases g c =
 
 pub returns-then-is_nothing-clause-held : goal.returns-then-is_nothing-clause-held
 returns-then-is_nothing-clause-held g c =
-    λ is. absurd (false≢true (ap tells_begun (sym (c.if-not-is_busy.ensures.0 refl)) ∙ is))
+    λ is. absurd (false≢true (ap reports_begun (sym (c.if-not-is_busy.ensures.0 refl)) ∙ is))
 
 pub returns-then-is_nothing-clause-phases : goal.returns-then-is_nothing-clause-phases
 returns-then-is_nothing-clause-phases g c = λ not. keeps_then _ _ _ (keeps_then _ _ _ c.loop-begun.invariant.1
@@ -118,5 +118,5 @@ returns-then-not-is_flushed-clause-held g c = λ is. flush_is_other g.D.Device _
 
 pub returns-then-not-is_flushed-clause-phases : goal.returns-then-not-is_flushed-clause-phases
 returns-then-not-is_flushed-clause-phases g c = λ not. keeps_then _ _ _ (keeps_then _ _ _ c.loop-begun.invariant.1
-    (c.begin_in_room-begun.ensures.phases (ap tells_begun (c.if-not-is_busy.ensures.0 refl))))
+    (c.begin_in_room-begun.ensures.phases (ap reports_begun (c.if-not-is_busy.ensures.0 refl))))
     (flushes_keep g.D.Device _ _ _ _ _ _ c.flush-flushed.ensures)

@@ -5,7 +5,7 @@ use Rattle.session.specs.Commits.{msync_by}
 use Rattle.session.specs.Lengths.{reports_begun}
 use Rattle.session.specs.Steps.{Makes}
 use Rattle.session.proofs.Changes.{flush_is_other}
-use Rattle.session.proofs.Commits.{attempt_then, begin_refused, both_told, begins_later}
+use Rattle.session.proofs.Commits.{attempt_then, begin_refused, both_replied, begins_later}
 use Rattle.session.proofs.Commits.{refused_is, refused_later, step_unmade, waits_one, waits_then}
 use Rattle.session.proofs.Left.{busy_keeps, flushed_fewer}
 use Rattle.session.proofs.Phases.{begins_kept, flushes_keep, keeps_none, keeps_then, mark_begins, marks_keep}
@@ -32,14 +32,14 @@ returns-then-not-is_busy-clause-refuses g c = λ vain.
 
 pub returns-then-is_nothing-clause-begins : goal.returns-then-is_nothing-clause-begins
 returns-then-is_nothing-clause-begins g c =
-    λ is. absurd (false≢true (ap tells_begun (sym (c.if-not-is_busy.ensures.0 refl)) ∙ is))
+    λ is. absurd (false≢true (ap reports_begun (sym (c.if-not-is_busy.ensures.0 refl)) ∙ is))
 
 pub returns-then-is_nothing-clause-refuses : goal.returns-then-is_nothing-clause-refuses
 returns-then-is_nothing-clause-refuses g c = λ vain.
     does_then g.D.Device _ _ _ _ _ _ _ _ _ (refused_later c.args.p _) c.loop-msync.invariant.0
     (attempt_then g.D.Device _ _ _ _ _ _ c.args.p _ _ _ (inr (inl (
       refl,
-      both_told (c.if-not-is_busy.ensures.0 refl) (c.if-is_nothing.ensures.0 refl),
+      both_replied (c.if-not-is_busy.ensures.0 refl) (c.if-is_nothing.ensures.0 refl),
       c.if-not-is_busy.ensures.0 refl,
     ))) c.make-begun.ensures c.flush-flushed.ensures)
 
@@ -64,7 +64,8 @@ loop-msync-preserved g c = (
       (attempt_then g.D.Device _ _ _ _ _ _ c.args.p _ _ _ (waits_one c.args.p _ _ (c.if-not-is_busy.ensures.0 refl)
       (sym c.if-not-is_flushed.ensures)) c.make-begun.ensures c.flush-flushed.ensures),
   keeps_then _ _ _ (keeps_then _ _ _ c.loop-msync.invariant.1
-      (marks_keep g.D.Device _ _ _ _ _ _ _ _ _ (ap tells_begun (c.if-not-is_busy.ensures.0 refl)) c.make-begun.ensures))
+      (marks_keep g.D.Device _ _ _ _ _ _ _ _ _
+      (ap reports_begun (c.if-not-is_busy.ensures.0 refl)) c.make-begun.ensures))
       (flushes_keep g.D.Device _ _ _ _ _ _ c.flush-flushed.ensures),
 )
 
@@ -88,7 +89,7 @@ returns-then-not-is_busy-clause-phases g c =
 
 pub returns-then-is_nothing-clause-held : goal.returns-then-is_nothing-clause-held
 returns-then-is_nothing-clause-held g c =
-    λ is. absurd (false≢true (ap tells_begun (sym (c.if-not-is_busy.ensures.0 refl)) ∙ is))
+    λ is. absurd (false≢true (ap reports_begun (sym (c.if-not-is_busy.ensures.0 refl)) ∙ is))
 
 pub returns-then-is_nothing-clause-phases : goal.returns-then-is_nothing-clause-phases
 returns-then-is_nothing-clause-phases g c = λ not. keeps_then _ _ _
@@ -101,5 +102,5 @@ returns-then-not-is_flushed-clause-held g c = λ is. flush_is_other g.D.Device _
 pub returns-then-not-is_flushed-clause-phases : goal.returns-then-not-is_flushed-clause-phases
 returns-then-not-is_flushed-clause-phases g c = λ not.
     keeps_then _ _ _ (keeps_then _ _ _ c.loop-msync.invariant.1 (marks_keep g.D.Device _ _ _ _ _ _ _ _ _
-    (ap tells_begun (c.if-not-is_busy.ensures.0 refl)) c.make-begun.ensures))
+    (ap reports_begun (c.if-not-is_busy.ensures.0 refl)) c.make-begun.ensures))
     (flushes_keep g.D.Device _ _ _ _ _ _ c.flush-flushed.ensures)

@@ -6,7 +6,7 @@ use Rattle.session.specs.Commits.{WritesUntil}
 use Rattle.session.specs.Lengths.{AnswersChange}
 use Rattle.session.specs.Ranges.{MakesStepsThat}
 use Rattle.session.proofs.Commits.{came_to, commits_at_once, commits_later, mark_refuses_is}
-use Rattle.session.proofs.Commits.{mark_stops, mark_told, stops_writing, unmade_refused}
+use Rattle.session.proofs.Commits.{mark_stops, mark_replied, stops_writing, unmade_refused}
 use Rattle.session.proofs.Phases.{begun_over, keeps_then}
 use Rattle.session.proofs.Stretches.{not_false, not_true}
 use Rattle.session.proofs.requests.Requests.commit.Goals as goal

@@ -16,7 +16,7 @@ returns-then-not-is_no_frame-clause-ends g c = λ not.
 
 pub returns-then-not-make_room-clause-served : goal.returns-then-not-make_room-clause-served
 returns-then-not-make_room-clause-served g c =
-    λ is. absurd (false≢true (ap tells_fixed (sym (c.if-not-is_no_frame.ensures.0 refl)) ∙ is))
+    λ is. absurd (false≢true (ap reports_fixed (sym (c.if-not-is_no_frame.ensures.0 refl)) ∙ is))
 
 pub returns-then-not-make_room-clause-ends : goal.returns-then-not-make_room-clause-ends
 returns-then-not-make_room-clause-ends g c = λ not. unserved_vain g.D.Device _ _ _ _ _ _ c.args.p c.args.va c.args.write
@@ -28,7 +28,7 @@ returns-clause-served g c = λ is. serves_again g.D.Device _ _ _ _ _ _ _ _ c.arg
 
 pub returns-clause-ends : goal.returns-clause-ends
 returns-clause-ends g c =
-    λ not. unserved_after_room g.D.Device _ _ _ _ _ _ _ _ c.args.p c.args.va c.args.write _ _ (ap tells_fixed
+    λ not. unserved_after_room g.D.Device _ _ _ _ _ _ _ _ c.args.p c.args.va c.args.write _ _ (ap reports_fixed
     (c.if-not-is_no_frame.ensures.0 refl)) not c.make-reply.ensures c.if-not-make_room.ensures.room c.make.ensures
 
 pub returns-then-not-is_no_frame-clause-phases : goal.returns-then-not-is_no_frame-clause-phases
