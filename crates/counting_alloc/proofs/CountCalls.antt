@@ -59,11 +59,7 @@ module _ {M : Type 1} {𝓤 : Ura M} (𝓛 : Logic 𝓤) (at_mem : Memory → SP
   pub Release-goes : n < 2 ^ 64
       → ent 𝓤 (sep 𝓤 (sem 𝓛 (hidden_shr Counts κ x c.0 c.1)) (A.lft κ q))
       ((Release 𝓛 at_mem run).pre (at_release 𝓛 at_mem run κ q c x n))
-  Release-goes fn =
-      qed 𝓛 (‵ (hidden_shr Counts κ x c.0 c.1) ∷ ‵ (flft κ q) ∷ []) ∵ nothing ! $ flt_i ! n (2 ^ 64) fn $
-      feq_i ! (List Val) (vint w64 n ∷ []) (vint w64 n ∷ []) refl $ fjoin ! $ fjoin ! $
-      move ! (1 ∷ []) $ feq_i ! (List Val) (vptr c.0 c.1 ∷ []) (vptr c.0 c.1 ∷ []) refl $ fjoin ! $ fjoin ! $
-      nothing ! $ move ! (2 ∷ []) $ join ! $ join ! $ nothing ! $ move ! (1 ∷ []) $ join ! $ done !
+  Release-goes = Admits-goes
 
   pub Admits-gives : (v : Val)
       → ent 𝓤 ((Admits 𝓛 at_mem run).post (at_admits 𝓛 at_mem run κ q c x n) v)

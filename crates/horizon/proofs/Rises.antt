@@ -1,14 +1,22 @@
 -- A step that lowers no word, and leaves committed at most stalled, keeps the rule.
-use Rattle.std.proofs.Common.{◌≡◌, ℕ, ◌≢◌, Bool, true, false, List, [], ◌∷◌, slice_index}
+use Rattle.std.proofs.Common.{◌≡◌, ◌≤◌, ℕ, ◌≢◌, Bool, true, false, List, [], ◌∷◌, slice_index}
 use Rattle.std.proofs.Common.{if◌then◌else◌, nat_eq, refl, sym, subst, ⊎_elim, le_refl, le_trans, set}
 use mathlib.Core.Option.{some, some-ne-none}
 use lib.ListN.{get_elem?}
 use lib.Pointwise.{pointwise, bytes_decides}
 use Rattle.crossbeam_utils.specs.Register.{Turns, Forks}
 use Rattle.atomic_table.proofs.Lists.{at_set, at_snoc, set_again}
+use Rattle.atomic_table.specs.Seated.{TableId}
+use Rattle.horizon.specs.Seen.{SeenState}
 use Rattle.horizon.specs.declared.rule.View.{View}
 use Rattle.horizon.specs.inside.Rule.{NeitherFell, Lifts, seen_after, IsKept}
 use Rattle.horizon.specs.inside.Rule.{Steps, Reads, RaisesStalled, RaisesCommitted}
+
+-- a holder of the same words, which has seen no less since, and has raised nothing
+abbrev pub HasOnlyLooked : SeenState → TableId → View → Type 0
+HasOnlyLooked seen words view =
+    (words ≡ seen.cell) × (seen.stalled ≤ view.stalled) × (seen.committed ≤ view.committed)
+    × (view.stalled_raised ≡ seen.stalled_raised) × (view.committed_raised ≡ seen.committed_raised)
 
 -- what is seen of a new horizon
 abbrev none_yet : View
