@@ -2,6 +2,6 @@
 #![tactic(auto)]
 
 #[cfg(test)]
-mod scripts;
+mod script_runs;
 #[cfg(test)]
 mod watched;
