@@ -173,14 +173,14 @@ fn steps_are_refused(rt: HostRuntime) {
 
 // Whether a script is refused whose second step of two is this, and this is said of it.
 fn refuses_step<R: Host>(rt: &R, step: &str, found: &str, cause: &str) -> bool {
-    let reporting = "famsync: script \"refused_steps.json\": step 2, ";
+    let reported = "famsync: script \"refused_steps.json\": step 2, ";
     writes_script(rt, "refused_steps.json", &["[0,\"create\"],", step])
         && prints(
             rt,
             "run|refused_steps.img|refused_steps.json",
             1,
             &[],
-            &[reporting, found, ": ", cause, "\n"],
+            &[reported, found, ": ", cause, "\n"],
         )
 }
 
@@ -297,10 +297,10 @@ fn shapes_are_refused(rt: HostRuntime) {
 
 // Whether no machine of this shape is made, and this is said of it.
 fn refuses_shape<R: Host>(rt: &R, shape: &str, cause: &str) -> bool {
-    let reporting = ["famsync: disk \"shape.img\": badshape: ", cause, "\n"];
+    let reported = ["famsync: disk \"shape.img\": badshape: ", cause, "\n"];
     writes(
         rt,
         "shape.json",
         &["{", shape, ",\"steps\":[[0,\"create\"]]}"],
-    ) && prints(rt, "run|shape.img|shape.json", 3, &[], &reporting)
+    ) && prints(rt, "run|shape.img|shape.json", 3, &[], &reported)
 }

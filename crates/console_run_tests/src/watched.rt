@@ -105,8 +105,8 @@ fn a_failed_device_call_is_told(rt: HostRuntime) {
     assert!(rt; writes_script(&rt, "failing.json", &[steps]));
     let mut watch = watching(&rt, "failing.img", "switched\n", true);
     let replies = "space 1\nmapped\nswitched\nfault 4\ndevice\nfault 4\ndevice\nnothing\n";
-    let reporting = "famsync: script \"failing.json\": step 5: the device failed\n";
-    assert!(rt; is_watched(&rt, "failing.json", &mut watch, 3, replies, reporting));
+    let reported = "famsync: script \"failing.json\": step 5: the device failed\n";
+    assert!(rt; is_watched(&rt, "failing.json", &mut watch, 3, replies, reported));
     assert!(rt; removes(&rt, &["failing.img", "failing.json"]));
 }
 
