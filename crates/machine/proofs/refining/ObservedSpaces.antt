@@ -139,7 +139,7 @@ observed_destroyed spaces runs s pcid =
     observed_same spaces runs s (destroyed s pcid) (length-destroyed s pcid)
     (λ q within. current-destroyed s pcid q within)
     (λ q within. ap (λ (y : Processor). is_running y.state) (processor_at-destroyed s pcid q within)
-    ∙ ap is_running (state-observed (processor_at s q) (SingleContext pcid)))
+    ∙ ap is_running (state-notified (processor_at s q) (SingleContext pcid)))
 
 -- ---- the spaces as they are observed: which there are, and what each maps
 
