@@ -1,7 +1,7 @@
 // Scripts that are run or refused, and shapes that no machine has.
 use program_trials::{
-    FIRST_DUMP, FIRST_REPLIES, FIRST_SCRIPT, Host, complains, holds_image, makes_volume, prints,
-    removes, writes, writes_script,
+    FIRST_DUMP, FIRST_REPLIES, FIRST_SCRIPT, Host, complains, holds, holds_image, makes_volume,
+    prints, removes, writes, writes_script,
 };
 use std::fs;
 
