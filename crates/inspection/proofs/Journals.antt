@@ -1,15 +1,14 @@
 -- What is read of journals.
-use Rattle.std.proofs.Common.{◌≡◌, ℕ, suc, ◌+◌, ◌<◌, List, [], ◌∷◌, ◌++◌, inl}
-use Rattle.std.proofs.Common.{inr, ⊎_elim, length, subst, refl, ◌∙◌, arith}
+use Rattle.std.proofs.Common.{◌≡◌, ℕ, suc, ◌+◌, ◌-◌, ◌*◌, ◌<◌, List, [], ◌∷◌}
+use Rattle.std.proofs.Common.{◌++◌, inl, inr, ⊎_elim, length, take, drop}
+use Rattle.std.proofs.Common.{slice_range, Result, Ok, Err, IfErr, subst, refl, ap, ◌∙◌, arith}
 use Rattle.device.specs.Device.{LeavesOnly}
 use Rattle.device.specs.declared.device.Device.{Ghosts}
 use Rattle.page_entry.specs.declared.refusal.Refusal.{Refusal}
 use Rattle.page_entry.specs.declared.refusal.Refusal.TheVariants.{OutOfMemory, Damaged}
-use Rattle.volume_codec.specs.Layout.{GeometryValue, journals_of, descriptor_block, block_at}
-use Rattle.volume_codec.specs.Recovery.{IsOpen}
+use Rattle.volume_codec.specs.Layout.{GeometryValue, blocks_at}
 use Rattle.volume_codec.specs.Refusals.{RefusesDescriptor}
-use Rattle.recovery.specs.inside.Reading.{RefusesJournals}
-use Rattle.recovery.proofs.FoundJournals.{refuses_read}
+use Rattle.recovery.specs.inside.Reading.{RefusesJournal}
 use Rattle.inspection.specs.declared.found.Journal.{Journal}
 use Rattle.inspection.specs.Found.{IsJournal, AreFrom}
 use Rattle.inspection.specs.Reading.{IsOnlyRead}
@@ -25,13 +24,13 @@ from_push {Z} g bytes j n [] journal are at is =
 from_push g bytes j n (first ∷ journals) journal are at is =
     (are.0, from_push g bytes (suc j) n journals journal are.1 (omega (arith, at)) is)
 
--- the descriptor of an open journal is refused
-pub refuses_descriptor : (g : GeometryValue) (bytes : List ℕ) (j : ℕ) (e : Refusal) → j < journals_of g.layout
-    → IsOpen bytes g.slots j → RefusesDescriptor g (block_at bytes (descriptor_block g.slots j)) e
-    → RefusesJournals g bytes e
-refuses_descriptor g bytes j Damaged there gate refuses = refuses_read g bytes j Damaged there gate refuses
-refuses_descriptor g bytes j OutOfMemory there gate refuses = tt
-refuses_descriptor g bytes j _ there gate refuses = absurd refuses
+-- blocks that say no descriptor are refused as a journal's are
+pub refused_of : {X : Type 0} (g : GeometryValue) (bytes : List ℕ) (result : Result X Refusal)
+    → IfErr result (RefusesDescriptor g bytes) → IfErr result (RefusesJournal g bytes)
+refused_of g bytes (Ok x) refused = tt
+refused_of g bytes (Err Damaged) refused = refused
+refused_of g bytes (Err OutOfMemory) refused = tt
+refused_of g bytes (Err _) refused = absurd refused
 
 leaves_then : {D : Type 0} (moment : D → ℕ) (since : D → ℕ → List ℕ → Type 0) (P Q : List ℕ → Type 0) (old mid new : D)
     → LeavesOnly moment since old mid P → LeavesOnly moment since mid new Q → ((c : List ℕ) → Q c → P c)
@@ -70,3 +69,10 @@ unread disk old now = record {
 pub length_more : {X : Type 0} (xs : List X) (x : X) → length (xs ++ x ∷ []) ≡ length xs + 1
 length_more [] x = refl
 length_more (y ∷ xs) x = omega (arith, length_more xs x)
+
+-- a read of so many blocks' size at their offset gives the blocks
+pub blocks_of_range : (bytes : List ℕ) (x b n count : ℕ) → x ≡ b → n ≡ 4096 * count
+    → slice_range bytes (4096 * x) (4096 * x + n) ≡ blocks_at bytes b count
+blocks_of_range bytes x b n count same size =
+    let part : 4096 * x + n - 4096 * x ≡ 4096 * count = omega (arith, size) in
+    ap (λ k. take k (drop (4096 * x) bytes)) part ∙ ap (λ k. take (4096 * count) (drop (4096 * k) bytes)) same

@@ -1,7 +1,8 @@
 -- What is found of a volume: its table, the lengths of its files, what each journal says, and how many device calls
 -- opening makes.
 use Rattle.std.specs.Prelude.{ℕ, suc, ◌≡◌, ◌*◌, List, [], ◌∷◌, length, slice_index, MatchOption}
-use Rattle.volume_codec.specs.Layout.{GeometryValue, gate_block, descriptor_block, journals_of, block_at}
+use Rattle.volume_codec.specs.Layout.{GeometryValue, gate_block, descriptor_block, descriptor_blocks}
+use Rattle.volume_codec.specs.Layout.{journals_of, blocks_at}
 use Rattle.volume_codec.specs.Descriptor.{IsDescriptor}
 use Rattle.volume_codec.specs.Super.{geometry_of}
 use Rattle.volume_codec.specs.Lengths.{lengths_in}
@@ -16,7 +17,8 @@ pub record IsJournal {Z : Type 0} (g : GeometryValue) (bytes : List ℕ) (j : �
   pub number : journal.number ≡ j
   pub gate : journal.gate ≡ slice_index bytes (4096 * gate_block g.slots j)
   pub descriptor : MatchOption journal.descriptor (¬ (IsOpen bytes g.slots j))
-      (λ d. IsOpen bytes g.slots j × IsDescriptor g d (block_at bytes (descriptor_block g.slots j)))
+      (λ d. IsOpen bytes g.slots j
+      × IsDescriptor g d (blocks_at bytes (descriptor_block g.slots j) (descriptor_blocks g.slots)))
 
 -- what journals say, one after another, of which the first has the number j
 abbrev pub AreFrom : {Z : Type 0} → GeometryValue → List ℕ → ℕ → List (Journal Z) → Type 0

@@ -1,25 +1,22 @@
 // The lengths of the files of a volume, as it recovers to, read without changing it.
-ghost use Rattle.std.specs.Prelude.{◌≡◌, ◌↔◌, ℕ, ◌+◌, ◌*◌, ◌≤◌, ◌<◌, List, ◌++◌, length, slice_get, Some, IfOk, IfErr, IfSome, IsTrue, MatchOption, option_copied};
-ghost use Rattle.volume_codec.specs.Descriptor.{RiseWithin};
+ghost use Rattle.std.specs.Prelude.{◌≡◌, ◌↔◌, ℕ, ◌+◌, ◌*◌, ◌≤◌, ◌<◌, List, length, IfOk, IfErr, IsTrue};
 ghost use Rattle.volume_codec.specs.Layout.{journals_of, first_home, block_at};
 ghost use Rattle.volume_codec.specs.Lengths.{AreLengths, IsLengths};
-ghost use Rattle.volume_codec.specs.Recovery.{Batch, IsVolume, recovered_block};
+ghost use Rattle.volume_codec.specs.Recovery.{IsVolume, recovered_block};
 ghost use Rattle.volume_codec.specs.Super.{block_count, geometry_of};
 ghost use Rattle.recovery.specs.Opening.{RefusesOpening};
 ghost use Rattle.recovery.specs.inside.Reading.{AreFound, RefusesStored};
 ghost use Rattle.inspection.specs.Found.{AreJournals};
 ghost use Rattle.inspection.specs.Reading.{IsOnlyRead};
-ghost use Rattle.inspection.specs.inside.Order.{batch_by, batches_of};
+ghost use Rattle.inspection.specs.inside.Order.{batches_of};
 
 use crate::found::Journal;
-use crate::order::{descriptor_of, is_older};
+use crate::order::mark_at;
 use crate::reading::read_block;
 use device::Device;
 use page_entry::Refusal;
 use std::alloc::Allocator;
-use volume_codec::{
-    Descriptor, Geometry, Super, capacities, one_reading, read_lengths, recovered_from,
-};
+use volume_codec::{Geometry, Super, capacities, one_reading, read_lengths};
 
 /// The lengths of the files, each in bytes, as a volume with this table recovers to whose journals say this. `Damaged`
 /// where a block has them and breaks the grammar.
@@ -71,6 +68,13 @@ fn read_lengths_at<D: Device, A: Allocator + Copy>(
     read_lengths(alloc, table, &block)
 }
 
+// Whether a journal with this mark, which isn't 0, is as new as one with the other.
+fn is_as_new(mark: u64, other: u64) -> bool
+    ensures { IsTrue result ↔ (0 < mark) × (other ≤ mark) }
+{
+    mark != 0 && mark >= other
+}
+
 // The block that has the recovered bytes of the first home block. A record for that block is the first of its journal,
 // as records are in the order of their home blocks.
 fn recovered_first<A: Allocator + Copy>(geometry: &Geometry, journals: &[Journal<A>]) -> u32
@@ -81,71 +85,14 @@ fn recovered_first<A: Allocator + Copy>(geometry: &Geometry, journals: &[Journal
     ensures within { result < geometry.now.blocks }
 {
     let home = geometry.first_home();
-    let first = descriptor_of(journals, 0);
-    let second = descriptor_of(journals, 1);
-    if is_older(first, second) {
-        let other = record_or(geometry, 0, first, home);
-        record_or(geometry, 1, second, other)
-    } else {
-        let other = record_or(geometry, 1, second, home);
-        record_or(geometry, 0, first, other)
+    let mut newest = 0;
+    let mut standing = home;
+    for place in (0..geometry.journals()).rev() {
+        let mark = mark_at(journals, place as usize, home);
+        if is_as_new(mark, newest) {
+            newest = mark;
+            standing = geometry.record_block(place, 0);
+        }
     }
-}
-
-// The block that has the recovered bytes of the first home block, which is this other one without a journal with this
-// descriptor, or none.
-fn record_or<A: Allocator + Copy>(
-    geometry: &Geometry,
-    journal: u32,
-    descriptor: Option<&Descriptor<A>>,
-    other: u32,
-) -> u32
-    requires there { IfSome descriptor (λ d. journal < journals_of geometry.now.layout) }
-    requires within { other < geometry.now.blocks }
-    ensures value { (older : List Batch)
-        → MatchOption (option_copied descriptor.entry) (Unit {0}) (λ d. RiseWithin
-        (first_home geometry.now.layout geometry.now.slots) geometry.now.blocks d.homes)
-        → other ≡ recovered_block geometry.now.slots older (first_home geometry.now.layout geometry.now.slots)
-        → result ≡ recovered_block geometry.now.slots (batch_by journal (option_copied descriptor.entry) ++ older)
-        (first_home geometry.now.layout geometry.now.slots) }
-    ensures within { result < geometry.now.blocks }
-{
-    match descriptor {
-        Some(descriptor) => first_or(geometry, journal, descriptor, other),
-        None => other,
-    }
-}
-
-// The same with a journal that has this descriptor.
-fn first_or<A: Allocator + Copy>(
-    geometry: &Geometry,
-    journal: u32,
-    descriptor: &Descriptor<A>,
-    other: u32,
-) -> u32
-    requires there { journal < journals_of geometry.now.layout }
-    requires within { other < geometry.now.blocks }
-    ensures value { (older : List Batch)
-        → RiseWithin (first_home geometry.now.layout geometry.now.slots) geometry.now.blocks descriptor.now.homes
-        → other ≡ recovered_block geometry.now.slots older (first_home geometry.now.layout geometry.now.slots)
-        → result ≡ recovered_block geometry.now.slots (batch_by journal (Some descriptor.now) ++ older)
-        (first_home geometry.now.layout geometry.now.slots) }
-    ensures within { result < geometry.now.blocks }
-{
-    recovered_from();
-    if begins_with(descriptor, geometry.first_home()) {
-        geometry.record_block(journal, 0)
-    } else {
-        other
-    }
-}
-
-// Whether the first record of a journal is for this home block.
-fn begins_with<A: Allocator + Copy>(descriptor: &Descriptor<A>, home: u32) -> bool
-    ensures { IsTrue result ↔ slice_get descriptor.now.homes 0 ≡ Some home }
-{
-    match descriptor.homes().first() {
-        Some(first) => *first == home,
-        None => false,
-    }
+    standing
 }

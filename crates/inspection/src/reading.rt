@@ -1,20 +1,21 @@
 // What the bytes of a volume say of its table and its journals, read without changing them.
 ghost use Rattle.std.specs.Prelude.{◌≡◌, ◌+◌, ◌*◌, ◌≤◌, ◌<◌, length, slice_range, slice_index, IfOk, IfErr, OnOk};
-ghost use Rattle.volume_codec.specs.Layout.{journals_of, gate_block, block_at};
+ghost use Rattle.volume_codec.specs.Descriptor.{IsDescriptor};
+ghost use Rattle.volume_codec.specs.Layout.{journals_of, gate_block, descriptor_block, descriptor_blocks, block_at, blocks_at};
 ghost use Rattle.volume_codec.specs.Recovery.{AreOpen, IsVolume};
 ghost use Rattle.volume_codec.specs.Super.{IsSuper, block_count, geometry_of};
 ghost use Rattle.recovery.specs.Opening.{RefusesOpening};
-ghost use Rattle.recovery.specs.inside.Reading.{RefusesJournals};
+ghost use Rattle.recovery.specs.inside.Reading.{RefusesJournal, RefusesJournals};
 ghost use Rattle.inspection.specs.Found.{IsJournal, AreJournals};
 ghost use Rattle.inspection.specs.Reading.{IsOnlyRead};
 ghost use Rattle.inspection.specs.inside.Order.{batches_of};
 
 use crate::found::Journal;
-use crate::order::{descriptor_of, is_same_mark};
+use crate::order::is_mark_repeated;
 use device::Device;
 use page_entry::{PAGE, Refusal};
 use std::alloc::Allocator;
-use volume_codec::{Geometry, OPEN_GATE, Super, read_descriptor, read_super};
+use volume_codec::{Descriptor, Geometry, OPEN_GATE, Super, read_descriptor, read_super};
 
 // Reads as many bytes as the buffer has, from an offset on.
 fn read<D: Device>(device: &mut D, at: u64, buffer: &mut [u8]) -> Result<(), Refusal>
@@ -23,6 +24,7 @@ fn read<D: Device>(device: &mut D, at: u64, buffer: &mut [u8]) -> Result<(), Ref
         → OnOk result (buffer.new ≡ slice_range (D.seen device.old) at (at + length buffer.old)) }
     ensures read { IsOnlyRead D.Device device.old device.new }
     ensures fault { IfErr result (λ refusal. refusal ≡ Refusal.Device) }
+    ensures size { length buffer.new ≡ length buffer.old }
 {
     match device.read(at, buffer) {
         Ok(()) => Ok(()),
@@ -40,6 +42,24 @@ pub fn read_block<D: Device>(device: &mut D, block: u32) -> Result<[u8; 4096], R
     let mut bytes = [0; 4096];
     read(device, PAGE * u64::from(block), &mut bytes)?;
     Ok(bytes)
+}
+
+// Reads so many blocks from one on into a buffer of that size.
+fn read_blocks<D: Device>(
+    device: &mut D,
+    block: u32,
+    count: u32,
+    buffer: &mut [u8],
+) -> Result<(), Refusal>
+    requires long { 4096 * block + 4096 * count ≤ length (D.seen device.old) }
+    requires size { length buffer.old ≡ 4096 * count }
+    ensures bytes { D.is_honest device.old
+        → OnOk result (buffer.new ≡ blocks_at (D.seen device.old) block count) }
+    ensures read { IsOnlyRead D.Device device.old device.new }
+    ensures fault { IfErr result (λ refusal. refusal ≡ Refusal.Device) }
+    ensures size { length buffer.new ≡ length buffer.old }
+{
+    read(device, PAGE * u64::from(block), buffer)
 }
 
 // The table of a device's super block. `NotAVolume` and `Damaged` judge the device's length and its block 0.
@@ -75,6 +95,46 @@ fn read_gate<D: Device>(device: &mut D, geometry: &Geometry, journal: u32) -> Re
     Ok(gate[0])
 }
 
+// As many zeros as a descriptor has bytes.
+fn descriptor_room<A: Allocator + Copy>(
+    alloc: A,
+    geometry: &Geometry,
+) -> Result<Vec<u8, A>, Refusal>
+    ensures size { IfOk result (λ bytes. length bytes.items ≡ 4096 * descriptor_blocks geometry.now.slots) }
+    ensures refused { IfErr result (λ refusal. refusal ≡ Refusal.OutOfMemory) }
+{
+    let size = PAGE * u64::from(geometry.descriptor_blocks());
+    match vec![in alloc; 0; size as usize] {
+        Ok(bytes) => Ok(bytes),
+        Err(_) => Err(Refusal::OutOfMemory),
+    }
+}
+
+// What the descriptor of a journal says, read into a buffer of as many blocks. `Damaged` where it breaks the grammar.
+fn read_described<D: Device, A: Allocator + Copy>(
+    alloc: A,
+    device: &mut D,
+    geometry: &Geometry,
+    journal: u32,
+    buffer: &mut [u8],
+) -> Result<Descriptor<A>, Refusal>
+    requires there { journal < journals_of geometry.now.layout }
+    requires long { 4096 * geometry.now.blocks ≤ length (D.seen device.old) }
+    requires room { length buffer.old ≡ 4096 * descriptor_blocks geometry.now.slots }
+    ensures descriptor { D.is_honest device.old → IfOk result (λ d. IsDescriptor geometry.now d
+        (blocks_at (D.seen device.old) (descriptor_block geometry.now.slots journal)
+        (descriptor_blocks geometry.now.slots))) }
+    ensures refused { D.is_honest device.old → IfErr result (RefusesJournal geometry.now
+        (blocks_at (D.seen device.old) (descriptor_block geometry.now.slots journal)
+        (descriptor_blocks geometry.now.slots))) }
+    ensures read { IsOnlyRead D.Device device.old device.new }
+{
+    let first = geometry.descriptor_block(journal);
+    let count = geometry.descriptor_blocks();
+    read_blocks(device, first, count, buffer)?;
+    read_descriptor(alloc, geometry, buffer)
+}
+
 // What a journal says. `Damaged` where its gate is open and its descriptor breaks the grammar.
 fn read_journal<D: Device, A: Allocator + Copy>(
     alloc: A,
@@ -96,8 +156,8 @@ fn read_journal<D: Device, A: Allocator + Copy>(
             descriptor: None,
         });
     }
-    let block = read_block(device, geometry.descriptor_block(journal))?;
-    match read_descriptor(alloc, geometry, &block) {
+    let mut room = descriptor_room(alloc, geometry)?;
+    match read_described(alloc, device, geometry, journal, &mut room) {
         Ok(descriptor) => Ok(Journal {
             number: journal,
             gate,
@@ -170,7 +230,7 @@ fn read_judged<D: Device, A: Allocator + Copy>(
     let journals = read_journals(alloc, device, geometry)?;
     // A geometry is that of a volume that may be.
     let _ = geometry.slots();
-    if is_same_mark(descriptor_of(&journals, 0), descriptor_of(&journals, 1)) {
+    if is_mark_repeated(&journals) {
         return Err(Refusal::Damaged);
     }
     Ok(journals)

@@ -10,7 +10,7 @@ use Rattle.device.specs.Did.{Did}
 use Rattle.device.specs.declared.device.Device.{Ghosts}
 use Rattle.device.proofs.Done.{did_as}
 use Rattle.device.proofs.Moments.{leaves_weaker}
-use Rattle.volume_codec.specs.Layout.{GeometryValue, IsHome, journals_of, block_at}
+use Rattle.volume_codec.specs.Layout.{GeometryValue, IsHome, journals_of, descriptor_blocks, block_at}
 use Rattle.volume_codec.specs.Super.{SuperValue, geometry_of}
 use Rattle.volume_codec.specs.Recovery.{Batch, IsVolume}
 use Rattle.volume_codec.proofs.Layouts.{few_journals}
@@ -30,12 +30,13 @@ use Rattle.journal.specs.WriteOuts.{next_work, next_answer, outs_after, is_busy,
 use Rattle.journal.specs.Crash.{LeftBefore, LeftWithin}
 use Rattle.journal.specs.LedTo.{IsStep}
 use Rattle.journal.specs.Alone.{HasLedAlone, BegunAlone, SteppedAlone}
+use Rattle.journal.specs.inside.Sound.{IsWriteOut}
 use Rattle.journal.specs.inside.Consistent.{IsConsistent}
 use Rattle.journal.specs.inside.Queued.{QueuedWriteOut, queued_after}
 use Rattle.journal.specs.inside.Alone.{unless_done, alone_of}
-use Rattle.journal.proofs.Stages.{stage_at-is, stage_from, next_of, next_is}
+use Rattle.journal.proofs.Stages.{stage_at-is, stage_from, next_in}
 use Rattle.journal.proofs.Tying.{stage_of}
-use Rattle.journal.proofs.Sounding.{first_stage}
+use Rattle.journal.proofs.Sounding.{next_from, first_stage}
 use Rattle.journal.proofs.Leaving.{is_last}
 use Rattle.journal.proofs.KeptConsistent.{tied_first, consistent_going, consistent_begun}
 use Rattle.journal.proofs.KeptConsistent.{consistent_stepped, consistent_left, consistent_within}
@@ -86,7 +87,7 @@ module _ (flush : FlushValue) (stage : Stage) (at : next_stage flush.write_out �
 goes : (mark : ℕ) (stage : Stage) → (stage ≡ Finishing → ⊥)
     → (answer_at mark stage ≡ Going) ⊎ (answer_at mark stage ≡ Committed mark)
 goes mark (Recording i) not_last = inl refl
-goes mark Describing not_last = inl refl
+goes mark (Describing i) not_last = inl refl
 goes mark SyncingRecords not_last = inl refl
 goes mark Opening not_last = inl refl
 goes mark Committing not_last = inr refl
@@ -96,19 +97,18 @@ goes mark Closing not_last = inl refl
 goes mark Finishing not_last = absurd (not_last refl)
 
 -- and another follows
-follows : (w : WriteOut) (stage : Stage) → 0 < length w.batch.homes
+follows : (g : GeometryValue) (w : WriteOut) (stage : Stage) → IsWriteOut g w
     → next_stage w ≡ Some stage → (stage ≡ Finishing → ⊥)
     → (next : Stage) × (next_stage (advanced_of w) ≡ Some next)
-follows w stage some at not_last =
-    (next_of (length w.batch.homes) stage, next_is (length w.batch.homes) w.steps stage some not_last at)
+follows g w stage is at not_last = (next_in g.slots w.batch stage, next_from g w stage is at not_last)
 
 ends : (w : WriteOut) → next_stage w ≡ Some Finishing → next_stage (advanced_of w) ≡ None
 ends w at =
-    let is = stage_at-is (length w.batch.homes) w.steps at in
-    stage_from (length w.batch.homes) (w.steps + 1) None (omega (arith, is))
+    let is = stage_at-is (length w.batch.homes) w.described w.steps at in
+    stage_from (length w.batch.homes) w.described (w.steps + 1) None (omega (arith, is))
 
 module _ (flush : FlushValue) (stage : Stage) (at : next_stage flush.write_out ≡ Some stage)
-    (some : 0 < length flush.write_out.batch.homes) (whole : flush.broken ≡ false) where
+    (g : GeometryValue) (own : IsWriteOut g flush.write_out) (whole : flush.broken ≡ false) where
   abbrev w : WriteOut
   w = flush.write_out
 
@@ -116,7 +116,7 @@ module _ (flush : FlushValue) (stage : Stage) (at : next_stage flush.write_out �
       → (answer ≡ Going) ⊎ (answer ≡ Committed w.batch.mark)
       → outs_after (alone_of flush) answer ≡ alone_of (flush_after flush answer)
   after_going not_last answer is =
-      let next = follows w stage some at not_last in
+      let next = follows g w stage own at not_last in
       let lists : advanced (unless_done w) ≡ unless_done (advanced_of w) =
       ap advanced (one_of w stage at)
       ∙ sym (one_of (advanced_of w) next.0 next.1) in
@@ -183,20 +183,22 @@ begun_alone v batch room new seen may is_batch volume only outside =
 
     same : begun empty batch.mark batch.homes ≡ alone_of (flush_of (geometry_of v) batch room)
     same = ap (λ (l : List WriteOut). record (alone_of (flush_of (geometry_of v) batch room)) { batches = l })
-        (sym (one_of (begun_of batch) (Recording 0) (first_stage batch is_batch.described.homes.some)))
+        (sym (one_of (begun_of v.slots batch) (Recording 0) (first_stage v.slots batch is_batch.described.homes.some)))
 
 -- ---- whatever led to it
 
--- it is a batch of the volume
-batch_alone : {D : Type 0} (disk : Ghosts D) (v : SuperValue) {flush : FlushValue} {old new : ℕ → List ℕ} {device : D}
+abbrev IsOwn : SuperValue → WriteOut → Type 0
+IsOwn v w = IsBatch (geometry_of v) w.batch × (w.described ≡ descriptor_blocks v.slots)
+
+-- it is one of the volume
+own_alone : {D : Type 0} (disk : Ghosts D) (v : SuperValue) {flush : FlushValue} {old new : ℕ → List ℕ} {device : D}
     → HasLedAlone disk v flush old new device
-    → IsBatch (geometry_of v) flush.write_out.batch
-batch_alone disk v (BegunAlone batch room new device may outside) = may.is_batch
-batch_alone disk v (SteppedAlone flush old new bytes answer before after step is_new s) =
-    by answer (batch_alone disk v s)
+    → IsOwn v flush.write_out
+own_alone disk v (BegunAlone batch room new device may outside) = (may.is_batch, refl)
+own_alone disk v (SteppedAlone flush old new bytes answer before after step is_new s) =
+    by answer (own_alone disk v s)
   where
-    by : (a : Flushed) → IsBatch (geometry_of v) flush.write_out.batch
-        → IsBatch (geometry_of v) (flush_after flush a).write_out.batch
+    by : (a : Flushed) → IsOwn v flush.write_out → IsOwn v (flush_after flush a).write_out
     by Going is = is
     by (Committed mark) is = is
     by (Done mark) is = is
@@ -220,7 +222,9 @@ consistent_alone disk v (SteppedAlone flush old new bytes answer before after st
       did = did_as disk (sym (work_same flush at.0 at.1 bytes)) refl step.did;
     } in
     subst (λ (o : WriteOutsValue). IsConsistent v o old new (disk.seen after) (disk.may_leave after))
-    (after_same flush at.0 at.1 (batch_alone disk v s).described.homes.some step.whole answer step.answered)
+    (after_same flush at.0 at.1 (geometry_of v)
+    (let own = own_alone disk v s in record { batch = own.0; described = own.1; going = step.going })
+    step.whole answer step.answered)
     (consistent_stepped disk v (alone_of flush) old new bytes answer before after outs_step
     (λ home e. is_new home (sym (home_same flush at.0 at.1) ∙ e)) (consistent_alone disk v s))
 

@@ -97,7 +97,7 @@ home_is batches w i is at =
 pub early_answer : (mark : ℕ) (stage : Stage) (batches : List WriteOut) → is_committed stage ≡ false
     → after_in (answer_at mark stage) batches ≡ advanced batches
 early_answer mark (Recording i) batches e = refl
-early_answer mark Describing batches e = refl
+early_answer mark (Describing i) batches e = refl
 early_answer mark SyncingRecords batches e = refl
 early_answer mark Opening batches e = refl
 early_answer mark Committing batches e = refl
@@ -110,7 +110,7 @@ pub late_answer : (mark : ℕ) (stage : Stage) (batches : List WriteOut)
     → is_committed stage ≡ true → (stage ≡ Finishing → ⊥)
     → after_in (answer_at mark stage) batches ≡ advanced batches
 late_answer mark (Recording i) batches e not_last = refl
-late_answer mark Describing batches e not_last = refl
+late_answer mark (Describing i) batches e not_last = refl
 late_answer mark SyncingRecords batches e not_last = refl
 late_answer mark Opening batches e not_last = refl
 late_answer mark Committing batches e not_last = refl
@@ -135,7 +135,7 @@ pub record AreSound (g : GeometryValue) (next : ℕ) (batches : List WriteOut) :
 -- the answers of a stage
 fine_at : (mark : ℕ) (stage : Stage) → (answer_at mark stage ≡ Device → ⊥) × (answer_at mark stage ≡ Broken → ⊥)
 fine_at mark (Recording i) = (λ e. cc, λ e. cc)
-fine_at mark Describing = (λ e. cc, λ e. cc)
+fine_at mark (Describing i) = (λ e. cc, λ e. cc)
 fine_at mark SyncingRecords = (λ e. cc, λ e. cc)
 fine_at mark Opening = (λ e. cc, λ e. cc)
 fine_at mark Committing = (λ e. cc, λ e. cc)
@@ -168,7 +168,7 @@ module _ (g : GeometryValue) (next : ℕ) where
       let s = stage_of w own.going in
       let early : is_committed s.0 ≡ false = sym (committed-at w s.0 s.1) ∙ uncommitted in
       let is = current-newest others w uncommitted in
-      let following = early_next w s.0 own.batch.described.homes.some s.1 early in
+      let following = early_next g w s.0 own s.1 early in
       let after : after_in (answer_in (others ++ w ∷ [])) (others ++ w ∷ []) ≡ others ++ advanced_of w ∷ [] =
       ap (λ (a : Flushed). after_in a (others ++ w ∷ [])) (answer_is (others ++ w ∷ []) w s.0 is s.1)
       ∙ early_answer w.batch.mark s.0 (others ++ w ∷ []) early
@@ -199,7 +199,7 @@ module _ (g : GeometryValue) (next : ℕ) where
               turn = turn_rest g.layout next w newer sound.turn;
             }))
         | inr not_last ↦
-            (let following = late_next w s.0 sound.each.0.batch.described.homes.some s.1 late not_last in
+            (let following = late_next g w s.0 sound.each.0 s.1 late not_last in
             let after : after_in (answer_in (w ∷ newer)) (w ∷ newer) ≡ advanced_of w ∷ newer =
             ap (λ (a : Flushed). after_in a (w ∷ newer)) (answer_is (w ∷ newer) w s.0 is s.1)
             ∙ late_answer w.batch.mark s.0 (w ∷ newer) late not_last
@@ -279,7 +279,7 @@ done_committed w mark e = by (next_stage w) e
         → option_map_or is_committed o true ≡ true
     by None e = refl
     by (Some (Recording i)) e = cc
-    by (Some Describing) e = cc
+    by (Some (Describing i)) e = cc
     by (Some SyncingRecords) e = cc
     by (Some Opening) e = cc
     by (Some Committing) e = cc

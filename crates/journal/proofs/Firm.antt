@@ -5,8 +5,9 @@ use Rattle.std.specs.Prelude.{MatchBool}
 use Rattle.std.specs.List.{AllByRecursion, Contains}
 use Rattle.std.proofs.lemmas.Bool.{both_ways, cond_both, cond-true, or_left, or_right, eq-eqb}
 use Rattle.std.proofs.lemmas.List.{get_or-take, get_or-drop, get_or_default}
-use Rattle.volume_codec.specs.Layout.{IsHome, journals_of, gate_block, descriptor_block}
-use Rattle.volume_codec.specs.Layout.{record_block, first_home, block_at}
+use Rattle.volume_codec.specs.Layout.{IsHome, journals_of, gate_block, descriptor_block, descriptor_blocks}
+use Rattle.volume_codec.specs.Layout.{record_block, first_home, block_at, blocks_at}
+use Rattle.volume_codec.specs.Descriptor.{descriptor_text}
 use Rattle.volume_codec.specs.Super.{SuperValue, IsSuper, geometry_of, block_count}
 use Rattle.volume_codec.specs.Recovery.{Batch, IsOpen, IsOpenBatch, AreFalling, has_journal, recovered_block}
 use Rattle.journal.specs.declared.stage.Stage.{Stage}
@@ -15,7 +16,7 @@ use Rattle.journal.specs.declared.stage.Stage.TheVariants.{Committing, Applying,
 use Rattle.journal.specs.Stage.{is_committed}
 use Rattle.journal.specs.WriteOut.{IsBatch}
 use Rattle.journal.specs.inside.Tied.{Progress, IsInJournal, IsFirmFor, IsLeft, is_recording}
-use Rattle.journal.specs.inside.Tied.{is_switching, is_applying, is_durable, is_open, is_described}
+use Rattle.journal.specs.inside.Tied.{is_switching, is_applying, is_durable, is_open, described}
 use Rattle.journal.specs.inside.Tied.{durable_in, IsCovered, IsWritten, AreWritten, kept_in, IsSeen}
 use Rattle.journal.proofs.Alls.{IsIn, all_map, all_each, all_in, all-append, in_left, in_right}
 use Rattle.journal.proofs.Places.{gate-below, descriptor-below, record-below, gate-above}
@@ -24,27 +25,27 @@ use Rattle.journal.proofs.Places.{gate_no_record, descriptor_no_record, records_
 use Rattle.journal.proofs.RecoveredBlocks.{IsSlot, AreFew, recovered-cases}
 use Rattle.journal.proofs.RecoveredBlocks.{recovered-recorded, covered_of, lacking, has-below}
 use Rattle.journal.proofs.Recovering.{HoldsBy, falling_push}
-use Rattle.journal.proofs.Written.{home_at}
+use Rattle.journal.proofs.Written.{home_at, descriptor_there}
 use Rattle.journal.proofs.Tying.{false_true, IsBefore, AreOrdered, AreGoing, one_stage}
 
 -- ---- stages
 
 pub durable_facts : (s : Stage) → is_durable s ≡ true
-    → (is_open s ≡ true) × (is_described s ≡ true) × (is_switching s ≡ false) × (is_recording s ≡ false)
+    → (is_open s ≡ true) × ((d : ℕ) → described d s ≡ d) × (is_switching s ≡ false) × (is_recording s ≡ false)
     × (is_committed s ≡ true)
 durable_facts (Recording i) e = false_true e
-durable_facts Describing e = false_true e
+durable_facts (Describing i) e = false_true e
 durable_facts SyncingRecords e = false_true e
 durable_facts Opening e = false_true e
 durable_facts Committing e = false_true e
-durable_facts (Applying i) e = (refl, refl, refl, refl, refl)
-durable_facts SyncingHomes e = (refl, refl, refl, refl, refl)
-durable_facts Closing e = (refl, refl, refl, refl, refl)
+durable_facts (Applying i) e = (refl, λ d. refl, refl, refl, refl)
+durable_facts SyncingHomes e = (refl, λ d. refl, refl, refl, refl)
+durable_facts Closing e = (refl, λ d. refl, refl, refl, refl)
 durable_facts Finishing e = false_true e
 
 pub applying_durable : (s : Stage) → is_applying s ≡ true → is_durable s ≡ true
 applying_durable (Recording i) e = false_true e
-applying_durable Describing e = false_true e
+applying_durable (Describing i) e = false_true e
 applying_durable SyncingRecords e = false_true e
 applying_durable Opening e = false_true e
 applying_durable Committing e = false_true e
@@ -138,7 +139,7 @@ module _ (v : SuperValue) (progress : List Progress) (going : AreGoing (geometry
   pub super_firm : IsFirm 0
   super_firm = low_firm 0 (omega arith)
       (λ p there rec part. elim part [
-        | inl at ↦ descriptor-above v.slots p.batch.journal (sym at)
+        | inl at ↦ descriptor-above v.slots p.batch.journal at.0 (sym at.2)
         | inr at ↦ record-above v.slots p.batch.journal at.0 (sym at.2)
       ])
       (λ p there sw at. gate-above v.slots p.batch.journal (sym at))
@@ -148,24 +149,25 @@ module _ (v : SuperValue) (progress : List Progress) (going : AreGoing (geometry
       → IsFirm (gate_block v.slots j)
   gate_firm j lt others = low_firm (gate_block v.slots j) (gate-below v.layout v.slots j lt)
       (λ p there rec part. elim part [
-        | inl at ↦ gate_no_descriptor v.slots j p.batch.journal at
+        | inl at ↦ gate_no_descriptor v.slots j p.batch.journal at.0 at.1 at.2
         | inr at ↦ gate_no_record v.slots j p.batch.journal at.0 at.1 at.2
       ])
       (λ p there sw at. Rattle.journal.proofs.Places.gates_apart v.slots j p.batch.journal (λ e.
       all_in (λ (q : Progress). is_switching q.stage ≡ true → q.batch.journal ≢ j) progress p others there sw (sym e))
       at)
 
-  pub descriptor_firm : (j : ℕ) → j < journals_of v.layout
+  pub descriptor_firm : (j i : ℕ) → j < journals_of v.layout → i < descriptor_blocks v.slots
       → AllByRecursion (λ (q : Progress). is_recording q.stage ≡ true → q.batch.journal ≢ j) progress
-      → IsFirm (descriptor_block v.slots j)
-  descriptor_firm j lt others = low_firm (descriptor_block v.slots j) (descriptor-below v.layout v.slots j lt)
+      → IsFirm (descriptor_block v.slots j + i)
+  descriptor_firm j i lt within others = low_firm (descriptor_block v.slots j + i)
+      (descriptor-below v.layout v.slots j i lt within)
       (λ p there rec part. let other =
       all_in (λ (q : Progress). is_recording q.stage ≡ true → q.batch.journal ≢ j) progress p others there rec in
       elim part [
-        | inl at ↦ descriptors_apart v.slots j p.batch.journal (λ e. other (sym e)) at
-        | inr at ↦ descriptor_no_record v.slots j p.batch.journal at.0 at.1 at.2
+        | inl at ↦ descriptors_apart v.slots j p.batch.journal i at.0 (λ e. other (sym e)) within at.1 at.2
+        | inr at ↦ descriptor_no_record v.slots j p.batch.journal i at.0 within at.1 at.2
       ])
-      (λ p there sw at. gate_no_descriptor v.slots p.batch.journal j (sym at))
+      (λ p there sw at. gate_no_descriptor v.slots p.batch.journal j i within (sym at))
 
   pub record_firm : (j i : ℕ) → j < journals_of v.layout → i < v.slots
       → AllByRecursion (λ (q : Progress). is_recording q.stage ≡ true → q.batch.journal ≢ j) progress
@@ -174,7 +176,7 @@ module _ (v : SuperValue) (progress : List Progress) (going : AreGoing (geometry
       (λ p there rec part. let other =
       all_in (λ (q : Progress). is_recording q.stage ≡ true → q.batch.journal ≢ j) progress p others there rec in
       elim part [
-        | inl at ↦ descriptor_no_record v.slots p.batch.journal j i within (sym at)
+        | inl at ↦ descriptor_no_record v.slots p.batch.journal j at.0 i at.1 within (sym at.2)
         | inr at ↦ records_apart v.slots j p.batch.journal i at.0 (λ e. other (sym e)) within at.1 at.2
       ])
       (λ p there sw at. gate_no_record v.slots p.batch.journal j i within (sym at))
@@ -192,8 +194,8 @@ module _ (v : SuperValue) (progress : List Progress) (going : AreGoing (geometry
       low p there (inl at) = absurd (omega (
         arith,
         home.low,
-        at,
-        descriptor-below v.layout v.slots p.batch.journal (batch_of p there).there,
+        at.2,
+        descriptor-below v.layout v.slots p.batch.journal at.0 (batch_of p there).there at.1,
       ))
       low p there (inr at) = absurd (omega (
         arith,
@@ -283,6 +285,19 @@ module _ (v : SuperValue) (progress : List Progress) (going : AreGoing (geometry
     pub gate_kept : (j : ℕ) → IsFirm (gate_block v.slots j) → IsOpen seen v.slots j → IsOpen c v.slots j
     gate_kept j firm is = first_same c seen (gate_block v.slots j) (l.firm (gate_block v.slots j) firm) ∙ is
 
+    -- a descriptor that was written before the last sync
+    pub descriptor_left : (p : Progress) → IsIn p progress → is_recording p.stage ≡ false
+        → described (descriptor_blocks v.slots) p.stage ≡ descriptor_blocks v.slots
+        → blocks_at c (descriptor_block v.slots p.batch.journal) (descriptor_blocks v.slots)
+        ≡ descriptor_text v.slots (record { mark = p.batch.mark; homes = p.batch.homes })
+    descriptor_left p there not all =
+        let w = (written_at v new seen progress p s.written there).1 in
+        let is_batch = batch_of p there in
+        descriptor_there (geometry_of v) p.batch c is_batch (λ i lt.
+        l.firm (descriptor_block v.slots p.batch.journal + i)
+        (descriptor_firm p.batch.journal i is_batch.there lt (not_recording p there not))
+        ∙ w.descriptor i lt (omega (arith, lt, all)))
+
     pub durable_open : (p : Progress) → IsIn p progress → is_durable p.stage ≡ true
         → IsOpenBatch (geometry_of v) c p.batch
     durable_open p there durable =
@@ -296,9 +311,7 @@ module _ (v : SuperValue) (progress : List Progress) (going : AreGoing (geometry
               facts.0 w.gate);
           descriptor = record {
             described = is_batch.described;
-            spelled = l.firm (descriptor_block v.slots p.batch.journal)
-                (descriptor_firm p.batch.journal is_batch.there (not_recording p there facts.3))
-                ∙ w.descriptor facts.1;
+            spelled = descriptor_left p there facts.3 (facts.1 (descriptor_blocks v.slots));
           };
         }
 

@@ -5,6 +5,7 @@ use Rattle.std.specs.Prelude.{MatchBool}
 use Rattle.std.specs.List.{AllByRecursion}
 use Rattle.std.specs.Option.{option_map_or}
 use Rattle.std.proofs.lemmas.Bool.{both_ways, cases_Bool, or_from, not_from_true}
+use Rattle.volume_codec.specs.Layout.{descriptor_blocks}
 use Rattle.volume_codec.specs.Super.{SuperValue, geometry_of}
 use Rattle.volume_codec.specs.Recovery.{Recovers}
 use Rattle.journal.specs.declared.stage.Stage.{Stage}
@@ -13,13 +14,13 @@ use Rattle.journal.specs.declared.stage.Stage.TheVariants.{Committing, Applying,
 use Rattle.journal.specs.declared.flushed.Flushed.{Flushed}
 use Rattle.journal.specs.Stage.{is_committed, answer_at}
 use Rattle.journal.specs.Work.{Work, Sync, work_at, worked, TornFromWork}
-use Rattle.journal.specs.WriteOut.{WriteOut, IsBatch, next_stage, has_committed, advanced_of}
+use Rattle.journal.specs.WriteOut.{WriteOut, next_stage, has_committed, advanced_of}
 use Rattle.journal.specs.WriteOuts.{has_uncommitted, current}
 use Rattle.journal.specs.Crash.{LeftBefore, LeftWithin}
 use Rattle.journal.specs.inside.Sound.{IsWriteOut, IsOlder, AreInOrder}
 use Rattle.journal.specs.inside.Tied.{Progress, progress_in, is_under_way, IsTied}
 use Rattle.journal.proofs.Alls.{all-append, all_front, all_back}
-use Rattle.journal.proofs.Stages.{next_of, next_is, recording_within, applying_within}
+use Rattle.journal.proofs.Stages.{next_in, recording_within, describing_within, applying_within}
 use Rattle.journal.proofs.Batches.{newest_of, current-newest, current-oldest, advanced-newest}
 use Rattle.journal.proofs.Batches.{advanced-oldest, committed_parts, committed-at}
 use Rattle.journal.proofs.Tying.{false_true, stage_of, AreGoing, at_stage}
@@ -27,7 +28,8 @@ use Rattle.journal.proofs.Tying.{progress-oldest, progress-newest, going_of, und
 use Rattle.journal.proofs.Leaving.{is_last, left_recovers}
 use Rattle.journal.proofs.Stepping.{IsTiedAt, IsPlaced, not_way, all_committed, waiting}
 use Rattle.journal.proofs.Stepping.{step_after, step_within, finish_step, outcome, outcome_before}
-use Rattle.journal.proofs.Sounding.{early_next, late_next, newest_order, newest_each, oldest_order, oldest_each}
+use Rattle.journal.proofs.Sounding.{next_from, early_next, late_next, newest_order, newest_each}
+use Rattle.journal.proofs.Sounding.{oldest_order, oldest_each}
 use Rattle.journal.proofs.Answering.{AreSound, stage_committed, work_in, answer_in, after_in}
 use Rattle.journal.proofs.Answering.{stage_in, IsNewRecord, work_is, answer_is, stage_in-is}
 use Rattle.journal.proofs.Answering.{home_is, early_answer, late_answer, older_committed}
@@ -115,12 +117,12 @@ module _ (v : SuperValue) (old new : ℕ → List ℕ) where
         (early : is_committed s ≡ false) (each : AllByRecursion (IsWriteOut (geometry_of v)) (others ++ w ∷ []))
         (ordered : AreInOrder (others ++ w ∷ [])) (older : AllByRecursion (λ x. IsOlder x w) others)
         (tied : IsTied v (others ++ w ∷ []) old new seen may) where
-      newest_batch : IsBatch (geometry_of v) w.batch
-      newest_batch = (all_back (IsWriteOut (geometry_of v)) others (w ∷ []) each).0.batch
+      newest_is : IsWriteOut (geometry_of v) w
+      newest_is = (all_back (IsWriteOut (geometry_of v)) others (w ∷ []) each).0
 
-      newest_goes : next_stage (advanced_of w) ≡ Some (next_of (length w.batch.homes) s)
-      newest_goes = next_is (length w.batch.homes) w.steps s newest_batch.described.homes.some
-          (λ e. both_ways (is_committed s) early (ap is_committed e)) at
+      newest_goes : next_stage (advanced_of w) ≡ Some (next_in v.slots w.batch s)
+      newest_goes = next_from (geometry_of v) w s newest_is at
+          (λ e. both_ways (is_committed s) early (ap is_committed e))
 
       newest_going : AreGoing (geometry_of v) (progress_in others ++ at_stage w s ∷ [])
       newest_going = subst (AreGoing (geometry_of v)) (progress-newest others w s at)
@@ -134,11 +136,11 @@ module _ (v : SuperValue) (old new : ℕ → List ℕ) where
           (outcome v old new (progress_in others) [] w.batch s seen c may newest_going
           (λ late. absurd (both_ways (is_committed s) early late)) newest_now left)
 
-      newest_next : AreGoing (geometry_of v) (progress_in others ++ at_stage w (next_of (length w.batch.homes) s) ∷ [])
+      newest_next : AreGoing (geometry_of v) (progress_in others ++ at_stage w (next_in v.slots w.batch s) ∷ [])
       newest_next =
-          let next = early_next w s newest_batch.described.homes.some at early in
+          let next = early_next (geometry_of v) w s newest_is at early in
           subst (AreGoing (geometry_of v))
-          (progress-newest others (advanced_of w) (next_of (length w.batch.homes) s) newest_goes)
+          (progress-newest others (advanced_of w) (next_in v.slots w.batch s) newest_goes)
           (going_of (geometry_of v) (others ++ advanced_of w ∷ []) (newest_each (geometry_of v) others w next each)
           (newest_order others w next ordered older))
 
@@ -152,16 +154,17 @@ module _ (v : SuperValue) (old new : ℕ → List ℕ) where
       newest_placed : (t : Stage) → is_committed t ≡ false
           → ((i : ℕ) → t ≡ Recording i
           → (i < length w.batch.homes) × (length bytes ≡ 4096) × (bytes ≡ new (get_or w.batch.homes i 0)))
+          → ((i : ℕ) → t ≡ Describing i → i < descriptor_blocks v.slots)
           → IsPlaced v old new (progress_in others) [] w.batch seen may bytes t
-      newest_placed (Recording i) e record_is = record_is i refl
-      newest_placed Describing e record_is = tt
-      newest_placed SyncingRecords e record_is = tt
-      newest_placed Opening e record_is = tt
-      newest_placed Committing e record_is = refl
-      newest_placed (Applying i) e record_is = false_true (sym e)
-      newest_placed SyncingHomes e record_is = false_true (sym e)
-      newest_placed Closing e record_is = false_true (sym e)
-      newest_placed Finishing e record_is = false_true (sym e)
+      newest_placed (Recording i) e record_is place = record_is i refl
+      newest_placed (Describing i) e record_is place = place i refl
+      newest_placed SyncingRecords e record_is place = tt
+      newest_placed Opening e record_is place = tt
+      newest_placed Committing e record_is place = refl
+      newest_placed (Applying i) e record_is place = false_true (sym e)
+      newest_placed SyncingHomes e record_is place = false_true (sym e)
+      newest_placed Closing e record_is place = false_true (sym e)
+      newest_placed Finishing e record_is place = false_true (sym e)
 
       newest_steps : length bytes ≡ 4096 → IsNewRecord new bytes (others ++ w ∷ [])
           → IsWithin (others ++ w ∷ []) × GoesOn (others ++ w ∷ [])
@@ -169,18 +172,19 @@ module _ (v : SuperValue) (old new : ℕ → List ℕ) where
           let uncommitted : has_committed w ≡ false = committed-at w s at ∙ early in
           let is = current-newest others w uncommitted in
           let placed = newest_placed s early (λ i same. (
-            recording_within (length w.batch.homes) w.steps i (at ∙ ap Some same),
+            recording_within (length w.batch.homes) w.described w.steps i (at ∙ ap Some same),
             size,
             is_new (get_or w.batch.homes i 0) (home_is (others ++ w ∷ []) w i is (at ∙ ap Some same)),
-          )) in
+          )) (λ i same. subst (λ d. i < d) newest_is.described
+          (describing_within (length w.batch.homes) w.described w.steps i (at ∙ ap Some same))) in
           steps_as (others ++ w ∷ []) (others ++ advanced_of w ∷ []) w s is at
           (early_answer w.batch.mark s (others ++ w ∷ []) early ∙ advanced-newest others w uncommitted)
           (step_within v old new (progress_in others) [] w.batch seen may bytes s newest_going (λ other. newest_next)
           (λ other. placed) newest_none newest_now)
           (λ may' left durable. tied_of (others ++ advanced_of w ∷ [])
-          (progress_in others ++ at_stage w (next_of (length w.batch.homes) s) ∷ [])
+          (progress_in others ++ at_stage w (next_in v.slots w.batch s) ∷ [])
           (worked seen (work_at (geometry_of v) w.batch bytes s)) may'
-          (progress-newest others (advanced_of w) (next_of (length w.batch.homes) s) newest_goes)
+          (progress-newest others (advanced_of w) (next_in v.slots w.batch s) newest_goes)
           (step_after v old new (progress_in others) [] w.batch seen may bytes s may'
           (record { going = newest_going; going' = newest_next; tied = newest_now }) placed left durable))
 
@@ -190,9 +194,6 @@ module _ (v : SuperValue) (old new : ℕ → List ℕ) where
         (ordered : AreInOrder (w ∷ newer)) (none : has_uncommitted newer ≡ false)
         (s : Stage) (at : next_stage w ≡ Some s) (late : is_committed s ≡ true)
         (tied : IsTied v (w ∷ newer) old new seen may) where
-      some_homes : 0 < length w.batch.homes
-      some_homes = each.0.batch.described.homes.some
-
       none_going : is_under_way (progress_in newer) ≡ false
       none_going = under_way-is (geometry_of v) newer each.1 ∙ none
 
@@ -200,15 +201,15 @@ module _ (v : SuperValue) (old new : ℕ → List ℕ) where
       oldest_going = subst (AreGoing (geometry_of v)) (progress-oldest w newer s at)
           (going_of (geometry_of v) (w ∷ newer) each ordered)
 
-      oldest_goes : s ≢ Finishing → next_stage (advanced_of w) ≡ Some (next_of (length w.batch.homes) s)
-      oldest_goes not_last = next_is (length w.batch.homes) w.steps s some_homes not_last at
+      oldest_goes : s ≢ Finishing → next_stage (advanced_of w) ≡ Some (next_in v.slots w.batch s)
+      oldest_goes not_last = next_from (geometry_of v) w s each.0 at not_last
 
       oldest_next : s ≢ Finishing
-          → AreGoing (geometry_of v) (at_stage w (next_of (length w.batch.homes) s) ∷ progress_in newer)
+          → AreGoing (geometry_of v) (at_stage w (next_in v.slots w.batch s) ∷ progress_in newer)
       oldest_next not_last =
-          let next = late_next w s some_homes at late not_last in
+          let next = late_next (geometry_of v) w s each.0 at late not_last in
           subst (AreGoing (geometry_of v))
-          (progress-oldest (advanced_of w) newer (next_of (length w.batch.homes) s) (oldest_goes not_last))
+          (progress-oldest (advanced_of w) newer (next_in v.slots w.batch s) (oldest_goes not_last))
           (going_of (geometry_of v) (advanced_of w ∷ newer) (oldest_each (geometry_of v) w newer next each)
           (oldest_order w newer next ordered))
 
@@ -219,7 +220,7 @@ module _ (v : SuperValue) (old new : ℕ → List ℕ) where
           → ((i : ℕ) → t ≡ Applying i → i < length w.batch.homes)
           → IsPlaced v old new [] (progress_in newer) w.batch seen may bytes t
       oldest_placed (Recording i) e not_last place = false_true e
-      oldest_placed Describing e not_last place = false_true e
+      oldest_placed (Describing i) e not_last place = false_true e
       oldest_placed SyncingRecords e not_last place = false_true e
       oldest_placed Opening e not_last place = false_true e
       oldest_placed Committing e not_last place = false_true e
@@ -231,7 +232,8 @@ module _ (v : SuperValue) (old new : ℕ → List ℕ) where
 
       placed_now : s ≢ Finishing → IsPlaced v old new [] (progress_in newer) w.batch seen may bytes s
       placed_now not_last =
-          oldest_placed s late not_last (λ i is. applying_within (length w.batch.homes) w.steps i (at ∙ ap Some is))
+          oldest_placed s late not_last (λ i is.
+          applying_within (length w.batch.homes) w.described w.steps i (at ∙ ap Some is))
 
       -- what a crash leaves within its step
       pub oldest_within : (c : List ℕ) → TornFromWork (work_at (geometry_of v) w.batch bytes s) may c
@@ -246,9 +248,9 @@ module _ (v : SuperValue) (old new : ℕ → List ℕ) where
           → (work_at (geometry_of v) w.batch bytes s ≡ Sync → (c : List ℕ) → may' c → c ≡ seen)
           → IsTied v (advanced_of w ∷ newer) old new (worked seen (work_at (geometry_of v) w.batch bytes s)) may'
       oldest_after not_last may' left durable =
-          tied_of (advanced_of w ∷ newer) (at_stage w (next_of (length w.batch.homes) s) ∷ progress_in newer)
+          tied_of (advanced_of w ∷ newer) (at_stage w (next_in v.slots w.batch s) ∷ progress_in newer)
           (worked seen (work_at (geometry_of v) w.batch bytes s)) may'
-          (progress-oldest (advanced_of w) newer (next_of (length w.batch.homes) s) (oldest_goes not_last))
+          (progress-oldest (advanced_of w) newer (next_in v.slots w.batch s) (oldest_goes not_last))
           (step_after v old new [] (progress_in newer) w.batch seen may bytes s may'
           (record { going = oldest_going; going' = oldest_next not_last; tied = oldest_now })
           (placed_now not_last) left durable)

@@ -263,13 +263,13 @@ module _ (v : SuperValue) (old new next : ℕ → List ℕ) (batches : List Writ
     (none : has_uncommitted batches ≡ false) (is_batch : IsBatch (geometry_of v) batch)
     (free : AllByRecursion (λ (w : WriteOut). w.batch.journal ≢ batch.journal) batches)
     (outside : (b : ℕ) → (Contains batch.homes b → ⊥) → next b ≡ new b) (tied : IsTied v batches old new seen may) where
-  begins : next_stage (begun_of batch) ≡ Some (Recording 0)
-  begins = first_stage batch is_batch.described.homes.some
+  begins : next_stage (begun_of v.slots batch) ≡ Some (Recording 0)
+  begins = first_stage v.slots batch is_batch.described.homes.some
 
   -- what a read finds of a committed batch doesn't depend on New
   none_recorded : (k : ℕ) (s : Stage) → is_committed s ≡ true → recorded k s ≡ 0
   none_recorded k (Recording i) late = false_true late
-  none_recorded k Describing late = false_true late
+  none_recorded k (Describing i) late = false_true late
   none_recorded k SyncingRecords late = false_true late
   none_recorded k Opening late = false_true late
   none_recorded k Committing late = false_true late
@@ -315,7 +315,7 @@ module _ (v : SuperValue) (old new next : ℕ → List ℕ) (batches : List Writ
         written = written_begun (progress_in batches) committed is.written
             (record {
               records = λ i within less. absurd (omega (arith, less));
-              descriptor = λ e. false_true e;
+              descriptor = λ i within less. absurd (omega (arith, less));
               homes = λ i within less. absurd (omega (arith, less));
               gate = is.shut batch.journal is_batch.there free_of;
             });
@@ -333,9 +333,10 @@ module _ (v : SuperValue) (old new next : ℕ → List ℕ) (batches : List Writ
             (λ early. outside, tt);
       }
 
-  tied_begun : IsTied v (batches ++ begun_of batch ∷ []) new next seen may
-  tied_begun = tied_of v new next (batches ++ begun_of batch ∷ []) (progress_in batches ++ at_first ∷ []) seen may
-      (progress-newest batches (begun_of batch) (Recording 0) begins) (record {
+  tied_begun : IsTied v (batches ++ begun_of v.slots batch ∷ []) new next seen may
+  tied_begun = tied_of v new next (batches ++ begun_of v.slots batch ∷ [])
+      (progress_in batches ++ at_first ∷ []) seen may
+      (progress-newest batches (begun_of v.slots batch) (Recording 0) begins) (record {
         seen_is = seen_begun;
         left_are = λ c may_c. let l = tied.left_are c may_c in record {
           same_length = l.same_length;
@@ -355,10 +356,12 @@ consistent_begun v outs old new next mark homes seen may whole not_busy_is some 
     let is_batch = next_is_batch outs mark homes s.sound some small are in
     consistent_going v new next (begun outs mark homes) seen may s.geometry
     (begun_sound outs mark homes s.sound free is_batch below) whole
+    (subst (λ (g : GeometryValue).
+    IsTied v (outs.batches ++ begun_of g.slots (next_batch outs mark homes) ∷ []) new next seen may) (sym s.geometry)
     (tied_begun v old new next outs.batches (next_batch outs mark homes) seen may
     (subst (λ (g : GeometryValue). AllByRecursion (IsWriteOut g) outs.batches) s.geometry s.sound.each) free.none
     (subst (λ (g : GeometryValue). IsBatch g (next_batch outs mark homes)) s.geometry is_batch)
-    (turn_free outs.geometry.layout outs.next outs.batches s.sound.turn free.fewer) outside (s.tied whole))
+    (turn_free outs.geometry.layout outs.next outs.batches s.sound.turn free.fewer) outside (s.tied whole)))
 
 -- ---- where each batch is committed, Old plays no part
 
@@ -367,7 +370,7 @@ module _ (v : SuperValue) (old other new : ℕ → List ℕ) where
       → LeftWithin v other new o c
   within_other None c late left = left
   within_other (Some (Recording i)) c late left = false_true late
-  within_other (Some Describing) c late left = false_true late
+  within_other (Some (Describing i)) c late left = false_true late
   within_other (Some SyncingRecords) c late left = false_true late
   within_other (Some Opening) c late left = false_true late
   within_other (Some Committing) c late left = false_true late

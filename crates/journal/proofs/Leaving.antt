@@ -5,7 +5,7 @@ use Rattle.std.specs.Prelude.{MatchBool}
 use Rattle.std.specs.List.{AllByRecursion, Contains}
 use Rattle.std.proofs.lemmas.Bool.{both_ways, cases_eq, cond-false, or_left, or_right, or_cases, eq-eqb}
 use Rattle.std.proofs.lemmas.List.{append-nil}
-use Rattle.volume_codec.specs.Layout.{journals_of, gate_block, descriptor_block, record_block, block_at}
+use Rattle.volume_codec.specs.Layout.{journals_of, gate_block, descriptor_blocks, record_block, block_at}
 use Rattle.volume_codec.specs.Super.{SuperValue, geometry_of}
 use Rattle.volume_codec.specs.Recovery.{Batch, IsOpen, IsNewer, has_journal, Recovers}
 use Rattle.journal.specs.declared.stage.Stage.{Stage}
@@ -22,8 +22,8 @@ use Rattle.journal.proofs.Recovering.{HoldsBy, holds_newest, holds_oldest, holds
 use Rattle.journal.proofs.Written.{home_at}
 use Rattle.journal.proofs.Tying.{false_true, IsBefore, AreGoing, last_of, not_finishing}
 use Rattle.journal.proofs.Firm.{durable_facts, applying_durable, durable_all, durable_there, has_in}
-use Rattle.journal.proofs.Firm.{written_at, gate_firm, descriptor_firm, record_firm, home_firm}
-use Rattle.journal.proofs.Firm.{not_recording, not_switching, gate_left, holds_left}
+use Rattle.journal.proofs.Firm.{written_at, gate_firm, record_firm, home_firm}
+use Rattle.journal.proofs.Firm.{not_recording, not_switching, gate_left, descriptor_left, holds_left}
 
 pub recovers_of : (v : SuperValue) (opened : List Batch) (contents : ℕ → List ℕ) (c : List ℕ)
     → RecoversBy v opened contents c
@@ -34,7 +34,7 @@ recovers_of v opened contents c r = record { batches = opened; volume = r.volume
 
 pub is_last : (stage : Stage) → (stage ≡ Finishing) ⊎ (stage ≢ Finishing)
 is_last (Recording i) = inr (λ e. cc)
-is_last Describing = inr (λ e. cc)
+is_last (Describing i) = inr (λ e. cc)
 is_last SyncingRecords = inr (λ e. cc)
 is_last Opening = inr (λ e. cc)
 is_last Committing = inr (λ e. cc)
@@ -45,7 +45,7 @@ is_last Finishing = inl refl
 
 is_committing : (stage : Stage) → (stage ≡ Committing) ⊎ (stage ≢ Committing)
 is_committing (Recording i) = inr (λ e. cc)
-is_committing Describing = inr (λ e. cc)
+is_committing (Describing i) = inr (λ e. cc)
 is_committing SyncingRecords = inr (λ e. cc)
 is_committing Opening = inr (λ e. cc)
 is_committing Committing = inl refl
@@ -58,7 +58,7 @@ is_committing Finishing = inr (λ e. cc)
 gate_cases : (s : Stage)
     → (is_durable s ≡ true) ⊎ ((is_switching s ≡ false) × (is_open s ≡ false)) ⊎ (s ≡ Committing) ⊎ (s ≡ Finishing)
 gate_cases (Recording i) = inr (inl (refl, refl))
-gate_cases Describing = inr (inl (refl, refl))
+gate_cases (Describing i) = inr (inl (refl, refl))
 gate_cases SyncingRecords = inr (inl (refl, refl))
 gate_cases Opening = inr (inl (refl, refl))
 gate_cases Committing = inr (inr (inl refl))
@@ -252,10 +252,8 @@ module _ (v : SuperValue) (progress : List Progress) (going : AreGoing (geometry
           gate = opens;
           descriptor = record {
             described = is_batch.described;
-            spelled = l.firm (descriptor_block v.slots p.batch.journal)
-                (descriptor_firm v progress going p.batch.journal is_batch.there
-                (not_recording v progress going p there (ap is_recording is)))
-                ∙ w.descriptor (ap Rattle.journal.specs.inside.Tied.is_described is);
+            spelled = descriptor_left v progress going old new seen c s l p there (ap is_recording is)
+                (ap (Rattle.journal.specs.inside.Tied.described (descriptor_blocks v.slots)) is);
           };
         }) lower (home_or p newer there is w within);
     queued = queued_by (durable_in progress ++ p.batch ∷ [])
@@ -322,9 +320,8 @@ module _ (v : SuperValue) (progress : List Progress) (going : AreGoing (geometry
       holds_newest v opened old new w.batch c
       (subst (λ (f : ℕ → List ℕ). HoldsBy v opened f c) kept found.holds) is_batch
       (newer_than w.batch opened (found.lower w there early)) opens
-      (l.firm (descriptor_block v.slots w.batch.journal)
-      (descriptor_firm v progress going w.batch.journal is_batch.there firm)
-      ∙ written.descriptor (ap Rattle.journal.specs.inside.Tied.is_described is))
+      (descriptor_left v progress going old new seen c s l w there (ap is_recording is)
+      (ap (Rattle.journal.specs.inside.Tied.described (descriptor_blocks v.slots)) is))
       (λ i lt. l.firm (record_block v.slots w.batch.journal i) (record_firm v progress going w.batch.journal i
       is_batch.there (omega (arith, lt, is_batch.described.homes.few)) firm)
       ∙ written.records i lt

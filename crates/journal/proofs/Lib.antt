@@ -1,5 +1,6 @@
 pub mod Places
 pub mod Changes
+pub mod Blocks
 pub mod Alls
 pub mod RecoveredBlocks
 pub mod Recovering

@@ -3,8 +3,8 @@ use Rattle.std.proofs.Common.{◌≡◌, ◌≢◌, ℕ, ◌+◌, ◌*◌, ◌<�
 use Rattle.std.proofs.Common.{[], ◌∷◌, ◌++◌, length, get_or, refl, sym, ap, ◌∙◌, subst, arith}
 use Rattle.std.specs.List.{AllByRecursion, Contains}
 use Rattle.std.proofs.lemmas.Bool.{cases_eq, eq-eqb, both_ways, or_left, or_right, or_cases, eqb-true}
-use Rattle.volume_codec.specs.Layout.{IsHome, journals_of, gate_block, descriptor_block}
-use Rattle.volume_codec.specs.Layout.{record_block, first_home, block_at}
+use Rattle.volume_codec.specs.Layout.{IsHome, journals_of, gate_block, descriptor_block, descriptor_blocks}
+use Rattle.volume_codec.specs.Layout.{record_block, first_home, block_at, blocks_at}
 use Rattle.volume_codec.specs.Super.{SuperValue, IsSuper, geometry_of, block_count}
 use Rattle.volume_codec.specs.Descriptor.{IsDescriptor, descriptor_text}
 use Rattle.volume_codec.specs.Recovery.{Batch, IsOpen, IsOpenBatch, IsNewer, AreFalling}
@@ -12,6 +12,7 @@ use Rattle.volume_codec.specs.Recovery.{has_journal, IsVolume, recovered_block, 
 use Rattle.journal.specs.WriteOut.{IsBatch}
 use Rattle.journal.specs.Recovered.{RecoversBy, IsUnread}
 use Rattle.journal.proofs.Alls.{in_of, all_map, all_both, all-append, all_front, all_of}
+use Rattle.journal.proofs.Blocks.{blocks_same}
 use Rattle.journal.proofs.Changes.{SameBut}
 use Rattle.journal.proofs.Places.{gate-below, descriptor-below, record-below, gate-above}
 use Rattle.journal.proofs.Places.{descriptor-above, record-above, gates_apart, descriptors_apart}
@@ -50,8 +51,8 @@ module _ (v : SuperValue) where
     pub gates : (j : ℕ) → j < journals_of v.layout
         → (IsOpen new v.slots j → IsOpen c v.slots j) × (IsOpen c v.slots j → IsOpen new v.slots j)
     pub descriptors : AllByRecursion
-        (λ (batch : Batch).
-        block_at new (descriptor_block v.slots batch.journal) ≡ block_at c (descriptor_block v.slots batch.journal))
+        (λ (batch : Batch). blocks_at new (descriptor_block v.slots batch.journal) (descriptor_blocks v.slots)
+        ≡ blocks_at c (descriptor_block v.slots batch.journal) (descriptor_blocks v.slots))
         opened
     pub recovered : (b : ℕ) → IsHome (geometry_of v) b
         → block_at new (recovered_block v.slots opened b) ≡ block_at c (recovered_block v.slots opened b)
@@ -107,6 +108,15 @@ module _ (v : SuperValue) where
       → ⊥
   shut_lacking opened c j volume lt none is = both_ways (has_journal opened j) none (volume.journals.all j lt is)
 
+  -- a descriptor of which no block is written
+  descriptor_same : (j x : ℕ) (c new : List ℕ)
+      → ((i : ℕ) → i < descriptor_blocks v.slots → x ≢ descriptor_block v.slots j + i) → SameBut x c new
+      → blocks_at new (descriptor_block v.slots j) (descriptor_blocks v.slots)
+      ≡ blocks_at c (descriptor_block v.slots j) (descriptor_blocks v.slots)
+  descriptor_same j x c new apart same =
+      blocks_same new c (descriptor_block v.slots j) (descriptor_block v.slots j) (descriptor_blocks v.slots)
+      (λ i lt. same.blocks (descriptor_block v.slots j + i) (λ e. apart i lt (sym e)))
+
   -- ---- blocks that recovery doesn't read
 
   pub unread_agrees : (opened : List Batch) (c new : List ℕ) (x : ℕ) → IsUnread v opened x → SameBut x c new
@@ -117,9 +127,9 @@ module _ (v : SuperValue) where
     gates = λ j lt.
         let e = same.firsts (gate_block v.slots j) (λ e. unread.not_gate j lt (sym e)) in
         (λ is. sym e ∙ is, λ is. e ∙ is);
-    descriptors =
-        all_map (λ (batch : Batch) not. same.blocks (descriptor_block v.slots batch.journal) (λ e. not (sym e))) opened
-        unread.not_descriptor;
+    descriptors = all_map {P = λ (batch : Batch). (i : ℕ) → i < descriptor_blocks v.slots
+        → x ≢ descriptor_block v.slots batch.journal + i}
+        (λ batch not. descriptor_same batch.journal x c new not same) opened unread.not_descriptor;
     recovered = λ b home. same.blocks (recovered_block v.slots opened b) (λ e. unread.not_recovered b home (sym e));
   }
 
@@ -141,26 +151,27 @@ module _ (v : SuperValue) where
     not_super = record-above v.slots j i;
     not_gate = λ k there e. gate_no_record v.slots k j i within (sym e);
     not_descriptor =
-        all_of _ opened (λ (batch : Batch) e. descriptor_no_record v.slots batch.journal j i within (sym e));
+        all_of _ opened (λ (batch : Batch) l lt e. descriptor_no_record v.slots batch.journal j l i lt within (sym e));
     not_recovered = not_recovered opened (record_block v.slots j i) (few_in opened c volume)
         (record-below v.layout v.slots j i lt within)
         (λ k l has fits e.
         records_apart v.slots j k i l (λ same. apart_by opened j k none has (sym same)) within fits e);
   }
 
-  pub unread_descriptor : (opened : List Batch) (c : List ℕ) (j : ℕ)
-      → IsVolume v opened c → j < journals_of v.layout → has_journal opened j ≡ false
-      → IsUnread v opened (descriptor_block v.slots j)
-  unread_descriptor opened c j volume lt none = record {
-    not_super = descriptor-above v.slots j;
-    not_gate = λ k there e. gate_no_descriptor v.slots k j (sym e);
+  pub unread_descriptor : (opened : List Batch) (c : List ℕ) (j i : ℕ)
+      → IsVolume v opened c → j < journals_of v.layout → i < descriptor_blocks v.slots → has_journal opened j ≡ false
+      → IsUnread v opened (descriptor_block v.slots j + i)
+  unread_descriptor opened c j i volume lt within none = record {
+    not_super = descriptor-above v.slots j i;
+    not_gate = λ k there e. gate_no_descriptor v.slots k j i within (sym e);
     not_descriptor = all_map {P = λ (batch : Batch). batch.journal ≢ j}
-        {Q = λ (batch : Batch). descriptor_block v.slots j ≢ descriptor_block v.slots batch.journal}
-        (λ batch not e. descriptors_apart v.slots j batch.journal (λ same. not (sym same)) e) opened
-        (lacks opened j none);
-    not_recovered = not_recovered opened (descriptor_block v.slots j) (few_in opened c volume)
-        (descriptor-below v.layout v.slots j lt)
-        (λ k l has fits e. descriptor_no_record v.slots j k l fits e);
+        {Q = λ (batch : Batch). (l : ℕ) → l < descriptor_blocks v.slots
+        → descriptor_block v.slots j + i ≢ descriptor_block v.slots batch.journal + l}
+        (λ batch not l fits e. descriptors_apart v.slots j batch.journal i l (λ same. not (sym same)) within fits e)
+        opened (lacks opened j none);
+    not_recovered = not_recovered opened (descriptor_block v.slots j + i) (few_in opened c volume)
+        (descriptor-below v.layout v.slots j i lt within)
+        (λ k l has fits e. descriptor_no_record v.slots j k i l within fits e);
   }
 
   -- a home block that has a record
@@ -171,9 +182,9 @@ module _ (v : SuperValue) where
     not_super = λ e. absurd (omega (arith, home.low, e));
     not_gate = λ k lt e. absurd (omega (arith, home.low, e, gate-below v.layout v.slots k lt));
     not_descriptor = all_map {P = λ (b : Batch). b.journal < journals_of v.layout}
-        {Q = λ (b : Batch). x ≢ descriptor_block v.slots b.journal}
-        (λ b lt e. absurd (omega (arith, home.low, e, descriptor-below v.layout v.slots b.journal lt))) opened
-        (there_in opened c volume);
+        {Q = λ (b : Batch). (l : ℕ) → l < descriptor_blocks v.slots → x ≢ descriptor_block v.slots b.journal + l}
+        (λ b lt l fits e. absurd (omega (arith, home.low, e, descriptor-below v.layout v.slots b.journal l lt fits)))
+        opened (there_in opened c volume);
     not_recovered = λ b is e. elim (cases_eq b x) [
       | inl same ↦ no_slot (subst (λ n. IsSlot v.slots opened (recovered_block v.slots opened n)) same
           (recovered-recorded v.slots opened b (few_in opened c volume)
@@ -215,8 +226,8 @@ module _ (v : SuperValue) where
       | inr other ↦ (let e = same.firsts (gate_block v.slots k) (gates_apart v.slots k j other) in
           (λ is. sym e ∙ is, λ is. e ∙ is))
     ];
-    descriptors = all_of _ opened (λ (batch : Batch).
-        same.blocks (descriptor_block v.slots batch.journal) (λ e. gate_no_descriptor v.slots j batch.journal (sym e)));
+    descriptors = all_of _ opened (λ (batch : Batch). descriptor_same batch.journal (gate_block v.slots j) c new
+        (λ i lt. gate_no_descriptor v.slots j batch.journal i lt) same);
     recovered = λ b home. same.blocks (recovered_block v.slots opened b) (λ e. gate_not_recovered b home (sym e));
   }
     where
@@ -232,8 +243,8 @@ module _ (v : SuperValue) where
     pub same_length : length new ≡ length c
     pub gates : AllByRecursion (λ (batch : Batch). IsOpen new v.slots batch.journal) opened
     pub descriptors : AllByRecursion
-        (λ (batch : Batch).
-        block_at new (descriptor_block v.slots batch.journal) ≡ block_at c (descriptor_block v.slots batch.journal))
+        (λ (batch : Batch). blocks_at new (descriptor_block v.slots batch.journal) (descriptor_blocks v.slots)
+        ≡ blocks_at c (descriptor_block v.slots batch.journal) (descriptor_blocks v.slots))
         opened
     pub recovered : (b : ℕ) → IsHome (geometry_of v) b
         → block_at new (recovered_block v.slots opened b) ≡ block_at c (recovered_block v.slots opened b)
@@ -282,8 +293,8 @@ module _ (v : SuperValue) where
   -- a newer batch, whose records and descriptor are there
   pub holds_newest : (opened : List Batch) (old new : ℕ → List ℕ) (batch : Batch) (c : List ℕ)
       → HoldsBy v opened old c → IsBatch (geometry_of v) batch → IsNewer batch opened → IsOpen c v.slots batch.journal
-      → block_at c (descriptor_block v.slots batch.journal)
-      ≡ descriptor_text (record { mark = batch.mark; homes = batch.homes })
+      → blocks_at c (descriptor_block v.slots batch.journal) (descriptor_blocks v.slots)
+      ≡ descriptor_text v.slots (record { mark = batch.mark; homes = batch.homes })
       → ((i : ℕ) → i < length batch.homes
       → block_at c (record_block v.slots batch.journal i) ≡ new (get_or batch.homes i 0))
       → ((b : ℕ) → (Contains batch.homes b → ⊥) → new b ≡ old b)
@@ -346,8 +357,8 @@ module _ (v : SuperValue) where
         {R = λ (other : Batch). IsOpen new v.slots other.journal} (λ other is apart.
         same.firsts (gate_block v.slots other.journal) (gates_apart v.slots other.journal j apart) ∙ is.gate)
         opened h.each (lacks opened j none);
-    descriptors = all_of _ opened (λ (batch : Batch).
-        same.blocks (descriptor_block v.slots batch.journal) (λ e. gate_no_descriptor v.slots j batch.journal (sym e)));
+    descriptors = all_of _ opened (λ (batch : Batch). descriptor_same batch.journal (gate_block v.slots j) c new
+        (λ i lt. gate_no_descriptor v.slots j batch.journal i lt) same);
     recovered = λ b home. same.blocks (recovered_block v.slots opened b)
         (λ e. not_recovered opened (gate_block v.slots j) (few_each opened c h.each) (gate-below v.layout v.slots j lt)
         (λ k l has fits at. gate_no_record v.slots j k l fits at) b home (sym e));
@@ -361,8 +372,8 @@ module _ (v : SuperValue) where
   pub gate_opens : (opened : List Batch) (old new : ℕ → List ℕ) (batch : Batch) (c c' : List ℕ)
       → RecoversBy v opened old c → IsBatch (geometry_of v) batch
       → IsNewer batch opened → has_journal opened batch.journal ≡ false
-      → block_at c (descriptor_block v.slots batch.journal)
-      ≡ descriptor_text (record { mark = batch.mark; homes = batch.homes })
+      → blocks_at c (descriptor_block v.slots batch.journal) (descriptor_blocks v.slots)
+      ≡ descriptor_text v.slots (record { mark = batch.mark; homes = batch.homes })
       → ((i : ℕ) → i < length batch.homes
       → block_at c (record_block v.slots batch.journal i) ≡ new (get_or batch.homes i 0))
       → ((b : ℕ) → (Contains batch.homes b → ⊥) → new b ≡ old b)
@@ -373,8 +384,8 @@ module _ (v : SuperValue) where
       (holds_newest opened old new batch c'
       (gate_stays opened old batch.journal c c' (holds_of opened old c r) is_batch.there none same)
       is_batch newer is_open
-      (same.blocks (descriptor_block v.slots batch.journal)
-      (λ e. gate_no_descriptor v.slots batch.journal batch.journal (sym e)) ∙ descriptor)
+      (descriptor_same batch.journal (gate_block v.slots batch.journal) c c'
+      (λ i lt. gate_no_descriptor v.slots batch.journal batch.journal i lt) same ∙ descriptor)
       (λ i lt. same.blocks (record_block v.slots batch.journal i) (λ e.
       gate_no_record v.slots batch.journal batch.journal i (omega (arith, lt, is_batch.described.homes.few)) (sym e))
       ∙ records i lt)

@@ -129,20 +129,22 @@ write_outs-push (x ∷ queued) f = ap (λ (l : List WriteOut). x.write_out ∷ l
 -- the value's write-outs, as the code's list has them
 pub begun_view : (outs : WriteOutsValue) (queued queued' : List QueuedWriteOut)
     (mark : ℕ) (homes : List ℕ) (room next : ℕ)
-    → outs.batches ≡ write_outs_in queued → queued' ≡ queued ++ queued_of (next_batch outs mark homes) room ∷ []
+    → outs.batches ≡ write_outs_in queued
+    → queued' ≡ queued ++ queued_of outs.geometry.slots (next_batch outs mark homes) room ∷ []
     → next ≡ following outs.geometry.layout outs.next
     → record outs { next = next; batches = write_outs_in queued' } ≡ begun outs mark homes
 begun_view outs queued queued' mark homes room next are pushed turn =
-    let list : write_outs_in queued' ≡ outs.batches ++ begun_of (next_batch outs mark homes) ∷ [] =
+    let list : write_outs_in queued' ≡ outs.batches ++ begun_of outs.geometry.slots (next_batch outs mark homes) ∷ [] =
     ap write_outs_in pushed
-    ∙ write_outs-push queued (queued_of (next_batch outs mark homes) room)
-    ∙ ap (λ (l : List WriteOut). l ++ begun_of (next_batch outs mark homes) ∷ []) (sym are) in
+    ∙ write_outs-push queued (queued_of outs.geometry.slots (next_batch outs mark homes) room)
+    ∙ ap (λ (l : List WriteOut). l ++ begun_of outs.geometry.slots (next_batch outs mark homes) ∷ []) (sym are) in
     λ i. record outs { next = turn i; batches = list i }
 
 pub begun_room : (outs : WriteOutsValue) (queued queued' : List QueuedWriteOut) (spare spare' : List ℕ)
     (queued_room queued_room' spare_room spare_room' : ℕ) (mark : ℕ) (homes : List ℕ) (list_room room : ℕ)
     → HasRoom outs queued queued_room spare spare_room → IsSound (begun outs mark homes)
-    → queued' ≡ queued ++ queued_of (next_batch outs mark homes) room ∷ [] → spare ≡ spare' ++ list_room ∷ []
+    → queued' ≡ queued ++ queued_of outs.geometry.slots (next_batch outs mark homes) room ∷ []
+    → spare ≡ spare' ++ list_room ∷ []
     → list_room ≤ room → queued_room ≤ queued_room' → spare_room ≤ spare_room'
     → HasRoom (begun outs mark homes) queued' queued_room' spare' spare_room'
 begun_room outs queued queued' spare spare' queued_room queued_room' spare_room spare_room' mark homes list_room room
@@ -152,7 +154,7 @@ begun_room outs queued queued' spare spare' queued_room queued_room' spare_room 
       sound = sound;
       queued_are = subst (AllByRecursion (λ (one : QueuedWriteOut). outs.geometry.slots ≤ one.room)) (sym pushed)
           (all-append (λ (one : QueuedWriteOut). outs.geometry.slots ≤ one.room) queued
-          (queued_of (next_batch outs mark homes) room ∷ []) has.queued_are
+          (queued_of outs.geometry.slots (next_batch outs mark homes) room ∷ []) has.queued_are
           (omega (arith, bigger, (all_back (λ r. outs.geometry.slots ≤ r) spare' (list_room ∷ []) rooms).0), tt));
       spare_are = all_front (λ r. outs.geometry.slots ≤ r) spare' (list_room ∷ []) rooms;
       count = omega (
@@ -160,7 +162,7 @@ begun_room outs queued queued' spare spare' queued_room queued_room' spare_room 
         has.count,
         ap length pushed,
         ap length popped,
-        length-append queued (queued_of (next_batch outs mark homes) room ∷ []),
+        length-append queued (queued_of outs.geometry.slots (next_batch outs mark homes) room ∷ []),
         length-append spare' (list_room ∷ []),
       );
       room = omega (arith, has.room, more);

@@ -10,31 +10,37 @@ use Rattle.std.proofs.lemmas.Option.{slice_get-get_or, slice_get_past}
 use Rattle.journal.specs.declared.stage.Stage.{Stage}
 use Rattle.journal.specs.declared.stage.Stage.TheVariants.{Recording, Describing, SyncingRecords, Opening}
 use Rattle.journal.specs.declared.stage.Stage.TheVariants.{Committing, Applying, SyncingHomes, Closing, Finishing}
-use Rattle.volume_codec.specs.Layout.{GeometryValue}
+use Rattle.volume_codec.specs.Layout.{GeometryValue, descriptor_blocks}
 use Rattle.volume_codec.specs.Recovery.{Batch}
 use Rattle.journal.specs.Stage.{stages, stage_at}
 use Rattle.journal.specs.Work.{Nothing, work_at, calls_of}
 use Rattle.journal.specs.WriteOut.{calls_in_steps}
 use Rattle.std.specs.Option.{option_map_or}
 
--- how many of the steps of a write-out of k blocks are made before this stage
-abbrev pub IsAt : ℕ → ℕ → Option Stage → Type 0
-IsAt k n (Some (Recording i)) = (n ≡ i) × (i < k)
-IsAt k n (Some Describing) = n ≡ k
-IsAt k n (Some SyncingRecords) = n ≡ k + 1
-IsAt k n (Some Opening) = n ≡ k + 2
-IsAt k n (Some Committing) = n ≡ k + 3
-IsAt k n (Some (Applying i)) = (n ≡ k + 4 + i) × (i < k)
-IsAt k n (Some SyncingHomes) = n ≡ 2 * k + 4
-IsAt k n (Some Closing) = n ≡ 2 * k + 5
-IsAt k n (Some Finishing) = n ≡ 2 * k + 6
-IsAt k n None = 2 * k + 7 ≤ n
+-- how many of the steps of a write-out of k blocks, whose descriptor has d blocks, are made before this stage
+abbrev pub IsAt : ℕ → ℕ → ℕ → Option Stage → Type 0
+IsAt k d n (Some (Recording i)) = (n ≡ i) × (i < k)
+IsAt k d n (Some (Describing i)) = (n ≡ k + i) × (i < d)
+IsAt k d n (Some SyncingRecords) = n ≡ k + d
+IsAt k d n (Some Opening) = n ≡ k + d + 1
+IsAt k d n (Some Committing) = n ≡ k + d + 2
+IsAt k d n (Some (Applying i)) = (n ≡ k + d + 3 + i) × (i < k)
+IsAt k d n (Some SyncingHomes) = n ≡ 2 * k + d + 3
+IsAt k d n (Some Closing) = n ≡ 2 * k + d + 4
+IsAt k d n (Some Finishing) = n ≡ 2 * k + d + 5
+IsAt k d n None = 2 * k + d + 6 ≤ n
 
 -- ---- the list of stages
 
-module _ (k : ℕ) where
+module _ (k d : ℕ) where
   abbrev records : List Stage
   records = map Recording (range_with_len 0 k)
+
+  abbrev descriptors : List Stage
+  descriptors = map Describing (range_with_len 0 d)
+
+  abbrev front : List Stage
+  front = records ++ descriptors
 
   abbrev homes : List Stage
   homes = map Applying (range_with_len 0 k)
@@ -43,96 +49,120 @@ module _ (k : ℕ) where
   ends = SyncingHomes ∷ Closing ∷ Finishing ∷ []
 
   abbrev middle : List Stage
-  middle = Describing ∷ SyncingRecords ∷ Opening ∷ Committing ∷ (homes ++ ends)
+  middle = SyncingRecords ∷ Opening ∷ Committing ∷ (homes ++ ends)
 
   length-records : length records ≡ k
   length-records = length-map-range_with_len Recording 0 k
 
+  length-descriptors : length descriptors ≡ d
+  length-descriptors = length-map-range_with_len Describing 0 d
+
+  length-front : length front ≡ k + d
+  length-front = omega (arith, length-append records descriptors, length-records, length-descriptors)
+
   length-homes : length homes ≡ k
   length-homes = length-map-range_with_len Applying 0 k
 
-  pub length-stages : length (stages k) ≡ 2 * k + 7
+  pub length-stages : length (stages k d) ≡ 2 * k + d + 6
   length-stages =
-      let sum : length (records ++ middle) ≡ 2 * k + 7 =
-      omega (arith, length-append records middle, length-append homes ends, length-records, length-homes) in
+      let sum : length (front ++ middle) ≡ 2 * k + d + 6 =
+      omega (arith, length-append front middle, length-append homes ends, length-front, length-homes) in
       sum
 
-  at_record : (i : ℕ) → i < k → stage_at k i ≡ Some (Recording i)
+  at_front : (n : ℕ) → n < k + d → stage_at k d n ≡ Some (get_or front n Finishing)
   unfolding stage_at
+  at_front n lt =
+      slice_get-get_or (stages k d) n Finishing (omega (arith, length-stages))
+      ∙ ap Some (get_or_append_left front middle Finishing n (omega (arith, length-front)))
+
+  at_record : (i : ℕ) → i < k → stage_at k d i ≡ Some (Recording i)
   at_record i lt =
-      slice_get-get_or (stages k) i Finishing (omega (arith, length-stages))
-      ∙ ap Some (get_or_append_left records middle Finishing i (omega (arith, length-records))
+      at_front i (omega arith)
+      ∙ ap Some (get_or_append_left records descriptors Finishing i (omega (arith, length-records))
       ∙ get_or-map-range_with_len Recording 0 k i i Finishing lt (omega arith))
 
-  at_middle : (n j : ℕ) → n ≡ k + j → j < k + 7 → stage_at k n ≡ Some (get_or middle j Finishing)
+  at_descriptor : (n i : ℕ) → n ≡ k + i → i < d → stage_at k d n ≡ Some (Describing i)
+  at_descriptor n i is lt =
+      at_front n (omega arith)
+      ∙ ap Some (ap (λ m. get_or front m Finishing) (omega (arith, length-records))
+      ∙ get_or-append-add records descriptors i Finishing
+      ∙ get_or-map-range_with_len Describing 0 d i i Finishing lt (omega arith))
+
+  at_middle : (n j : ℕ) → n ≡ k + d + j → j < k + 6 → stage_at k d n ≡ Some (get_or middle j Finishing)
   unfolding stage_at
   at_middle n j is lt =
-      slice_get-get_or (stages k) n Finishing (omega (arith, length-stages))
-      ∙ ap Some (ap (λ m. get_or (stages k) m Finishing) (omega (arith, length-records))
-      ∙ get_or-append-add records middle j Finishing)
+      slice_get-get_or (stages k d) n Finishing (omega (arith, length-stages))
+      ∙ ap Some (ap (λ m. get_or (stages k d) m Finishing) (omega (arith, length-front))
+      ∙ get_or-append-add front middle j Finishing)
 
-  at_home : (n i : ℕ) → n ≡ k + 4 + i → i < k → stage_at k n ≡ Some (Applying i)
+  at_home : (n i : ℕ) → n ≡ k + d + 3 + i → i < k → stage_at k d n ≡ Some (Applying i)
   at_home n i is lt =
-      at_middle n (suc (suc (suc (suc i)))) (omega arith) (omega arith)
+      at_middle n (suc (suc (suc i))) (omega arith) (omega arith)
       ∙ ap Some (get_or_append_left homes ends Finishing i (omega (arith, length-homes))
       ∙ get_or-map-range_with_len Applying 0 k i i Finishing lt (omega arith))
 
-  at_end : (n j : ℕ) → n ≡ 2 * k + 4 + j → j < 3 → stage_at k n ≡ Some (get_or ends j Finishing)
+  at_end : (n j : ℕ) → n ≡ 2 * k + d + 3 + j → j < 3 → stage_at k d n ≡ Some (get_or ends j Finishing)
   at_end n j is lt =
-      at_middle n (suc (suc (suc (suc (k + j))))) (omega arith) (omega arith)
+      at_middle n (suc (suc (suc (k + j)))) (omega arith) (omega arith)
       ∙ ap Some (ap (λ m. get_or (homes ++ ends) m Finishing) (omega (arith, length-homes))
       ∙ get_or-append-add homes ends j Finishing)
 
-  past_end : (n : ℕ) → 2 * k + 7 ≤ n → stage_at k n ≡ None
+  past_end : (n : ℕ) → 2 * k + d + 6 ≤ n → stage_at k d n ≡ None
   unfolding stage_at
-  past_end n le = slice_get_past (stages k) n (omega (arith, length-stages))
+  past_end n le = slice_get_past (stages k d) n (omega (arith, length-stages))
 
-pub stage_from : (k n : ℕ) (o : Option Stage) → IsAt k n o → stage_at k n ≡ o
-stage_from k n (Some (Recording i)) at = ap (stage_at k) at.0 ∙ at_record k i at.1
-stage_from k n (Some Describing) at = at_middle k n 0 (omega arith) (omega arith)
-stage_from k n (Some SyncingRecords) at = at_middle k n 1 at (omega arith)
-stage_from k n (Some Opening) at = at_middle k n 2 at (omega arith)
-stage_from k n (Some Committing) at = at_middle k n 3 at (omega arith)
-stage_from k n (Some (Applying i)) at = at_home k n i at.0 at.1
-stage_from k n (Some SyncingHomes) at = at_end k n 0 (omega arith) (omega arith)
-stage_from k n (Some Closing) at = at_end k n 1 (omega arith) (omega arith)
-stage_from k n (Some Finishing) at = at_end k n 2 (omega arith) (omega arith)
-stage_from k n None at = past_end k n at
+pub stage_from : (k d n : ℕ) (o : Option Stage) → IsAt k d n o → stage_at k d n ≡ o
+stage_from k d n (Some (Recording i)) at = ap (stage_at k d) at.0 ∙ at_record k d i at.1
+stage_from k d n (Some (Describing i)) at = at_descriptor k d n i at.0 at.1
+stage_from k d n (Some SyncingRecords) at = at_middle k d n 0 (omega arith) (omega arith)
+stage_from k d n (Some Opening) at = at_middle k d n 1 at (omega arith)
+stage_from k d n (Some Committing) at = at_middle k d n 2 at (omega arith)
+stage_from k d n (Some (Applying i)) at = at_home k d n i at.0 at.1
+stage_from k d n (Some SyncingHomes) at = at_end k d n 0 (omega arith) (omega arith)
+stage_from k d n (Some Closing) at = at_end k d n 1 (omega arith) (omega arith)
+stage_from k d n (Some Finishing) at = at_end k d n 2 (omega arith) (omega arith)
+stage_from k d n None at = past_end k d n at
 
 -- each number of steps is that of one of them, or past the last
-found : (k n : ℕ) → (o : Option Stage) × IsAt k n o
-found k n = elim (cases_order n k) [
-  | inl same ↦ (Some Describing, omega arith)
+found : (k d n : ℕ) → (o : Option Stage) × IsAt k d n o
+found k d n = elim (cases_order n k) [
+  | inl same ↦ described 0 (omega arith)
   | inr (inl lt) ↦ (Some (Recording n), (refl, lt))
-  | inr (inr gt) ↦ later (n - k) (omega arith)
+  | inr (inr gt) ↦ described (n - k) (omega arith)
 ]
   where
-    applied : (i : ℕ) → n ≡ k + 4 + i → (o : Option Stage) × IsAt k n o
+    applied : (i : ℕ) → n ≡ k + d + 3 + i → (o : Option Stage) × IsAt k d n o
     applied i is = elim (cases_order i k) [
       | inl same ↦ (Some SyncingHomes, omega arith)
       | inr (inl lt) ↦ (Some (Applying i), (is, lt))
       | inr (inr gt) ↦ ending (i - k) (omega arith)
     ]
       where
-        ending : (j : ℕ) → n ≡ 2 * k + 4 + j → (o : Option Stage) × IsAt k n o
+        ending : (j : ℕ) → n ≡ 2 * k + d + 3 + j → (o : Option Stage) × IsAt k d n o
         ending zero is = (Some SyncingHomes, omega arith)
         ending (suc zero) is = (Some Closing, omega arith)
         ending (suc (suc zero)) is = (Some Finishing, omega arith)
         ending (suc (suc (suc j))) is = (None, omega arith)
 
-    later : (j : ℕ) → n ≡ k + j → (o : Option Stage) × IsAt k n o
-    later zero is = (Some Describing, omega arith)
-    later (suc zero) is = (Some SyncingRecords, omega arith)
-    later (suc (suc zero)) is = (Some Opening, omega arith)
-    later (suc (suc (suc zero))) is = (Some Committing, omega arith)
-    later (suc (suc (suc (suc i)))) is = applied i (omega arith)
+    later : (j : ℕ) → n ≡ k + d + j → (o : Option Stage) × IsAt k d n o
+    later zero is = (Some SyncingRecords, omega arith)
+    later (suc zero) is = (Some Opening, omega arith)
+    later (suc (suc zero)) is = (Some Committing, omega arith)
+    later (suc (suc (suc i))) is = applied i (omega arith)
 
-pub stage_is : (k n : ℕ) → IsAt k n (stage_at k n)
-stage_is k n = let is = found k n in subst (IsAt k n) (sym (stage_from k n is.0 is.1)) is.1
+    described : (i : ℕ) → n ≡ k + i → (o : Option Stage) × IsAt k d n o
+    described i is = elim (cases_order i d) [
+      | inl same ↦ later 0 (omega arith)
+      | inr (inl lt) ↦ (Some (Describing i), (is, lt))
+      | inr (inr gt) ↦ later (i - d) (omega arith)
+    ]
+
+pub stage_is : (k d n : ℕ) → IsAt k d n (stage_at k d n)
+stage_is k d n = let is = found k d n in subst (IsAt k d n) (sym (stage_from k d n is.0 is.1)) is.1
 
 -- what is at hand of a stage
-pub stage_at-is : (k n : ℕ) {o : Option Stage} → stage_at k n ≡ o → IsAt k n o
-stage_at-is k n e = subst (IsAt k n) e (stage_is k n)
+pub stage_at-is : (k d n : ℕ) {o : Option Stage} → stage_at k d n ≡ o → IsAt k d n o
+stage_at-is k d n e = subst (IsAt k d n) e (stage_is k d n)
 
 -- ---- calls
 
@@ -140,19 +170,25 @@ module _ (g : GeometryValue) (batch : Batch) where
   abbrev k : ℕ
   k = length batch.homes
 
+  abbrev d : ℕ
+  d = descriptor_blocks g.slots
+
   -- the calls of the step after so many steps
   abbrev calls_after : ℕ → ℕ
-  calls_after n = calls_of (option_map_or (work_at g batch []) (stage_at (length batch.homes) n) Nothing)
+  calls_after n =
+      calls_of
+      (option_map_or (work_at g batch []) (stage_at (length batch.homes) (descriptor_blocks g.slots) n) Nothing)
 
-  pub early_calls : (n : ℕ) → n ≤ k + 4 → calls_in_steps g batch n ≡ n
+  pub early_calls : (n : ℕ) → n ≤ k + d + 3 → calls_in_steps g batch n ≡ n
   early_calls zero le = refl
   early_calls (suc n) le =
       let before = early_calls n (omega arith) in
-      omega (arith, before, by (stage_at k n) (stage_is k n) (omega arith))
+      omega (arith, before, by (stage_at k d n) (stage_is k d n) (omega arith))
     where
-      by : (o : Option Stage) → IsAt k n o → n < k + 4 → calls_of (option_map_or (work_at g batch []) o Nothing) ≡ 1
+      by : (o : Option Stage) → IsAt k d n o → n < k + d + 3
+          → calls_of (option_map_or (work_at g batch []) o Nothing) ≡ 1
       by (Some (Recording i)) at lt = refl
-      by (Some Describing) at lt = refl
+      by (Some (Describing i)) at lt = refl
       by (Some SyncingRecords) at lt = refl
       by (Some Opening) at lt = refl
       by (Some Committing) at lt = refl
@@ -162,93 +198,107 @@ module _ (g : GeometryValue) (batch : Batch) where
       by (Some Finishing) at lt = refl
       by None at lt = absurd (omega arith)
 
-  calls_at : (n : ℕ) (o : Option Stage) → IsAt k n o
+  calls_at : (n : ℕ) (o : Option Stage) → IsAt k d n o
       → calls_after n ≡ calls_of (option_map_or (work_at g batch []) o Nothing)
   calls_at n o at =
-      ap (λ (p : Option Stage). calls_of (option_map_or (work_at g batch []) p Nothing)) (stage_from k n o at)
+      ap (λ (p : Option Stage). calls_of (option_map_or (work_at g batch []) p Nothing)) (stage_from k d n o at)
 
-  applying_calls : (i : ℕ) → i ≤ k → calls_in_steps g batch (k + 4 + i) ≡ k + 4 + 2 * i
+  applying_calls : (i : ℕ) → i ≤ k → calls_in_steps g batch (k + d + 3 + i) ≡ k + d + 3 + 2 * i
   applying_calls zero le =
-      let first = early_calls (k + 4) (omega arith) in
+      let first = early_calls (k + d + 3) (omega arith) in
       ap (calls_in_steps g batch) (omega arith) ∙ first ∙ omega arith
   applying_calls (suc i) le =
       let before = applying_calls i (omega arith) in
-      let two : calls_after (k + 4 + i) ≡ 2 = calls_at (k + 4 + i) (Some (Applying i)) (refl, omega arith) in
-      let next : k + 4 + suc i ≡ suc (k + 4 + i) = omega arith in
+      let two : calls_after (k + d + 3 + i) ≡ 2 = calls_at (k + d + 3 + i) (Some (Applying i)) (refl, omega arith) in
+      let next : k + d + 3 + suc i ≡ suc (k + d + 3 + i) = omega arith in
       ap (calls_in_steps g batch) next ∙ omega (arith, before, two)
 
-  pub all_calls : calls_in_steps g batch (2 * k + 7) ≡ 3 * k + 7
+  pub all_calls : calls_in_steps g batch (2 * k + d + 6) ≡ 3 * k + d + 6
   all_calls =
       let before = applying_calls k (omega arith) in
-      let one : calls_after (k + 4 + k) ≡ 1 = calls_at (k + 4 + k) (Some SyncingHomes) (omega arith) in
-      let two : calls_after (suc (k + 4 + k)) ≡ 1 = calls_at (suc (k + 4 + k)) (Some Closing) (omega arith) in
-      let three : calls_after (suc (suc (k + 4 + k))) ≡ 1 =
-      calls_at (suc (suc (k + 4 + k))) (Some Finishing) (omega arith) in
-      let end : 2 * k + 7 ≡ suc (suc (suc (k + 4 + k))) = omega arith in
+      let one : calls_after (k + d + 3 + k) ≡ 1 = calls_at (k + d + 3 + k) (Some SyncingHomes) (omega arith) in
+      let two : calls_after (suc (k + d + 3 + k)) ≡ 1 =
+      calls_at (suc (k + d + 3 + k)) (Some Closing) (omega arith) in
+      let three : calls_after (suc (suc (k + d + 3 + k))) ≡ 1 =
+      calls_at (suc (suc (k + d + 3 + k))) (Some Finishing) (omega arith) in
+      let end : 2 * k + d + 6 ≡ suc (suc (suc (k + d + 3 + k))) = omega arith in
       ap (calls_in_steps g batch) end ∙ omega (arith, before, one, two, three)
 
-pub done_at : (k n : ℕ) → stage_at k n ≡ None → 2 * k + 7 ≤ n
-done_at k n e = stage_at-is k n e
+pub done_at : (k d n : ℕ) → stage_at k d n ≡ None → 2 * k + d + 6 ≤ n
+done_at k d n e = stage_at-is k d n e
 
 -- ---- the next stage
 
--- of a batch of so many blocks
-abbrev pub next_of : ℕ → Stage → Stage
-next_of k (Recording i) = cond (i + 1 == k) Describing (Recording (i + 1))
-next_of k Describing = SyncingRecords
-next_of k SyncingRecords = Opening
-next_of k Opening = Committing
-next_of k Committing = Applying 0
-next_of k (Applying i) = cond (i + 1 == k) SyncingHomes (Applying (i + 1))
-next_of k SyncingHomes = Closing
-next_of k Closing = Finishing
-next_of k Finishing = Finishing
+-- of a batch of so many blocks, whose descriptor has so many
+abbrev pub next_of : ℕ → ℕ → Stage → Stage
+next_of k d (Recording i) = cond (i + 1 == k) (Describing 0) (Recording (i + 1))
+next_of k d (Describing i) = cond (i + 1 == d) SyncingRecords (Describing (i + 1))
+next_of k d SyncingRecords = Opening
+next_of k d Opening = Committing
+next_of k d Committing = Applying 0
+next_of k d (Applying i) = cond (i + 1 == k) SyncingHomes (Applying (i + 1))
+next_of k d SyncingHomes = Closing
+next_of k d Closing = Finishing
+next_of k d Finishing = Finishing
 
-next_at : (k n : ℕ) (stage : Stage) → 0 < k → stage ≢ Finishing → IsAt k n (Some stage)
-    → IsAt k (n + 1) (Some (next_of k stage))
-next_at k n (Recording i) some not_last at =
-    cond_both (i + 1 == k) Describing (Recording (i + 1)) (λ s. IsAt k (n + 1) (Some s))
+-- in a volume whose journals have so many slots
+abbrev pub next_in : ℕ → Batch → Stage → Stage
+next_in slots batch stage = next_of (length batch.homes) (descriptor_blocks slots) stage
+
+next_at : (k d n : ℕ) (stage : Stage) → 0 < k → 0 < d → stage ≢ Finishing → IsAt k d n (Some stage)
+    → IsAt k d (n + 1) (Some (next_of k d stage))
+next_at k d n (Recording i) some more not_last at =
+    cond_both (i + 1 == k) (Describing 0) (Recording (i + 1)) (λ s. IsAt k d (n + 1) (Some s))
+    (λ e. (omega (arith, at.0, eqb-true (i + 1) k e), more))
+    (λ e. (omega (arith, at.0), omega (arith, at.1, eqb-false (i + 1) k e)))
+next_at k d n (Describing i) some more not_last at =
+    cond_both (i + 1 == d) SyncingRecords (Describing (i + 1)) (λ s. IsAt k d (n + 1) (Some s))
+    (λ e. omega (arith, at.0, eqb-true (i + 1) d e))
+    (λ e. (omega (arith, at.0), omega (arith, at.1, eqb-false (i + 1) d e)))
+next_at k d n SyncingRecords some more not_last at = omega (arith, at)
+next_at k d n Opening some more not_last at = omega (arith, at)
+next_at k d n Committing some more not_last at = (omega (arith, at), some)
+next_at k d n (Applying i) some more not_last at =
+    cond_both (i + 1 == k) SyncingHomes (Applying (i + 1)) (λ s. IsAt k d (n + 1) (Some s))
     (λ e. omega (arith, at.0, eqb-true (i + 1) k e))
     (λ e. (omega (arith, at.0), omega (arith, at.1, eqb-false (i + 1) k e)))
-next_at k n Describing some not_last at = omega (arith, at)
-next_at k n SyncingRecords some not_last at = omega (arith, at)
-next_at k n Opening some not_last at = omega (arith, at)
-next_at k n Committing some not_last at = (omega (arith, at), some)
-next_at k n (Applying i) some not_last at =
-    cond_both (i + 1 == k) SyncingHomes (Applying (i + 1)) (λ s. IsAt k (n + 1) (Some s))
-    (λ e. omega (arith, at.0, eqb-true (i + 1) k e))
-    (λ e. (omega (arith, at.0), omega (arith, at.1, eqb-false (i + 1) k e)))
-next_at k n SyncingHomes some not_last at = omega (arith, at)
-next_at k n Closing some not_last at = omega (arith, at)
-next_at k n Finishing some not_last at = absurd (not_last refl)
+next_at k d n SyncingHomes some more not_last at = omega (arith, at)
+next_at k d n Closing some more not_last at = omega (arith, at)
+next_at k d n Finishing some more not_last at = absurd (not_last refl)
 
-module _ (k n : ℕ) where
-  pub next_is : (stage : Stage) → 0 < k → stage ≢ Finishing → stage_at k n ≡ Some stage
-      → stage_at k (n + 1) ≡ Some (next_of k stage)
-  next_is stage some not_last e =
-      stage_from k (n + 1) (Some (next_of k stage)) (next_at k n stage some not_last (stage_at-is k n e))
+module _ (k d n : ℕ) where
+  pub next_is : (stage : Stage) → 0 < k → 0 < d → stage ≢ Finishing → stage_at k d n ≡ Some stage
+      → stage_at k d (n + 1) ≡ Some (next_of k d stage)
+  next_is stage some more not_last e =
+      stage_from k d (n + 1) (Some (next_of k d stage))
+      (next_at k d n stage some more not_last (stage_at-is k d n e))
 
-  pub after_committing : stage_at k n ≡ Some Committing → 0 < k → stage_at k (n + 1) ≡ Some (Applying 0)
-  after_committing e some = next_is Committing some (λ same. cc) e
+  pub after_committing : stage_at k d n ≡ Some Committing → 0 < k → stage_at k d (n + 1) ≡ Some (Applying 0)
+  after_committing e some =
+      let at = stage_at-is k d n e in
+      stage_from k d (n + 1) (Some (Applying 0)) (omega (arith, at), some)
 
-  -- the place of a record or of a home block is one of the batch
-  pub recording_within : (i : ℕ) → stage_at k n ≡ Some (Recording i) → i < k
-  recording_within i e = (stage_at-is k n e).1
+  -- the place of a record, of a block of the descriptor or of a home block is one of the batch
+  pub recording_within : (i : ℕ) → stage_at k d n ≡ Some (Recording i) → i < k
+  recording_within i e = (stage_at-is k d n e).1
 
-  pub applying_within : (i : ℕ) → stage_at k n ≡ Some (Applying i) → i < k
-  applying_within i e = (stage_at-is k n e).1
+  pub describing_within : (i : ℕ) → stage_at k d n ≡ Some (Describing i) → i < d
+  describing_within i e = (stage_at-is k d n e).1
+
+  pub applying_within : (i : ℕ) → stage_at k d n ≡ Some (Applying i) → i < k
+  applying_within i e = (stage_at-is k d n e).1
 
 -- so many steps are few
-few_at : (k n : ℕ) (stage : Stage) → IsAt k n (Some stage) → n < 2 * k + 7
-few_at k n (Recording i) at = omega (arith, at.0, at.1)
-few_at k n Describing at = omega (arith, at)
-few_at k n SyncingRecords at = omega (arith, at)
-few_at k n Opening at = omega (arith, at)
-few_at k n Committing at = omega (arith, at)
-few_at k n (Applying i) at = omega (arith, at.0, at.1)
-few_at k n SyncingHomes at = omega (arith, at)
-few_at k n Closing at = omega (arith, at)
-few_at k n Finishing at = omega (arith, at)
+few_at : (k d n : ℕ) (stage : Stage) → IsAt k d n (Some stage) → n < 2 * k + d + 6
+few_at k d n (Recording i) at = omega (arith, at.0, at.1)
+few_at k d n (Describing i) at = omega (arith, at.0, at.1)
+few_at k d n SyncingRecords at = omega (arith, at)
+few_at k d n Opening at = omega (arith, at)
+few_at k d n Committing at = omega (arith, at)
+few_at k d n (Applying i) at = omega (arith, at.0, at.1)
+few_at k d n SyncingHomes at = omega (arith, at)
+few_at k d n Closing at = omega (arith, at)
+few_at k d n Finishing at = omega (arith, at)
 
-pub steps_few : (k n : ℕ) (stage : Stage) → stage_at k n ≡ Some stage → n < 2 * k + 7
-steps_few k n stage e = few_at k n stage (stage_at-is k n e)
+pub steps_few : (k d n : ℕ) (stage : Stage) → stage_at k d n ≡ Some stage → n < 2 * k + d + 6
+steps_few k d n stage e = few_at k d n stage (stage_at-is k d n e)

@@ -10,7 +10,7 @@ use Rattle.std.proofs.lemmas.List.{append-nil}
 use Rattle.std.proofs.lemmas.List.Elements.{Contains-get_or}
 use Rattle.device.specs.Device.{written, Torn}
 use Rattle.volume_codec.specs.Layout.{GeometryValue, IsHome, journals_of, gate_block}
-use Rattle.volume_codec.specs.Layout.{descriptor_block, record_block, first_home, block_at}
+use Rattle.volume_codec.specs.Layout.{descriptor_block, descriptor_blocks, record_block, first_home, block_at}
 use Rattle.volume_codec.specs.Super.{SuperValue, IsSuper, geometry_of, block_count}
 use Rattle.volume_codec.specs.Descriptor.{descriptor_text}
 use Rattle.volume_codec.specs.Recovery.{Batch, IsOpen, Recovers, contents_in}
@@ -22,17 +22,18 @@ use Rattle.journal.specs.Work.{Work, Sync, work_at, worked, TornFromWork}
 use Rattle.journal.specs.WriteOut.{IsBatch}
 use Rattle.journal.specs.Crash.{LeftBefore, LeftWithin}
 use Rattle.journal.specs.inside.Tied.{Progress, IsFirmFor, IsLeft, is_recording, is_applying, is_durable}
-use Rattle.journal.specs.inside.Tied.{is_open, durable_in, recorded, is_described, applied, IsCovered}
+use Rattle.journal.specs.inside.Tied.{is_open, durable_in, recorded, described, applied, IsCovered}
 use Rattle.journal.specs.inside.Tied.{IsWritten, AreWritten, is_under_way, kept_in, IsSeen}
 use Rattle.journal.proofs.Alls.{all_map, all_both, all_in, all-append, all_front, all_back, all_replaced, in_right}
 use Rattle.journal.proofs.Changes.{SameBut, same_but_torn, torn-written, block-written, first-written, length-block_at}
 use Rattle.journal.proofs.Places.{gate-below, descriptor-below, record-below}
 use Rattle.journal.proofs.Places.{gate_no_descriptor, gate_no_record, descriptor_no_record}
-use Rattle.journal.proofs.Stages.{next_of}
+use Rattle.journal.proofs.Stages.{next_of, next_in}
 use Rattle.journal.proofs.RecoveredBlocks.{recovered-without_oldest}
 use Rattle.journal.proofs.Recovering.{HoldsBy, holds_newest}
 use Rattle.journal.proofs.Written.{IsBeside, written_more, written_kept, all_kept, beside_gate, beside_record}
-use Rattle.journal.proofs.Written.{beside_descriptor, beside_home, home_at, rising_apart, length-descriptor_text}
+use Rattle.journal.proofs.Written.{beside_descriptor, beside_home, home_at, rising_apart}
+use Rattle.journal.proofs.Written.{length-descriptor_text, descriptor_there}
 use Rattle.journal.proofs.Tying.{false_true, IsBefore, AreOrdered, AreGoing, last_of}
 use Rattle.journal.proofs.Firm.{durable_all, first_same, super_firm, gate_firm, recovered_firm, holds_left}
 use Rattle.journal.proofs.Leaving.{IsGateOpening, covered_front, newer_than, under_way, left_recovers}
@@ -43,18 +44,49 @@ use Rattle.journal.proofs.Leaving.{IsGateOpening, covered_front, newer_than, und
 record IsRecordedTo (k n : ℕ) (s : Stage) : Type 0 where
   pub recorded_is : recorded k s ≡ n
   pub applied_is : applied k s ≡ 0
-  pub described_is : is_described s ≡ false
+  pub described_is : (d : ℕ) → described d s ≡ 0
   pub open_is : is_open s ≡ false
   pub durable_is : is_durable s ≡ false
   pub committed_is : is_committed s ≡ false
   pub recording_is : is_recording s ≡ true
 
-recorded_to : (k i : ℕ) → IsRecordedTo k (i + 1) (next_of k (Recording i))
-recorded_to k i = cond_both (i + 1 == k) Describing (Recording (i + 1)) (IsRecordedTo k (i + 1))
+recorded_to : (k d i : ℕ) → IsRecordedTo k (i + 1) (next_of k d (Recording i))
+recorded_to k d i = cond_both (i + 1 == k) (Describing 0) (Recording (i + 1)) (IsRecordedTo k (i + 1))
     (λ e. record {
       recorded_is = sym (eqb-true (i + 1) k e);
       applied_is = refl;
-      described_is = refl;
+      described_is = λ n. refl;
+      open_is = refl;
+      durable_is = refl;
+      committed_is = refl;
+      recording_is = refl;
+    })
+    (λ e. record {
+      recorded_is = refl;
+      applied_is = refl;
+      described_is = λ n. refl;
+      open_is = refl;
+      durable_is = refl;
+      committed_is = refl;
+      recording_is = refl;
+    })
+
+-- after a block of the descriptor
+record IsDescribedTo (k d n : ℕ) (s : Stage) : Type 0 where
+  pub recorded_is : recorded k s ≡ k
+  pub applied_is : applied k s ≡ 0
+  pub described_is : described d s ≡ n
+  pub open_is : is_open s ≡ false
+  pub durable_is : is_durable s ≡ false
+  pub committed_is : is_committed s ≡ false
+  pub recording_is : is_recording s ≡ true
+
+described_to : (k d i : ℕ) → IsDescribedTo k d (i + 1) (next_of k d (Describing i))
+described_to k d i = cond_both (i + 1 == d) SyncingRecords (Describing (i + 1)) (IsDescribedTo k d (i + 1))
+    (λ e. record {
+      recorded_is = refl;
+      applied_is = refl;
+      described_is = sym (eqb-true (i + 1) d e);
       open_is = refl;
       durable_is = refl;
       committed_is = refl;
@@ -74,18 +106,16 @@ recorded_to k i = cond_both (i + 1 == k) Describing (Recording (i + 1)) (IsRecor
 record IsAppliedTo (k n : ℕ) (s : Stage) : Type 0 where
   pub recorded_is : recorded k s ≡ 0
   pub applied_is : applied k s ≡ n
-  pub described_is : is_described s ≡ true
   pub open_is : is_open s ≡ true
   pub durable_is : is_durable s ≡ true
   pub committed_is : is_committed s ≡ true
   pub applying_is : is_applying s ≡ true
 
-applied_to : (k i : ℕ) → IsAppliedTo k (i + 1) (next_of k (Applying i))
-applied_to k i = cond_both (i + 1 == k) SyncingHomes (Applying (i + 1)) (IsAppliedTo k (i + 1))
+applied_to : (k d i : ℕ) → IsAppliedTo k (i + 1) (next_of k d (Applying i))
+applied_to k d i = cond_both (i + 1 == k) SyncingHomes (Applying (i + 1)) (IsAppliedTo k (i + 1))
     (λ e. record {
       recorded_is = refl;
       applied_is = sym (eqb-true (i + 1) k e);
-      described_is = refl;
       open_is = refl;
       durable_is = refl;
       committed_is = refl;
@@ -94,7 +124,6 @@ applied_to k i = cond_both (i + 1 == k) SyncingHomes (Applying (i + 1)) (IsAppli
     (λ e. record {
       recorded_is = refl;
       applied_is = refl;
-      described_is = refl;
       open_is = refl;
       durable_is = refl;
       committed_is = refl;
@@ -427,15 +456,15 @@ module _ (v : SuperValue) (old new : ℕ → List ℕ) where
         (subst (λ b. MatchBool b (IsOpen seen v.slots batch.journal) (IsOpen seen v.slots batch.journal → ⊥)) opens
         (own s s' step).gate)
 
-    record_step : (i : ℕ) (bytes : List ℕ) → (step : IsStep (Recording i) (next_of (length batch.homes) (Recording i)))
+    record_step : (i : ℕ) (bytes : List ℕ) → (step : IsStep (Recording i) (next_in v.slots batch (Recording i)))
         → i < length batch.homes → length bytes ≡ 4096 → bytes ≡ new (get_or batch.homes i 0)
         → ((c : List ℕ) → may' c → TornFromWork (work_at (geometry_of v) batch bytes (Recording i)) may c)
-        → IsTiedAt (with_stage (next_of (length batch.homes) (Recording i)))
+        → IsTiedAt (with_stage (next_in v.slots batch (Recording i)))
         (worked seen (work_at (geometry_of v) batch bytes (Recording i))) may'
     record_step i bytes step lt size is_new left =
         let s = Recording i in
-        let s' = next_of (length batch.homes) s in
-        let to = recorded_to (length batch.homes) i in
+        let s' = next_in v.slots batch s in
+        let to = recorded_to (length batch.homes) (descriptor_blocks v.slots) i in
         let there = (is_batch s s' step).there in
         let few : i < v.slots = omega (arith, lt, (is_batch s s' step).described.homes.few) in
         let x = record_block v.slots batch.journal i in
@@ -457,43 +486,55 @@ module _ (v : SuperValue) (old new : ℕ → List ℕ) where
             | inr other ↦ same.blocks (record_block v.slots batch.journal l) (λ e. other (omega arith))
                 ∙ w.records l within (omega (arith, less, to.recorded_is))
           ];
-          descriptor = λ e. absurd (both_ways (is_described s') to.described_is e);
+          descriptor = λ l within less. absurd (omega (arith, less, to.described_is (descriptor_blocks v.slots)));
           homes = λ l within less. absurd (omega (arith, less, to.applied_is));
           gate = gate_of s s' step x (λ e. gate_no_record v.slots batch.journal batch.journal i few (sym e)) _ same
               (sym to.open_is);
         })
         (contents_with s s' (sym to.durable_is) (sym to.committed_is)) left
 
-    describe_step : (bytes : List ℕ) → (step : IsStep Describing SyncingRecords)
-        → ((c : List ℕ) → may' c → TornFromWork (work_at (geometry_of v) batch bytes Describing) may c)
-        → IsTiedAt (with_stage SyncingRecords) (worked seen (work_at (geometry_of v) batch bytes Describing)) may'
-    describe_step bytes step left =
-        let is = is_batch Describing SyncingRecords step in
-        let text = descriptor_text (record { mark = batch.mark; homes = batch.homes }) in
-        let size : length text ≡ 4096 =
-        length-descriptor_text batch.mark batch.homes
-        (omega (arith, is.described.homes.few, step.tied.seen_is.super_block.fits.few_slots)) in
-        let x = descriptor_block v.slots batch.journal in
-        let fits = room Describing SyncingRecords step x (descriptor-below v.layout v.slots batch.journal is.there) in
-        let w = own Describing SyncingRecords step in
-        write Describing SyncingRecords step x (length text) text refl (omega (arith, size)) fits
+    describe_step : (i : ℕ) (bytes : List ℕ) → (step : IsStep (Describing i) (next_in v.slots batch (Describing i)))
+        → i < descriptor_blocks v.slots
+        → ((c : List ℕ) → may' c → TornFromWork (work_at (geometry_of v) batch bytes (Describing i)) may c)
+        → IsTiedAt (with_stage (next_in v.slots batch (Describing i)))
+        (worked seen (work_at (geometry_of v) batch bytes (Describing i))) may'
+    describe_step i bytes step lt left =
+        let s = Describing i in
+        let s' = next_in v.slots batch s in
+        let to = described_to (length batch.homes) (descriptor_blocks v.slots) i in
+        let is = is_batch s s' step in
+        let text = descriptor_text v.slots (record { mark = batch.mark; homes = batch.homes }) in
+        let long = length-descriptor_text v.slots batch.mark batch.homes is.described.homes.few in
+        let block = block_at text i in
+        let size : length block ≡ 4096 = length-block_at text i (omega (arith, long, lt)) in
+        let first = descriptor_block v.slots batch.journal in
+        let x = first + i in
+        let fits = room s s' step x (descriptor-below v.layout v.slots batch.journal i is.there lt) in
+        let w = own s s' step in
+        write s s' step x (length block) block refl (omega (arith, size)) fits
         (λ b f. (
-          record { journal = λ e. f.journal refl; gate = λ e. false_true e; home = λ e. false_true e },
-          λ e. f.journal refl (inl e),
+          record { journal = λ e. f.journal to.recording_is; gate = λ e. false_true e; home = λ e. false_true e },
+          λ e. f.journal to.recording_is (inl (i, lt, e)),
         ))
-        refl (inl (λ e. false_true e)) (others Describing SyncingRecords step x
-        (λ q q_is apart. beside_descriptor v new q batch.journal q_is apart is.there))
+        (sym to.committed_is) (inl (λ e. false_true e))
+        (others s s' step x (λ q q_is apart. beside_descriptor v new q batch.journal i q_is apart is.there lt))
         (λ same. record {
           records = λ l within less.
               same.blocks (record_block v.slots batch.journal l) (λ e. descriptor_no_record v.slots batch.journal
-              batch.journal l (omega (arith, within, is.described.homes.few)) (sym e))
-              ∙ w.records l within less;
-          descriptor = λ e. block-written x text seen size fits;
-          homes = λ l within less. absurd (omega (arith, less));
-          gate = gate_of Describing SyncingRecords step x
-              (λ e. gate_no_descriptor v.slots batch.journal batch.journal (sym e)) _ same refl;
+              batch.journal i l lt (omega (arith, within, is.described.homes.few)) (sym e))
+              ∙ w.records l within within;
+          descriptor = λ l within less. elim (cases_eq l i) [
+            | inl here ↦ ap (λ n. block_at (written seen (4096 * x) block) (first + n)) here
+                ∙ block-written x block seen size fits
+                ∙ ap (block_at text) (sym here)
+            | inr other ↦ same.blocks (first + l) (λ e. other (omega arith))
+                ∙ w.descriptor l within (omega (arith, less, to.described_is))
+          ];
+          homes = λ l within less. absurd (omega (arith, less, to.applied_is));
+          gate = gate_of s s' step x (λ e. gate_no_descriptor v.slots batch.journal batch.journal i lt (sym e)) _ same
+              (sym to.open_is);
         })
-        (contents_with Describing SyncingRecords refl refl) left
+        (contents_with s s' (sym to.durable_is) (sym to.committed_is)) left
 
     open_step : (bytes : List ℕ) → (step : IsStep Opening Committing)
         → ((c : List ℕ) → may' c → TornFromWork (work_at (geometry_of v) batch bytes Opening) may c)
@@ -513,23 +554,24 @@ module _ (v : SuperValue) (old new : ℕ → List ℕ) where
               same.blocks (record_block v.slots batch.journal l) (λ e. gate_no_record v.slots batch.journal
               batch.journal l (omega (arith, within, is.described.homes.few)) (sym e))
               ∙ w.records l within less;
-          descriptor = λ e. same.blocks (descriptor_block v.slots batch.journal)
-              (λ at_gate. gate_no_descriptor v.slots batch.journal batch.journal (sym at_gate)) ∙ w.descriptor refl;
+          descriptor = λ l within less. same.blocks (descriptor_block v.slots batch.journal + l)
+              (λ e. gate_no_descriptor v.slots batch.journal batch.journal l within (sym e))
+              ∙ w.descriptor l within less;
           homes = λ l within less. absurd (omega (arith, less));
           gate = first-written x 0xA7 seen (omega (arith, fits));
         })
         (contents_with Opening Committing refl refl) left
 
     -- a home block, while all newer ones wait with their application
-    apply_step : (i : ℕ) (bytes : List ℕ) → (step : IsStep (Applying i) (next_of (length batch.homes) (Applying i)))
+    apply_step : (i : ℕ) (bytes : List ℕ) → (step : IsStep (Applying i) (next_in v.slots batch (Applying i)))
         → i < length batch.homes → older ≡ [] → AllByRecursion (λ (q : Progress). q.stage ≡ Applying 0) newer
         → ((c : List ℕ) → may' c → TornFromWork (work_at (geometry_of v) batch bytes (Applying i)) may c)
-        → IsTiedAt (with_stage (next_of (length batch.homes) (Applying i)))
+        → IsTiedAt (with_stage (next_in v.slots batch (Applying i)))
         (worked seen (work_at (geometry_of v) batch bytes (Applying i))) may'
     apply_step i bytes step lt oldest waits left =
         let s = Applying i in
-        let s' = next_of (length batch.homes) s in
-        let to = applied_to (length batch.homes) i in
+        let s' = next_in v.slots batch s in
+        let to = applied_to (length batch.homes) (descriptor_blocks v.slots) i in
         let is = is_batch s s' step in
         let few : i < v.slots = omega (arith, lt, is.described.homes.few) in
         let home = home_at (geometry_of v) batch.homes i is.described.homes lt in
@@ -558,9 +600,10 @@ module _ (v : SuperValue) (old new : ℕ → List ℕ) where
         )
         (λ same. record {
           records = λ l within less. absurd (omega (arith, less, to.recorded_is));
-          descriptor = λ e. same.blocks (descriptor_block v.slots batch.journal)
-              (low (descriptor_block v.slots batch.journal) (descriptor-below v.layout v.slots batch.journal is.there))
-              ∙ w.descriptor refl;
+          descriptor = λ l within less. same.blocks (descriptor_block v.slots batch.journal + l)
+              (low (descriptor_block v.slots batch.journal + l)
+              (descriptor-below v.layout v.slots batch.journal l is.there within))
+              ∙ w.descriptor l within within;
           homes = λ l within less. elim (cases_eq l i) [
             | inl here ↦
                 inr (subst (λ n. block_at (written seen (4096 * x) (block_at seen from)) (get_or batch.homes n 0)
@@ -596,8 +639,9 @@ module _ (v : SuperValue) (old new : ℕ → List ℕ) where
         (others Closing Finishing step x (λ q q_is apart. beside_gate v new q batch.journal q_is apart is.there))
         (λ same. record {
           records = λ l within less. absurd (omega (arith, less));
-          descriptor = λ e. same.blocks (descriptor_block v.slots batch.journal)
-              (λ at_gate. gate_no_descriptor v.slots batch.journal batch.journal (sym at_gate)) ∙ w.descriptor refl;
+          descriptor = λ l within less. same.blocks (descriptor_block v.slots batch.journal + l)
+              (λ e. gate_no_descriptor v.slots batch.journal batch.journal l within (sym e))
+              ∙ w.descriptor l within less;
           homes = λ l within less. elim (w.homes l within less) [
             | inl covered ↦ inl covered
             | inr as_record ↦ inr (same.blocks (get_or batch.homes l 0) (λ e. let h =
@@ -642,7 +686,10 @@ module _ (v : SuperValue) (old new : ℕ → List ℕ) where
       (older_than older [] (at batch Committing) step.going.ordered)) in
       let all = holds_newest v (durable_in older) old new batch seen base
       (is_batch older [] batch seen may may' Committing (Applying 0) step) (newer_than batch (durable_in older) lower)
-      w.gate (w.descriptor refl) (λ i lt. w.records i lt lt)
+      w.gate
+      (descriptor_there (geometry_of v) batch seen
+      (is_batch older [] batch seen may may' Committing (Applying 0) step) (λ i lt. w.descriptor i lt lt))
+      (λ i lt. w.records i lt lt)
       (all_in IsOutside (newest Committing) (at batch Committing) is.outside it refl) in
       record {
         seen_is = seen_moves (newest (Applying 0)) step.going' seen seen
@@ -650,7 +697,7 @@ module _ (v : SuperValue) (old new : ℕ → List ℕ) where
             (written_same v new older [] batch Committing (Applying 0) seen (λ e. false_true e)
             (record {
               records = λ l within less. absurd (omega (arith, less));
-              descriptor = λ e. w.descriptor refl;
+              descriptor = w.descriptor;
               homes = λ l within less. absurd (omega (arith, less));
               gate = w.gate;
             }) is.written)
@@ -688,6 +735,7 @@ module _ (v : SuperValue) (old new : ℕ → List ℕ) where
     -- what it takes
     abbrev pub IsPlaced : Stage → Type 0
     IsPlaced (Recording i) = (i < length batch.homes) × (length bytes ≡ 4096) × (bytes ≡ new (get_or batch.homes i 0))
+    IsPlaced (Describing i) = i < descriptor_blocks v.slots
     IsPlaced Committing = newer ≡ []
     IsPlaced (Applying i) =
         (i < length batch.homes) × (older ≡ []) × AllByRecursion (λ (q : Progress). q.stage ≡ Applying 0) newer
@@ -696,14 +744,15 @@ module _ (v : SuperValue) (old new : ℕ → List ℕ) where
     IsPlaced s = Unit {0}
 
     pub step_after : (s : Stage) (may' : List ℕ → Type 0)
-        → IsStep older newer batch seen may may' s (next_of (length batch.homes) s) → IsPlaced s
+        → IsStep older newer batch seen may may' s (next_in v.slots batch s) → IsPlaced s
         → ((c : List ℕ) → may' c → TornFromWork (work_at (geometry_of v) batch bytes s) may c)
         → (work_at (geometry_of v) batch bytes s ≡ Sync → (c : List ℕ) → may' c → c ≡ seen)
-        → IsTiedAt (older ++ at batch (next_of (length batch.homes) s) ∷ newer)
+        → IsTiedAt (older ++ at batch (next_in v.slots batch s) ∷ newer)
         (worked seen (work_at (geometry_of v) batch bytes s)) may'
     step_after (Recording i) may' step placed left durable =
         record_step older newer batch seen may may' i bytes step placed.0 placed.1 placed.2 left
-    step_after Describing may' step placed left durable = describe_step older newer batch seen may may' bytes step left
+    step_after (Describing i) may' step placed left durable =
+        describe_step older newer batch seen may may' i bytes step placed left
     step_after SyncingRecords may' step placed left durable =
         let w = own older newer batch seen may may' SyncingRecords Opening step in
         sync older newer batch seen may may' SyncingRecords Opening step refl refl
@@ -770,12 +819,12 @@ module _ (v : SuperValue) (old new : ℕ → List ℕ) where
   -- as it is told of the stage of the next step
   pub outcome_before : (s : Stage) (c : List ℕ) → IsOutcome s c → LeftBefore v old new (Some s) c
   outcome_before (Recording i) c (inl is) = is
-  outcome_before Describing c (inl is) = is
+  outcome_before (Describing i) c (inl is) = is
   outcome_before SyncingRecords c (inl is) = is
   outcome_before Opening c (inl is) = is
   outcome_before Committing c (inl is) = inl is
   outcome_before (Recording i) c (inr is) = cc
-  outcome_before Describing c (inr is) = cc
+  outcome_before (Describing i) c (inr is) = cc
   outcome_before SyncingRecords c (inr is) = cc
   outcome_before Opening c (inr is) = cc
   outcome_before Committing c (inr is) = inr is.1
@@ -788,7 +837,7 @@ module _ (v : SuperValue) (old new : ℕ → List ℕ) where
   pub before_within : (o : Option Stage) (c : List ℕ) → LeftBefore v old new o c → LeftWithin v old new o c
   before_within None c left = left
   before_within (Some (Recording i)) c left = left
-  before_within (Some Describing) c left = left
+  before_within (Some (Describing i)) c left = left
   before_within (Some SyncingRecords) c left = left
   before_within (Some Opening) c left = inl left
   before_within (Some Committing) c left = left
@@ -798,29 +847,31 @@ module _ (v : SuperValue) (old new : ℕ → List ℕ) where
   before_within (Some Finishing) c left = left
 
   -- where a step writes, what a crash leaves within it is what one leaves after it
-  after_within : (k : ℕ) (s : Stage) (c : List ℕ) → s ≢ Committing → IsOutcome (next_of k s) c
+  after_within : (k d : ℕ) (s : Stage) (c : List ℕ) → s ≢ Committing → IsOutcome (next_of k d s) c
       → LeftWithin v old new (Some s) c
-  after_within k (Recording i) c other is =
-      cond_both (i + 1 == k) Describing (Recording (i + 1)) (λ t. IsOutcome t c → Recovers v old c)
+  after_within k d (Recording i) c other is =
+      cond_both (i + 1 == k) (Describing 0) (Recording (i + 1)) (λ t. IsOutcome t c → Recovers v old c)
       (λ e found. elim found [ inl old_is ↦ old_is | inr new_is ↦ cc ])
       (λ e found. elim found [ inl old_is ↦ old_is | inr new_is ↦ cc ]) is
-  after_within k Describing c other (inl is) = is
-  after_within k Describing c other (inr is) = cc
-  after_within k SyncingRecords c other (inl is) = is
-  after_within k SyncingRecords c other (inr is) = cc
-  after_within k Opening c other (inl is) = inl is
-  after_within k Opening c other (inr is) = inr is.1
-  after_within k Committing c other is = absurd (other refl)
-  after_within k (Applying i) c other is = cond_both (i + 1 == k) SyncingHomes (Applying (i + 1))
+  after_within k d (Describing i) c other is =
+      cond_both (i + 1 == d) SyncingRecords (Describing (i + 1)) (λ t. IsOutcome t c → Recovers v old c)
+      (λ e found. elim found [ inl old_is ↦ old_is | inr new_is ↦ cc ])
+      (λ e found. elim found [ inl old_is ↦ old_is | inr new_is ↦ cc ]) is
+  after_within k d SyncingRecords c other (inl is) = is
+  after_within k d SyncingRecords c other (inr is) = cc
+  after_within k d Opening c other (inl is) = inl is
+  after_within k d Opening c other (inr is) = inr is.1
+  after_within k d Committing c other is = absurd (other refl)
+  after_within k d (Applying i) c other is = cond_both (i + 1 == k) SyncingHomes (Applying (i + 1))
       (λ t. IsOutcome t c → Recovers v new c) (λ e found. found) (λ e found. found) is
-  after_within k SyncingHomes c other is = is
-  after_within k Closing c other is = is
-  after_within k Finishing c other is = is
+  after_within k d SyncingHomes c other is = is
+  after_within k d Closing c other is = is
+  after_within k d Finishing c other is = is
 
   is_sync : (g : GeometryValue) (batch : Batch) (bytes : List ℕ) (s : Stage)
       → (work_at g batch bytes s ≡ Sync) ⊎ ((work_at g batch bytes s ≢ Sync) × (s ≢ Committing) × (s ≢ Finishing))
   is_sync g batch bytes (Recording i) = inr (λ e. cc, λ e. cc, λ e. cc)
-  is_sync g batch bytes Describing = inr (λ e. cc, λ e. cc, λ e. cc)
+  is_sync g batch bytes (Describing i) = inr (λ e. cc, λ e. cc, λ e. cc)
   is_sync g batch bytes SyncingRecords = inl refl
   is_sync g batch bytes Opening = inr (λ e. cc, λ e. cc, λ e. cc)
   is_sync g batch bytes Committing = inl refl
@@ -832,7 +883,7 @@ module _ (v : SuperValue) (old new : ℕ → List ℕ) where
   pub step_within : (older newer : List Progress) (batch : Batch)
       (seen : List ℕ) (may : List ℕ → Type 0) (bytes : List ℕ) (s : Stage)
       → AreGoing (geometry_of v) (older ++ at batch s ∷ newer)
-      → (s ≢ Finishing → AreGoing (geometry_of v) (older ++ at batch (next_of (length batch.homes) s) ∷ newer))
+      → (s ≢ Finishing → AreGoing (geometry_of v) (older ++ at batch (next_in v.slots batch s) ∷ newer))
       → (s ≢ Finishing → IsPlaced older newer batch seen may bytes s)
       → ((t : Stage) → is_committed t ≡ true → is_under_way (older ++ at batch t ∷ newer) ≡ false)
       → IsTiedAt (older ++ at batch s ∷ newer) seen may → (c : List ℕ)
@@ -843,10 +894,10 @@ module _ (v : SuperValue) (old new : ℕ → List ℕ) where
         | inl syncs ↦ before_within (Some s) c (outcome_before s c (outcome older newer batch s seen c may going
             (none s) tied (subst (λ (work : Work). TornFromWork work may c) syncs torn)))
         | inr writes ↦
-            (let s' = next_of (length batch.homes) s in
+            (let s' = next_in v.slots batch s in
             let may' = TornFromWork (work_at (geometry_of v) batch bytes s) may in
             let next = going' writes.2 in
-            after_within (length batch.homes) s c writes.1
+            after_within (length batch.homes) (descriptor_blocks v.slots) s c writes.1
             (outcome older newer batch s' (worked seen (work_at (geometry_of v) batch bytes s)) c may' next (none s')
             (step_after older newer batch seen may bytes s may' (record { going = going; going' = next; tied = tied })
             (placed writes.2) (λ d t. t) (λ e d t. absurd (writes.0 e))) torn))

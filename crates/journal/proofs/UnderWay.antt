@@ -12,7 +12,8 @@ use Rattle.device.specs.declared.device.Device.{Ghosts}
 use Rattle.device.proofs.Done.{did_as, done_seen}
 use Rattle.device.proofs.Moments.{leaves_at_start, leaves_on}
 use Rattle.device.proofs.Ranges.{torn_before, torn_after}
-use Rattle.volume_codec.specs.Layout.{GeometryValue, IsHome, record_block, gate_block, first_home, block_at}
+use Rattle.volume_codec.specs.Layout.{GeometryValue, IsHome, descriptor_blocks, record_block, gate_block}
+use Rattle.volume_codec.specs.Layout.{first_home, block_at}
 use Rattle.volume_codec.specs.Super.{SuperValue, geometry_of}
 use Rattle.volume_codec.specs.Recovery.{Batch, Recovers, IsOpenBatch, AreOpen}
 use Rattle.volume_codec.proofs.Places.{fits_geometry}
@@ -25,13 +26,14 @@ use Rattle.journal.specs.Stage.{stage_at, is_committed, answer_at}
 use Rattle.journal.specs.Work.{Work, WriteAt, CopyBlock, Nothing, Sync, work_at}
 use Rattle.journal.specs.Work.{worked, TornFromWork, calls_of, HasFailed}
 use Rattle.journal.specs.WriteOut.{WriteOut, FlushValue, IsBatch, next_stage, has_committed}
+use Rattle.journal.specs.WriteOut.{after_steps, committing_steps, all_steps}
 use Rattle.journal.specs.WriteOut.{advanced_of, work_of, answer_of, flush_after, calls_in_steps}
 use Rattle.journal.specs.WriteOuts.{has_uncommitted}
 use Rattle.journal.specs.Crash.{LeftWithin}
 use Rattle.journal.specs.Finished.{IsOutside, gate_byte, HoldsVolume, RecoversSame, finishing_calls, Finishes}
 use Rattle.journal.specs.inside.Sound.{IsWriteOut, IsOlder, AreInOrder}
 use Rattle.journal.specs.inside.Tied.{IsTied}
-use Rattle.journal.specs.inside.Finishing.{after_steps, found_in, left_of, IsOnWay, IsUnderWay}
+use Rattle.journal.specs.inside.Finishing.{found_in, left_of, IsOnWay, IsUnderWay}
 use Rattle.journal.proofs.Alls.{all_map, all_front}
 use Rattle.journal.proofs.Batches.{committed-at}
 use Rattle.journal.proofs.Changes.{torn-written, first-written, length-block_at}
@@ -94,49 +96,51 @@ module _ (g : GeometryValue) (batch : Batch) (is_batch : IsBatch g batch) (steps
     | inr after ↦ torn_after torn k (let other = apart in omega (arith, after, other))
   ]
 
-  pub others_step : (stage : Stage) → next_stage (after_steps batch steps) ≡ Some stage → is_committed stage ≡ true
+  pub others_step : (stage : Stage) → next_stage (after_steps g.slots batch steps) ≡ Some stage
+      → is_committed stage ≡ true
       → (old : List ℕ) → 4096 * g.blocks ≤ length old → (k : ℕ) → IsOutside g k → k ≢ gate_byte g.slots batch
       → get_or (worked old (work_at g batch bytes stage)) k 0 ≡ get_or old k 0
   others_step (Recording i) at late old long k out apart = false_true late
-  others_step Describing at late old long k out apart = false_true late
+  others_step (Describing i) at late old long k out apart = false_true late
   others_step SyncingRecords at late old long k out apart = false_true late
   others_step Opening at late old long k out apart = false_true late
   others_step Committing at late old long k out apart = false_true late
   others_step (Applying i) at late old long k out apart =
-      let lt = applying_within (length batch.homes) steps i at in
+      let lt = applying_within (length batch.homes) (descriptor_blocks g.slots) steps i at in
       outside_home i k lt (home_torn old long i lt) out
   others_step SyncingHomes at late old long k out apart = refl
   others_step Closing at late old long k out apart = outside_gate k (gate_torn old long) apart
   others_step Finishing at late old long k out apart = refl
 
-  pub closed_step : (stage : Stage) → next_stage (after_steps batch steps) ≡ Some stage
+  pub closed_step : (stage : Stage) → next_stage (after_steps g.slots batch steps) ≡ Some stage
       → is_committed stage ≡ true → (old : List ℕ) → 4096 * g.blocks ≤ length old
-      → (2 * length batch.homes + 6 ≤ steps → get_or old (gate_byte g.slots batch) 0 ≡ 0)
-      → 2 * length batch.homes + 6 ≤ steps + 1
+      → (2 * length batch.homes + descriptor_blocks g.slots + 5 ≤ steps → get_or old (gate_byte g.slots batch) 0 ≡ 0)
+      → 2 * length batch.homes + descriptor_blocks g.slots + 5 ≤ steps + 1
       → get_or (worked old (work_at g batch bytes stage)) (gate_byte g.slots batch) 0 ≡ 0
   closed_step (Recording i) at late old long before from = false_true late
-  closed_step Describing at late old long before from = false_true late
+  closed_step (Describing i) at late old long before from = false_true late
   closed_step SyncingRecords at late old long before from = false_true late
   closed_step Opening at late old long before from = false_true late
   closed_step Committing at late old long before from = false_true late
   closed_step (Applying i) at late old long before from =
-      let is = stage_at-is (length batch.homes) steps at in
+      let is = stage_at-is (length batch.homes) (descriptor_blocks g.slots) steps at in
       absurd (omega (arith, is.0, is.1, from))
   closed_step SyncingHomes at late old long before from =
-      let is = stage_at-is (length batch.homes) steps at in
+      let is = stage_at-is (length batch.homes) (descriptor_blocks g.slots) steps at in
       absurd (omega (arith, is, from))
   closed_step Closing at late old long before from =
       first-written (gate_block g.slots batch.journal) 0 old (omega (arith, gate_low, low_within, long))
   closed_step Finishing at late old long before from =
-      let is = stage_at-is (length batch.homes) steps at in
+      let is = stage_at-is (length batch.homes) (descriptor_blocks g.slots) steps at in
       before (omega (arith, is))
 
   -- what may be left of it
-  pub torn_step : (stage : Stage) → next_stage (after_steps batch steps) ≡ Some stage → is_committed stage ≡ true
+  pub torn_step : (stage : Stage) → next_stage (after_steps g.slots batch steps) ≡ Some stage
+      → is_committed stage ≡ true
       → (may : List ℕ → Type 0) (c : List ℕ) → TornFromWork (work_at g batch bytes stage) may c
       → (d : List ℕ) × may d × (length c ≡ length d) × ((k : ℕ) → 4096 * g.blocks ≤ k → get_or c k 0 ≡ get_or d k 0)
   torn_step (Recording i) at late may c torn = false_true late
-  torn_step Describing at late may c torn = false_true late
+  torn_step (Describing i) at late may c torn = false_true late
   torn_step SyncingRecords at late may c torn = false_true late
   torn_step Opening at late may c torn = false_true late
   torn_step Committing at late may c torn = false_true late
@@ -144,7 +148,8 @@ module _ (g : GeometryValue) (batch : Batch) (is_batch : IsBatch g batch) (steps
     torn.0,
     torn.1,
     torn.2.same_length,
-    λ k from. torn_after torn.2 k (let home = home_of i (applying_within (length batch.homes) steps i at) in
+    λ k from. torn_after torn.2 k
+        (let home = home_of i (applying_within (length batch.homes) (descriptor_blocks g.slots) steps i at) in
         omega (arith, from, home.high)),
   )
   torn_step SyncingHomes at late may c torn = (c, torn, refl, λ k from. refl)
@@ -154,21 +159,23 @@ module _ (g : GeometryValue) (batch : Batch) (is_batch : IsBatch g batch) (steps
 
   -- ---- calls
 
-  rest : (n m : ℕ) → m + n ≡ 2 * length batch.homes + 7 → calls_in_steps g batch m ≤ 3 * length batch.homes + 7
+  rest : (n m : ℕ) → m + n ≡ all_steps g.slots batch
+      → calls_in_steps g batch m ≤ 3 * length batch.homes + descriptor_blocks g.slots + 6
   rest zero m e =
       let all =
-      ap (calls_in_steps g batch) (let same : m ≡ 2 * length batch.homes + 7 = omega (arith, e) in same)
+      ap (calls_in_steps g batch) (let same : m ≡ all_steps g.slots batch = omega (arith, e) in same)
       ∙ all_calls g batch in
       omega (arith, all)
   rest (suc n) m e = let more = rest n (suc m) (omega (arith, e)) in omega (arith, more)
 
-  pub calls_within : (m : ℕ) → m ≤ 2 * length batch.homes + 7 → calls_in_steps g batch m ≤ 3 * length batch.homes + 7
-  calls_within m le = rest (Rattle.std.specs.Prelude.◌-◌ (2 * length batch.homes + 7) m) m (omega (arith, le))
+  pub calls_within : (m : ℕ) → m ≤ all_steps g.slots batch
+      → calls_in_steps g batch m ≤ 3 * length batch.homes + descriptor_blocks g.slots + 6
+  calls_within m le = rest (Rattle.std.specs.Prelude.◌-◌ (all_steps g.slots batch) m) m (omega (arith, le))
 
   -- the calls don't hang on the bytes of a record
   calls_same : (stage : Stage) → calls_of (work_at g batch [] stage) ≡ calls_of (work_at g batch bytes stage)
   calls_same (Recording i) = refl
-  calls_same Describing = refl
+  calls_same (Describing i) = refl
   calls_same SyncingRecords = refl
   calls_same Opening = refl
   calls_same Committing = refl
@@ -177,7 +184,7 @@ module _ (g : GeometryValue) (batch : Batch) (is_batch : IsBatch g batch) (steps
   calls_same Closing = refl
   calls_same Finishing = refl
 
-  pub calls_step : (stage : Stage) → next_stage (after_steps batch steps) ≡ Some stage
+  pub calls_step : (stage : Stage) → next_stage (after_steps g.slots batch steps) ≡ Some stage
       → calls_in_steps g batch (steps + 1) ≡ calls_in_steps g batch steps + calls_of (work_at g batch bytes stage)
   calls_step stage at =
       let one =
@@ -199,7 +206,7 @@ left_new : (v : SuperValue) (contents : ℕ → List ℕ) (c : List ℕ) (stage 
     → is_committed stage ≡ true → LeftWithin v contents contents (Some stage) c
     → Recovers v contents c
 left_new v contents c (Recording i) late left = false_true late
-left_new v contents c Describing late left = false_true late
+left_new v contents c (Describing i) late left = false_true late
 left_new v contents c SyncingRecords late left = false_true late
 left_new v contents c Opening late left = false_true late
 left_new v contents c Committing late left = false_true late
@@ -217,34 +224,38 @@ module _ {D : Type 0} (disk : Ghosts D) (v : SuperValue) (newer : List Batch) (c
   pub newer_open : AllByRecursion (IsOpenBatch (geometry_of v) (disk.seen start)) newer
   newer_open = all_front (IsOpenBatch (geometry_of v) (disk.seen start)) newer (batch ∷ []) opened.each
 
-  order : AreInOrder (after_steps batch (length batch.homes + 4) ∷ found_in newer)
-  order = subst AreInOrder (found_last newer batch) (found_order v (disk.seen start) (newer ++ batch ∷ []) opened
+  order : AreInOrder (after_steps v.slots batch (committing_steps v.slots batch) ∷ found_in v.slots newer)
+  order = subst AreInOrder (found_last v.slots newer batch)
+      (found_order v (disk.seen start) (newer ++ batch ∷ []) opened
       (fits_geometry v found.recovers.volume.super_block.fits))
 
-  each : AllByRecursion (IsWriteOut (geometry_of v)) (after_steps batch (length batch.homes + 4) ∷ found_in newer)
-  each = subst (AllByRecursion (IsWriteOut (geometry_of v))) (found_last newer batch)
+  each : AllByRecursion (IsWriteOut (geometry_of v))
+      (after_steps v.slots batch (committing_steps v.slots batch) ∷ found_in v.slots newer)
+  each = subst (AllByRecursion (IsWriteOut (geometry_of v))) (found_last v.slots newer batch)
       (found_each v (disk.seen start) (newer ++ batch ∷ []) opened.each)
 
-  pub none : has_uncommitted (found_in newer) ≡ false
+  pub none : has_uncommitted (found_in v.slots newer) ≡ false
   none = found_none v (disk.seen start) newer newer_open
 
-  pub older_at : (steps : ℕ) → has_committed (after_steps batch steps) ≡ true
-      → AllByRecursion (IsOlder (after_steps batch steps)) (found_in newer)
+  pub older_at : (steps : ℕ) → has_committed (after_steps v.slots batch steps) ≡ true
+      → AllByRecursion (IsOlder (after_steps v.slots batch steps)) (found_in v.slots newer)
   older_at steps committed =
-      all_map {P = IsOlder (after_steps batch (length batch.homes + 4))} {Q = IsOlder (after_steps batch steps)}
+      all_map {P = IsOlder (after_steps v.slots batch (committing_steps v.slots batch))}
+      {Q = IsOlder (after_steps v.slots batch steps)}
       (λ x is. record { marks = is.marks; journals = is.journals; committed = committed; waits = is.waits })
-      (found_in newer) order.0
+      (found_in v.slots newer) order.0
 
   pub first_way : ((c : List ℕ) → disk.left_since start (disk.moment start) c → disk.may_leave start c)
-      → IsOnWay disk v newer contents batch (length batch.homes + 4) start start
+      → IsOnWay disk v newer contents batch (committing_steps v.slots batch) start start
   first_way now =
-      let at = Rattle.journal.proofs.Found.applying_first batch each.0.batch.described.homes.some in
+      let at = Rattle.journal.proofs.Found.applying_first v.slots batch each.0.batch.described.homes.some in
       let tied = found_tied v (disk.seen start) contents (newer ++ batch ∷ [])
       (disk.may_leave start) found.recovers found.synced in
       record {
         tied = subst (λ (l : List WriteOut). IsTied v l contents contents (disk.seen start) (disk.may_leave start))
-            (found_last newer batch ∙ sym (ap (λ (o : Option Stage). option_map_or (λ (s : Stage).
-            after_steps batch (length batch.homes + 4) ∷ found_in newer) o (found_in newer)) at)) tied;
+            (found_last v.slots newer batch ∙ sym (ap (λ (o : Option Stage). option_map_or (λ (s : Stage).
+            after_steps v.slots batch (committing_steps v.slots batch) ∷ found_in v.slots newer) o
+            (found_in v.slots newer)) at)) tied;
         length_left = λ c left. ap length (found.synced c left);
         past = λ c left i from. ap (λ (l : List ℕ). get_or l i 0) (found.synced c left);
         synced = λ last. absurd (omega (arith, last, each.0.batch.described.homes.some));
@@ -258,27 +269,29 @@ module _ {D : Type 0} (disk : Ghosts D) (v : SuperValue) (newer : List Batch) (c
 
   -- a step
   module _ (steps : ℕ) (now : D) (stage : Stage) (bytes : List ℕ)
-      (at : next_stage (after_steps batch steps) ≡ Some stage) (late : is_committed stage ≡ true)
+      (at : next_stage (after_steps v.slots batch steps) ≡ Some stage) (late : is_committed stage ≡ true)
       (way : IsOnWay disk v newer contents batch steps start now) where
     w : WriteOut
-    w = after_steps batch steps
+    w = after_steps v.slots batch steps
 
     own : IsBatch (geometry_of v) batch
     own = each.0.batch
 
-    older : AllByRecursion (IsOlder (after_steps batch steps)) (found_in newer)
-    older = older_at steps (committed-at (after_steps batch steps) stage at ∙ late)
+    older : AllByRecursion (IsOlder (after_steps v.slots batch steps)) (found_in v.slots newer)
+    older = older_at steps (committed-at (after_steps v.slots batch steps) stage at ∙ late)
 
-    each_now : AllByRecursion (IsWriteOut (geometry_of v)) (after_steps batch steps ∷ found_in newer)
-    each_now = (record { batch = own; going = some_stage at }, each.1)
+    each_now : AllByRecursion (IsWriteOut (geometry_of v)) (after_steps v.slots batch steps ∷ found_in v.slots newer)
+    each_now = (record { batch = own; described = refl; going = some_stage at }, each.1)
 
-    order_now : AreInOrder (after_steps batch steps ∷ found_in newer)
+    order_now : AreInOrder (after_steps v.slots batch steps ∷ found_in v.slots newer)
     order_now = (older, order.1)
 
-    tied : IsTied v (after_steps batch steps ∷ found_in newer) contents contents (disk.seen now) (disk.may_leave now)
+    tied : IsTied v (after_steps v.slots batch steps ∷ found_in v.slots newer) contents contents
+        (disk.seen now) (disk.may_leave now)
     tied = subst (λ (l : List WriteOut). IsTied v l contents contents (disk.seen now) (disk.may_leave now))
         (ap (λ (o : Option Stage).
-        option_map_or (λ (s : Stage). after_steps batch steps ∷ found_in newer) o (found_in newer)) at) way.tied
+        option_map_or (λ (s : Stage). after_steps v.slots batch steps ∷ found_in v.slots newer) o
+        (found_in v.slots newer)) at) way.tied
 
     -- what a crash leaves within it
     within : (c : List ℕ) → TornFromWork (work_at (geometry_of v) batch bytes stage) (disk.may_leave now) c
@@ -287,8 +300,9 @@ module _ {D : Type 0} (disk : Ghosts D) (v : SuperValue) (newer : List Batch) (c
         let d = torn_step (geometry_of v) batch own steps bytes stage at late (disk.may_leave now) c torn in
         record {
           recovers = left_new v contents c stage late
-              (oldest_within v contents contents (disk.seen now) (disk.may_leave now) bytes (after_steps batch steps)
-              (found_in newer) each_now order_now none stage at late tied c torn);
+              (oldest_within v contents contents (disk.seen now) (disk.may_leave now) bytes
+              (after_steps v.slots batch steps)
+              (found_in v.slots newer) each_now order_now none stage at late tied c torn);
           same_length = d.2 ∙ way.length_left d.0 d.1;
           past = λ i from. d.3 i from ∙ way.past d.0 d.1 i from;
         }
@@ -300,47 +314,55 @@ module _ {D : Type 0} (disk : Ghosts D) (v : SuperValue) (newer : List Batch) (c
     module _ (next : D) (honest : disk.is_honest now)
         (did : Did disk now (work_at (geometry_of v) batch bytes stage) true next) where
       goes : (stage ≡ Finishing → ⊥)
-          → IsTied v (after_steps batch (steps + 1) ∷ found_in newer) contents contents (disk.seen next)
+          → IsTied v (after_steps v.slots batch (steps + 1) ∷ found_in v.slots newer) contents contents (disk.seen next)
           (disk.may_leave next)
       goes not_last = subst (λ (l : List ℕ).
-          IsTied v (after_steps batch (steps + 1) ∷ found_in newer) contents contents l (disk.may_leave next))
+          IsTied v (after_steps v.slots batch (steps + 1) ∷ found_in v.slots newer) contents contents
+          l (disk.may_leave next))
           (sym (done_seen did honest refl))
-          (oldest_after v contents contents (disk.seen now) (disk.may_leave now) bytes (after_steps batch steps)
-          (found_in newer) each_now order_now none stage at late tied not_last (disk.may_leave next) did.left
+          (oldest_after v contents contents (disk.seen now) (disk.may_leave now) bytes (after_steps v.slots batch steps)
+          (found_in v.slots newer) each_now order_now none stage at late tied not_last (disk.may_leave next) did.left
           (did.durable honest refl))
 
-      ends : stage ≡ Finishing → IsTied v (found_in newer) contents contents (disk.seen next) (disk.may_leave next)
+      ends : stage ≡ Finishing
+          → IsTied v (found_in v.slots newer) contents contents (disk.seen next) (disk.may_leave next)
       ends last =
           let sync : work_at (geometry_of v) batch bytes stage ≡ Sync = ap (work_at (geometry_of v) batch bytes) last in
-          subst (λ (l : List ℕ). IsTied v (found_in newer) contents contents l (disk.may_leave next))
+          subst (λ (l : List ℕ). IsTied v (found_in v.slots newer) contents contents l (disk.may_leave next))
           (sym (done_seen did honest refl ∙ ap (worked (disk.seen now)) sync))
-          (oldest_done v contents contents (disk.seen now) (disk.may_leave now) bytes (after_steps batch steps)
-          (found_in newer) each_now order_now none stage at late tied last (disk.may_leave next)
+          (oldest_done v contents contents (disk.seen now) (disk.may_leave now) bytes (after_steps v.slots batch steps)
+          (found_in v.slots newer) each_now order_now none stage at late tied last (disk.may_leave next)
           (did.durable honest refl sync))
 
       still_tied : (stage ≡ Finishing) ⊎ (stage ≡ Finishing → ⊥)
-          → IsTied v (left_of (after_steps batch (steps + 1)) (found_in newer)) contents contents (disk.seen next)
+          → IsTied v (left_of (after_steps v.slots batch (steps + 1)) (found_in v.slots newer)) contents
+          contents (disk.seen next)
           (disk.may_leave next)
       still_tied (inl last) =
           let k = length batch.homes in
-          let is = stage_at-is k steps (at ∙ ap Some last) in
-          let end : stage_at k (steps + 1) ≡ None = stage_from k (steps + 1) None (omega (arith, is)) in
+          let d = descriptor_blocks v.slots in
+          let is = stage_at-is k d steps (at ∙ ap Some last) in
+          let end : stage_at k d (steps + 1) ≡ None = stage_from k d (steps + 1) None (omega (arith, is)) in
           subst (λ (l : List WriteOut). IsTied v l contents contents (disk.seen next) (disk.may_leave next))
           (sym (ap (λ (o : Option Stage).
-          option_map_or (λ (s : Stage). after_steps batch (steps + 1) ∷ found_in newer) o (found_in newer)) end))
+          option_map_or (λ (s : Stage). after_steps v.slots batch (steps + 1) ∷ found_in v.slots newer) o
+          (found_in v.slots newer)) end))
           (ends last)
       still_tied (inr not_last) =
-          let following = late_next (after_steps batch steps) stage own.described.homes.some at late not_last in
+          let following = late_next (geometry_of v)
+          (after_steps v.slots batch steps) stage each_now.0 at late not_last in
           subst (λ (l : List WriteOut). IsTied v l contents contents (disk.seen next) (disk.may_leave next))
           (sym (ap (λ (o : Option Stage).
-          option_map_or (λ (s : Stage). after_steps batch (steps + 1) ∷ found_in newer) o (found_in newer))
+          option_map_or (λ (s : Stage). after_steps v.slots batch (steps + 1) ∷ found_in v.slots newer) o
+          (found_in v.slots newer))
           following.at))
           (goes not_last)
 
-      last_stage : (s : Stage) → IsAt (length batch.homes) steps (Some s) → 2 * length batch.homes + 7 ≤ steps + 1
+      last_stage : (s : Stage) → IsAt (length batch.homes) (descriptor_blocks v.slots) steps (Some s)
+          → all_steps v.slots batch ≤ steps + 1
           → s ≡ Finishing
       last_stage (Recording i) is last = absurd (omega (arith, is.0, is.1, last))
-      last_stage Describing is last = absurd (omega (arith, is, last))
+      last_stage (Describing i) is last = absurd (omega (arith, is.0, is.1, last))
       last_stage SyncingRecords is last = absurd (omega (arith, is, last))
       last_stage Opening is last = absurd (omega (arith, is, last))
       last_stage Committing is last = absurd (omega (arith, is, last))
@@ -357,40 +379,44 @@ module _ {D : Type 0} (disk : Ghosts D) (v : SuperValue) (newer : List Batch) (c
         synced = λ last c left.
             let sync : work_at (geometry_of v) batch bytes stage ≡ Sync =
             ap (work_at (geometry_of v) batch bytes)
-            (last_stage stage (stage_at-is (length batch.homes) steps at) last) in
+            (last_stage stage (stage_at-is (length batch.homes) (descriptor_blocks v.slots) steps at) last) in
             did.durable honest refl sync c left ∙ sym (done_seen did honest refl ∙ ap (worked (disk.seen now)) sync);
         time = time_step next true did;
       }
 
   -- after the last one
-  pub way_end : (steps : ℕ) (now : D) → steps ≡ 2 * length batch.homes + 7
+  pub way_end : (steps : ℕ) (now : D) → steps ≡ all_steps v.slots batch
       → disk.is_honest now → IsOnWay disk v newer contents batch steps start now
       → HoldsVolume disk v newer contents now
   way_end steps now last honest way =
       let k = length batch.homes in
-      let end : stage_at k steps ≡ None = stage_from k steps None (omega (arith, last)) in
+      let d = descriptor_blocks v.slots in
+      let end : stage_at k d steps ≡ None = stage_from k d steps None (omega (arith, last)) in
       record {
         honest = honest;
         recovers = tied_recovers v (disk.seen start) contents newer (disk.seen now)
             (disk.may_leave now) newer_open order.1
             (subst (λ (l : List WriteOut). IsTied v l contents contents (disk.seen now) (disk.may_leave now))
             (ap (λ (o : Option Stage).
-            option_map_or (λ (s : Stage). after_steps batch steps ∷ found_in newer) o (found_in newer)) end) way.tied);
+            option_map_or (λ (s : Stage). after_steps v.slots batch steps ∷ found_in v.slots newer) o
+            (found_in v.slots newer)) end) way.tied);
         synced = way.synced (omega (arith, last));
       }
 
 -- ---- whatever the device held
 
 -- the stage of a step after the one that commits
-pub late_stage : (batch : Batch) (n : ℕ) → length batch.homes + 4 ≤ n → n < 2 * length batch.homes + 7
-    → (stage : Stage) × (next_stage (after_steps batch n) ≡ Some stage) × (is_committed stage ≡ true)
-late_stage batch n from to = by (stage_at (length batch.homes) n) refl (stage_is (length batch.homes) n)
+pub late_stage : (slots : ℕ) (batch : Batch) (n : ℕ) → committing_steps slots batch ≤ n → n < all_steps slots batch
+    → (stage : Stage) × (next_stage (after_steps slots batch n) ≡ Some stage) × (is_committed stage ≡ true)
+late_stage slots batch n from to = by (stage_at (length batch.homes) (descriptor_blocks slots) n) refl
+    (stage_is (length batch.homes) (descriptor_blocks slots) n)
   where
-    by : (o : Option Stage) → stage_at (length batch.homes) n ≡ o → IsAt (length batch.homes) n o
-        → (stage : Stage) × (next_stage (after_steps batch n) ≡ Some stage) × (is_committed stage ≡ true)
+    by : (o : Option Stage) → stage_at (length batch.homes) (descriptor_blocks slots) n ≡ o
+        → IsAt (length batch.homes) (descriptor_blocks slots) n o
+        → (stage : Stage) × (next_stage (after_steps slots batch n) ≡ Some stage) × (is_committed stage ≡ true)
     by None e at = absurd (omega (arith, at, to))
     by (Some (Recording i)) e at = absurd (omega (arith, at.0, at.1, from))
-    by (Some Describing) e at = absurd (omega (arith, at, from))
+    by (Some (Describing i)) e at = absurd (omega (arith, at.0, at.1, from))
     by (Some SyncingRecords) e at = absurd (omega (arith, at, from))
     by (Some Opening) e at = absurd (omega (arith, at, from))
     by (Some Committing) e at = absurd (omega (arith, at, from))
@@ -400,16 +426,16 @@ late_stage batch n from to = by (stage_at (length batch.homes) n) refl (stage_is
     by (Some Finishing) e at = (Finishing, e, refl)
 
 -- its answer where no call fails
-pub late_answer_of : (batch : Batch) (n : ℕ) → length batch.homes + 4 ≤ n
-    → n < 2 * length batch.homes + 7 → answer_of (after_steps batch n) ≡ Broken
+pub late_answer_of : (slots : ℕ) (batch : Batch) (n : ℕ) → committing_steps slots batch ≤ n
+    → n < all_steps slots batch → answer_of (after_steps slots batch n) ≡ Broken
     → ⊥
-late_answer_of batch n from to e =
-    let s = late_stage batch n from to in
+late_answer_of slots batch n from to e =
+    let s = late_stage slots batch n from to in
     by s.0 s.2 (sym (ap (λ (o : Option Stage). option_map_or (answer_at batch.mark) o Broken) s.1) ∙ e)
   where
     by : (stage : Stage) → is_committed stage ≡ true → answer_at batch.mark stage ≡ Broken → ⊥
     by (Recording i) late e = cc
-    by Describing late e = cc
+    by (Describing i) late e = cc
     by SyncingRecords late e = cc
     by Opening late e = cc
     by Committing late e = cc
@@ -432,28 +458,36 @@ module _ {D : Type 0} (disk : Ghosts D) (g : GeometryValue) (batch : Batch) wher
 
   pub first_step : (start : D) → IsBatch g batch
       → ((c : List ℕ) → disk.left_since start (disk.moment start) c → disk.may_leave start c)
-      → IsUnderWay disk g batch (length batch.homes + 4) start start
+      → IsUnderWay disk g batch (committing_steps g.slots batch) start start
   first_step start is_batch now = record {
-    on_way = λ v newer contents same found. first_way disk v newer contents batch start found now;
+    on_way = λ v newer contents same found. subst (λ (x : GeometryValue).
+        IsOnWay disk v newer contents batch (committing_steps x.slots batch) start start) same
+        (first_way disk v newer contents batch start found now);
     closed = λ honest last. absurd (omega (arith, last, is_batch.described.homes.some));
     others = λ honest i out apart. refl;
     honest = (λ h. h, λ h. h);
     same_length = refl;
-    calls = λ few. let first = early_calls g batch (length batch.homes + 4) (omega arith) in omega (arith, first);
+    calls = λ few. let first =
+        early_calls g batch (committing_steps g.slots batch) (omega arith) in omega (arith, first);
     faults = refl;
   }
 
   module _ (is_batch : IsBatch g batch) (steps : ℕ) (bytes : List ℕ) (start now next : D)
-      (long : 4096 * g.blocks ≤ length (disk.seen start)) (from : length batch.homes + 4 ≤ steps)
-      (to : steps < 2 * length batch.homes + 7)
+      (long : 4096 * g.blocks ≤ length (disk.seen start)) (from : committing_steps g.slots batch ≤ steps)
+      (to : steps < all_steps g.slots batch)
       (under : IsUnderWay disk g batch steps start now) where
-    at : (stage : Stage) × (next_stage (after_steps batch steps) ≡ Some stage) × (is_committed stage ≡ true)
-    at = late_stage batch steps from to
+    at : (stage : Stage) × (next_stage (after_steps g.slots batch steps) ≡ Some stage) × (is_committed stage ≡ true)
+    at = late_stage g.slots batch steps from to
 
-    its_work : work_of g bytes (after_steps batch steps) ≡ work_at g batch bytes at.0
+    at_of : (v : SuperValue) → geometry_of v ≡ g → next_stage (after_steps v.slots batch steps) ≡ Some at.0
+    at_of v same =
+        subst (λ (x : GeometryValue). next_stage (after_steps x.slots batch steps) ≡ Some at.0) (sym same) at.1
+
+    its_work : work_of g bytes (after_steps g.slots batch steps) ≡ work_at g batch bytes at.0
     its_work = ap (λ (o : Option Stage). option_map_or (work_at g batch bytes) o Nothing) at.1
 
-    calls_so_far : calls_in_steps g batch steps + calls_of (work_at g batch bytes at.0) ≤ 3 * length batch.homes + 7
+    calls_so_far : calls_in_steps g batch steps + calls_of (work_at g batch bytes at.0)
+        ≤ 3 * length batch.homes + descriptor_blocks g.slots + 6
     calls_so_far =
         let sum = calls_step g batch is_batch steps bytes at.0 at.1 in
         let most = calls_within g batch is_batch steps bytes (steps + 1) (omega (arith, to)) in
@@ -463,14 +497,14 @@ module _ {D : Type 0} (disk : Ghosts D) (g : GeometryValue) (batch : Batch) wher
         → disk.calls_made now + calls_of (work_at g batch bytes at.0) < 2 ^ 64
     few_now few = let made_so = under.calls few in omega (arith, few, made_so, calls_so_far)
 
-    pub under_step : Did disk now (work_of g bytes (after_steps batch steps)) true next
+    pub under_step : Did disk now (work_of g bytes (after_steps g.slots batch steps)) true next
         → IsUnderWay disk g batch (steps + 1) start next
     under_step did_it =
         let did = did_as disk its_work refl did_it in
         let whole : 4096 * g.blocks ≤ length (disk.seen now) = omega (arith, long, under.same_length) in
         record {
           on_way = λ v newer contents same found.
-              way_step disk v newer contents batch start found steps now at.0 bytes at.1 at.2
+              way_step disk v newer contents batch start found steps now at.0 bytes (at_of v same) at.2
               (under.on_way v newer contents same found) next (under.honest.1 found.honest)
               (did_as disk (ap (λ (x : GeometryValue). work_at x batch bytes at.0) (sym same)) refl did);
           closed = λ honest last.
@@ -488,7 +522,8 @@ module _ {D : Type 0} (disk : Ghosts D) (g : GeometryValue) (batch : Batch) wher
           faults = did.faults ∙ under.faults;
         }
 
-    pub under_failed : {T E : Type 0} (e : E) → Did disk now (work_of g bytes (after_steps batch steps)) false next
+    pub under_failed : {T E : Type 0} (e : E)
+        → Did disk now (work_of g bytes (after_steps g.slots batch steps)) false next
         → Finishes {T = T} {E = E} disk g batch start (Err e) next
     under_failed e did_it =
         let did = did_as disk its_work refl did_it in
@@ -496,7 +531,7 @@ module _ {D : Type 0} (disk : Ghosts D) (g : GeometryValue) (batch : Batch) wher
           finished = λ v newer contents same found. tt;
           closed = λ honest. tt;
           time = λ v newer contents same found.
-              time_step disk v newer contents batch start found steps now at.0 bytes at.1 at.2
+              time_step disk v newer contents batch start found steps now at.0 bytes (at_of v same) at.2
               (under.on_way v newer contents same found) next false
               (did_as disk (ap (λ (x : GeometryValue). work_at x batch bytes at.0) (sym same)) refl did);
           honest = (λ h. under.honest.0 (did.honest.0 h), λ h. did.honest.1 (under.honest.1 h));
@@ -509,7 +544,7 @@ module _ {D : Type 0} (disk : Ghosts D) (g : GeometryValue) (batch : Batch) wher
         }
 
   pub under_end : {E : Type 0} (steps : ℕ) (start now : D)
-      → steps ≡ 2 * length batch.homes + 7 → IsUnderWay disk g batch steps start now
+      → steps ≡ all_steps g.slots batch → IsUnderWay disk g batch steps start now
       → Finishes {T = Unit {0}} {E = E} disk g batch start (Ok tt) now
   under_end steps start now last under =
       let all = ap (calls_in_steps g batch) last ∙ all_calls g batch in
@@ -517,7 +552,9 @@ module _ {D : Type 0} (disk : Ghosts D) (g : GeometryValue) (batch : Batch) wher
       → disk.calls_made now ≡ disk.calls_made start + finishing_calls batch =
       λ few. (let so_far = under.calls few in omega (arith, so_far, all)) in
       record {
-        finished = λ v newer contents same found. way_end disk v newer contents batch start found steps now last
+        finished = λ v newer contents same found. way_end disk v newer contents batch start found steps now
+            (subst (λ (x : GeometryValue). steps ≡ all_steps x.slots batch)
+            (sym same) last)
             (under.honest.1 found.honest) (under.on_way v newer contents same found);
         closed = λ honest. record { gate = under.closed honest (omega (arith, last)); others = under.others honest };
         time = λ v newer contents same found. (under.on_way v newer contents same found).time;

@@ -13,13 +13,15 @@ use Rattle.std.specs.Int.{bytes_high_first}
 use Rattle.std.proofs.Common.{length-append}
 use Rattle.std.proofs.lemmas.List.{length-replicate}
 use Rattle.volume_codec.specs.Layout.{GeometryValue, IsHome, journals_of, gate_block}
-use Rattle.volume_codec.specs.Layout.{descriptor_block, record_block, first_home}
+use Rattle.volume_codec.specs.Layout.{descriptor_block, descriptor_blocks, record_block, first_home}
+use Rattle.volume_codec.specs.Layout.{block_at, blocks_at}
 use Rattle.volume_codec.specs.Super.{SuperValue, geometry_of}
 use Rattle.volume_codec.specs.Descriptor.{RiseWithin, AreHomes, descriptor_text}
 use Rattle.volume_codec.specs.Text.{number_text, zeros, padded}
 use Rattle.volume_codec.specs.Recovery.{Batch, IsOpen}
 use Rattle.journal.specs.WriteOut.{IsBatch}
 use Rattle.journal.specs.inside.Tied.{Progress, is_open, applied, durable_in, IsCovered, IsWritten, AreWritten}
+use Rattle.journal.proofs.Blocks.{blocks_joined}
 use Rattle.journal.proofs.Changes.{SameBut}
 use Rattle.journal.proofs.Places.{gates_apart, gate-below, descriptor-below, record-below, descriptors_apart}
 use Rattle.journal.proofs.Places.{gate_no_descriptor, gate_no_record, descriptor_no_record, records_apart}
@@ -74,17 +76,18 @@ length-numbers (n ∷ ns) = omega (
   length-numbers ns,
 )
 
-length-padded : (text : List ℕ) → length text ≤ 4096 → length (padded 4096 text) ≡ 4096
-length-padded text le =
-    omega (arith, length-append text (zeros (4096 - length text)), length-zeros (4096 - length text))
+length-padded : (n : ℕ) (text : List ℕ) → length text ≤ n → length (padded n text) ≡ n
+length-padded n text le =
+    omega (arith, length-append text (zeros (n - length text)), length-zeros (n - length text))
 
 length-four : (a b c d : List ℕ) → length (a ++ b ++ c ++ d) ≡ length a + length b + length c + length d
 length-four a b c d = omega (arith, length-append (a ++ b ++ c) d, length-append (a ++ b) c, length-append a b)
 
-pub length-descriptor_text : (mark : ℕ) (homes : List ℕ) → length homes ≤ 1020
-    → length (descriptor_text (record { mark = mark; homes = homes })) ≡ 4096
-length-descriptor_text mark homes few =
-    length-padded (number_text 8 mark ++ number_text 4 (length homes) ++ zeros 4 ++ flat_map (number_text 4) homes)
+pub length-descriptor_text : (slots mark : ℕ) (homes : List ℕ) → length homes ≤ slots
+    → length (descriptor_text slots (record { mark = mark; homes = homes })) ≡ 4096 * descriptor_blocks slots
+length-descriptor_text slots mark homes few =
+    length-padded (4096 * descriptor_blocks slots)
+    (number_text 8 mark ++ number_text 4 (length homes) ++ zeros 4 ++ flat_map (number_text 4) homes)
     (omega (
       arith,
       few,
@@ -95,6 +98,17 @@ length-descriptor_text mark homes few =
       length-zeros 4,
     ))
 
+-- where each block of a descriptor is there, all of it is
+pub descriptor_there : (g : GeometryValue) (batch : Batch) (bytes : List ℕ) → IsBatch g batch
+    → ((i : ℕ) → i < descriptor_blocks g.slots → block_at bytes (descriptor_block g.slots batch.journal + i)
+    ≡ block_at (descriptor_text g.slots (record { mark = batch.mark; homes = batch.homes })) i)
+    → blocks_at bytes (descriptor_block g.slots batch.journal) (descriptor_blocks g.slots)
+    ≡ descriptor_text g.slots (record { mark = batch.mark; homes = batch.homes })
+descriptor_there g batch bytes is each =
+    blocks_joined bytes (descriptor_text g.slots (record { mark = batch.mark; homes = batch.homes }))
+    (descriptor_block g.slots batch.journal) (descriptor_blocks g.slots)
+    (length-descriptor_text g.slots batch.mark batch.homes is.described.homes.few) each
+
 -- ---- what is written stays
 
 module _ (v : SuperValue) (new : ℕ → List ℕ) where
@@ -102,7 +116,7 @@ module _ (v : SuperValue) (new : ℕ → List ℕ) where
   pub record IsBeside (p : Progress) (x : ℕ) : Type 0 where
     pub no_gate : x ≢ gate_block v.slots p.batch.journal
     pub no_record : (i : ℕ) → i < length p.batch.homes → x ≢ record_block v.slots p.batch.journal i
-    pub no_descriptor : x ≢ descriptor_block v.slots p.batch.journal
+    pub no_descriptor : (i : ℕ) → i < descriptor_blocks v.slots → x ≢ descriptor_block v.slots p.batch.journal + i
     pub no_home : (i : ℕ) → i < length p.batch.homes → i < applied (length p.batch.homes) p.stage
         → x ≢ get_or p.batch.homes i 0
 
@@ -126,8 +140,9 @@ module _ (v : SuperValue) (new : ℕ → List ℕ) where
     records = λ i within lt.
         same.blocks (record_block v.slots p.batch.journal i) (λ e. beside.no_record i within (sym e))
         ∙ is.records i within lt;
-    descriptor = λ written. same.blocks (descriptor_block v.slots p.batch.journal) (λ e. beside.no_descriptor (sym e))
-        ∙ is.descriptor written;
+    descriptor = λ i within lt.
+        same.blocks (descriptor_block v.slots p.batch.journal + i) (λ e. beside.no_descriptor i within (sym e))
+        ∙ is.descriptor i within lt;
     homes = λ i within lt. elim (is.homes i within lt) [
       | inl covered ↦ inl covered
       | inr at ↦ inr (same.blocks (get_or p.batch.homes i 0) (λ e. beside.no_home i within lt (sym e)) ∙ at
@@ -163,7 +178,7 @@ module _ (v : SuperValue) (new : ℕ → List ℕ) where
     no_gate = gates_apart v.slots j p.batch.journal (λ e. other (sym e));
     no_record = λ i within e.
         gate_no_record v.slots j p.batch.journal i (omega (arith, within, is.described.homes.few)) e;
-    no_descriptor = gate_no_descriptor v.slots j p.batch.journal;
+    no_descriptor = λ i within e. gate_no_descriptor v.slots j p.batch.journal i within e;
     no_home = λ i within some e. let h = home_at (geometry_of v) p.batch.homes i is.described.homes within in
         absurd (omega (arith, e, h.low, gate-below v.layout v.slots j lt));
   }
@@ -175,21 +190,22 @@ module _ (v : SuperValue) (new : ℕ → List ℕ) where
     no_gate = λ e. gate_no_record v.slots p.batch.journal j i fits (sym e);
     no_record = λ l within e. records_apart v.slots j p.batch.journal i l (λ same. other (sym same)) fits
         (omega (arith, within, is.described.homes.few)) e;
-    no_descriptor = λ e. descriptor_no_record v.slots p.batch.journal j i fits (sym e);
+    no_descriptor = λ l within e. descriptor_no_record v.slots p.batch.journal j l i within fits (sym e);
     no_home = λ l within some e. let h = home_at (geometry_of v) p.batch.homes l is.described.homes within in
         absurd (omega (arith, e, h.low, record-below v.layout v.slots j i lt fits));
   }
 
-  pub beside_descriptor : (p : Progress) (j : ℕ) → IsBatch (geometry_of v) p.batch
-      → p.batch.journal ≢ j → j < journals_of v.layout
-      → IsBeside p (descriptor_block v.slots j)
-  beside_descriptor p j is other lt = record {
-    no_gate = λ e. gate_no_descriptor v.slots p.batch.journal j (sym e);
-    no_record = λ l within e.
-        descriptor_no_record v.slots j p.batch.journal l (omega (arith, within, is.described.homes.few)) e;
-    no_descriptor = descriptors_apart v.slots j p.batch.journal (λ same. other (sym same));
+  pub beside_descriptor : (p : Progress) (j i : ℕ) → IsBatch (geometry_of v) p.batch
+      → p.batch.journal ≢ j → j < journals_of v.layout → i < descriptor_blocks v.slots
+      → IsBeside p (descriptor_block v.slots j + i)
+  beside_descriptor p j i is other lt fits = record {
+    no_gate = λ e. gate_no_descriptor v.slots p.batch.journal j i fits (sym e);
+    no_record = λ l within e. descriptor_no_record v.slots j p.batch.journal i l fits
+        (omega (arith, within, is.described.homes.few)) e;
+    no_descriptor = λ l within e.
+        descriptors_apart v.slots j p.batch.journal i l (λ same. other (sym same)) fits within e;
     no_home = λ l within some e. let h = home_at (geometry_of v) p.batch.homes l is.described.homes within in
-        absurd (omega (arith, e, h.low, descriptor-below v.layout v.slots j lt));
+        absurd (omega (arith, e, h.low, descriptor-below v.layout v.slots j i lt fits));
   }
 
   -- a home block has no part in a write-out that wrote none of its own
@@ -204,8 +220,8 @@ module _ (v : SuperValue) (new : ℕ → List ℕ) where
       home.low,
       record-below v.layout v.slots p.batch.journal l is.there (omega (arith, within, is.described.homes.few)),
     ));
-    no_descriptor =
-        λ e. absurd (omega (arith, e, home.low, descriptor-below v.layout v.slots p.batch.journal is.there));
+    no_descriptor = λ l within e.
+        absurd (omega (arith, e, home.low, descriptor-below v.layout v.slots p.batch.journal l is.there within));
     no_home = λ l within some e. absurd (omega (arith, some, none));
   }
 

@@ -9,7 +9,7 @@ use Rattle.journal.specs.declared.stage.Stage.TheVariants.{Recording, Describing
 -- what a crash may leave before the step of this stage: Old until the gate is written, New once the open gate is sure
 abbrev pub LeftBefore : SuperValue → (ℕ → List ℕ) → (ℕ → List ℕ) → Option Stage → List ℕ → Type 0
 LeftBefore v old new (Some (Recording i)) c = Recovers v old c
-LeftBefore v old new (Some Describing) c = Recovers v old c
+LeftBefore v old new (Some (Describing i)) c = Recovers v old c
 LeftBefore v old new (Some SyncingRecords) c = Recovers v old c
 LeftBefore v old new (Some Opening) c = Recovers v old c
 LeftBefore v old new (Some Committing) c = Recovers v old c ⊎ Recovers v new c

@@ -1,4 +1,5 @@
--- The stages of a write-out: what is to be done next, by the number of its blocks and of its steps so far.
+-- The stages of a write-out: what is to be done next, by the number of its blocks, of the descriptor blocks of its
+-- journal and of its steps so far.
 use Rattle.std.specs.Prelude.{ℕ, Bool, true, false, List, [], ◌∷◌, ◌++◌, map, Option, slice_get}
 use Rattle.std.specs.List.{range_with_len}
 use Rattle.journal.specs.declared.stage.Stage.{Stage}
@@ -9,20 +10,21 @@ use Rattle.journal.specs.declared.flushed.Flushed.TheVariants.{Going, Committed,
 
 -- Rule: closing order: A batch's home blocks are synced before its gate is closed, it is done once that is synced, and
 -- an opening carries out the older of two open journals first.
--- the stages of a write-out of so many blocks, in order, one for each step
-abbrev pub stages : ℕ → List Stage
-stages blocks =
-    map Recording (range_with_len 0 blocks) ++ Describing ∷ SyncingRecords ∷ Opening ∷ Committing
+-- the stages of a write-out of so many blocks, whose descriptor has so many, in order, one for each step
+abbrev pub stages : ℕ → ℕ → List Stage
+stages blocks described =
+    map Recording (range_with_len 0 blocks) ++ map Describing (range_with_len 0 described)
+    ++ SyncingRecords ∷ Opening ∷ Committing
     ∷ (map Applying (range_with_len 0 blocks) ++ SyncingHomes ∷ Closing ∷ Finishing ∷ [])
 
 -- the stage of the next one, after so many steps; none once all are made
-unfoldable pub stage_at : ℕ → ℕ → Option Stage
-stage_at blocks steps = slice_get (stages blocks) steps
+unfoldable pub stage_at : ℕ → ℕ → ℕ → Option Stage
+stage_at blocks described steps = slice_get (stages blocks described) steps
 
 -- at this stage the batch is committed: the open gate is sure
 abbrev pub is_committed : Stage → Bool
 is_committed (Recording i) = false
-is_committed Describing = false
+is_committed (Describing i) = false
 is_committed SyncingRecords = false
 is_committed Opening = false
 is_committed Committing = false

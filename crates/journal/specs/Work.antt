@@ -1,6 +1,6 @@
 -- What the steps of a write-out ask of the device.
-use Rattle.std.specs.Prelude.{ℕ, ◌*◌, Bool, true, false, List, [], ◌∷◌, slice_index}
-use Rattle.volume_codec.specs.Layout.{GeometryValue, gate_block, descriptor_block, record_block}
+use Rattle.std.specs.Prelude.{ℕ, ◌+◌, ◌*◌, Bool, true, false, List, [], ◌∷◌, slice_index}
+use Rattle.volume_codec.specs.Layout.{GeometryValue, gate_block, descriptor_block, record_block, block_at}
 use Rattle.volume_codec.specs.Descriptor.{descriptor_text}
 use Rattle.volume_codec.specs.Recovery.{Batch}
 use Rattle.journal.specs.declared.flushed.Flushed.{Flushed}
@@ -14,9 +14,9 @@ pub use Rattle.device.specs.Work.{TornByWork, TornFromWork, calls_of, HasFailed}
 -- what the step of a stage of this batch asks for, where it is given these bytes as a record
 abbrev pub work_at : GeometryValue → Batch → List ℕ → Stage → Work
 work_at g batch bytes (Recording i) = WriteAt (4096 * record_block g.slots batch.journal i) bytes
-work_at g batch bytes Describing =
-    WriteAt (4096 * descriptor_block g.slots batch.journal)
-    (descriptor_text (record { mark = batch.mark; homes = batch.homes }))
+work_at g batch bytes (Describing i) =
+    WriteAt (4096 * (descriptor_block g.slots batch.journal + i))
+    (block_at (descriptor_text g.slots (record { mark = batch.mark; homes = batch.homes })) i)
 work_at g batch bytes SyncingRecords = Sync
 work_at g batch bytes Opening = WriteAt (4096 * gate_block g.slots batch.journal) (0xA7 ∷ [])
 work_at g batch bytes Committing = Sync

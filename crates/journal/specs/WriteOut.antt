@@ -1,8 +1,8 @@
 -- A write-out: a batch on its way to its home blocks. And the value of a `Flush`, which is one by itself.
-use Rattle.std.specs.Prelude.{ℕ, zero, suc, ◌+◌, ◌<◌, if◌then◌else◌, Bool, true, false}
+use Rattle.std.specs.Prelude.{ℕ, zero, suc, ◌+◌, ◌*◌, ◌<◌, if◌then◌else◌, Bool, true, false}
 use Rattle.std.specs.Prelude.{List, [], length, slice_index, Option, Some, None}
 use Rattle.std.specs.Option.{option_map, option_map_or, option_and_then}
-use Rattle.volume_codec.specs.Layout.{GeometryValue, journals_of}
+use Rattle.volume_codec.specs.Layout.{GeometryValue, journals_of, descriptor_blocks}
 use Rattle.volume_codec.specs.Descriptor.{IsDescribed}
 use Rattle.volume_codec.specs.Recovery.{Batch}
 use Rattle.journal.specs.declared.stage.Stage.{Stage}
@@ -20,19 +20,32 @@ pub record IsBatch (g : GeometryValue) (batch : Batch) : Type 0 where
 -- a batch, and how many steps of its write-out were made
 pub record WriteOut : Type 0 where
   pub batch : Batch
+  -- how many blocks the descriptor of its journal has
+  pub described : ℕ
   pub steps : ℕ
 
--- the write-out of a batch before its first step
-abbrev pub begun_of : Batch → WriteOut
-begun_of batch = record { batch = batch; steps = 0 }
+-- the write-out of a batch after so many steps, in a volume whose journals have so many slots
+abbrev pub after_steps : ℕ → Batch → ℕ → WriteOut
+after_steps slots batch steps = record { batch = batch; described = descriptor_blocks slots; steps = steps }
+
+-- before its first step
+abbrev pub begun_of : ℕ → Batch → WriteOut
+begun_of slots batch = after_steps slots batch 0
 
 -- the write-out after one more step
 abbrev pub advanced_of : WriteOut → WriteOut
 advanced_of w = record w { steps = w.steps + 1 }
 
+-- how many steps commit a batch, and how many there are
+abbrev pub committing_steps : ℕ → Batch → ℕ
+committing_steps slots batch = length batch.homes + descriptor_blocks slots + 3
+
+abbrev pub all_steps : ℕ → Batch → ℕ
+all_steps slots batch = 2 * length batch.homes + descriptor_blocks slots + 6
+
 -- the stage of its next step, unless it is done
 abbrev pub next_stage : WriteOut → Option Stage
-next_stage w = stage_at (length w.batch.homes) w.steps
+next_stage w = stage_at (length w.batch.homes) w.described w.steps
 
 -- its batch is committed
 abbrev pub has_committed : WriteOut → Bool
@@ -71,7 +84,7 @@ broken_after answer broken = broken
 abbrev pub calls_in_steps : GeometryValue → Batch → ℕ → ℕ
 calls_in_steps g batch zero = 0
 calls_in_steps g batch (suc steps) =
-    calls_in_steps g batch steps + calls_of (work_of g [] (record { batch = batch; steps = steps }))
+    calls_in_steps g batch steps + calls_of (work_of g [] (after_steps g.slots batch steps))
 
 -- ---- a `Flush`
 
@@ -86,7 +99,7 @@ pub record FlushValue : Type 0 where
 
 -- before its first step
 abbrev pub flush_of : GeometryValue → Batch → ℕ → FlushValue
-flush_of g batch room = record { geometry = g; write_out = begun_of batch; broken = false; room = room }
+flush_of g batch room = record { geometry = g; write_out = begun_of g.slots batch; broken = false; room = room }
 
 -- the record and its home block, the work and the answer of its next step
 abbrev pub flush_record : FlushValue → Option ℕ

@@ -92,7 +92,7 @@ next_batch outs mark homes = record { journal = outs.next; mark = mark; homes = 
 abbrev pub begun : WriteOutsValue → ℕ → List ℕ → WriteOutsValue
 begun outs mark homes = record outs {
   next = following outs.geometry.layout outs.next;
-  batches = outs.batches ++ begun_of (next_batch outs mark homes) ∷ [];
+  batches = outs.batches ++ begun_of outs.geometry.slots (next_batch outs mark homes) ∷ [];
 }
 
 -- the home block belongs to a batch that isn't done

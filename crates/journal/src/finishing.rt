@@ -1,6 +1,7 @@
 // The batch of an open journal is finished, as recovery finds one.
 ghost use Rattle.std.specs.Prelude.{◌≡◌, ◌+◌, ◌*◌, ◌≤◌, false, length};
 ghost use Rattle.journal.specs.Finished.{Finishes};
+ghost use Rattle.volume_codec.specs.Layout.{descriptor_blocks};
 ghost use Rattle.journal.specs.WriteOut.{IsBatch};
 
 use crate::{Flush, Flushed};
@@ -19,7 +20,9 @@ fn make_steps<D: Device, A: Allocator + Copy>(
 ) -> Result<(), DeviceFault>
     requires long { 4096 * flush.old.geometry.blocks ≤ length (D.seen device.old) }
     requires batch { IsBatch flush.old.geometry flush.old.write_out.batch }
-    requires committed { flush.old.write_out.steps ≡ length flush.old.write_out.batch.homes + 4 }
+    requires described { flush.old.write_out.described ≡ descriptor_blocks flush.old.geometry.slots }
+    requires committed { flush.old.write_out.steps
+        ≡ length flush.old.write_out.batch.homes + flush.old.write_out.described + 3 }
     requires whole { flush.old.broken ≡ false }
     requires steps { steps ≡ length flush.old.write_out.batch.homes + 3 }
     ensures { Finishes D.Device flush.old.geometry flush.old.write_out.batch device.old result device.new }

@@ -27,7 +27,8 @@ pub struct Flush<A: Allocator + Copy> {
 }
 
 impl<A: Allocator + Copy> Model for Flush<A> {
-    ghost use Rattle.journal.specs.WriteOut.{FlushValue, IsBatch};
+    ghost use Rattle.journal.specs.WriteOut.{FlushValue};
+    ghost use Rattle.journal.specs.inside.Sound.{IsFlush};
 
     ghost Value = { FlushValue };
 
@@ -38,7 +39,7 @@ impl<A: Allocator + Copy> Model for Flush<A> {
       room = f.queued.room;
     } };
 
-    ghost invariant = { λ f. IsBatch f.geometry f.queued.write_out.batch };
+    ghost invariant = { λ f. IsFlush f.geometry f.queued.write_out };
 }
 
 impl<A: Allocator + Copy> Flush<A> {

@@ -1,7 +1,7 @@
 // What follows of the definitions alone.
 ghost use Rattle.std.specs.Prelude.{◌≡◌, ◌↔◌, ℕ, ◌+◌, ◌*◌, ◌<◌, ◌≤◌, false, List, [], ◌∷◌, ◌++◌, length, slice_index, Contains, Some, None, MatchBool};
 ghost use Rattle.device.specs.Device.{Torn, Only};
-ghost use Rattle.volume_codec.specs.Layout.{GeometryValue, IsHome, journals_of, gate_block, descriptor_block, record_block, block_at};
+ghost use Rattle.volume_codec.specs.Layout.{GeometryValue, IsHome, journals_of, gate_block, descriptor_block, descriptor_blocks, record_block, block_at, blocks_at};
 ghost use Rattle.volume_codec.specs.Super.{SuperValue, geometry_of};
 ghost use Rattle.volume_codec.specs.Descriptor.{descriptor_text};
 ghost use Rattle.volume_codec.specs.Recovery.{Batch, IsOpen, IsNewer, has_journal, IsVolume};
@@ -17,14 +17,14 @@ ghost use Rattle.journal.specs.Alone.{HasLedAlone};
 
 use device::Device;
 
-/// Which steps the stages are, of a write-out of k blocks: step k + 4 commits the batch, step 2k + 7 is the last one,
-/// and all steps together make 3k + 7 device calls.
+/// Which steps the stages are, of a write-out of k blocks whose descriptor has d blocks: step k + d + 3 commits the batch,
+/// step 2k + d + 6 is the last one, and all steps together make 3k + d + 6 device calls.
 pub fn steps_of_a_write_out()
-    ensures commits { (k : ℕ) → stage_at k (k + 3) ≡ Some Committing }
-    ensures finishes { (k : ℕ) → stage_at k (2 * k + 6) ≡ Some Finishing }
-    ensures ends { (k n : ℕ) → (stage_at k n ≡ None) ↔ (2 * k + 7 ≤ n) }
+    ensures commits { (k d : ℕ) → stage_at k d (k + d + 2) ≡ Some Committing }
+    ensures finishes { (k d : ℕ) → stage_at k d (2 * k + d + 5) ≡ Some Finishing }
+    ensures ends { (k d n : ℕ) → (stage_at k d n ≡ None) ↔ (2 * k + d + 6 ≤ n) }
     ensures calls { (g : GeometryValue) (batch : Batch) → let k = length batch.homes in
-        calls_in_steps g batch (2 * k + 7) ≡ 3 * k + 7 }
+        let d = descriptor_blocks g.slots in calls_in_steps g batch (2 * k + d + 6) ≡ 3 * k + d + 6 }
 {}
 
 /// Whose step comes next: the newest one's, where its batch isn't committed, and only that one changes by it; where all
@@ -75,7 +75,7 @@ pub fn what_a_write_out_leaves<D: Device>(device: &D)
 {}
 
 /// Bytes recover to the same contents, by the same batches, whatever becomes of a block that recovery doesn't read: a
-/// record slot or the descriptor of a closed journal, or a home block that has a record in an open one.
+/// record slot or a block of the descriptor of a closed journal, or a home block that has a record in an open one.
 pub fn unread_blocks()
     ensures kept { (v : SuperValue) (opened : List Batch) (contents : ℕ → List ℕ) (c torn : List ℕ) (block n : ℕ)
         → RecoversBy v opened contents c → IsUnread v opened block → n ≤ 4096 → Torn (4096 * block) n c torn
@@ -83,8 +83,9 @@ pub fn unread_blocks()
     ensures record_slot { (v : SuperValue) (opened : List Batch) (c : List ℕ) (j i : ℕ) → IsVolume v opened c
         → j < journals_of v.layout → i < v.slots → has_journal opened j ≡ false
         → IsUnread v opened (record_block v.slots j i) }
-    ensures descriptor { (v : SuperValue) (opened : List Batch) (c : List ℕ) (j : ℕ) → IsVolume v opened c
-        → j < journals_of v.layout → has_journal opened j ≡ false → IsUnread v opened (descriptor_block v.slots j) }
+    ensures descriptor { (v : SuperValue) (opened : List Batch) (c : List ℕ) (j i : ℕ) → IsVolume v opened c
+        → j < journals_of v.layout → i < descriptor_blocks v.slots → has_journal opened j ≡ false
+        → IsUnread v opened (descriptor_block v.slots j + i) }
     ensures home { (v : SuperValue) (opened : List Batch) (c : List ℕ) (batch : Batch) (b : ℕ) → IsVolume v opened c
         → Contains opened batch → Contains batch.homes b → IsHome (geometry_of v) b → IsUnread v opened b }
 {}
@@ -101,8 +102,8 @@ pub fn torn_gates()
     ensures opens { (v : SuperValue) (opened : List Batch) (old new : ℕ → List ℕ) (batch : Batch) (c torn : List ℕ)
         → RecoversBy v opened old c → IsBatch (geometry_of v) batch → IsNewer batch opened
         → has_journal opened batch.journal ≡ false
-        → block_at c (descriptor_block v.slots batch.journal)
-        ≡ descriptor_text (record { mark = batch.mark; homes = batch.homes })
+        → blocks_at c (descriptor_block v.slots batch.journal) (descriptor_blocks v.slots)
+        ≡ descriptor_text v.slots (record { mark = batch.mark; homes = batch.homes })
         → ((i : ℕ) → i < length batch.homes
         → block_at c (record_block v.slots batch.journal i) ≡ new (slice_index batch.homes i))
         → ((b : ℕ) → (Contains batch.homes b → ⊥) → new b ≡ old b)

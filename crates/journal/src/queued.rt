@@ -2,7 +2,7 @@
 ghost use Rattle.std.specs.Prelude.{◌≡◌, ◌≢◌, ◌↔◌, ◌⊎◌, ◌*◌, ◌<◌, ◌≤◌, is_ok, IsTrue, IsSome, length, slice_index, Contains, Some, IfSome};
 ghost use Rattle.std.specs.Vec.{vec_capacity};
 ghost use Rattle.device.specs.Did.{Did};
-ghost use Rattle.volume_codec.specs.Layout.{GeometryValue, IsHome};
+ghost use Rattle.volume_codec.specs.Layout.{GeometryValue, IsHome, descriptor_blocks};
 ghost use Rattle.journal.specs.Work.{work_at, has_done};
 ghost use Rattle.journal.specs.WriteOut.{IsBatch, next_stage, has_committed, next_record, next_home, work_of, answer_of};
 ghost use Rattle.journal.specs.inside.Sound.{IsFlush};
@@ -22,6 +22,8 @@ pub(crate) struct Queued<A: Allocator + Copy> {
     journal: u32,
     mark: u64,
     homes: Vec<u32, A>,
+    // How many blocks the descriptor of its journal has.
+    described: u32,
     steps: u32,
 }
 
@@ -36,14 +38,18 @@ impl<A: Allocator + Copy> Model for Queued<A> {
     ghost view = { λ w. record {
       write_out = record {
         batch = record { journal = w.journal; mark = w.mark; homes = w.homes.items };
+        described = w.described;
         steps = w.steps;
       };
       room = vec_capacity w.homes;
     } };
 
-    // It is a batch of some volume.
-    ghost invariant = { λ w. (g : GeometryValue)
-        × IsFlush g (record { journal = w.journal; mark = w.mark; homes = w.homes.items }) };
+    // It is the write-out of a batch of some volume.
+    ghost invariant = { λ w. (g : GeometryValue) × IsFlush g (record {
+      batch = record { journal = w.journal; mark = w.mark; homes = w.homes.items };
+      described = w.described;
+      steps = w.steps;
+    }) };
 }
 
 impl<A: Allocator + Copy> Queued<A> {
@@ -51,14 +57,15 @@ impl<A: Allocator + Copy> Queued<A> {
     /// this mark.
     pub(crate) fn new(geometry: &Geometry, journal: u32, mark: u64, homes: Vec<u32, A>) -> Self
         requires { IsBatch geometry.now (record { journal = journal; mark = mark; homes = homes.items }) }
-        ensures { result ≡ queued_of (record { journal = journal; mark = mark; homes = homes.items })
-            (vec_capacity homes) }
+        ensures { result ≡ queued_of geometry.now.slots
+            (record { journal = journal; mark = mark; homes = homes.items }) (vec_capacity homes) }
     {
-        prove!(geometry.slots() <= 1020);
+        prove!(geometry.slots() <= 65535);
         Queued {
             journal,
             mark,
             homes,
+            described: geometry.descriptor_blocks(),
             steps: 0,
         }
     }
@@ -71,15 +78,17 @@ impl<A: Allocator + Copy> Queued<A> {
         homes: Vec<u32, A>,
     ) -> Self
         requires { IsBatch geometry.now (record { journal = journal; mark = mark; homes = homes.items }) }
-        ensures { result ≡ committed_queued (record { journal = journal; mark = mark; homes = homes.items })
-            (vec_capacity homes) }
+        ensures { result ≡ committed_queued geometry.now.slots
+            (record { journal = journal; mark = mark; homes = homes.items }) (vec_capacity homes) }
     {
-        prove!(geometry.slots() <= 1020);
-        let steps = homes.len() as u32 + 4;
+        prove!(geometry.slots() <= 65535);
+        let described = geometry.descriptor_blocks();
+        let steps = homes.len() as u32 + described + 3;
         Queued {
             journal,
             mark,
             homes,
+            described,
             steps,
         }
     }
@@ -109,7 +118,7 @@ impl<A: Allocator + Copy> Queued<A> {
     pub(crate) fn stage(&self) -> Option<Stage>
         ensures { result ≡ next_stage self.now.write_out }
     {
-        stage_at(self.homes.len() as u32, self.steps)
+        stage_at(self.homes.len() as u32, self.described, self.steps)
     }
 
     /// Whether the batch is committed.
@@ -168,6 +177,7 @@ impl<A: Allocator + Copy> Queued<A> {
     ) -> Result<(), DeviceFault>
         requires long { 4096 * geometry.now.blocks ≤ length (D.seen device.old) }
         requires batch { IsBatch geometry.now self.now.write_out.batch }
+        requires described { self.now.write_out.described ≡ descriptor_blocks geometry.now.slots }
         requires stage { next_stage self.now.write_out ≡ Some stage }
         ensures { Did D.Device device.old (work_at geometry.now self.now.write_out.batch bytes.now stage)
             (is_ok result) device.new }
@@ -178,11 +188,11 @@ impl<A: Allocator + Copy> Queued<A> {
                 prove!(block < geometry.block_count());
                 write_at(device, 4096 * u64::from(block), bytes)
             }
-            Stage::Describing => {
-                let block = geometry.descriptor_block(self.journal);
+            Stage::Describing(index) => {
+                let block = geometry.descriptor_block(self.journal) + index;
                 prove!(block < geometry.block_count());
-                let descriptor = write_descriptor(geometry, self.mark, &self.homes);
-                write_at(device, 4096 * u64::from(block), &descriptor)
+                let bytes = write_descriptor(geometry, self.mark, &self.homes, index);
+                write_at(device, 4096 * u64::from(block), &bytes)
             }
             Stage::Opening => open_gate(device, geometry, self.journal),
             Stage::Applying(slot) => {
@@ -207,6 +217,7 @@ impl<A: Allocator + Copy> Queued<A> {
     ) -> Flushed
         requires long { 4096 * geometry.now.blocks ≤ length (D.seen device.old) }
         requires batch { IsBatch geometry.now self.old.write_out.batch }
+        requires described { self.old.write_out.described ≡ descriptor_blocks geometry.now.slots }
         requires going { IsSome (next_stage self.old.write_out) }
         ensures answer { (result ≡ answer_of self.old.write_out) ⊎ (result ≡ Flushed.Device) }
         ensures sane { result ≢ Flushed.Broken }
@@ -233,6 +244,7 @@ impl<A: Allocator + Copy> Queued<A> {
             journal: _,
             mark: _,
             homes,
+            described: _,
             steps: _,
         } = self;
         homes

@@ -9,8 +9,8 @@ use crate::Flushed;
 pub enum Stage {
     /// Record i is written, from 0.
     Recording(u32),
-    /// The descriptor is written.
-    Describing,
+    /// Block i of the descriptor is written, from 0.
+    Describing(u32),
     /// Records and descriptor are made sure.
     SyncingRecords,
     /// The gate is opened.
@@ -34,7 +34,7 @@ impl Stage {
     {
         match self {
             Stage::Recording(_)
-            | Stage::Describing
+            | Stage::Describing(_)
             | Stage::SyncingRecords
             | Stage::Opening
             | Stage::Committing => false,
@@ -55,37 +55,39 @@ impl Stage {
 }
 
 // Rule: closing order
-/// The next stage of a write-out of so many blocks after so many steps; `None` once it is done.
-pub fn stage_at(blocks: u32, steps: u32) -> Option<Stage>
-    ensures { result ≡ stage_at blocks steps }
+/// The next stage of a write-out of so many blocks, whose descriptor has `described` blocks, after so many steps;
+/// `None` once it is done.
+pub fn stage_at(blocks: u32, described: u32, steps: u32) -> Option<Stage>
+    ensures { result ≡ stage_at blocks described steps }
 {
     let count = u64::from(blocks);
+    let written = count + u64::from(described);
     let done = u64::from(steps);
     if done < count {
         return Some(Stage::Recording(steps));
     }
-    if done == count {
-        return Some(Stage::Describing);
+    if done < written {
+        return Some(Stage::Describing((done - count) as u32));
     }
-    if done == count + 1 {
+    if done == written {
         return Some(Stage::SyncingRecords);
     }
-    if done == count + 2 {
+    if done == written + 1 {
         return Some(Stage::Opening);
     }
-    if done == count + 3 {
+    if done == written + 2 {
         return Some(Stage::Committing);
     }
-    if done < 2 * count + 4 {
-        return Some(Stage::Applying((done - (count + 4)) as u32));
+    if done < written + count + 3 {
+        return Some(Stage::Applying((done - (written + 3)) as u32));
     }
-    if done == 2 * count + 4 {
+    if done == written + count + 3 {
         return Some(Stage::SyncingHomes);
     }
-    if done == 2 * count + 5 {
+    if done == written + count + 4 {
         return Some(Stage::Closing);
     }
-    if done == 2 * count + 6 {
+    if done == written + count + 5 {
         return Some(Stage::Finishing);
     }
     None

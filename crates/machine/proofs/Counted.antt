@@ -12,6 +12,7 @@ use Rattle.machine.proofs.Names.{current-oldest, Act, Reply, Step, State, Whole,
 use Rattle.machine.proofs.Names.{with_batch, mark_homes, is_page_next, after_record}
 use Rattle.machine.proofs.Names.{reply_to, step_work, StepTaken, StepsTaken, listed_work}
 use Rattle.machine.proofs.Names.{asked_for, AskFor, IsReached, IsSound, Performed, Moved, Marked, Failed}
+use Rattle.volume_codec.specs.Layout.{descriptor_blocks}
 use Rattle.journal.specs.declared.flushed.Flushed.TheVariants as flushed
 use Rattle.journal.specs.WriteOuts.{current}
 use Rattle.machine.specs.declared.act.Act.TheVariants as acts
@@ -30,18 +31,18 @@ use Rattle.machine.proofs.Refinement.{follows}
 -- ---- what the answer of a step tells
 
 -- the mark, and how many steps were made before, where a write-out is committed or done by the step
-abbrev IsAnswered : Batch → ℕ → Flushed → Type 0
-IsAnswered batch steps (flushed.Committed mark) = (batch.mark ≡ mark) × (steps ≡ length batch.homes + 3)
-IsAnswered batch steps (flushed.Done mark) = (batch.mark ≡ mark) × (steps ≡ 2 * length batch.homes + 6)
-IsAnswered batch steps answer = Unit {0}
+abbrev IsAnswered : WriteOut → Flushed → Type 0
+IsAnswered w (flushed.Committed mark) = (w.batch.mark ≡ mark) × (w.steps ≡ blocks w + w.described + 2)
+IsAnswered w (flushed.Done mark) = (w.batch.mark ≡ mark) × (w.steps ≡ 2 * blocks w + w.described + 5)
+IsAnswered w answer = Unit {0}
 
 -- one piece of work, that makes as many calls whatever the record and the volume are
 abbrev IsOneWork : Work → Work → Type 0
 IsOneWork work same = (length (listed_work work) ≡ 1) × (sum_by calls_of (listed_work work) ≡ calls_of same)
 
 module _ (w : WriteOut) where
-  at_stage : (g h : GeometryValue) (bytes : List ℕ) (o : Option Stage) → IsAt (blocks w) w.steps o
-      → IsAnswered w.batch w.steps (option_map_or (answer_at w.batch.mark) o flushed.Broken)
+  at_stage : (g h : GeometryValue) (bytes : List ℕ) (o : Option Stage) → IsAt (blocks w) w.described w.steps o
+      → IsAnswered w (option_map_or (answer_at w.batch.mark) o flushed.Broken)
       × (GoesOn (option_map_or (answer_at w.batch.mark) o flushed.Broken)
       → IsOneWork (option_map_or (work_at g w.batch bytes) o Nothing) (option_map_or (work_at h w.batch []) o Nothing))
   at_stage g h bytes None at = (tt, λ never. absurd never)
@@ -49,13 +50,13 @@ module _ (w : WriteOut) where
   at_stage g h bytes (Some Finishing) at = ((refl, at), λ goes. (refl, refl))
   at_stage g h bytes (Some stage) at = (tt, λ goes. (refl, refl))
 
-  answered_at : (g : GeometryValue) (answer : Flushed) → answer_of w ≡ answer → IsAnswered w.batch w.steps answer
+  answered_at : (g : GeometryValue) (answer : Flushed) → answer_of w ≡ answer → IsAnswered w answer
   answered_at g answer is =
-      subst (IsAnswered w.batch w.steps) is (at_stage g g [] (next_stage w) (stage_is (blocks w) w.steps)).0
+      subst (IsAnswered w) is (at_stage g g [] (next_stage w) (stage_is (blocks w) w.described w.steps)).0
 
   one_work : (g h : GeometryValue) (bytes : List ℕ) → GoesOn (answer_of w)
       → IsOneWork (work_of g bytes w) (work_of h [] w)
-  one_work g h bytes = (at_stage g h bytes (next_stage w) (stage_is (blocks w) w.steps)).1
+  one_work g h bytes = (at_stage g h bytes (next_stage w) (stage_is (blocks w) w.described w.steps)).1
 
 -- ---- the write-out of one mark among others
 
@@ -97,10 +98,10 @@ done_oldest : (w : WriteOut) (newer : List WriteOut) (mark : ℕ)
     → option_map_or answer_of (current (w ∷ newer)) flushed.Broken ≡ flushed.Done mark → has_uncommitted newer ≡ false
 done_oldest w newer mark e = (committed_parts w newer (none_when_done (w ∷ newer) mark e)).1
 
-module _ (n : ℕ) (batch : Batch) (its : batch.mark ≡ n) where
+module _ (n slots : ℕ) (batch : Batch) (its : batch.mark ≡ n) where
   -- its write-out after so many steps
   abbrev after_steps : ℕ → WriteOut
-  after_steps m = record { batch = batch; steps = m }
+  after_steps m = record { batch = batch; described = descriptor_blocks slots; steps = m }
 
   -- it is one of these, and no other is the mark's
   abbrev HasOne : ℕ → List WriteOut → Type 0
@@ -113,7 +114,7 @@ module _ (n : ℕ) (batch : Batch) (its : batch.mark ≡ n) where
   one_push m (x ∷ newer) w (inl one) other = inl (one.0, none_push n newer w one.1 other)
   one_push m (x ∷ newer) w (inr one) other = inr (one.0, one_push m newer w one.1 other)
 
-  one_begun : (batches : List WriteOut) → HasNone n batches → HasOne 0 (batches ++ begun_of batch ∷ [])
+  one_begun : (batches : List WriteOut) → HasNone n batches → HasOne 0 (batches ++ begun_of slots batch ∷ [])
   one_begun [] none = inl (refl, tt)
   one_begun (x ∷ newer) none = inr (none.0, one_begun newer none.1)
 
@@ -180,7 +181,7 @@ module _ (n : ℕ) (batch : Batch) (its : batch.mark ≡ n) (g : GeometryValue) 
   -- these batches have its write-out, and its steps so far asked for these works
   record IsUnder (batches : List WriteOut) (works : List Work) : Type 0 where
     m : ℕ
-    one : HasOne n batch its m batches
+    one : HasOne n g.slots batch its m batches
     count : length works ≡ m
     calls : sum_by calls_of works ≡ calls_in_steps g batch m
 
@@ -202,7 +203,7 @@ module _ (n : ℕ) (batch : Batch) (its : batch.mark ≡ n) (g : GeometryValue) 
 
   -- a step that isn't of it
   passed : (batches after : List WriteOut) (works : List Work) (work : Work) (m : ℕ) → is_next n batches ≡ false
-      → HasOne n batch its m after
+      → HasOne n g.slots batch its m after
       → length works ≡ m → sum_by calls_of works ≡ calls_in_steps g batch m
       → AreTallied after (works ++ asked batches work)
   passed batches after works work m other one count calls =
@@ -213,12 +214,12 @@ module _ (n : ℕ) (batch : Batch) (its : batch.mark ≡ n) (g : GeometryValue) 
   -- a step of it
   asks_work : (batches : List WriteOut) (works : List Work) (h : GeometryValue) (bytes : List ℕ)
       → GoesOn (option_map_or answer_of (current batches) flushed.Broken) → (u : IsUnder batches works)
-      → current batches ≡ Some (after_steps n batch its u.m)
+      → current batches ≡ Some (after_steps n g.slots batch its u.m)
       → (length (works ++ asked batches (option_map_or (work_of h bytes) (current batches) Nothing)) ≡ suc u.m)
       × (sum_by calls_of (works ++ asked batches (option_map_or (work_of h bytes) (current batches) Nothing))
       ≡ calls_in_steps g batch (suc u.m))
   asks_work batches works h bytes goes u now =
-      let own = after_steps n batch its u.m in
+      let own = after_steps n g.slots batch its u.m in
       let next : is_next n batches ≡ true =
       ap (λ (o : Option WriteOut). option_map_or (is_of n) o false) now ∙ eq-eqb batch.mark n its in
       let work : asked batches (option_map_or (work_of h bytes) (current batches) Nothing)
@@ -239,13 +240,13 @@ module _ (n : ℕ) (batch : Batch) (its : batch.mark ≡ n) (g : GeometryValue) 
       → AreTallied (advanced batches)
       (works ++ asked batches (option_map_or (work_of h bytes) (current batches) Nothing))
   advances batches works h bytes goes (inl none) = inl (none_advanced n batches none)
-  advances batches works h bytes goes (inr u) = elim (one_advanced n batch its u.m batches u.one) [
+  advances batches works h bytes goes (inr u) = elim (one_advanced n g.slots batch its u.m batches u.one) [
     | inl this ↦
         (let next : u.m + 1 ≡ suc u.m = omega arith in
         let more = asks_work batches works h bytes goes u this.0 in
         inr (record {
           m = suc u.m;
-          one = subst (λ k. HasOne n batch its k (advanced batches)) next this.1;
+          one = subst (λ k. HasOne n g.slots batch its k (advanced batches)) next this.1;
           count = more.0;
           calls = more.1;
         }))
@@ -259,7 +260,7 @@ module _ (n : ℕ) (batch : Batch) (its : batch.mark ≡ n) (g : GeometryValue) 
       → AreTallied (drop 1 batches) (works ++ asked batches work)
   finishes [] works work mark e (inl none) = inl tt
   finishes (w ∷ newer) works work mark e (inl none) = inl none.1
-  finishes batches works work mark e (inr u) = elim (one_done n batch its u.m batches mark u.one e) [
+  finishes batches works work mark e (inr u) = elim (one_done n g.slots batch its u.m batches mark u.one e) [
     | inl none ↦ inl none
     | inr other ↦ passed batches (drop 1 batches) works work u.m other.0 other.1 u.count u.calls
   ]
@@ -280,12 +281,12 @@ module _ (n : ℕ) (batch : Batch) (its : batch.mark ≡ n) (g : GeometryValue) 
             → IsTallied (cond b s.write_outs (begun s.write_outs number (home ∷ homes))) works
         by true st = st
         by false (inl broken) = inl broken
-        by false (inr (inl none)) = inr (inl
-            (none_push n s.write_outs.batches (begun_of (next_batch s.write_outs number (home ∷ homes))) none other))
+        by false (inr (inl none)) = inr (inl (none_push n s.write_outs.batches
+            (begun_of s.write_outs.geometry.slots (next_batch s.write_outs number (home ∷ homes))) none other))
         by false (inr (inr u)) = inr (inr (record {
           m = u.m;
-          one = one_push n batch its u.m s.write_outs.batches
-              (begun_of (next_batch s.write_outs number (home ∷ homes))) u.one other;
+          one = one_push n g.slots batch its u.m s.write_outs.batches
+              (begun_of s.write_outs.geometry.slots (next_batch s.write_outs number (home ∷ homes))) u.one other;
           count = u.count;
           calls = u.calls;
         }))
@@ -398,7 +399,7 @@ module _ (n : ℕ) (batch : Batch) (its : batch.mark ≡ n) (g : GeometryValue) 
       all_works = works ++ asked_for n last.state step.act reply
 
       abbrev HasEnded : Type 0
-      HasEnded = (m : ℕ) × (answer_of (after_steps n batch its m) ≡ answer) × (length all_works ≡ suc m)
+      HasEnded = (m : ℕ) × (answer_of (after_steps n g.slots batch its m) ≡ answer) × (length all_works ≡ suc m)
           × (sum_by calls_of all_works ≡ calls_in_steps g batch (suc m))
 
       is_of_answer : (o : Option WriteOut) → option_map_or answer_of o flushed.Broken ≡ answer
@@ -418,7 +419,7 @@ module _ (n : ℕ) (batch : Batch) (its : batch.mark ≡ n) (g : GeometryValue) 
           elim st [
             | inl broken ↦ absurd (both_ways outs.broken whole.0 broken)
             | inr (inl none) ↦ absurd (both_ways (is_next n outs.batches) (none_next n outs.batches none) next)
-            | inr (inr u) ↦ elim (one_advanced n batch its u.m outs.batches u.one) [
+            | inr (inr u) ↦ elim (one_advanced n g.slots batch its u.m outs.batches u.one) [
               | inr other ↦ absurd (both_ways (is_next n outs.batches) other.0 next)
               | inl this ↦
                   let more = asks_work outs.batches works outs.geometry (next_record last.state)
@@ -475,7 +476,7 @@ module _ {D : Type 0} (disk : Ghosts D) (files : List File) (start old marked la
         | true ↦ λ broken. inl broken
         | false ↦ λ whole. inr (inr (record {
           m = 0;
-          one = one_begun number batch refl s.write_outs.batches none_before;
+          one = one_begun number g.slots batch refl s.write_outs.batches none_before;
           count = refl;
           calls = refl;
         }))
@@ -495,7 +496,8 @@ module _ {D : Type 0} (disk : Ghosts D) (files : List File) (start old marked la
   counted : (answer : Flushed) → GoesOn answer → ((w : WriteOut) → answer_of w ≡ answer → w.batch.mark ≡ number)
       → ((d d' : List ℕ) → IsStep last.state d step.p new.state d' number step.act answer)
       → StepTaken disk last step (reply_to answer) new
-      → (m : ℕ) × (answer_of (record { batch = its_batch; steps = m }) ≡ answer) × HasAsked (reply_to answer) (suc m)
+      → (m : ℕ) × (answer_of (after_steps number g.slots its_batch refl m) ≡ answer)
+      × HasAsked (reply_to answer) (suc m)
   counted answer goes tallied is_step here =
       let reply = reply_to answer in
       let marks : marked.state.marks ≡ number = ap (λ (x : State). x.marks) mark.done in
@@ -508,29 +510,39 @@ module _ {D : Type 0} (disk : Ghosts D) (files : List File) (start old marked la
       (ap reply_to (sym flush.1)) flush.1 asked.tallied in
       (end.0, end.1, (asked.works ++ asked_for number last.state step.act reply, asked.asks, end.2, end.3))
 
+  slots_are : descriptor_blocks s.write_outs.geometry.slots ≡ descriptor_blocks s.table.slots
+  slots_are = ap (λ (x : GeometryValue). descriptor_blocks x.slots) sound.write_outs.geometry
+
   pub committed_count : StepTaken disk last step (replies.Committed number) new
-      → (works : List Work) × AskFor disk number marked (steps ++ step ∷ [])
-      (answers ++ replies.Committed number ∷ []) new works × (length works ≡ length (mark_homes s mark.pages) + 4)
-      × (sum_by calls_of works ≡ length (mark_homes s mark.pages) + 4)
+      → (works : List Work)
+      × AskFor disk number marked (steps ++ step ∷ []) (answers ++ replies.Committed number ∷ []) new works
+      × (length works ≡ length (mark_homes s mark.pages) + descriptor_blocks s.table.slots + 3)
+      × (sum_by calls_of works ≡ length (mark_homes s mark.pages) + descriptor_blocks s.table.slots + 3)
   committed_count here =
       let found = counted (flushed.Committed number) tt (λ w e. (answered_at w g (flushed.Committed number) e).0)
       (λ d d'. (steps_alone last.state d step.p new.state d' number step.act).0) here in
-      let at = (answered_at (record { batch = its_batch; steps = found.0 }) g (flushed.Committed number) found.1).1 in
-      let count : suc found.0 ≡ length (mark_homes s mark.pages) + 4 = omega (arith, at) in
-      let few : suc found.0 ≤ length its_batch.homes + 4 = omega (arith, at) in
+      let its_steps = after_steps number g.slots its_batch refl found.0 in
+      let at = (answered_at its_steps g (flushed.Committed number) found.1).1 in
+      let count : suc found.0 ≡ length (mark_homes s mark.pages) + descriptor_blocks s.table.slots + 3 =
+      omega (arith, at, slots_are) in
+      let few : suc found.0 ≤ length its_batch.homes + descriptor_blocks g.slots + 3 = omega (arith, at) in
       (found.2.0, found.2.1, found.2.2 ∙ count, found.2.3 ∙ early_calls g its_batch (suc found.0) few ∙ count)
 
   pub done_count : StepTaken disk last step (replies.Done number) new
-      → (works : List Work) × AskFor disk number marked (steps ++ step ∷ [])
-      (answers ++ replies.Done number ∷ []) new works × (length works ≡ 2 * length (mark_homes s mark.pages) + 7)
-      × (sum_by calls_of works ≡ 3 * length (mark_homes s mark.pages) + 7)
+      → (works : List Work)
+      × AskFor disk number marked (steps ++ step ∷ []) (answers ++ replies.Done number ∷ []) new works
+      × (length works ≡ 2 * length (mark_homes s mark.pages) + descriptor_blocks s.table.slots + 6)
+      × (sum_by calls_of works ≡ 3 * length (mark_homes s mark.pages) + descriptor_blocks s.table.slots + 6)
   done_count here =
       let found = counted (flushed.Done number) tt (λ w e. (answered_at w g (flushed.Done number) e).0)
       (λ d d'. (steps_alone last.state d step.p new.state d' number step.act).1) here in
-      let at = (answered_at (record { batch = its_batch; steps = found.0 }) g (flushed.Done number) found.1).1 in
-      let count : suc found.0 ≡ 2 * length its_batch.homes + 7 = omega (arith, at) in
-      let steps_are : suc found.0 ≡ 2 * length (mark_homes s mark.pages) + 7 = omega (arith, at) in
-      let calls_are : 3 * length its_batch.homes + 7 ≡ 3 * length (mark_homes s mark.pages) + 7 = refl in (
+      let its_steps = after_steps number g.slots its_batch refl found.0 in
+      let at = (answered_at its_steps g (flushed.Done number) found.1).1 in
+      let count : suc found.0 ≡ 2 * length its_batch.homes + descriptor_blocks g.slots + 6 = omega (arith, at) in
+      let steps_are : suc found.0 ≡ 2 * length (mark_homes s mark.pages) + descriptor_blocks s.table.slots + 6 =
+      omega (arith, at, slots_are) in
+      let calls_are : 3 * length its_batch.homes + descriptor_blocks g.slots + 6
+      ≡ 3 * length (mark_homes s mark.pages) + descriptor_blocks s.table.slots + 6 = omega (arith, slots_are) in (
         found.2.0,
         found.2.1,
         found.2.2 ∙ steps_are,

@@ -35,7 +35,7 @@ pub record IsNew (files : List File) (history : List Event) (number : ℕ) (c : 
 -- durable, and new from then on; where there is no write-out, the files at the last acknowledged mark
 abbrev pub StopsBefore : List File → List Event → ℕ → Option Stage → List ℕ → Type 0
 StopsBefore files history mark (Some (Recording i)) c = IsOld files history mark c
-StopsBefore files history mark (Some Describing) c = IsOld files history mark c
+StopsBefore files history mark (Some (Describing i)) c = IsOld files history mark c
 StopsBefore files history mark (Some SyncingRecords) c = IsOld files history mark c
 StopsBefore files history mark (Some Opening) c = IsOld files history mark c
 StopsBefore files history mark (Some Committing) c = IsOld files history mark c ⊎ IsNew files history mark c

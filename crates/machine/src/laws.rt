@@ -2,6 +2,7 @@
 ghost use Rattle.std.specs.Prelude.{ℕ, ◌≡◌, ◌+◌, ◌-◌, ◌*◌, ◌^◌, ◌<◌, List, [], ◌∷◌, ◌++◌, length, sum_by};
 ghost use Rattle.device.specs.Device.{Only};
 ghost use Rattle.volume_codec.specs.Files.{File};
+ghost use Rattle.volume_codec.specs.Layout.{descriptor_blocks};
 ghost use Rattle.volume_codec.specs.Recovery.{RecoversTo};
 ghost use Rattle.recovery.specs.Openings.{IsLater};
 ghost use Rattle.machine.specs.declared.act.Reply.{Reply};
@@ -84,10 +85,10 @@ pub fn calls_of_steps<D: Device>(device: &D)
         → StepsTaken D.Device old steps replies new → CallsAddUp D.Device old steps replies new }
 {}
 
-/// The count of each write-out of a run. After a mark that writes k home blocks, the steps up to the one that answers
-/// that the mark is committed make k + 4 device calls for its write-out, one each; those up to the one that answers
-/// that it is done make 3k + 7, in 2k + 7 steps of it. Whatever other steps stand between them, also another
-/// write-out's.
+/// The count of each write-out of a run. After a mark that writes k home blocks, in a volume whose descriptors have d
+/// blocks, the steps up to the one that answers that the mark is committed make k + d + 3 device calls for its write-out,
+/// one each; those up to the one that answers that it is done make 3k + d + 6, in 2k + d + 6 steps of it. Whatever other
+/// steps stand between them, also another write-out's.
 pub fn counts_of_a_write_out<D: Device>(device: &D)
     ensures committed { (files : List File) (start old marked last new : Whole D) (earlier steps : List Step)
         (replied replies : List Reply) (p number : ℕ) (mark : MarkMade old.state p number marked.state) (step : Step)
@@ -95,16 +96,19 @@ pub fn counts_of_a_write_out<D: Device>(device: &D)
         → StepsTaken D.Device marked steps replies last → StepTaken D.Device last step (Committed number) new
         → (works : List Work)
         × AskFor D.Device number marked (steps ++ step ∷ []) (replies ++ Committed number ∷ []) new works
-        × (length works ≡ length (mark_homes old.state mark.pages) + 4)
-        × (sum_by calls_of works ≡ length (mark_homes old.state mark.pages) + 4) }
+        × (length works ≡ length (mark_homes old.state mark.pages) + descriptor_blocks old.state.table.slots + 3)
+        × (sum_by calls_of works ≡ length (mark_homes old.state mark.pages)
+        + descriptor_blocks old.state.table.slots + 3) }
     ensures done { (files : List File) (start old marked last new : Whole D) (earlier steps : List Step)
         (replied replies : List Reply) (p number : ℕ) (mark : MarkMade old.state p number marked.state) (step : Step)
         → IsReached D.Device files start earlier replied old
         → StepsTaken D.Device marked steps replies last → StepTaken D.Device last step (Done number) new
         → (works : List Work)
         × AskFor D.Device number marked (steps ++ step ∷ []) (replies ++ Done number ∷ []) new works
-        × (length works ≡ 2 * length (mark_homes old.state mark.pages) + 7)
-        × (sum_by calls_of works ≡ 3 * length (mark_homes old.state mark.pages) + 7) }
+        × (length works ≡ 2 * length (mark_homes old.state mark.pages)
+        + descriptor_blocks old.state.table.slots + 6)
+        × (sum_by calls_of works ≡ 3 * length (mark_homes old.state mark.pages)
+        + descriptor_blocks old.state.table.slots + 6) }
 {}
 
 /// Where nothing was stored, the files are as they were: a history without events leaves them (`files`), and they are

@@ -4,7 +4,7 @@ use Rattle.std.proofs.Common.{slice_range, inl, inr, sym, ◌∙◌, ap, arith, 
 use Rattle.std.proofs.lemmas.List.{take_at, drop_at, drop-take, take-take, drop-drop}
 use Rattle.std.proofs.lemmas.Bool.{cases_lt}
 use Rattle.device.specs.Device.{written, Torn}
-use Rattle.volume_codec.specs.Layout.{block_at}
+use Rattle.volume_codec.specs.Layout.{block_at, blocks_at}
 
 -- a part that ends at n or before is a part of the first n
 pub range-take : (from size n : ℕ) (xs : List ℕ) → from + size ≤ n
@@ -53,3 +53,10 @@ pub block_of_range : (bytes : List ℕ) (x b n : ℕ) → x ≡ b → n ≡ 4096
 block_of_range bytes x b n same size =
     let part : 4096 * x + n - 4096 * x ≡ 4096 = omega arith in
     ap (λ k. take k (drop (4096 * x) bytes)) part ∙ ap (λ k. take 4096 (drop (4096 * k) bytes)) same
+
+-- and a read of as many blocks gives these blocks
+pub blocks_of_range : (bytes : List ℕ) (x b n count : ℕ) → x ≡ b → n ≡ 4096 * count
+    → slice_range bytes (4096 * x) (4096 * x + n) ≡ blocks_at bytes b count
+blocks_of_range bytes x b n count same size =
+    let part : 4096 * x + n - 4096 * x ≡ 4096 * count = omega (arith, size) in
+    ap (λ k. take k (drop (4096 * x) bytes)) part ∙ ap (λ k. take (4096 * count) (drop (4096 * k) bytes)) same

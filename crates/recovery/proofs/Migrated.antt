@@ -237,8 +237,8 @@ module _ (table : SuperValue) (lengths laid copied final : List ℕ) (fits : Fit
   }
 
 -- what is asked for of a volume
-module _ {D : Type 0} (disk : Ghosts D) (volume : VolumeState D) (well_formed : IsWellFormed disk volume) (slots : ℕ)
-    (table : SuperValue) (asked : IsAsked 3 (asked_of volume) slots table) where
+module _ {D : Type 0} (disk : Ghosts D) (volume : VolumeState D) (well_formed : IsWellFormed disk volume)
+    (layout slots : ℕ) (table : SuperValue) (asked : IsAsked layout (asked_of volume) slots table) where
   pub asked_files : table.files ≡ volume.table.files
   asked_files = asked.files_are ∙ again_files volume.table.files volume.lengths well_formed.lengths.count
 
@@ -247,26 +247,26 @@ module _ {D : Type 0} (disk : Ghosts D) (volume : VolumeState D) (well_formed : 
 
   pub asked_lengths_are : AreLengths table volume.lengths
   asked_lengths_are = let P : List ℕ → Type 0 = λ l. AreLengths table l in
-      subst P asked_lengths (asked_are 3 slots (asked_of volume) table asked)
+      subst P asked_lengths (asked_are layout slots (asked_of volume) table asked)
 
 -- all of it but its block 0
-module _ {D : Type 0} (disk : Ghosts D) (volume : VolumeState D) (well_formed : IsWellFormed disk volume) (slots : ℕ)
-    (table : SuperValue) (asked : IsAsked 3 (asked_of volume) slots table)
+module _ {D : Type 0} (disk : Ghosts D) (volume : VolumeState D) (well_formed : IsWellFormed disk volume)
+    (layout slots : ℕ) (table : SuperValue) (asked : IsAsked layout (asked_of volume) slots table)
     (laid copied final : List ℕ) (rest : IsEmptied table volume.lengths laid)
     (torn : Torn (4096 * first_file_home table.layout table.slots) (4096 * total_pages table.files) laid copied)
     (first : Torn 0 4096 copied final)
     (each : disk.is_honest volume.device → AreCopied table volume.lengths
     (bytes_of (files_of volume.table (disk.seen volume.device))) (length table.files) laid copied) where
   abbrev named : table.files ≡ volume.table.files
-  named = asked_files disk volume well_formed slots table asked
+  named = asked_files disk volume well_formed layout slots table asked
 
   abbrev are : AreLengths table volume.lengths
-  are = asked_lengths_are disk volume well_formed slots table asked
+  are = asked_lengths_are disk volume well_formed layout slots table asked
 
   pub spelled : 0 < lengths_blocks table.layout
       → block_at final (first_home table.layout table.slots) ≡ lengths_text (lengths_asked (asked_of volume))
   spelled some = says_lengths table volume.lengths laid copied final are rest torn first some
-      ∙ ap lengths_text (sym (asked_lengths disk volume well_formed slots table asked))
+      ∙ ap lengths_text (sym (asked_lengths disk volume well_formed layout slots table asked))
 
   pub filled : IsFilled disk volume table final
   filled = record {
@@ -274,8 +274,8 @@ module _ {D : Type 0} (disk : Ghosts D) (volume : VolumeState D) (well_formed : 
     lengths_block = says_lengths table volume.lengths laid copied final are rest torn first;
     files = λ honest.
         same_files table volume.table volume.lengths final (disk.seen volume.device) are named
-        (sym (asked_lengths_in 3 slots (asked_of volume) table (block_at final) asked spelled
-        ∙ asked_lengths disk volume well_formed slots table asked))
+        (sym (asked_lengths_in layout slots (asked_of volume) table (block_at final) asked spelled
+        ∙ asked_lengths disk volume well_formed layout slots table asked))
         (well_formed.at_rest honest).lengths_are
         (λ file there. part_there table volume.lengths laid copied final are rest torn first _ (each honest) file there
         ∙ file_bytes volume.table volume.lengths well_formed.lengths (disk.seen volume.device) file
@@ -283,9 +283,9 @@ module _ {D : Type 0} (disk : Ghosts D) (volume : VolumeState D) (well_formed : 
     tails = λ honest. tails table volume.lengths laid copied final are rest torn first _ (each honest);
   }
 
-pub migrated : {D E : Type 0} (disk : Ghosts D) (other : Ghosts E) (slots : ℕ) (volume : VolumeState D)
+pub migrated : {D E : Type 0} (disk : Ghosts D) (other : Ghosts E) (layout slots : ℕ) (volume : VolumeState D)
     (before laid copied after : E) (table : SuperValue)
-    → HasShape 3 (asked_of volume) slots (length (other.seen before)) table
+    → HasShape layout (asked_of volume) slots (length (other.seen before)) table
     → IsWellFormed disk volume → disk.is_honest volume.device → IsEmptied table volume.lengths (other.seen laid)
     → Torn 4096 (4096 * block_count table - 4096) (other.seen before) (other.seen laid)
     → Torn (4096 * first_file_home table.layout table.slots) (4096 * total_pages table.files)
@@ -293,15 +293,15 @@ pub migrated : {D E : Type 0} (disk : Ghosts D) (other : Ghosts E) (slots : ℕ)
     → AreCopied table volume.lengths (bytes_of (files_of volume.table (disk.seen volume.device))) (length table.files)
     (other.seen laid) (other.seen copied)
     → other.seen after ≡ written (other.seen copied) 0 (super_text table)
-    → Only (other.may_leave after) (other.seen after) → HasMigrated disk other slots volume before after
-migrated disk other slots volume before laid copied after table shape well_formed honest rest laying torn each is only =
-    record {
+    → Only (other.may_leave after) (other.seen after) → HasMigrated disk other layout slots volume before after
+migrated disk other layout slots volume before laid copied after table shape well_formed honest rest laying
+    torn each is only = record {
       table = table;
       shape = shape;
       holds = held table volume.lengths (other.seen laid) (other.seen copied) (other.seen after) shape.asked.fits
-          (asked_lengths_are disk volume well_formed slots table shape.asked) rest torn is;
-      lengths_fit = asked_has_lengths 3 slots (asked_of volume) table (block_at (other.seen after)) shape.asked
-          (spelled disk volume well_formed slots table shape.asked (other.seen laid) (other.seen copied)
+          (asked_lengths_are disk volume well_formed layout slots table shape.asked) rest torn is;
+      lengths_fit = asked_has_lengths layout slots (asked_of volume) table (block_at (other.seen after)) shape.asked
+          (spelled disk volume well_formed layout slots table shape.asked (other.seen laid) (other.seen copied)
           (other.seen after) rest torn zeroth (λ h. each));
       files = rests.files honest;
       tails = rests.tails honest;
@@ -315,7 +315,7 @@ migrated disk other slots volume before laid copied after table shape well_forme
         (omega (arith, rest.long, torn.same_length)) is).1
 
     rests : IsFilled disk volume table (other.seen after)
-    rests = filled disk volume well_formed slots table shape.asked (other.seen laid) (other.seen copied)
+    rests = filled disk volume well_formed layout slots table shape.asked (other.seen laid) (other.seen copied)
         (other.seen after) rest torn zeroth (λ h. each)
 
 -- ---- what a crash leaves of it
@@ -343,17 +343,19 @@ module _ {D : Type 0} (disk : Ghosts D) (volume : VolumeState D) (table : SuperV
     first = inr rest;
   }
 
-module _ {D E : Type 0} (disk : Ghosts D) (other : Ghosts E) (slots : ℕ) (volume : VolumeState D) (before : E) where
+module _ {D E : Type 0} (disk : Ghosts D) (other : Ghosts E) (layout slots : ℕ)
+    (volume : VolumeState D) (before : E) where
   -- while it is laid out
-  pub laying_left : (c : List ℕ) → LeftByLaying other (asked_of volume) slots before c
-      → LeftByMigration disk other slots volume before c
+  pub laying_left : (c : List ℕ) → LeftByLaying other layout (asked_of volume) slots before c
+      → LeftByMigration disk other layout slots volume before c
   laying_left c (inl was) = inl was
   laying_left c (inr laying) =
       inr (laying.0, laying.1, partly_filling disk volume laying.0 (omega arith) (other.may_leave before) c laying.2)
 
   module _ (laid : E) (table : SuperValue)
-      (shape : HasShape 3 (asked_of volume) slots (length (other.seen before)) table)
-      (time : LeavesOnly other.moment other.left_since before laid (LeftByLaying other (asked_of volume) slots before))
+      (shape : HasShape layout (asked_of volume) slots (length (other.seen before)) table)
+      (time : LeavesOnly other.moment other.left_since before laid
+      (LeftByLaying other layout (asked_of volume) slots before))
       (left : (c : List ℕ) → other.may_leave laid c
       → TornFrom 4096 (4096 * block_count table - 4096) (other.may_leave before) c)
       {X : Type 0} {result : Result X Refusal} {after : VolumeState D} {copied : E}
@@ -371,13 +373,13 @@ module _ {D E : Type 0} (disk : Ghosts D) (other : Ghosts E) (slots : ℕ) (volu
         )
 
     filling_left : (c : List ℕ) → TornFrom 4096 (4096 * block_count table - 4096) (other.may_leave before) c
-        → LeftByMigration disk other slots volume before c
+        → LeftByMigration disk other layout slots volume before c
     filling_left c torn = inr
         (table, shape, partly_filling disk volume table (omega arith) (other.may_leave before) c torn)
 
     -- while the files are copied
     pub time_of_copying : LeavesOnly other.moment other.left_since before copied
-        (LeftByMigration disk other slots volume before)
+        (LeftByMigration disk other layout slots volume before)
     time_of_copying = leaves_on (leaves_weaker time laying_left) copies.time
         (λ c torn. filling_left c (copied_within c torn))
 
@@ -387,29 +389,29 @@ module _ {D E : Type 0} (disk : Ghosts D) (other : Ghosts E) (slots : ℕ) (volu
         → (disk.is_honest volume.device
         → AreCopied table volume.lengths (bytes_of (files_of volume.table (disk.seen volume.device)))
         (length table.files) (other.seen laid) (other.seen copied))
-        → other.is_honest laid → other.is_honest copied → HasFinished other block copied last final
-        → LeavesOnly other.moment other.left_since before final (LeftByMigration disk other slots volume before)
+        → other.is_honest laid → other.is_honest copied → HasFinished other block copied last final → LeavesOnly
+        other.moment other.left_since before final (LeftByMigration disk other layout slots volume before)
     time_of_filling {Y} {last} {final} {block} well_formed rest each honest honest_1 finishing =
         leaves_on time_of_copying (finishing.time honest_1) by
       where
         by : (c : List ℕ) → other.may_leave copied c
             ⊎ (other.may_leave copied (other.seen copied) × Torn 0 4096 (other.seen copied) c)
-            → LeftByMigration disk other slots volume before c
+            → LeftByMigration disk other layout slots volume before c
         by c (inl may) = filling_left c (copied_within c (copies.left c may))
         by c (inr torn) = inr (
           table,
           shape,
           partly_filled disk volume table (omega arith) (other.may_leave before) (other.seen copied) c
               (copied_within (other.seen copied) (copies.left (other.seen copied) torn.0)) torn.1
-              (filled disk volume well_formed slots table shape.asked (other.seen laid) (other.seen copied) c rest
-              (copies.torn honest) torn.1 each),
+              (filled disk volume well_formed layout slots table shape.asked (other.seen laid)
+              (other.seen copied) c rest (copies.torn honest) torn.1 each),
         )
 
 -- what was migrated was made
-pub migrated_made : {D E : Type 0} (disk : Ghosts D) (other : Ghosts E) (slots : ℕ) (volume : VolumeState D)
-    (before after : E) → other.is_honest after → HasMigrated disk other slots volume before after
+pub migrated_made : {D E : Type 0} (disk : Ghosts D) (other : Ghosts E) (layout slots : ℕ) (volume : VolumeState D)
+    (before after : E) → other.is_honest after → HasMigrated disk other layout slots volume before after
     → IsMade other (files_of volume.table (disk.seen volume.device)) after
-migrated_made disk other slots volume before after honest has = record {
+migrated_made disk other layout slots volume before after honest has = record {
   honest = honest;
   synced = has.synced;
   recovers = record {
@@ -444,15 +446,16 @@ specs_all files fs lengths i count all was =
     ∙ take_all i (asked_again fs lengths) (omega (arith, length-again fs lengths count, all))
 
 -- what was asked for again is one table, on which the lengths are laid out
-pub one_again : (slots : ℕ) (asked others : List AskedFile) (table other : SuperValue) → asked ≡ others
-    → IsAsked 3 asked slots table → IsAsked 3 others slots other → table ≡ other
-one_again slots asked others table other same is is_other = let P : List AskedFile → Type 0 =
-    λ files. IsAsked 3 files slots table in one_asked 3 others slots table other (subst P same is) is_other
+pub one_again : (layout slots : ℕ) (asked others : List AskedFile) (table other : SuperValue) → asked ≡ others
+    → IsAsked layout asked slots table → IsAsked layout others slots other → table ≡ other
+one_again layout slots asked others table other same is is_other = let P : List AskedFile → Type 0 =
+    λ files. IsAsked layout files slots table in one_asked layout others slots table other (subst P same is) is_other
 
-pub shape_again : (slots bytes size : ℕ) (asked others : List AskedFile) (table : SuperValue) → asked ≡ others
-    → bytes ≡ size → HasShape 3 asked slots bytes table → HasShape 3 others slots size table
-shape_again slots bytes size asked others table same long shape = let P : List AskedFile → Type 0 = λ files.
-    IsAsked 3 files slots table in record { asked = subst P same shape.asked; long = omega (arith, long, shape.long) }
+pub shape_again : (layout slots bytes size : ℕ) (asked others : List AskedFile) (table : SuperValue) → asked ≡ others
+    → bytes ≡ size → HasShape layout asked slots bytes table → HasShape layout others slots size table
+shape_again layout slots bytes size asked others table same long shape =
+    let P : List AskedFile → Type 0 = λ files. IsAsked layout files slots table in
+    record { asked = subst P same shape.asked; long = omega (arith, long, shape.long) }
 
 pub laid_again : {D : Type 0} (disk : Ghosts D) (volume : VolumeState D) → IsWellFormed disk volume
     → (asked : List AskedFile) (table : SuperValue) (bytes : List ℕ) → asked ≡ asked_of volume

@@ -1,4 +1,4 @@
--- What migrating a volume makes of another device: a volume of layout 3, whose files can grow.
+-- What migrating a volume makes of another device: a volume of another layout with the same files.
 use Rattle.std.specs.Prelude.{◌≡◌, ◌⊎◌, ℕ, ◌+◌, ◌*◌, ◌<◌, ◌≤◌, List, [], ◌∷◌, length, slice_index, Result, Ok}
 use Rattle.device.specs.Device.{Torn, Only}
 use Rattle.device.specs.declared.device.Device.{Ghosts}
@@ -49,9 +49,9 @@ pub record IsPartlyMigrated {D : Type 0} (disk : Ghosts D) (volume : VolumeState
   pub first : (block_at c 0 ≡ block_at before 0) ⊎ IsFilled disk volume table c
 
 -- what a crash leaves of migrating: what it might have left before it, or a volume that is being made
-abbrev pub LeftByMigration : {D E : Type 0} → Ghosts D → Ghosts E → ℕ → VolumeState D → E → List ℕ → Type 0
-LeftByMigration disk other slots volume before c = other.may_leave before c
-    ⊎ ((table : SuperValue) × HasShape 3 (asked_of volume) slots (length (other.seen before)) table
+abbrev pub LeftByMigration : {D E : Type 0} → Ghosts D → Ghosts E → ℕ → ℕ → VolumeState D → E → List ℕ → Type 0
+LeftByMigration disk other layout slots volume before c = other.may_leave before c
+    ⊎ ((table : SuperValue) × HasShape layout (asked_of volume) slots (length (other.seen before)) table
     × IsPartlyMigrated disk volume table (other.may_leave before) c)
 
 -- Two devices are as long and as honest as before. Where the result is Ok no call of either failed; else it has its
@@ -61,13 +61,13 @@ AreAccounted disk other old before result new after =
     (IsAccounted disk old result new × IsAccounted {X = Unit {0}} other before (Ok tt) after)
     ⊎ (IsAccounted {X = Unit {0}} disk old (Ok tt) new × IsAccounted other before result after)
 
--- A volume was copied to an honest device: that holds a volume of layout 3 with the same names, lengths and capacities
--- and with so many slots, its gates closed. Its files have the same bytes and zeros past their lengths, all of it is
--- synced, and what lies past the volume is as before.
-pub record HasMigrated {D E : Type 0} (disk : Ghosts D) (other : Ghosts E) (slots : ℕ) (volume : VolumeState D)
-    (before after : E) : Type 0 where
+-- A volume was copied to an honest device: that holds a volume of this layout with the same names, lengths and
+-- capacities and with so many slots, its gates closed. Its files have the same bytes and zeros past their lengths, all
+-- of it is synced, and what lies past the volume is as before.
+pub record HasMigrated {D E : Type 0} (disk : Ghosts D) (other : Ghosts E) (layout slots : ℕ)
+    (volume : VolumeState D) (before after : E) : Type 0 where
   pub table : SuperValue
-  pub shape : HasShape 3 (asked_of volume) slots (length (other.seen before)) table
+  pub shape : HasShape layout (asked_of volume) slots (length (other.seen before)) table
   pub holds : IsVolume table [] (other.seen after)
   pub lengths_fit : HasLengths table (block_at (other.seen after))
   pub files : files_of table (other.seen after) ≡ files_of volume.table (disk.seen volume.device)

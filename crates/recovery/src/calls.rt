@@ -2,7 +2,7 @@
 ghost use Rattle.std.specs.Prelude.{◌≡◌, ◌+◌, ◌*◌, ◌≤◌, length, slice_range, is_ok, IfOk, IfErr, OnOk};
 ghost use Rattle.device.specs.Did.{Did};
 ghost use Rattle.device.specs.Work.{Sync, WriteAt};
-ghost use Rattle.volume_codec.specs.Layout.{block_at};
+ghost use Rattle.volume_codec.specs.Layout.{block_at, blocks_at};
 ghost use Rattle.volume_codec.specs.Text.{zeros};
 ghost use Rattle.recovery.specs.Counts.{Rises, IsAccounted};
 ghost use Rattle.recovery.specs.Opening.{IsUnwritten};
@@ -12,7 +12,7 @@ use device::{Device, make_durable, write_at};
 use page_entry::{PAGE, Refusal};
 
 /// A block of zeros.
-fn zero_block() -> [u8; 4096]
+pub fn zero_block() -> [u8; 4096]
     ensures { result ≡ zeros 4096 }
 {
     [0; 4096]
@@ -28,6 +28,7 @@ pub fn read<D: Device>(device: &mut D, at: u64, buffer: &mut [u8]) -> Result<(),
     ensures kept { IsAccounted D.Device device.old result device.new }
     ensures fault { IfErr result (λ refusal. refusal ≡ Refusal.Device) }
     ensures calls { Rises 1 (D.calls_made device.old) (D.calls_made device.new) }
+    ensures size { length buffer.new ≡ length buffer.old }
 {
     match device.read(at, buffer) {
         Ok(()) => Ok(()),
@@ -48,6 +49,28 @@ pub fn read_block<D: Device>(device: &mut D, block: u32) -> Result<[u8; 4096], R
     let mut bytes = zero_block();
     read(device, PAGE * u64::from(block), &mut bytes)?;
     Ok(bytes)
+}
+
+/// Reads so many blocks from one on into a buffer of that size, by one device call.
+pub fn read_blocks<D: Device>(
+    device: &mut D,
+    block: u32,
+    count: u32,
+    buffer: &mut [u8],
+) -> Result<(), Refusal>
+    requires long { 4096 * block + 4096 * count ≤ length (D.seen device.old) }
+    requires size { length buffer.old ≡ 4096 * count }
+
+    ensures bytes { D.is_honest device.old
+        → OnOk result (buffer.new ≡ blocks_at (D.seen device.old) block count) }
+    ensures unwritten { D.is_honest device.old → IsUnwritten D.Device device.old device.new }
+    ensures kept { IsAccounted D.Device device.old result device.new }
+    ensures fault { IfErr result (λ refusal. refusal ≡ Refusal.Device) }
+    ensures calls { Rises 1 (D.calls_made device.old) (D.calls_made device.new) }
+    ensures size { length buffer.new ≡ length buffer.old }
+{
+    read(device, PAGE * u64::from(block), buffer)?;
+    Ok(())
 }
 
 /// Writes bytes from an offset on.

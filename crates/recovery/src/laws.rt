@@ -77,8 +77,8 @@ pub fn made_by_formatting<D: Device>(device: &D)
 
 /// What migrating a volume makes of an honest device is a volume that was made with that volume's files.
 pub fn made_by_migrating<D: Device, E: Device>(device: &D, other: &E)
-    ensures { (slots : ℕ) (volume : VolumeState D) (before after : E) → E.is_honest after
-        → HasMigrated D.Device E.Device slots volume before after
+    ensures { (layout slots : ℕ) (volume : VolumeState D) (before after : E) → E.is_honest after
+        → HasMigrated D.Device E.Device layout slots volume before after
         → IsMade E.Device (files_of volume.table (D.seen volume.device)) after }
 {}
 

@@ -1,4 +1,4 @@
-// A volume becomes one whose files can grow, on another device.
+// A volume becomes one of another layout, on another device.
 ghost use Rattle.std.specs.Prelude.{◌≡◌, ◌⊎◌, ◌+◌, ◌-◌, ◌*◌, ◌^◌, ◌<◌, ◌≤◌, ℕ, List, length, take, slice_index, slice_range, IfOk, IfErr, OnOk};
 ghost use Rattle.device.specs.Device.{written, Torn, TornFrom, LeavesOnly};
 ghost use Rattle.volume_codec.specs.Files.{asked_by};
@@ -40,44 +40,46 @@ fn specs_of<D: Device, A: Allocator + Copy>(volume: &Volume<D, A>) -> [FileSpec<
     specs
 }
 
-/// The number of blocks of the volume that `migrate` makes of this one with so many record slots for each journal.
-/// `BadShape` where there is none. Takes no memory.
+/// The number of blocks of the volume that `migrate` makes of this one in the layout of this number, with so many record
+/// slots for each journal. `BadShape` where there is none. Takes no memory.
 pub fn migrated_blocks<D: Device, A: Allocator + Copy>(
     volume: &Volume<D, A>,
+    layout: u64,
     slots: u64,
 ) -> Result<u64, Refusal>
     ensures ok { IfOk result (λ blocks.
-        (v : SuperValue) × IsAsked 3 (asked_of volume.now) slots v × (blocks ≡ block_count v)) }
+        (v : SuperValue) × IsAsked layout (asked_of volume.now) slots v × (blocks ≡ block_count v)) }
     ensures err { IfErr result (λ refusal.
-        (refusal ≡ Refusal.BadShape) × ((v : SuperValue) → IsAsked 3 (asked_of volume.now) slots v → ⊥)) }
+        (refusal ≡ Refusal.BadShape) × ((v : SuperValue) → IsAsked layout (asked_of volume.now) slots v → ⊥)) }
 {
     let specs = specs_of(volume);
-    block_count_as(3, &specs[..volume.file_count()], slots)
+    block_count_as(layout, &specs[..volume.file_count()], slots)
 }
 
-/// Lays out, on a device, the volume of layout 3 that has the files of another volume.
+/// Lays out, on a device, the volume of the layout of this number that has the files of another volume.
 fn begin<D: Device, E: Device, A: Allocator + Copy>(
     alloc: A,
     old: &Volume<D, A>,
     new: &mut E,
+    layout: u64,
     slots: u64,
 ) -> Result<Super<A>, Refusal>
-    ensures ok { IfOk result (HasShape 3 (asked_of old.now) slots (length (E.seen new.old))) }
+    ensures ok { IfOk result (HasShape layout (asked_of old.now) slots (length (E.seen new.old))) }
     ensures well_formed { IsWellFormed D.Device old.now }
     ensures emptied { E.is_honest new.old → IfOk result (λ table. IsEmptied table old.now.lengths (E.seen new.new)) }
-    ensures torn { E.is_honest new.old → (table : SuperValue) → IsAsked 3 (asked_of old.now) slots table
+    ensures torn { E.is_honest new.old → (table : SuperValue) → IsAsked layout (asked_of old.now) slots table
         → Torn 4096 (4096 * block_count table - 4096) (E.seen new.old) (E.seen new.new) }
     ensures left { IfOk result (λ table. (c : List ℕ) → E.may_leave new.new c
         → TornFrom 4096 (4096 * block_count table - 4096) (E.may_leave new.old) c) }
     ensures time { LeavesOnly E.moment E.left_since new.old new.new
-        (LeftByLaying E.Device (asked_of old.now) slots new.old) }
+        (LeftByLaying E.Device layout (asked_of old.now) slots new.old) }
     ensures kept { IsAccounted E.Device new.old result new.new }
-    ensures refused { IfErr result (RefusesFormat 3 (asked_of old.now) slots (length (E.seen new.old))) }
+    ensures refused { IfErr result (RefusesFormat layout (asked_of old.now) slots (length (E.seen new.old))) }
     ensures unchanged { IfErr result (λ refusal. (refusal ≡ Refusal.Device) ⊎ (new.new ≡ new.old)) }
 {
     let specs = specs_of(old);
     let files = &specs[..old.file_count()];
-    let table = shape(alloc, new.len(), 3, files, slots)?;
+    let table = shape(alloc, new.len(), layout, files, slots)?;
     lay_out(new, &table, files)?;
     Ok(table)
 }
@@ -157,9 +159,10 @@ fn copy_files<D: Device, E: Device, A: Allocator + Copy>(
     Ok(())
 }
 
-/// Makes, on another device, a volume of layout 3 with the files of this one, the same names, lengths, capacities and
-/// bytes, and with so many record slots for each journal. `BadShape`, before any memory is taken and any device call is
-/// made, where no volume has them or the other device is shorter than its blocks. `OutOfMemory` before any device call.
+/// Makes, on another device, a volume in the layout of this number with the files of this one, the same names, lengths,
+/// capacities and bytes, and with so many record slots for each journal. `BadShape`, before any memory is taken and any
+/// device call is made, where no volume has them (so a file that is shorter than its capacity goes to no layout without a
+/// lengths block), or the other device is shorter than its blocks. `OutOfMemory` before any device call.
 /// `Device` where a call of one of the two devices failed.
 ///
 /// The volume isn't written at any moment, whatever the other device is and whatever is answered. What lies past the new
@@ -171,26 +174,27 @@ pub fn migrate<D: Device, E: Device, A: Allocator + Copy>(
     alloc: A,
     old: &mut Volume<D, A>,
     new: &mut E,
+    layout: u64,
     slots: u64,
 ) -> Result<(), Refusal>
     ensures migrated { D.is_honest old.old.device → E.is_honest new.old
-        → OnOk result (HasMigrated D.Device E.Device slots old.old new.old new.new) }
+        → OnOk result (HasMigrated D.Device E.Device layout slots old.old new.old new.new) }
 
     // The volume stays, and nothing of it is written, at no moment.
     ensures table { old.new.table ≡ old.old.table }
     ensures lengths { old.new.lengths ≡ old.old.lengths }
     ensures unwritten { D.is_honest old.old.device → IsUnwritten D.Device old.old.device old.new.device }
 
-    ensures past { E.is_honest new.old → (table : SuperValue) (i : ℕ) → IsAsked 3 (asked_of old.old) slots table
+    ensures past { E.is_honest new.old → (table : SuperValue) (i : ℕ) → IsAsked layout (asked_of old.old) slots table
         → 4096 * block_count table ≤ i → slice_index (E.seen new.new) i ≡ slice_index (E.seen new.old) i }
     ensures crash { E.is_honest new.old → LeavesOnly E.moment E.left_since new.old new.new
-        (LeftByMigration D.Device E.Device slots old.old new.old) }
-    ensures refused { IfErr result (RefusesFormat 3 (asked_of old.old) slots (length (E.seen new.old))) }
+        (LeftByMigration D.Device E.Device layout slots old.old new.old) }
+    ensures refused { IfErr result (RefusesFormat layout (asked_of old.old) slots (length (E.seen new.old))) }
     ensures unchanged { IfErr result (λ refusal. (refusal ≡ Refusal.Device)
         ⊎ ((new.new ≡ new.old) × (old.new ≡ old.old))) }
     ensures kept { AreAccounted D.Device E.Device old.old.device new.old result old.new.device new.new }
 {
-    let table = begin(alloc, old, new, slots)?;
+    let table = begin(alloc, old, new, layout, slots)?;
     copy_files(old, new, &table)?;
     finish(new, &table)
 }

@@ -2,7 +2,7 @@
 ghost use Rattle.std.specs.Prelude.{◌≡◌, ◌↔◌, ◌+◌, ◌*◌, ◌≤◌, ◌<◌, List, [], ◌∷◌, ℕ, true, false, length, slice_index, slice_index_or, IsTrue, IfOk, IfErr, OnOk};
 ghost use Rattle.std.specs.List.{AllByRecursion};
 ghost use Rattle.device.specs.Device.{Only};
-ghost use Rattle.volume_codec.specs.Layout.{IsGeometry, journals_of, lengths_blocks, descriptor_block, first_home, block_at};
+ghost use Rattle.volume_codec.specs.Layout.{IsGeometry, journals_of, lengths_blocks, descriptor_block, descriptor_blocks, first_home, block_at, blocks_at};
 ghost use Rattle.volume_codec.specs.Super.{IsSuper, Fits, block_count, geometry_of, capacities_in};
 ghost use Rattle.volume_codec.specs.Descriptor.{IsDescribed, IsDescriptor};
 ghost use Rattle.volume_codec.specs.Lengths.{AreLengths, IsLengths};
@@ -13,10 +13,10 @@ ghost use Rattle.recovery.specs.Counts.{Rises, RisesWithin, IsAccounted};
 ghost use Rattle.recovery.specs.Opening.{IsUnwritten, FindsWithin, RefusesOpening, Opens, opened_table, device_after};
 ghost use Rattle.recovery.specs.Volume.{IsWellFormed};
 ghost use Rattle.recovery.specs.inside.Carrying.{CarriesOut};
-ghost use Rattle.recovery.specs.inside.Reading.{batch_of, batches_of, AreRead, RefusesJournal, RefusesJournals, RefusesStored, AreFound, JudgesWithin, IsOrdered, HaveOneMark, table_found};
+ghost use Rattle.recovery.specs.inside.Reading.{batch_of, batches_of, AreRead, RefusesJournal, RefusesJournals, RefusesAdding, RefusesStored, AreFound, JudgesWithin, HasMark, IsAdded, IsPlaceOf, table_found};
 
 use crate::Volume;
-use crate::calls::{read, read_block, sync};
+use crate::calls::{read, read_block, read_blocks, sync, zero_block};
 use device::Device;
 use journal::finish;
 use page_entry::{PAGE, Refusal};
@@ -56,7 +56,7 @@ fn read_table<D: Device, A: Allocator + Copy>(alloc: A, device: &mut D) -> Resul
 
 // Rule: gate byte
 /// Whether the gate of each journal is open.
-fn read_gates<D: Device>(device: &mut D, geometry: &Geometry) -> Result<[bool; 2], Refusal>
+fn read_gates<D: Device>(device: &mut D, geometry: &Geometry) -> Result<[bool; 4], Refusal>
     requires { 4096 * geometry.now.blocks ≤ length (D.seen device.old) }
     ensures gates { D.is_honest device.old → IfOk result (λ gates. (j : ℕ) → j < journals_of geometry.now.layout
         → ((slice_index_or gates j false ≡ true) ↔ IsOpen (D.seen device.old) geometry.now.slots j)) }
@@ -67,7 +67,7 @@ fn read_gates<D: Device>(device: &mut D, geometry: &Geometry) -> Result<[bool; 2
         (Rises (journals_of geometry.now.layout) (D.calls_made device.old) (D.calls_made device.new)) }
     ensures most { RisesWithin (journals_of geometry.now.layout) (D.calls_made device.old) (D.calls_made device.new) }
 {
-    let mut gates = [false; 2];
+    let mut gates = [false; 4];
     for journal in 0..geometry.journals() {
         let block = geometry.gate_block(journal);
         let mut gate = [0];
@@ -77,86 +77,131 @@ fn read_gates<D: Device>(device: &mut D, geometry: &Geometry) -> Result<[bool; 2
     Ok(gates)
 }
 
-/// What the descriptor of a journal says. `Damaged` where it breaks the grammar.
+/// What the descriptor of a journal says, read into a buffer of as many blocks. `Damaged` where it breaks the grammar.
 fn read_journal<D: Device, A: Allocator + Copy>(
     alloc: A,
     device: &mut D,
     geometry: &Geometry,
     journal: u32,
+    buffer: &mut [u8],
 ) -> Result<Descriptor<A>, Refusal>
     requires there { journal < journals_of geometry.now.layout }
     requires long { 4096 * geometry.now.blocks ≤ length (D.seen device.old) }
-    ensures descriptor { D.is_honest device.old → IfOk result
-        (λ d. IsDescriptor geometry.now d
-        (block_at (D.seen device.old) (descriptor_block geometry.now.slots journal))) }
+    requires room { length buffer.old ≡ 4096 * descriptor_blocks geometry.now.slots }
+    ensures descriptor { D.is_honest device.old → IfOk result (λ d. IsDescriptor geometry.now d
+        (blocks_at (D.seen device.old) (descriptor_block geometry.now.slots journal)
+        (descriptor_blocks geometry.now.slots))) }
     ensures described { IfOk result (λ d. IsDescribed geometry.now d) }
-    ensures refused { D.is_honest device.old → IfErr result
-        (RefusesJournal geometry.now (block_at (D.seen device.old) (descriptor_block geometry.now.slots journal))) }
+    ensures refused { D.is_honest device.old → IfErr result (RefusesJournal geometry.now
+        (blocks_at (D.seen device.old) (descriptor_block geometry.now.slots journal)
+        (descriptor_blocks geometry.now.slots))) }
     ensures unwritten { D.is_honest device.old → IsUnwritten D.Device device.old device.new }
     ensures kept { IsAccounted D.Device device.old result device.new }
     ensures calls { Rises 1 (D.calls_made device.old) (D.calls_made device.new) }
+    ensures room_stays { length buffer.new ≡ length buffer.old }
 {
-    let block = read_block(device, geometry.descriptor_block(journal))?;
-    read_descriptor(alloc, geometry, &block)
+    let first = geometry.descriptor_block(journal);
+    read_blocks(device, first, geometry.descriptor_blocks(), buffer)?;
+    read_descriptor(alloc, geometry, buffer)
 }
 
-/// Reads the descriptor of a journal if its gate is open, and adds the journal to those found before it. `Damaged`
-/// where the descriptor breaks the grammar.
+/// The place of a journal with this mark among these, the newest first. `Damaged` where one of them has this mark.
+fn place_of<A: Allocator + Copy>(found: &[OpenJournal<A>], mark: u64) -> Result<usize, Refusal>
+    ensures place { IfOk result (IsPlaceOf mark (batches_of found.now)) }
+    ensures equal { IfErr result (λ refusal. (refusal ≡ Refusal.Damaged) × HasMark mark (batches_of found.now)) }
+{
+    let mut place = 0;
+    for other in found {
+        let theirs = other.descriptor.mark();
+        if theirs == mark {
+            return Err(Refusal::Damaged);
+        }
+        if theirs < mark {
+            return Ok(place);
+        }
+        place += 1;
+    }
+    Ok(place)
+}
+
+// Rule: equal marks
+/// Adds an open journal to those found before it, the newest first. `Damaged` where one of them has its mark.
+fn add_journal<A: Allocator + Copy>(
+    found: &mut Vec<OpenJournal<A>, A>,
+    opened: OpenJournal<A>,
+) -> Result<(), Refusal>
+    ensures added { OnOk result
+        (IsAdded (batch_of opened) (batches_of found.old.items) (batches_of found.new.items)) }
+    ensures refused { IfErr result (RefusesAdding (batch_of opened) (batches_of found.old.items)) }
+{
+    let place = place_of(found, opened.descriptor.mark())?;
+    if found.insert(place, opened).is_err() {
+        return Err(Refusal::OutOfMemory);
+    }
+    Ok(())
+}
+
+/// Reads the descriptor of a journal if its gate is open, into a buffer of as many blocks, and adds the journal to those
+/// found before it, the newest first. `Damaged` where the descriptor breaks the grammar, or one of them has its mark.
 fn read_if_open<D: Device, A: Allocator + Copy>(
     alloc: A,
     device: &mut D,
     geometry: &Geometry,
     journal: u32,
     is_open: bool,
+    buffer: &mut [u8],
     found: &mut Vec<OpenJournal<A>, A>,
 ) -> Result<(), Refusal>
     requires there { journal < journals_of geometry.now.layout }
     requires long { 4096 * geometry.now.blocks ≤ length (D.seen device.old) }
+    requires room { length buffer.old ≡ 4096 * descriptor_blocks geometry.now.slots }
     requires gate { D.is_honest device.old
         → ((is_open ≡ true) ↔ IsOpen (D.seen device.old) geometry.now.slots journal) }
     ensures found { D.is_honest device.old
         → AreRead geometry.now (D.seen device.old) journal (batches_of found.old.items)
         → OnOk result (AreRead geometry.now (D.seen device.old) (journal + 1) (batches_of found.new.items)) }
+    ensures falling { AreFalling (batches_of found.old.items)
+        → OnOk result (AreFalling (batches_of found.new.items)) }
     ensures carry { AllByRecursion (IsBatch geometry.now) (batches_of found.old.items)
         → OnOk result (AllByRecursion (IsBatch geometry.now) (batches_of found.new.items)) }
     ensures calls { OnOk result ((n : ℕ) × (n ≤ 1) × (length found.new.items ≡ length found.old.items + n)
         × Rises n (D.calls_made device.old) (D.calls_made device.new)) }
     ensures most { RisesWithin 1 (D.calls_made device.old) (D.calls_made device.new) }
-    ensures refused { D.is_honest device.old → IfErr result (RefusesJournals geometry.now (D.seen device.old)) }
+    ensures refused { D.is_honest device.old → IsGeometry geometry.now
+        → AreRead geometry.now (D.seen device.old) journal (batches_of found.old.items)
+        → IfErr result (RefusesJournals geometry.now (D.seen device.old)) }
     ensures unwritten { D.is_honest device.old → IsUnwritten D.Device device.old device.new }
     ensures kept { IsAccounted D.Device device.old result device.new }
+    ensures room_stays { length buffer.new ≡ length buffer.old }
 {
     if !is_open {
         return Ok(());
     }
-    let descriptor = read_journal(alloc, device, geometry, journal)?;
-    if found
-        .push(OpenJournal {
-            journal,
-            descriptor,
-        })
-        .is_err()
-    {
-        return Err(Refusal::OutOfMemory);
-    }
+    let descriptor = read_journal(alloc, device, geometry, journal, buffer)?;
+    let opened = OpenJournal {
+        journal,
+        descriptor,
+    };
+    add_journal(found, opened)?;
     Ok(())
 }
 
-/// The open journals, in their order. `Damaged` where the descriptor of one breaks the grammar.
+/// The open journals, the newest first, each descriptor read into a buffer of as many blocks. `Damaged` where the
+/// descriptor of one breaks the grammar, or two have one mark.
 fn read_journals<D: Device, A: Allocator + Copy>(
     alloc: A,
     device: &mut D,
     geometry: &Geometry,
-    gates: &[bool; 2],
+    gates: &[bool; 4],
+    buffer: &mut [u8],
 ) -> Result<Vec<OpenJournal<A>, A>, Refusal>
     requires long { 4096 * geometry.now.blocks ≤ length (D.seen device.old) }
+    requires room { length buffer.old ≡ 4096 * descriptor_blocks geometry.now.slots }
     requires gates { D.is_honest device.old → (j : ℕ) → j < journals_of geometry.now.layout
         → ((slice_index_or gates.now j false ≡ true) ↔ IsOpen (D.seen device.old) geometry.now.slots j) }
-    ensures found { D.is_honest device.old → IfOk result
-        (λ found. AreRead geometry.now (D.seen device.old) (journals_of geometry.now.layout) (batches_of found.items)) }
+    ensures found { D.is_honest device.old
+        → IfOk result (λ found. AreOpen geometry.now (batches_of found.items) (D.seen device.old)) }
     ensures carry { IfOk result (λ found. AllByRecursion (IsBatch geometry.now) (batches_of found.items)) }
-    ensures few { IfOk result (λ found. length found.items ≤ 2) }
-    ensures geometry { IsGeometry geometry.now }
     ensures refused { D.is_honest device.old → IfErr result (RefusesJournals geometry.now (D.seen device.old)) }
     ensures unwritten { D.is_honest device.old → IsUnwritten D.Device device.old device.new }
     ensures kept { IsAccounted D.Device device.old result device.new }
@@ -165,36 +210,48 @@ fn read_journals<D: Device, A: Allocator + Copy>(
     ensures most { RisesWithin (journals_of geometry.now.layout) (D.calls_made device.old) (D.calls_made device.new) }
 {
     let journals = geometry.journals();
-    let Ok(mut found) = Vec::with_capacity(alloc, 2) else {
+    let Ok(mut found) = Vec::with_capacity(alloc, journals as usize) else {
         return Err(Refusal::OutOfMemory);
     };
     for journal in 0..journals {
         let is_open = gates[journal as usize];
-        read_if_open(alloc, device, geometry, journal, is_open, &mut found)?;
+        read_if_open(
+            alloc, device, geometry, journal, is_open, buffer, &mut found,
+        )?;
     }
     Ok(found)
 }
 
-// Rule: equal marks
-/// Puts the journals in the order of their marks, the newest first. `Damaged` where two have one mark.
-fn put_newest_first<A: Allocator + Copy>(found: &mut Vec<OpenJournal<A>, A>) -> Result<(), Refusal>
-    requires { length found.old.items ≤ 2 }
-    ensures ordered { OnOk result (IsOrdered (batches_of found.old.items) (batches_of found.new.items)) }
-    ensures falling { OnOk result (AreFalling (batches_of found.new.items)) }
-    ensures equal { IfErr result (λ refusal. (refusal ≡ Refusal.Damaged) × HaveOneMark (batches_of found.old.items)) }
+/// The open journals, the newest first. `Damaged` where the descriptor of one breaks the grammar, or two have one mark.
+/// It takes memory to read descriptors only where they have several blocks.
+fn read_described<D: Device, A: Allocator + Copy>(
+    alloc: A,
+    device: &mut D,
+    geometry: &Geometry,
+    gates: &[bool; 4],
+) -> Result<Vec<OpenJournal<A>, A>, Refusal>
+    requires long { 4096 * geometry.now.blocks ≤ length (D.seen device.old) }
+    requires gates { D.is_honest device.old → (j : ℕ) → j < journals_of geometry.now.layout
+        → ((slice_index_or gates.now j false ≡ true) ↔ IsOpen (D.seen device.old) geometry.now.slots j) }
+    ensures found { D.is_honest device.old
+        → IfOk result (λ found. AreOpen geometry.now (batches_of found.items) (D.seen device.old)) }
+    ensures carry { IfOk result (λ found. AllByRecursion (IsBatch geometry.now) (batches_of found.items)) }
+    ensures refused { D.is_honest device.old → IfErr result (RefusesJournals geometry.now (D.seen device.old)) }
+    ensures unwritten { D.is_honest device.old → IsUnwritten D.Device device.old device.new }
+    ensures kept { IsAccounted D.Device device.old result device.new }
+    ensures calls { IfOk result (λ found.
+        Rises (length found.items) (D.calls_made device.old) (D.calls_made device.new)) }
+    ensures most { RisesWithin (journals_of geometry.now.layout) (D.calls_made device.old) (D.calls_made device.new) }
 {
-    if found.len() < 2 {
-        return Ok(());
+    if geometry.descriptor_blocks() == 1 {
+        let mut block = zero_block();
+        return read_journals(alloc, device, geometry, gates, &mut block);
     }
-    let first = found[0].descriptor.mark();
-    let second = found[1].descriptor.mark();
-    if first == second {
-        return Err(Refusal::Damaged);
-    }
-    if first < second {
-        found.swap(0, 1);
-    }
-    Ok(())
+    let size = PAGE * u64::from(geometry.descriptor_blocks());
+    let Ok(mut room) = vec![in alloc; 0; size as usize] else {
+        return Err(Refusal::OutOfMemory);
+    };
+    read_journals(alloc, device, geometry, gates, &mut room)
 }
 
 /// The open journals, the newest first. `Damaged` where the descriptor of one breaks the grammar, or two have one mark.
@@ -216,8 +273,7 @@ fn read_open<D: Device, A: Allocator + Copy>(
         (D.calls_made device.old) (D.calls_made device.new) }
 {
     let gates = read_gates(device, geometry)?;
-    let mut found = read_journals(alloc, device, geometry, &gates)?;
-    put_newest_first(&mut found)?;
+    let found = read_described(alloc, device, geometry, &gates)?;
     Ok(found)
 }
 
@@ -423,14 +479,15 @@ fn recover<D: Device, A: Allocator + Copy>(
 /// Opens the volume of a device. The device's length and its block 0 are judged; what was written before is made
 /// durable; the gate of each journal is read, and the descriptors of the open ones are judged. Where the layout has a
 /// lengths block, the block that it recovers to is judged: the newest open journal's record of it, else the block
-/// itself. Then each open journal, the one with the lower mark first, is carried out: its records are written to their
+/// itself. Then each open journal, the one with the lowest mark first, is carried out: its records are written to their
 /// home blocks and synced, its gate is closed and synced. `NotAVolume` where the device is shorter than a block or
 /// begins with no layout's magic; `Damaged` where its super block, the descriptor of an open journal or the lengths
 /// break the grammar, two open journals have one mark, or the device is shorter than its volume; nothing is written
 /// then. `Device` where a device call failed. `OutOfMemory` may come in the place of these, and nothing is written then
-/// either. An `Err` hands the device back. With no open journal it makes 3 device calls in layout 1, 4 in layout 2 and
-/// 5 in layout 3, and 2k + 4 more for each open journal of k records. Where it is refused it makes no more than that;
-/// one where block 0 holds no table, and where nothing is written 4 in layout 1, 6 in layout 2 and 7 in layout 3.
+/// either. An `Err` hands the device back. With no open journal it makes 3 device calls in layout 1, 4 in layout 2, 5
+/// in layout 3 and 7 in layout 4, and 2k + 4 more for each open journal of k records: a descriptor is read by one call,
+/// however many blocks it has. Where it is refused it makes no more than that; one where block 0 holds no table, and
+/// where nothing is written 4 in layout 1, 6 in layout 2, 7 in layout 3 and 11 in layout 4.
 pub fn open<D: Device, A: Allocator + Copy>(
     alloc: A,
     mut device: D,

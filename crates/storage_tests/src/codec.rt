@@ -116,9 +116,10 @@ fn journal(geometry: &Geometry, number: u32, slot: u32) -> Option<(u32, u32, u32
 fn described<R: Abort + AllocGlobal>(
     rt: &R,
     geometry: &Geometry,
-    block: &[u8; 4096],
+    blocks: &[u8],
 ) -> (u64, usize, Option<u32>, Option<u32>) {
-    let found = read_descriptor(rt.alloc(), geometry, block).expect(rt, "a descriptor");
+    assert!(rt; blocks.len() == 4096 * geometry.descriptor_blocks() as usize);
+    let found = read_descriptor(rt.alloc(), geometry, blocks).expect(rt, "a descriptor");
     let homes = found.homes();
     (
         found.mark(),
@@ -264,7 +265,8 @@ fn layouts_have_numbers(rt: HostRuntime) {
     assert!(rt; is_numbered(Layout::One, 1));
     assert!(rt; is_numbered(Layout::Two, 2));
     assert!(rt; is_numbered(Layout::Three, 3));
-    for number in [0, 4, u64::MAX] {
+    assert!(rt; is_numbered(Layout::Four, 4));
+    for number in [0, 5, u64::MAX] {
         assert!(rt; Layout::from_number(number) == None);
     }
     assert!(rt; Layout::from_magic(*b"FAMSYNC5") == None);
@@ -278,7 +280,8 @@ fn tables_outside_the_rules(rt: HostRuntime) {
         (2, Ok(16)),
         (0, Err(Refusal::BadShape)),
         (3, Ok(17)),
-        (4, Err(Refusal::BadShape)),
+        (4, Ok(29)),
+        (5, Err(Refusal::BadShape)),
     ] {
         assert!(rt; block_count_as(layout, &SPECS, 4) == blocks);
     }
@@ -350,7 +353,7 @@ fn written_descriptor(rt: &impl Abort, geometry: &Geometry) -> [u8; 4096] {
     assert!(rt; geometry.first_home() == 7);
     assert!(rt; geometry.block_count() == 10);
     assert!(rt; geometry.slots() == 4);
-    write_descriptor(geometry, 1, &[7, 8])
+    write_descriptor(geometry, 1, &[7, 8], 0)
 }
 
 #[test]
@@ -381,4 +384,66 @@ fn a_full_descriptor(rt: HostRuntime) {
     let geometry = geometry_of(&rt, &written(&rt, &[("a", 4096 * 1020)], 1020));
     let found = described(&rt, &geometry, &full_descriptor());
     assert!(rt; found == (9, 1020, Some(1023), Some(2042)));
+}
+
+// The table of a volume in layout 4 with a file of 1,021 blocks and 1,022 slots.
+fn long_table<R: Abort + AllocGlobal>(rt: &R) -> [u8; 4096] {
+    let file = FileSpec {
+        name: "a",
+        length: 4096 * 1021,
+        capacity: 4096 * 1021,
+    };
+    match write_super_as(rt.alloc(), 4, &[file], 1022) {
+        Ok(block) => block,
+        Err(_) => panic!(rt; "a table"),
+    }
+}
+
+// A descriptor of mark 9 with 1,021 home blocks, in two blocks: the last home block stands in the second one.
+fn long_descriptor() -> [u8; 8192] {
+    let mut full = [0; 8192];
+    put(&mut full, 0, b"\0\0\0\0\0\0\0\x09\0\0\x03\xFD");
+    for i in 0..1021u16 {
+        let home = (4102 + i).to_be_bytes();
+        put(&mut full, 18 + 4 * usize::from(i), &home);
+    }
+    full
+}
+
+// With 1,022 slots a descriptor of layout 4 has two blocks, and the home blocks of files begin at 4,102.
+#[test]
+fn a_descriptor_of_two_blocks(rt: HostRuntime) {
+    let geometry = geometry_of(&rt, &long_table(&rt));
+    assert!(rt; geometry.descriptor_blocks() == 2);
+    assert!(rt; journal(&geometry, 3, 0) == Some((3076, 3077, 3079)));
+    assert!(rt; geometry.first_file_home() == 4102);
+    let found = described(&rt, &geometry, &long_descriptor());
+    assert!(rt; found == (9, 1021, Some(4102), Some(5122)));
+}
+
+// Each of its bytes counts, also those past the last home block.
+#[test]
+fn a_byte_in_the_last_block_of_a_descriptor_is_damage(rt: HostRuntime) {
+    let geometry = geometry_of(&rt, &long_table(&rt));
+    let mut blocks = long_descriptor();
+    put(&mut blocks, 8191, &[1]);
+    assert!(rt; blocks.len() == 4096 * geometry.descriptor_blocks() as usize);
+    match read_descriptor(rt.alloc(), &geometry, &blocks) {
+        Ok(_) => panic!(rt; "a descriptor"),
+        Err(refusal) => assert!(rt; refusal == Refusal::Damaged),
+    }
+}
+
+// What is read of a long descriptor is written so again, block by block.
+#[test]
+fn a_descriptor_of_two_blocks_is_written(rt: HostRuntime) {
+    let geometry = geometry_of(&rt, &long_table(&rt));
+    let blocks = long_descriptor();
+    assert!(rt; geometry.descriptor_blocks() == 2);
+    assert!(rt; blocks.len() == 4096 * geometry.descriptor_blocks() as usize);
+    let found = read_descriptor(rt.alloc(), &geometry, &blocks).expect(&rt, "a descriptor");
+    let first = write_descriptor(&geometry, found.mark(), found.homes(), 0);
+    let last = write_descriptor(&geometry, found.mark(), found.homes(), 1);
+    assert!(rt; first[..] == blocks[..4096]);
+    assert!(rt; last[..] == blocks[4096..]);
 }

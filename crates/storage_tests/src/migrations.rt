@@ -125,22 +125,38 @@ fn has_bytes<D: Device, A: Allocator + Copy>(volume: &mut Volume<D, A>) -> bool 
         && read_end(volume, 1) == [0, 0, 0, 0, 0, 0, 0, 9]
 }
 
-// Whether a disk opens to the files of the sample, in layout 3.
-fn is_whole<R: Abort + AllocGlobal>(rt: &R, disk: Disk, files: &[Known]) -> bool {
+// Whether a disk opens to the files of the sample, in the layout of this number.
+fn is_whole_in<R: Abort + AllocGlobal>(rt: &R, disk: Disk, layout: u64, files: &[Known]) -> bool {
     let mut volume = volume_of(rt, disk);
-    volume.layout() == Layout::Three && has_files(&volume, files) && has_bytes(&mut volume)
+    volume.layout().number() == layout && has_files(&volume, files) && has_bytes(&mut volume)
 }
 
-// Whether the volume of an image becomes these files on a disk of so many bytes and some more, which stay, and is left
-// as it is opened.
-fn migrates<R: Abort + AllocGlobal>(rt: &R, image: &[u8], len: u64, files: &[Known]) -> bool {
+// Whether a disk opens to the files of the sample, in layout 3.
+fn is_whole<R: Abort + AllocGlobal>(rt: &R, disk: Disk, files: &[Known]) -> bool {
+    is_whole_in(rt, disk, 3, files)
+}
+
+// Whether the volume of an image becomes these files, in the layout of this number, on a disk of so many bytes and some
+// more, which stay, and is left as it is opened.
+fn migrates_to<R: Abort + AllocGlobal>(
+    rt: &R,
+    image: &[u8],
+    layout: u64,
+    len: u64,
+    files: &[Known],
+) -> bool {
     let mut old = volume_of(rt, disk_of(rt, image));
     let mut new = used(rt, len.saturating_add(100));
-    if migrate(rt.alloc(), &mut old, &mut new, 4).is_err() {
+    if migrate(rt.alloc(), &mut old, &mut new, layout, 4).is_err() {
         return false;
     }
     let past = new.bytes().get(len as usize..).expect(rt, "bytes past it");
-    past == [0xEE; 100].as_slice() && has_bytes(&mut old) && is_whole(rt, new, files)
+    past == [0xEE; 100].as_slice() && has_bytes(&mut old) && is_whole_in(rt, new, layout, files)
+}
+
+// The same in layout 3.
+fn migrates<R: Abort + AllocGlobal>(rt: &R, image: &[u8], len: u64, files: &[Known]) -> bool {
+    migrates_to(rt, image, 3, len, files)
 }
 
 #[test]
@@ -148,6 +164,24 @@ fn volumes_of_all_layouts_migrate(rt: HostRuntime) {
     assert!(rt; migrates(&rt, &image_one(), MIGRATED, &FIXED));
     assert!(rt; migrates(&rt, &image_two(), MIGRATED, &FIXED));
     assert!(rt; migrates(&rt, &image_three(), MIGRATED_GROWING, &GROWING));
+}
+
+// With 4 slots layout 4 has its lengths in block 25, and the files from block 26 on.
+#[test]
+fn volumes_of_all_layouts_become_layout_4(rt: HostRuntime) {
+    assert!(rt; migrates_to(&rt, &image_one(), 4, 4096 * 29, &FIXED));
+    assert!(rt; migrates_to(&rt, &image_two(), 4, 4096 * 29, &FIXED));
+    assert!(rt; migrates_to(&rt, &image_three(), 4, 4096 * 30, &GROWING));
+}
+
+// A file that is shorter than its capacity goes to no layout without a block for lengths.
+#[test]
+fn files_that_are_full_go_back_to_layout_2(rt: HostRuntime) {
+    assert!(rt; migrates_to(&rt, &image_one(), 2, 4096 * 16, &FIXED));
+    let mut old = volume_of(&rt, disk_of(&rt, &image_three()));
+    let mut new = used(&rt, MIGRATED_GROWING);
+    assert!(rt; migrate(rt.alloc(), &mut old, &mut new, 2, 4) == Err(Refusal::BadShape));
+    assert!(rt; new.calls() == 0);
 }
 
 #[test]
@@ -174,7 +208,7 @@ fn volumes_with_open_gates_migrate(rt: HostRuntime) {
 fn bytes_past_a_length_are_zeros(rt: HostRuntime) {
     let mut old = volume_of(&rt, disk_of(&rt, &image_three()));
     let mut new = used(&rt, MIGRATED_GROWING);
-    assert!(rt; migrate(rt.alloc(), &mut old, &mut new, 4) == Ok(()));
+    assert!(rt; migrate(rt.alloc(), &mut old, &mut new, 3, 4) == Ok(()));
     let bytes = new.bytes();
     assert!(rt; bytes.get(62_340..62_346) == Some([0, 0, 5, 6, 0, 0].as_slice()));
     assert!(rt;
@@ -189,7 +223,7 @@ fn a_file_of_length_0_migrates(rt: HostRuntime) {
     put(&mut image, 53_254, &[0, 0]);
     let mut old = volume_of(&rt, disk_of(&rt, &image));
     let mut new = used(&rt, MIGRATED_GROWING);
-    assert!(rt; migrate(rt.alloc(), &mut old, &mut new, 4) == Ok(()));
+    assert!(rt; migrate(rt.alloc(), &mut old, &mut new, 3, 4) == Ok(()));
     let mut volume = volume_of(&rt, new);
     assert!(rt; has_files(&volume, &[("a", 0, 12_288), ("b", 4096, 4096)]));
     assert!(rt; read_at(&mut volume, 1, 0) == *b"second\0\0");
@@ -199,7 +233,7 @@ fn a_file_of_length_0_migrates(rt: HostRuntime) {
 fn refuses(rt: &(impl Abort + AllocGlobal), len: u64, slots: u64) -> bool {
     let mut old = volume_of(rt, disk_of(rt, &image_two()));
     let mut new = used(rt, len);
-    let refused = migrate(rt.alloc(), &mut old, &mut new, slots) == Err(Refusal::BadShape);
+    let refused = migrate(rt.alloc(), &mut old, &mut new, 3, slots) == Err(Refusal::BadShape);
     refused && new.calls() == 0 && old.into_device().calls() == 4
 }
 
@@ -210,16 +244,21 @@ fn shapes_are_judged_before_any_call(rt: HostRuntime) {
         assert!(rt; refuses(&rt, MIGRATED, slots), "{slots} slots");
     }
     let old = volume_of(&rt, disk_of(&rt, &image_two()));
-    assert!(rt; migrated_blocks(&old, 4) == Ok(17));
-    assert!(rt; migrated_blocks(&old, 1020) == Ok(2049));
-    assert!(rt; migrated_blocks(&old, 1021) == Err(Refusal::BadShape));
+    assert!(rt; migrated_blocks(&old, 3, 4) == Ok(17));
+    assert!(rt; migrated_blocks(&old, 3, 1020) == Ok(2049));
+    assert!(rt; migrated_blocks(&old, 3, 1021) == Err(Refusal::BadShape));
+    assert!(rt; migrated_blocks(&old, 4, 4) == Ok(29));
+    assert!(rt; migrated_blocks(&old, 4, 1021) == Ok(4101));
+    assert!(rt; migrated_blocks(&old, 4, 65_535) == Ok(262_409));
+    assert!(rt; migrated_blocks(&old, 4, 65_536) == Err(Refusal::BadShape));
+    assert!(rt; migrated_blocks(&old, 5, 4) == Err(Refusal::BadShape));
 }
 
 // What a migration answers where the call of this number of the new disk fails, and whether the old disk is as it was.
 fn new_fails<R: Abort + AllocGlobal>(rt: &R, n: u64) -> (Result<(), Refusal>, bool) {
     let mut old = volume_of(rt, disk_of(rt, &image_two()));
     let mut new = FailingDisk::new(used(rt, MIGRATED), n);
-    let answer = migrate(rt.alloc(), &mut old, &mut new, 4);
+    let answer = migrate(rt.alloc(), &mut old, &mut new, 3, 4);
     let same = has_bytes(&mut old);
     (
         answer,
@@ -246,7 +285,7 @@ fn old_fails<R: Abort + AllocGlobal>(rt: &R, n: u64) -> (Result<(), Refusal>, u6
     let Ok(mut old) = open(rt.alloc(), FailingDisk::new(disk_of(rt, &image_two()), n)) else {
         return (Err(Refusal::Damaged), 0, false);
     };
-    let answer = migrate(rt.alloc(), &mut old, &mut new, 4);
+    let answer = migrate(rt.alloc(), &mut old, &mut new, 3, 4);
     let mut again = volume_of(rt, old.into_device().into_inner());
     let same = has_files(&again, &FIXED) && has_bytes(&mut again);
     (answer, new.calls(), same)
@@ -264,7 +303,7 @@ fn each_call_of_the_old_disk_fails(rt: HostRuntime) {
 fn is_whole_after<R: Abort + AllocGlobal>(rt: &R, byte: u8) -> bool {
     let mut old = volume_of(rt, disk_of(rt, &image_three()));
     let mut new = used(rt, MIGRATED_GROWING);
-    if migrate(rt.alloc(), &mut old, &mut new, 4).is_err() {
+    if migrate(rt.alloc(), &mut old, &mut new, 3, 4).is_err() {
         return false;
     }
     crash(rt, &mut new, &[byte; MIGRATED_GROWING as usize]);
@@ -282,12 +321,12 @@ fn a_crash_after_it_leaves_the_new_disk_whole(rt: HostRuntime) {
 fn goes_on<R: Abort + AllocGlobal>(rt: &R, n: u64) -> bool {
     let mut old = volume_of(rt, disk_of(rt, &image_two()));
     let mut new = FailingDisk::new(used(rt, MIGRATED), n);
-    let _ = migrate(rt.alloc(), &mut old, &mut new, 4);
+    let _ = migrate(rt.alloc(), &mut old, &mut new, 3, 4);
     let (mut old, mut new) = (old.into_device(), new.into_inner());
     crash(rt, &mut old, &[0xA7; LENGTH_TWO]);
     crash(rt, &mut new, &[0xA7; MIGRATED as usize]);
     let mut old = volume_of(rt, old);
-    migrate(rt.alloc(), &mut old, &mut new, 4).is_ok() && is_whole(rt, new, &FIXED)
+    migrate(rt.alloc(), &mut old, &mut new, 3, 4).is_ok() && is_whole(rt, new, &FIXED)
 }
 
 #[test]
@@ -305,7 +344,7 @@ fn is_refused<R: Abort + AllocGlobal>(rt: &R, alloc: &CountingAllocator<Global>,
     };
     alloc.restart();
     alloc.refuse_nth(n);
-    let answer = migrate(alloc, &mut old, &mut new, 4);
+    let answer = migrate(alloc, &mut old, &mut new, 3, 4);
     if alloc.refused() == 0 {
         assert!(rt; answer == Ok(()));
         return false;
@@ -313,7 +352,7 @@ fn is_refused<R: Abort + AllocGlobal>(rt: &R, alloc: &CountingAllocator<Global>,
     assert!(rt; answer == Err(Refusal::OutOfMemory), "request {n}");
     assert!(rt; new.calls() == 0, "request {n}");
     assert!(rt;
-        migrate(alloc, &mut old, &mut new, 4) == Ok(()),
+        migrate(alloc, &mut old, &mut new, 3, 4) == Ok(()),
         "request {n}"
     );
     assert!(rt; old.into_device().calls() == 6, "request {n}");

@@ -85,7 +85,8 @@ fn blocks_are_counted(rt: HostRuntime) {
         (2, Ok(16)),
         (0, Err(Refusal::BadShape)),
         (3, Ok(17)),
-        (4, Err(Refusal::BadShape)),
+        (4, Ok(29)),
+        (5, Err(Refusal::BadShape)),
     ] {
         assert!(rt; blocks_as(layout, &SPECS, 4) == count, "layout {layout}");
     }

@@ -5,13 +5,13 @@ use Rattle.std.specs.List.{AllByRecursion}
 use Rattle.std.proofs.lemmas.Bool.{eqb-true, false≢true}
 use Rattle.std.proofs.lemmas.List.{take-take, length-take, length-take-le, drop-take, get_or-take}
 use Rattle.volume_codec.specs.Files.{File}
-use Rattle.volume_codec.specs.Layout.{GeometryValue, IsGeometry, IsHome, block_at}
-use Rattle.volume_codec.specs.Layout.{journals_of, gate_block, descriptor_block, record_block}
+use Rattle.volume_codec.specs.Layout.{GeometryValue, IsGeometry, IsHome, block_at, blocks_at, journals_of, gate_block}
+use Rattle.volume_codec.specs.Layout.{descriptor_block, descriptor_blocks, record_block}
 use Rattle.volume_codec.specs.Super.{SuperValue, IsSuper, block_count, geometry_of}
 use Rattle.volume_codec.specs.Descriptor.{DescriptorValue, IsDescriptor}
 use Rattle.volume_codec.specs.Recovery.{IsOpen, Batch, IsOpenBatch, AreFalling, has_journal, AreOpen, record_or}
 use Rattle.volume_codec.specs.Recovery.{recovered_block, contents_in, files_in, IsVolume, Recovers, RecoversTo}
-use Rattle.volume_codec.proofs.Layouts.{gate_block-low, descriptor_block-low, record_block-low, first_home-within}
+use Rattle.volume_codec.proofs.Layouts.{gate_block-low, descriptor_end-low, record_block-low, first_home-within}
 use Rattle.volume_codec.proofs.Blocks.{length-block_at}
 use Rattle.volume_codec.proofs.Functional.{one_table, one_descriptor}
 use Rattle.volume_codec.proofs.Places.{fits_geometry}
@@ -45,8 +45,8 @@ each_among P batch (b ∷ bs) each (inr h) = each_among P batch bs each.1 h
 pub one_batch : (g : GeometryValue) (bytes : List ℕ) (a b : Batch) → IsGeometry g → IsOpenBatch g bytes a
     → IsOpenBatch g bytes b → a.journal ≡ b.journal → a ≡ b
 one_batch g bytes a b is x y same =
-    let P : ℕ → Type 0 = λ j.
-    IsDescriptor g (record { mark = b.mark; homes = b.homes }) (block_at bytes (descriptor_block g.slots j)) in
+    let P : ℕ → Type 0 = λ j. IsDescriptor g (record { mark = b.mark; homes = b.homes })
+    (blocks_at bytes (descriptor_block g.slots j) (descriptor_blocks g.slots)) in
     let d = one_descriptor g _ _ _ is x.descriptor (subst P (sym same) y.descriptor) in
     ap (λ (j : ℕ). let r : Batch = record { journal = j; mark = a.mark; homes = a.homes } in r) same
     ∙ ap
@@ -162,8 +162,9 @@ length-recovered v contents bytes b r home =
 
 -- the same open batches, where gates that are open were, and the batches' gates and descriptors stay
 each_same : (g : GeometryValue) (batches : List Batch) (old new : List ℕ)
-    → ((batch : Batch) → IsOpenBatch g old batch → IsAmong batch batches → IsOpen new g.slots batch.journal × (block_at
-    new (descriptor_block g.slots batch.journal) ≡ block_at old (descriptor_block g.slots batch.journal)))
+    → ((batch : Batch) → IsOpenBatch g old batch → IsAmong batch batches → IsOpen new g.slots batch.journal
+    × (blocks_at new (descriptor_block g.slots batch.journal) (descriptor_blocks g.slots)
+    ≡ blocks_at old (descriptor_block g.slots batch.journal) (descriptor_blocks g.slots)))
     → AllByRecursion (IsOpenBatch g old) batches → AllByRecursion (IsOpenBatch g new) batches
 each_same g [] old new h each = tt
 each_same g (b ∷ bs) old new h each =
@@ -175,8 +176,9 @@ each_same g (b ∷ bs) old new h each =
 
 pub are_open-same : (g : GeometryValue) (batches : List Batch) (old new : List ℕ)
     → ((j : ℕ) → j < journals_of g.layout → IsOpen new g.slots j → IsOpen old g.slots j)
-    → ((batch : Batch) → IsOpenBatch g old batch → IsAmong batch batches → IsOpen new g.slots batch.journal × (block_at
-    new (descriptor_block g.slots batch.journal) ≡ block_at old (descriptor_block g.slots batch.journal)))
+    → ((batch : Batch) → IsOpenBatch g old batch → IsAmong batch batches → IsOpen new g.slots batch.journal
+    × (blocks_at new (descriptor_block g.slots batch.journal) (descriptor_blocks g.slots)
+    ≡ blocks_at old (descriptor_block g.slots batch.journal) (descriptor_blocks g.slots)))
     → AreOpen g batches old → AreOpen g batches new
 are_open-same g batches old new back stay are = record {
   each = each_same g batches old new stay are.each;
@@ -195,6 +197,18 @@ pub block_at-front : (bytes other : List ℕ) (n i : ℕ) → take (4096 * n) ot
     → block_at other i ≡ block_at bytes i
 block_at-front bytes other n i e h =
     sym (block_at-take other n i h) ∙ ap (λ (front : List ℕ). block_at front i) e ∙ block_at-take bytes n i h
+
+blocks_at-take : (bytes : List ℕ) (n i m : ℕ) → i + m ≤ n → blocks_at (take (4096 * n) bytes) i m ≡ blocks_at bytes i m
+blocks_at-take bytes n i m h =
+    let split : 4096 * n ≡ 4096 * i + 4096 * (n - i) = omega arith in
+    ap (λ k. take (4096 * m) (drop (4096 * i) (take k bytes))) split
+    ∙ ap (take (4096 * m)) (drop-take (4096 * i) (4096 * (n - i)) bytes)
+    ∙ take-take (4096 * m) (4096 * (n - i)) (drop (4096 * i) bytes) (omega arith)
+
+blocks_at-front : (bytes other : List ℕ) (n i m : ℕ) → take (4096 * n) other ≡ take (4096 * n) bytes → i + m ≤ n
+    → blocks_at other i m ≡ blocks_at bytes i m
+blocks_at-front bytes other n i m e h =
+    sym (blocks_at-take other n i m h) ∙ ap (λ (front : List ℕ). blocks_at front i m) e ∙ blocks_at-take bytes n i m h
 
 -- a volume lies in its first blocks
 pub recovers_front : (v : SuperValue) (contents : ℕ → List ℕ) (bytes other : List ℕ) → Recovers v contents bytes
@@ -224,8 +238,9 @@ recovers_front v contents bytes other r e =
             (λ j there o. sym (gate j there) ∙ o)
             (λ batch b among. (
               gate batch.journal b.there ∙ b.gate,
-              let under = descriptor_block-low v.layout v.slots batch.journal b.there in
-                  same (descriptor_block v.slots batch.journal) (omega arith),
+              let under = descriptor_end-low v.layout v.slots batch.journal b.there in
+                  blocks_at-front bytes other n (descriptor_block v.slots batch.journal)
+                  (descriptor_blocks v.slots) e (omega arith),
             ))
             r.volume.journals;
       };

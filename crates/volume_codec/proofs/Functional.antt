@@ -1,6 +1,6 @@
 -- Reading what was spelled gives the value back, so the grammar relates at most one value to a block.
-use Rattle.std.proofs.Common.{◌≡◌, ℕ, zero, suc, ◌+◌, ◌-◌, ◌^◌, ◌<◌, ◌≤◌, Bool, true, cond, not, ◌==◌, List, []}
-use Rattle.std.proofs.Common.{◌∷◌, ◌++◌, length, take, drop, refl, sym, ap, subst, ◌∙◌, arith, append_assoc}
+use Rattle.std.proofs.Common.{◌≡◌, ℕ, zero, suc, ◌+◌, ◌-◌, ◌*◌, ◌^◌, ◌<◌, ◌≤◌, Bool, true, cond, not, ◌==◌, List}
+use Rattle.std.proofs.Common.{[], ◌∷◌, ◌++◌, length, take, drop, refl, sym, ap, subst, ◌∙◌, arith, append_assoc}
 use Rattle.std.specs.List.{AllByRecursion, prefix_len, flat_map}
 use Rattle.std.proofs.lemmas.List.{take_at, drop_at}
 use Rattle.std.proofs.lemmas.Bool.Decides.{nat_tests}
@@ -8,7 +8,8 @@ use Rattle.byteorder.specs.Numbers.{big_number-reads_back}
 use Rattle.volume_codec.specs.declared.file_spec.FileSpec.{FileSpec}
 use Rattle.volume_codec.specs.declared.layout.Layout.{Layout}
 use Rattle.volume_codec.specs.Files.{TableFile, asked_by}
-use Rattle.volume_codec.specs.Layout.{GeometryValue, IsGeometry, number_of, magic_of, first_home, first_file_home}
+use Rattle.volume_codec.specs.Layout.{GeometryValue, IsGeometry, number_of, magic_of}
+use Rattle.volume_codec.specs.Layout.{descriptor_blocks, first_home, first_file_home}
 use Rattle.volume_codec.specs.Text.{number_text, number_in, numbers_in, zeros, padded}
 use Rattle.volume_codec.specs.Super.{SuperValue, IsName, IsNameByte, IsTableFile, Fits, IsSuper, IsAsked, pages_of}
 use Rattle.volume_codec.specs.Super.{total_pages, block_count, entry_text, entries_text, super_head, super_text}
@@ -16,7 +17,7 @@ use Rattle.volume_codec.specs.Descriptor.{DescriptorValue, RiseWithin, AreHomes}
 use Rattle.volume_codec.specs.Descriptor.{IsDescribed, IsDescriptor, descriptor_text}
 use Rattle.volume_codec.specs.inside.Reading.{name_in, file_in, table_files_in}
 use Rattle.volume_codec.specs.inside.Tables.{files_asked_for, table_of, AreFull}
-use Rattle.volume_codec.proofs.Layouts.{magic_of-injective, length-magic_of}
+use Rattle.volume_codec.proofs.Layouts.{magic_of-injective, length-magic_of, few_slots}
 use Rattle.volume_codec.proofs.Padding.{length-zeros, length-padded, drop-past}
 use Rattle.volume_codec.proofs.ReadingLemmas.{length-numbers_in}
 use Rattle.volume_codec.proofs.Spelling.{length-number_text, length-entry_text}
@@ -128,7 +129,7 @@ reads_super v fits =
     record {
       magic = ap (take 8) e ∙ take_at m (k ++ (s ++ tail)) 8 magic;
       count = ap (number_in 4) at8 ∙ number_in-text 4 (length v.files) (s ++ tail) (omega (arith, fits.few_files));
-      slots = ap (number_in 4) at12 ∙ number_in-text 4 v.slots tail (omega (arith, fits.few_slots));
+      slots = ap (number_in 4) at12 ∙ number_in-text 4 v.slots tail (omega (arith, fits.few_slots, few_slots v.layout));
       files = ap (table_files_in (length v.files)) at32 ∙ entries_in-entries (first_file_home v.layout v.slots) v.files
           rest fits.each (lengths_small v.files (omega (arith, fits.few_blocks)));
     }
@@ -213,24 +214,25 @@ pub record DescriptorReadsAs (d : DescriptorValue) (block : List ℕ) : Type 0 w
   pub homes : numbers_in 4 (length d.homes) (drop 16 block) ≡ d.homes
 
 pub reads_descriptor : (g : GeometryValue) (d : DescriptorValue) → IsGeometry g → IsDescribed g d
-    → DescriptorReadsAs d (descriptor_text d)
+    → DescriptorReadsAs d (descriptor_text g.slots d)
 reads_descriptor g d fits is =
     let m = number_text 8 d.mark in
     let k = number_text 4 (length d.homes) in
     let homes = flat_map (number_text 4) d.homes in
-    let rest = zeros (4096 - length (m ++ k ++ zeros 4 ++ homes)) in
-    let e : descriptor_text d ≡ m ++ (k ++ (zeros 4 ++ (homes ++ rest))) = group_descriptor m k (zeros 4) homes rest in
+    let rest = zeros (4096 * descriptor_blocks g.slots - length (m ++ k ++ zeros 4 ++ homes)) in
+    let e : descriptor_text g.slots d ≡ m ++ (k ++ (zeros 4 ++ (homes ++ rest))) =
+    group_descriptor m k (zeros 4) homes rest in
     let lm = length-number_text 8 d.mark in
     let lk = length-number_text 4 (length d.homes) in
     let tail = zeros 4 ++ (homes ++ rest) in
-    let at8 : drop 8 (descriptor_text d) ≡ k ++ tail = ap (drop 8) e ∙ drop_at m (k ++ tail) 8 lm in
-    let at16 : drop 16 (descriptor_text d) ≡ homes ++ rest =
+    let at8 : drop 8 (descriptor_text g.slots d) ≡ k ++ tail = ap (drop 8) e ∙ drop_at m (k ++ tail) 8 lm in
+    let at16 : drop 16 (descriptor_text g.slots d) ≡ homes ++ rest =
     ap (drop 16) e ∙ drop-past m (k ++ tail) 8 8 lm ∙ drop-past k tail 4 4 lk
     ∙ drop_at (zeros 4) (homes ++ rest) 4 (length-zeros 4) in
     record {
       mark = ap (number_in 8) e ∙ number_in-text 8 d.mark (k ++ tail) (omega (arith, is.small_mark));
       count = ap (number_in 4) at8
-          ∙ number_in-text 4 (length d.homes) tail (omega (arith, is.homes.few, fits.few_slots));
+          ∙ number_in-text 4 (length d.homes) tail (omega (arith, is.homes.few, fits.few_slots, few_slots g.layout));
       homes = ap (numbers_in 4 (length d.homes)) at16
           ∙ numbers_in-text 4 d.homes rest (homes_small _ _ d.homes fits.few_blocks is.homes.rising);
     }
@@ -260,9 +262,11 @@ refuses_described g block e same not_described d is =
     let P : DescriptorValue → Type 0 = λ w. IsDescribed g w in not_described (subst P (sym (same d is)) is.described)
 
 pub refuses_other : (g : GeometryValue) (block written : List ℕ) (e : DescriptorValue)
-    → ((d : DescriptorValue) → IsDescriptor g d block → e ≡ d) → written ≡ descriptor_text e → (written ≡ block → ⊥)
+    → ((d : DescriptorValue) → IsDescriptor g d block → e ≡ d) → written ≡ descriptor_text g.slots e
+    → (written ≡ block → ⊥)
     → (d : DescriptorValue) → IsDescriptor g d block → ⊥
-refuses_other g block written e same text other d is = other (text ∙ ap descriptor_text (same d is) ∙ sym is.spelled)
+refuses_other g block written e same text other d is =
+    other (text ∙ ap (descriptor_text g.slots) (same d is) ∙ sym is.spelled)
 
 -- the homes that a reader found keep the rules where its tests passed
 pub found_homes : (g : GeometryValue) (block homes : List ℕ) (count low high : ℕ)

@@ -10,5 +10,6 @@ pub mod ReadingLemmas
 pub mod Functional
 pub mod Lengths
 pub mod Recovered
+pub mod Described
 pub mod Batches
 pub mod Public

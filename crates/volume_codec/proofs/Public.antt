@@ -1,7 +1,7 @@
 -- What follows of the definitions, for `machine`, which takes no lemma of this crate from anywhere else: lengths of
 -- what is read, where home blocks lie, and padded bytes.
 pub use Rattle.volume_codec.proofs.Recovered.{length-file, blocks_from-device}
-pub use Rattle.volume_codec.proofs.Layouts.{few_journals}
+pub use Rattle.volume_codec.proofs.Layouts.{few_journals, few_slots, descriptor_blocks-some, descriptor_blocks-one}
 pub use Rattle.volume_codec.proofs.Lengths.{length-lengths_in, fixed_lengths, fixed_has_lengths, lengths_in-same}
 pub use Rattle.volume_codec.proofs.Lengths.{has_lengths-same, same_lengths_block, said_lengths, reads_lengths}
 pub use Rattle.volume_codec.proofs.Spelling.{length-number_text}

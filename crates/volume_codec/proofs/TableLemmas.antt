@@ -7,7 +7,7 @@ use Rattle.std.proofs.lemmas.List.Elements.{All-from_recursion, recursion_from_A
 use Rattle.volume_codec.specs.declared.file_spec.FileSpec.{FileSpec}
 use Rattle.volume_codec.specs.declared.layout.Layout.{Layout}
 use Rattle.volume_codec.specs.Files.{TableFile, AskedFile, asked_by}
-use Rattle.volume_codec.specs.Layout.{number_of, lengths_blocks}
+use Rattle.volume_codec.specs.Layout.{number_of, lengths_blocks, max_slots}
 use Rattle.volume_codec.specs.Super.{SuperValue, IsName, IsTableFile, AreDistinct}
 use Rattle.volume_codec.specs.Super.{Fits, IsLengthIn, IsAsked, block_count}
 use Rattle.volume_codec.specs.inside.Tables.{files_asked_for, names_of, table_of, AreFull, HaveLengths}
@@ -72,7 +72,7 @@ length-files_of files = length-map files
 -- a table whose parts keep the rules
 pub table_fits : (layout : Layout) (files : List FileSpec) (slots : ℕ) → 0 < length files → length files ≤ 64
     → All (λ f. IsName f.name.now × (0 < f.capacity) × IsLengthIn layout f.length f.capacity) files
-    → AreDistinct (names_of files) → lengths_blocks layout < slots → slots ≤ 1020
+    → AreDistinct (names_of files) → lengths_blocks layout < slots → slots ≤ max_slots layout
     → block_count (table_of layout files slots) < 2 ^ 32 → Fits (table_of layout files slots)
 table_fits layout files slots some few each distinct some_slots few_slots blocks =
     let n = length-files_of files in

@@ -1,7 +1,8 @@
--- The descriptor block of a journal: the mark that its records commit, and the home block of each record.
-use Rattle.std.specs.Prelude.{◌≡◌, ℕ, ◌+◌, ◌<◌, ◌≤◌, ◌^◌, List, [], ◌∷◌, ◌++◌, length}
+-- The descriptor of a journal, in one block or more: the mark that its records commit, and the home block of each
+-- record.
+use Rattle.std.specs.Prelude.{◌≡◌, ℕ, ◌+◌, ◌*◌, ◌<◌, ◌≤◌, ◌^◌, List, [], ◌∷◌, ◌++◌, length}
 use Rattle.std.specs.List.{flat_map}
-use Rattle.volume_codec.specs.Layout.{GeometryValue, first_home}
+use Rattle.volume_codec.specs.Layout.{GeometryValue, first_home, descriptor_blocks}
 use Rattle.volume_codec.specs.Text.{number_text, zeros, padded}
 
 -- what a descriptor says: the number of its mark, and the home block of record i at place i
@@ -9,10 +10,11 @@ pub record DescriptorValue : Type 0 where
   pub mark : ℕ
   pub homes : List ℕ
 
--- the one spelling of a value, in 4,096 bytes
-abbrev pub descriptor_text : DescriptorValue → List ℕ
-descriptor_text d =
-    padded 4096 (number_text 8 d.mark ++ number_text 4 (length d.homes) ++ zeros 4 ++ flat_map (number_text 4) d.homes)
+-- the one spelling of a value, in as many blocks as the descriptor of a journal with so many slots has
+abbrev pub descriptor_text : ℕ → DescriptorValue → List ℕ
+descriptor_text slots d =
+    padded (4096 * descriptor_blocks slots)
+    (number_text 8 d.mark ++ number_text 4 (length d.homes) ++ zeros 4 ++ flat_map (number_text 4) d.homes)
 
 -- the numbers rise strictly, from low on and below high
 abbrev pub RiseWithin : ℕ → ℕ → List ℕ → Type 0
@@ -31,7 +33,7 @@ pub record IsDescribed (g : GeometryValue) (d : DescriptorValue) : Type 0 where
   pub small_mark : d.mark < 2 ^ 64
   pub homes : AreHomes g d.homes
 
--- the grammar of descriptor blocks, in a volume of this geometry: this block says this value
-pub record IsDescriptor (g : GeometryValue) (d : DescriptorValue) (block : List ℕ) : Type 0 where
+-- the grammar of descriptors, in a volume of this geometry: the bytes of these blocks say this value
+pub record IsDescriptor (g : GeometryValue) (d : DescriptorValue) (bytes : List ℕ) : Type 0 where
   pub described : IsDescribed g d
-  pub spelled : block ≡ descriptor_text d
+  pub spelled : bytes ≡ descriptor_text g.slots d

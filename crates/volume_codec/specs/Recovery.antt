@@ -5,8 +5,8 @@ use Rattle.std.specs.Prelude.{◌⊎◌, Bool, true, List, [], ◌∷◌, ◌++�
 use Rattle.std.specs.List.{AllByRecursion, list_any}
 use Rattle.volume_codec.specs.declared.layout.Layout.{Layout}
 use Rattle.volume_codec.specs.Files.{File, TableFile}
-use Rattle.volume_codec.specs.Layout.{GeometryValue, IsHome, magic_of, journals_of, gate_block}
-use Rattle.volume_codec.specs.Layout.{descriptor_block, record_block, first_file_home, block_at}
+use Rattle.volume_codec.specs.Layout.{GeometryValue, IsHome, magic_of, journals_of, gate_block, descriptor_block}
+use Rattle.volume_codec.specs.Layout.{descriptor_blocks, record_block, first_file_home, block_at, blocks_at}
 use Rattle.volume_codec.specs.Super.{SuperValue, IsSuper, pages_of, block_count, geometry_of}
 use Rattle.volume_codec.specs.Descriptor.{IsDescriptor}
 use Rattle.volume_codec.specs.Lengths.{lengths_in, HasLengths}
@@ -28,7 +28,7 @@ pub record IsOpenBatch (g : GeometryValue) (bytes : List ℕ) (batch : Batch) : 
   pub there : batch.journal < journals_of g.layout
   pub gate : IsOpen bytes g.slots batch.journal
   pub descriptor : IsDescriptor g (record { mark = batch.mark; homes = batch.homes })
-      (block_at bytes (descriptor_block g.slots batch.journal))
+      (blocks_at bytes (descriptor_block g.slots batch.journal) (descriptor_blocks g.slots))
 
 -- Rule: equal marks: Two open journals don't have the same mark: that is a damaged volume.
 -- the marks fall strictly: the newest batch comes first

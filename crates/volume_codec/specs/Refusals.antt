@@ -24,11 +24,11 @@ RefusesSuper block Damaged = (layout : Layout) × (take 8 block ≡ magic_of lay
 RefusesSuper block OutOfMemory = Unit {0}
 RefusesSuper block _ = ⊥
 
--- A block that says no value in a volume of this geometry is damaged. Memory may be refused for any block.
+-- Blocks that say no value in a volume of this geometry are damaged. Memory may be refused for any blocks.
 abbrev pub RefusesDescriptor : GeometryValue → List ℕ → Refusal → Type 0
-RefusesDescriptor g block Damaged = (d : DescriptorValue) → IsDescriptor g d block → ⊥
-RefusesDescriptor g block OutOfMemory = Unit {0}
-RefusesDescriptor g block _ = ⊥
+RefusesDescriptor g bytes Damaged = (d : DescriptorValue) → IsDescriptor g d bytes → ⊥
+RefusesDescriptor g bytes OutOfMemory = Unit {0}
+RefusesDescriptor g bytes _ = ⊥
 
 -- A block that says no lengths in a volume with this table is damaged. Memory may be refused for any block.
 abbrev pub RefusesLengths : SuperValue → List ℕ → Refusal → Type 0

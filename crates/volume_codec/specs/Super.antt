@@ -2,7 +2,7 @@
 use Rattle.std.specs.Prelude.{◌≡◌, ◌≢◌, ℕ, ◌+◌, ◌/◌, ◌<◌, ◌≤◌, ◌^◌, List, [], ◌∷◌, ◌++◌, length, take, map}
 use Rattle.std.specs.List.{AllByRecursion}
 use Rattle.volume_codec.specs.declared.layout.Layout.{Layout}
-use Rattle.volume_codec.specs.Layout.{GeometryValue, number_of, magic_of, lengths_blocks, first_file_home}
+use Rattle.volume_codec.specs.Layout.{GeometryValue, number_of, magic_of, lengths_blocks, first_file_home, max_slots}
 use Rattle.volume_codec.specs.Files.{TableFile, AskedFile}
 use Rattle.volume_codec.specs.Text.{number_text, zeros, padded}
 
@@ -82,14 +82,14 @@ AreDistinct [] = Unit {0}
 AreDistinct (name ∷ names) = AllByRecursion (λ other. other ≢ name) names × AreDistinct names
 
 -- the rules of a super block's value: 1 to 64 files of distinct names, slots for the lengths and a page at least, up to
--- 1,020, below 2^32 blocks
+-- the layout's most, below 2^32 blocks
 pub record Fits (v : SuperValue) : Type 0 where
   pub some_files : 0 < length v.files
   pub few_files : length v.files ≤ 64
   pub each : AllByRecursion IsTableFile v.files
   pub distinct : AreDistinct (names_in v)
   pub some_slots : lengths_blocks v.layout < v.slots
-  pub few_slots : v.slots ≤ 1020
+  pub few_slots : v.slots ≤ max_slots v.layout
   pub few_blocks : block_count v < 2 ^ 32
 
 -- the grammar of super blocks: this block says this value

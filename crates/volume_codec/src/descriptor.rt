@@ -1,8 +1,10 @@
 // The descriptor of a journal: which mark its records commit, and which home block each record is for.
-ghost use Rattle.std.specs.Prelude.{◌≡◌, ◌≤◌, ◌+◌, ◌*◌, ◌↔◌, IsTrue, IfOk, IfErr, MatchResult, length, drop};
-ghost use Rattle.volume_codec.specs.Descriptor.{RiseWithin, IsDescribed, IsDescriptor};
+ghost use Rattle.std.specs.Prelude.{◌≡◌, ◌<◌, ◌≤◌, ◌+◌, ◌*◌, ◌++◌, ◌↔◌, IsTrue, IfOk, IfErr, MatchResult, length, take, drop};
+ghost use Rattle.std.specs.List.{flat_map};
+ghost use Rattle.volume_codec.specs.Layout.{descriptor_blocks, block_at};
+ghost use Rattle.volume_codec.specs.Descriptor.{RiseWithin, IsDescribed, IsDescriptor, descriptor_text};
 ghost use Rattle.volume_codec.specs.Refusals.{RefusesDescriptor};
-ghost use Rattle.volume_codec.specs.Text.{numbers_in};
+ghost use Rattle.volume_codec.specs.Text.{number_text, numbers_in, zeros, padded};
 
 use crate::block::{BlockWriter, u32_at, u64_at};
 use crate::geometry::Geometry;
@@ -64,22 +66,61 @@ fn rise_within(homes: &[u32], low: u32, high: u32) -> bool
     true
 }
 
-/// The descriptor block of a mark, whose record i is for the home block at place i. The caller owes home blocks of the
-/// volume in rising order, at most as many as there are slots, and a mark from 1. Takes no memory.
-pub fn write_descriptor(geometry: &Geometry, mark: u64, homes: &[u32]) -> [u8; 4096]
-    requires { IsDescribed geometry.now (record { mark = mark; homes = homes.now }) }
-    ensures { IsDescriptor geometry.now (record { mark = mark; homes = homes.now }) result }
+/// The first block of a descriptor: its mark, the number of its home blocks, and these first ones.
+fn first_block(mark: u64, count: u32, homes: &[u32]) -> [u8; 4096]
+    requires { length homes.now ≤ 1020 }
+    ensures { result ≡ padded 4096
+        (number_text 8 mark ++ number_text 4 count ++ zeros 4 ++ flat_map (number_text 4) homes.now) }
 {
-    let slots = geometry.slots();
-    prove!(homes.len() <= slots as usize);
     let mut block = BlockWriter::new();
     block.push_u64(mark);
-    block.push_u32(homes.len() as u32);
+    block.push_u32(count);
     block.skip(4);
     for home in homes {
         block.push_u32(*home);
     }
     block.finish()
+}
+
+/// A further block of a descriptor: these home blocks.
+fn further_block(homes: &[u32]) -> [u8; 4096]
+    requires { length homes.now ≤ 1024 }
+    ensures { result ≡ padded 4096 (flat_map (number_text 4) homes.now) }
+{
+    let mut block = BlockWriter::new();
+    for home in homes {
+        block.push_u32(*home);
+    }
+    block.finish()
+}
+
+/// Those of the home blocks from a place on, at most so many.
+fn part_of(homes: &[u32], from: usize, most: usize) -> &[u32]
+    ensures { result.now ≡ take most (drop from homes.now) }
+{
+    if from >= homes.len() {
+        return &[];
+    }
+    let rest = &homes[from..];
+    if rest.len() <= most {
+        return rest;
+    }
+    &rest[..most]
+}
+
+/// Block `index` of the descriptor of a mark, whose record i is for the home block at place i. The caller owes home
+/// blocks of the volume in rising order, at most as many as there are slots, and a mark from 1. Takes no memory.
+pub fn write_descriptor(geometry: &Geometry, mark: u64, homes: &[u32], index: u32) -> [u8; 4096]
+    requires described { IsDescribed geometry.now (record { mark = mark; homes = homes.now }) }
+    requires within { index < descriptor_blocks geometry.now.slots }
+    ensures { result ≡ block_at (descriptor_text geometry.now.slots (record { mark = mark; homes = homes.now })) index }
+{
+    let slots = geometry.slots();
+    prove!(homes.len() <= slots as usize);
+    if index == 0 {
+        return first_block(mark, homes.len() as u32, part_of(homes, 0, 1020));
+    }
+    further_block(part_of(homes, 1024 * index as usize - 4, 1024))
 }
 
 /// So many numbers of 4 bytes from byte 16 on.
@@ -103,27 +144,53 @@ fn homes_at<A: Allocator + Copy>(
     Ok(homes)
 }
 
-/// What a descriptor block says, in a volume of this geometry. `Damaged` where the block breaks the grammar, or
+/// Whether these are the same bytes.
+fn are_equal(bytes: &[u8], others: &[u8]) -> bool
+    ensures { IsTrue result ↔ (bytes.now ≡ others.now) }
+{
+    bytes == others
+}
+
+/// Whether these blocks are the descriptor of a mark and its home blocks.
+fn is_spelled(geometry: &Geometry, mark: u64, homes: &[u32], bytes: &[u8]) -> bool
+    requires described { IsDescribed geometry.now (record { mark = mark; homes = homes.now }) }
+    requires size { length bytes.now ≡ 4096 * descriptor_blocks geometry.now.slots }
+    ensures { IsTrue result
+        ↔ (bytes.now ≡ descriptor_text geometry.now.slots (record { mark = mark; homes = homes.now })) }
+{
+    for index in 0..geometry.descriptor_blocks() {
+        let at = 4096 * index as usize;
+        let block = write_descriptor(geometry, mark, homes, index);
+        if !are_equal(&bytes[at..at + 4096], &block) {
+            return false;
+        }
+    }
+    true
+}
+
+/// What the blocks of a descriptor say, in a volume of this geometry. `Damaged` where they break the grammar, or
 /// `OutOfMemory` in its place.
 pub fn read_descriptor<A: Allocator + Copy>(
     alloc: A,
     geometry: &Geometry,
-    block: &[u8; 4096],
+    bytes: &[u8],
 ) -> Result<Descriptor<A>, Refusal>
-    ensures ok { IfOk result (λ d. IsDescriptor geometry.now d block.now) }
-    ensures refused { IfErr result (RefusesDescriptor geometry.now block.now) }
+    requires { length bytes.now ≡ 4096 * descriptor_blocks geometry.now.slots }
+    ensures ok { IfOk result (λ d. IsDescriptor geometry.now d bytes.now) }
+    ensures refused { IfErr result (RefusesDescriptor geometry.now bytes.now) }
 {
-    let mark = u64_at(block, 0);
-    let count = u32_at(block, 8);
     let slots = geometry.slots();
+    prove!(bytes.len() >= 16 + 4 * slots as usize);
+    let mark = u64_at(bytes, 0);
+    let count = u32_at(bytes, 8);
     if mark == 0 || count == 0 || count > slots {
         return Err(Refusal::Damaged);
     }
-    let homes = homes_at(alloc, block, count as usize)?;
+    let homes = homes_at(alloc, bytes, count as usize)?;
     if !rise_within(&homes, geometry.first_home(), geometry.block_count()) {
         return Err(Refusal::Damaged);
     }
-    if write_descriptor(geometry, mark, &homes) != *block {
+    if !is_spelled(geometry, mark, &homes, bytes) {
         return Err(Refusal::Damaged);
     }
     Ok(Descriptor { mark, homes })

@@ -1,24 +1,44 @@
-// Where a volume has its parts: block 0 is the super block, then come the journals, each a gate block, a descriptor
-// block and its record slots, and then the home blocks. A block is 4,096 bytes. No other place spells a block's number.
-ghost use Rattle.std.specs.Prelude.{◌≡◌, ◌<◌, ◌≤◌, ◌+◌};
-ghost use Rattle.volume_codec.specs.Layout.{IsGeometry, journals_of, gate_block as gate, descriptor_block as descriptor, record_block as record_slot, first_home as home, first_file_home as file_home, max_frames as frames};
+// Where a volume has its parts: block 0 is the super block, then come the journals, each a gate block, the blocks of its
+// descriptor and its record slots, and then the home blocks. A block is 4,096 bytes. No other place spells a block's
+// number.
+ghost use Rattle.std.specs.Prelude.{◌≡◌, ◌<◌, ◌≤◌, ◌+◌, ◌^◌};
+ghost use Rattle.volume_codec.specs.Layout.{IsGeometry, journals_of, descriptor_blocks as blocks_of, journal_blocks as in_journal, gate_block as gate, descriptor_block as descriptor, record_block as record_slot, first_home as home, first_file_home as file_home, max_frames as frames};
 
 use crate::layout::Layout;
 use std::marker::Model;
 
+/// How many blocks the descriptor of a journal with so many record slots has.
+fn descriptor_length(slots: u32) -> u32
+    requires { slots ≤ 65535 }
+    ensures value { result ≡ blocks_of slots }
+    ensures small { result ≤ 65 }
+{
+    (4 * slots + 4111) / 4096
+}
+
+/// How many blocks a journal with so many record slots has.
+fn journal_length(slots: u32) -> u32
+    requires { slots ≤ 65535 }
+    ensures value { result ≡ in_journal slots }
+    ensures small { result ≤ 65601 }
+{
+    1 + descriptor_length(slots) + slots
+}
+
 /// The first home block in a layout whose journals have so many record slots.
 fn first_home_block(layout: Layout, slots: u32) -> u32
-    requires { slots ≤ 1020 }
-    ensures { result ≡ home layout slots }
+    requires { slots ≤ 65535 }
+    ensures value { result ≡ home layout slots }
+    ensures small { result + 1 < 2 ^ 19 }
 {
-    1 + layout.journals() * (2 + slots)
+    1 + layout.journals() * journal_length(slots)
 }
 
 /// The first home block of the files in a layout whose journals have so many record slots.
 pub(crate) fn first_file_home_block(layout: Layout, slots: u32) -> u32
-    requires { slots ≤ 1020 }
+    requires { slots ≤ 65535 }
     ensures value { result ≡ file_home layout slots }
-    ensures small { result < 4096 }
+    ensures small { result < 2 ^ 19 }
 {
     first_home_block(layout, slots) + layout.lengths_blocks()
 }
@@ -64,7 +84,7 @@ impl Geometry {
         self.layout
     }
 
-    /// The number of record slots of each journal, 1 to 1,020.
+    /// The number of record slots of each journal, 1 to the most of its layout.
     pub fn slots(&self) -> u32
         ensures value { result ≡ self.now.slots }
         ensures geometry { IsGeometry self.now }
@@ -95,17 +115,25 @@ impl Geometry {
         ensures low { result < home self.now.layout self.now.slots }
         ensures geometry { IsGeometry self.now }
     {
-        1 + journal * (2 + self.slots)
+        1 + journal * journal_length(self.slots)
     }
 
-    /// The block of a journal's descriptor.
+    /// The number of blocks of each journal's descriptor, from 1.
+    pub fn descriptor_blocks(&self) -> u32
+        ensures value { result ≡ blocks_of self.now.slots }
+        ensures geometry { IsGeometry self.now }
+    {
+        descriptor_length(self.slots)
+    }
+
+    /// The first block of a journal's descriptor.
     pub fn descriptor_block(&self, journal: u32) -> u32
         requires { journal < journals_of self.now.layout }
         ensures value { result ≡ descriptor self.now.slots journal }
         ensures low { result < home self.now.layout self.now.slots }
         ensures geometry { IsGeometry self.now }
     {
-        2 + journal * (2 + self.slots)
+        2 + journal * journal_length(self.slots)
     }
 
     /// The block of a record slot of a journal.
@@ -116,7 +144,7 @@ impl Geometry {
         ensures low { result < home self.now.layout self.now.slots }
         ensures geometry { IsGeometry self.now }
     {
-        3 + journal * (2 + self.slots) + slot
+        2 + descriptor_length(self.slots) + journal * journal_length(self.slots) + slot
     }
 
     /// The first home block: the first that a descriptor may name.

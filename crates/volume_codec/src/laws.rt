@@ -1,16 +1,16 @@
 // What follows of the definitions alone.
 ghost use Rattle.std.specs.Prelude.{◌≡◌, ◌≢◌, ℕ, ◌+◌, ◌*◌, ◌/◌, ◌%◌, ◌<◌, ◌≤◌, List, ◌∷◌, length, take, drop, slice_index, slice_get, Some};
 ghost use Rattle.std.specs.List.{AllByRecursion};
-ghost use Rattle.volume_codec.specs.declared.layout.Layout.TheVariants.{One, Two, Three};
+ghost use Rattle.volume_codec.specs.declared.layout.Layout.TheVariants.{One, Two, Three, Four};
 ghost use Rattle.volume_codec.specs.Files.{File, TableFile};
-ghost use Rattle.volume_codec.specs.Layout.{GeometryValue, IsGeometry, IsHome, journals_of, gate_block, descriptor_block, record_block, first_home, first_file_home, block_at};
+ghost use Rattle.volume_codec.specs.Layout.{GeometryValue, IsGeometry, IsHome, journals_of, descriptor_blocks, gate_block, descriptor_block, record_block, first_home, first_file_home, block_at};
 ghost use Rattle.volume_codec.specs.Super.{SuperValue, Fits, IsSuper, pages_of, first_home_of, block_count, geometry_of};
 ghost use Rattle.volume_codec.specs.Descriptor.{DescriptorValue, RiseWithin, IsDescriptor};
 ghost use Rattle.volume_codec.specs.Lengths.{IsLengths, HasLengths, lengths_in};
 ghost use Rattle.volume_codec.specs.Recovery.{Batch, AreOpen, recovered_block, blocks_from, contents_in, files_in, Recovers, RecoversTo, IsVolume};
 
-/// A block says at most one table, at most one descriptor in a volume of one geometry, and at most one list of lengths
-/// in a volume with one table; bytes have at most one list of open batches, and recover to at most one table, contents
+/// A block says at most one table, blocks say at most one descriptor in a volume of one geometry, and a block says at most
+/// one list of lengths in a volume with one table; bytes have at most one list of open batches, and recover to at most one table, contents
 /// and list of files. So reading a block that was written gives back the value that was written.
 pub fn one_reading()
     ensures tables { (v w : SuperValue) (block : List ℕ) → IsSuper v block → IsSuper w block → v ≡ w }
@@ -27,23 +27,36 @@ pub fn one_reading()
         → files ≡ others }
 {}
 
-/// Where the layouts have their parts. Journal 0 has its gate in block 1, its descriptor in block 2 and record i in
-/// block 3 + i. With J slots, journal 1 of layouts 2 and 3 has its gate in block 3 + J, its descriptor in block 4 + J and
-/// record i in block 5 + J + i. Home blocks follow from 3 + J in layout 1 and from 5 + 2J in the others; in layout 3
-/// block 5 + 2J holds the lengths, and the home blocks of files follow from 6 + 2J. In every volume the parts of its journals lie
-/// before the home blocks, and apart.
+/// Where the layouts have their parts. With J slots, up to 1,020, a descriptor has one block: journal 0 has its gate in
+/// block 1, its descriptor in block 2 and record i in block 3 + i, and journal 1 of layouts 2 and 3 has its gate in block
+/// 3 + J, its descriptor in block 4 + J and record i in block 5 + J + i. Home blocks follow from 3 + J in layout 1 and from
+/// 5 + 2J in layouts 2 and 3; in layout 3 block 5 + 2J holds the lengths, and the home blocks of files follow from 6 + 2J.
+/// In general a descriptor has room for 16 bytes and 4 for each slot, in D blocks, and journal j has its gate in block
+/// 1 + j (1 + D + J). In layout 4 the lengths lie in block 1 + 4 (1 + D + J), and the home blocks of files follow. In every
+/// volume the parts of its journals lie before the home blocks, and apart.
 pub fn parts_of_layouts()
-    ensures first_journal { (slots i : ℕ)
+    ensures one_block { (slots : ℕ) → slots ≤ 1020 → descriptor_blocks slots ≡ 1 }
+    ensures room { (slots : ℕ) → 16 + 4 * slots ≤ 4096 * descriptor_blocks slots }
+    ensures no_more { (slots : ℕ) → 4096 * descriptor_blocks slots < 16 + 4 * slots + 4096 }
+    ensures first_journal { (slots i : ℕ) → slots ≤ 1020
         → (gate_block slots 0 ≡ 1) × (descriptor_block slots 0 ≡ 2) × (record_block slots 0 i ≡ 3 + i) }
-    ensures second_journal { (slots i : ℕ)
+    ensures second_journal { (slots i : ℕ) → slots ≤ 1020
         → (gate_block slots 1 ≡ 3 + slots) × (descriptor_block slots 1 ≡ 4 + slots)
         × (record_block slots 1 i ≡ 5 + slots + i) }
-    ensures homes { (slots : ℕ) → (first_home One slots ≡ 3 + slots) × (first_home Two slots ≡ 5 + 2 * slots)
+    ensures each_journal { (slots j i : ℕ) → let d = descriptor_blocks slots in
+        (gate_block slots j ≡ 1 + j * (1 + d + slots)) × (descriptor_block slots j ≡ 1 + gate_block slots j)
+        × (record_block slots j i ≡ descriptor_block slots j + d + i) }
+    ensures homes { (slots : ℕ) → slots ≤ 1020
+        → (first_home One slots ≡ 3 + slots) × (first_home Two slots ≡ 5 + 2 * slots)
         × (first_home Three slots ≡ 5 + 2 * slots) }
-    ensures file_homes { (slots : ℕ) → (first_file_home One slots ≡ 3 + slots)
+    ensures file_homes { (slots : ℕ) → slots ≤ 1020 → (first_file_home One slots ≡ 3 + slots)
         × (first_file_home Two slots ≡ 5 + 2 * slots) × (first_file_home Three slots ≡ 6 + 2 * slots) }
-    ensures in_order { (g : GeometryValue) (j i : ℕ) → j < journals_of g.layout → i < g.slots
-        → (gate_block g.slots j < descriptor_block g.slots j) × (descriptor_block g.slots j < record_block g.slots j i)
+    ensures four_homes { (slots : ℕ) → let d = descriptor_blocks slots in
+        (first_home Four slots ≡ 5 + 4 * (d + slots)) × (first_file_home Four slots ≡ 6 + 4 * (d + slots)) }
+    ensures in_order { (g : GeometryValue) (j i k : ℕ) → j < journals_of g.layout → i < g.slots
+        → k < descriptor_blocks g.slots
+        → (gate_block g.slots j < descriptor_block g.slots j)
+        × (descriptor_block g.slots j + k < record_block g.slots j i)
         × (record_block g.slots j i < first_home g.layout g.slots) }
     ensures apart { (slots j k i : ℕ) → j < k → i < slots → record_block slots j i < gate_block slots k }
     ensures whole { (g : GeometryValue) → IsGeometry g → first_home g.layout g.slots < g.blocks }

@@ -1,6 +1,6 @@
 // The layouts of volumes.
 ghost use Rattle.std.specs.Prelude.{◌≡◌, ◌≢◌, ◌≤◌, IfSome, IfNone, List};
-ghost use Rattle.volume_codec.specs.Layout.{number_of, magic_of, journals_of, lengths_blocks as lengths};
+ghost use Rattle.volume_codec.specs.Layout.{number_of, magic_of, journals_of, max_slots as most_slots, lengths_blocks as lengths};
 
 // Rule: gate byte
 /// The byte that opens a journal's gate; it is the first of the gate's block, and every other value closes the gate.
@@ -19,6 +19,9 @@ pub enum Layout {
     Two,
     /// Two journals, and a block that holds the lengths of the files, so that a file may be shorter than its capacity.
     Three,
+    /// Four journals, each with up to 65,535 record slots and a descriptor of one block or more, and a block that holds
+    /// the lengths of the files.
+    Four,
 }
 
 impl Layout {
@@ -33,6 +36,7 @@ impl Layout {
             1 => Some(Layout::One),
             2 => Some(Layout::Two),
             3 => Some(Layout::Three),
+            4 => Some(Layout::Four),
             _ => None,
         }
     }
@@ -51,6 +55,9 @@ impl Layout {
         if magic == Layout::Three.magic() {
             return Some(Layout::Three);
         }
+        if magic == Layout::Four.magic() {
+            return Some(Layout::Four);
+        }
         None
     }
 
@@ -62,6 +69,7 @@ impl Layout {
             Layout::One => 1,
             Layout::Two => 2,
             Layout::Three => 3,
+            Layout::Four => 4,
         }
     }
 
@@ -73,6 +81,7 @@ impl Layout {
             Layout::One => *b"FAMSYNC1",
             Layout::Two => *b"FAMSYNC2",
             Layout::Three => *b"FAMSYNC3",
+            Layout::Four => *b"FAMSYNC4",
         }
     }
 
@@ -84,6 +93,21 @@ impl Layout {
             Layout::One => 1,
             Layout::Two => 2,
             Layout::Three => 2,
+            Layout::Four => 4,
+        }
+    }
+
+    /// The greatest number of record slots that its journals may have: as many as a descriptor of one block has room for,
+    /// and 65,535 in layout 4.
+    pub fn max_slots(self) -> u32
+        ensures value { result ≡ most_slots self }
+        ensures small { result ≤ 65535 }
+    {
+        match self {
+            Layout::One => 1020,
+            Layout::Two => 1020,
+            Layout::Three => 1020,
+            Layout::Four => 65535,
         }
     }
 
@@ -96,6 +120,7 @@ impl Layout {
             Layout::One => 0,
             Layout::Two => 0,
             Layout::Three => 1,
+            Layout::Four => 1,
         }
     }
 }

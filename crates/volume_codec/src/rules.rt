@@ -15,9 +15,6 @@ pub const MAX_FILES: usize = 64;
 /// A name has 1 to so many bytes.
 pub const MAX_NAME: usize = 32;
 
-/// A journal has 1 to so many record slots, as many as a descriptor has room for.
-pub const MAX_SLOTS: u64 = 1020;
-
 /// The blocks that so many bytes take.
 pub fn pages_of(length: u64) -> u64
     ensures value { result ≡ pages length }
@@ -97,7 +94,7 @@ pub(crate) fn count_blocks(layout: Layout, files: &[FileSpec], slots: u64) -> Re
     if files.is_empty() || files.len() > MAX_FILES {
         return Err(Refusal::BadShape);
     }
-    if slots <= u64::from(layout.lengths_blocks()) || slots > MAX_SLOTS {
+    if slots <= u64::from(layout.lengths_blocks()) || slots > u64::from(layout.max_slots()) {
         return Err(Refusal::BadShape);
     }
     if !are_files(layout, files) || !are_distinct(files) {
@@ -113,8 +110,8 @@ pub(crate) fn count_blocks(layout: Layout, files: &[FileSpec], slots: u64) -> Re
 /// The number of blocks of a volume in the layout of this number, with these files and with so many record slots for
 /// each journal. `BadShape` where no volume has them: a layout that there is, 1 to 64 files of distinct names, names of
 /// 1 to 32 bytes from 0x21 to 0x7E, capacities from 1, lengths up to the capacity (the capacity itself where the layout
-/// has no lengths block), slots for the lengths and a page at least and 1,020 at most, and a block count of at most
-/// 2^32 - 1. Takes no memory.
+/// has no lengths block), slots for the lengths and a page at least and the layout's most at most, and a block count of
+/// at most 2^32 - 1. Takes no memory.
 pub fn block_count_as(layout: u64, files: &[FileSpec], slots: u64) -> Result<u64, Refusal>
     ensures ok { IfOk result (λ blocks. (v : SuperValue) × IsAsked layout (asked_by files.now) slots v
         × (blocks ≡ block_count v)) }

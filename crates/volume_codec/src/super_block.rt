@@ -130,7 +130,7 @@ impl<A: Allocator + Copy> Super<A> {
         Geometry::new(self.layout, self.slots, self.blocks)
     }
 
-    /// The number of record slots of each journal, 1 to 1,020.
+    /// The number of record slots of each journal, 1 to the most of its layout.
     pub fn slots(&self) -> u32
         ensures value { result ≡ self.now.slots }
         ensures fits { Fits self.now }

@@ -134,7 +134,7 @@ where
     A: Allocator + Copy,
 {
     let path = plan.new;
-    let blocks = match recovery::migrated_blocks(volume, plan.slots) {
+    let blocks = match recovery::migrated_blocks(volume, 3, plan.slots) {
         Ok(blocks) => blocks,
         Err(refusal) => return Err(plan.refused(refusal, false)),
     };
@@ -181,7 +181,7 @@ where
     A: Allocator + Copy,
 {
     let mut disk = disk;
-    match recovery::migrate(alloc, volume, &mut disk, plan.slots) {
+    match recovery::migrate(alloc, volume, &mut disk, 3, plan.slots) {
         Ok(()) => Ok(disk.into_file()),
         Err(refusal) => {
             let new_failed = disk.faults() > 0;

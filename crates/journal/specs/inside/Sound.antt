@@ -2,21 +2,22 @@
 use Rattle.std.specs.Prelude.{ℕ, ◌≡◌, ◌≢◌, ◌<◌, ◌≤◌, true, List, [], ◌∷◌, length, Some, IsSome}
 use Rattle.std.specs.List.{AllByRecursion}
 use Rattle.volume_codec.specs.declared.layout.Layout.{Layout}
-use Rattle.volume_codec.specs.Layout.{GeometryValue, IsGeometry, journals_of}
-use Rattle.volume_codec.specs.Recovery.{Batch}
+use Rattle.volume_codec.specs.Layout.{GeometryValue, IsGeometry, journals_of, descriptor_blocks}
 use Rattle.journal.specs.declared.stage.Stage.TheVariants.{Applying}
 use Rattle.journal.specs.WriteOut.{WriteOut, next_stage, has_committed}
 use Rattle.journal.specs.WriteOut.{IsBatch}
 use Rattle.journal.specs.WriteOuts.{WriteOutsValue, following}
 
--- what holds of every batch that is on its way, in a volume of this geometry
-pub record IsFlush (g : GeometryValue) (batch : Batch) : Type 0 where
-  pub few_slots : g.slots ≤ 1020
-  pub is_batch : IsBatch g batch
+-- what holds of every write-out, in a volume of this geometry
+pub record IsFlush (g : GeometryValue) (w : WriteOut) : Type 0 where
+  pub few_slots : g.slots ≤ 65535
+  pub is_batch : IsBatch g w.batch
+  pub described : w.described ≡ descriptor_blocks g.slots
 
 -- a write-out that isn't done
 pub record IsWriteOut (g : GeometryValue) (w : WriteOut) : Type 0 where
   pub batch : IsBatch g w.batch
+  pub described : w.described ≡ descriptor_blocks g.slots
   pub going : IsSome (next_stage w)
 
 -- one write-out is older than another: its batch is committed, and the newer one waits with its application
@@ -31,11 +32,16 @@ abbrev pub AreInOrder : List WriteOut → Type 0
 AreInOrder [] = Unit {0}
 AreInOrder (w ∷ newer) = AllByRecursion (IsOlder w) newer × AreInOrder newer
 
--- the next batch has the journal after that of the newest
+-- these batches have the journals in turn, from this one on, and the next batch has the one after them
+abbrev pub AreInTurn : Layout → ℕ → ℕ → List WriteOut → Type 0
+AreInTurn layout next journal [] = next ≡ journal
+AreInTurn layout next journal (w ∷ newer) =
+    (w.batch.journal ≡ journal) × AreInTurn layout next (following layout journal) newer
+
+-- journals take turns, from that of the oldest on
 abbrev pub IsTurn : Layout → ℕ → List WriteOut → Type 0
 IsTurn layout next [] = Unit {0}
-IsTurn layout next (w ∷ []) = next ≡ following layout w.batch.journal
-IsTurn layout next (w ∷ x ∷ newer) = IsTurn layout next (x ∷ newer)
+IsTurn layout next (w ∷ newer) = AreInTurn layout next (following layout w.batch.journal) newer
 
 pub record IsSound (outs : WriteOutsValue) : Type 0 where
   pub geometry : IsGeometry outs.geometry

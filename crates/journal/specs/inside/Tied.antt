@@ -1,10 +1,11 @@
 -- What ties the write-outs to the bytes of the device: what a read finds of each of them, and which blocks are loose,
 -- so that a crash may leave any bytes in them.
-use Rattle.std.specs.Prelude.{ℕ, ◌≡◌, ◌≢◌, ◌*◌, ◌<◌, ◌≤◌, ◌⊎◌, Bool, true, false, not, if◌then◌else◌}
+use Rattle.std.specs.Prelude.{ℕ, ◌≡◌, ◌≢◌, ◌+◌, ◌*◌, ◌<◌, ◌≤◌, ◌⊎◌, Bool, true, false, not, if◌then◌else◌}
 use Rattle.std.specs.Prelude.{List, [], ◌∷◌, ◌++◌, length, slice_index, Contains, MatchBool}
 use Rattle.std.specs.List.{AllByRecursion, list_any}
 use Rattle.std.specs.Option.{option_map_or}
-use Rattle.volume_codec.specs.Layout.{IsHome, journals_of, gate_block, descriptor_block, record_block, block_at}
+use Rattle.volume_codec.specs.Layout.{IsHome, journals_of, gate_block, descriptor_block, descriptor_blocks}
+use Rattle.volume_codec.specs.Layout.{record_block, block_at}
 use Rattle.volume_codec.specs.Descriptor.{descriptor_text}
 use Rattle.volume_codec.specs.Super.{SuperValue, IsSuper, geometry_of, block_count}
 use Rattle.volume_codec.specs.Recovery.{Batch, IsOpen, contents_in}
@@ -32,7 +33,7 @@ progress_in (w ∷ newer) = progress_of w ++ progress_in newer
 -- records and the descriptor: they were written since the last sync
 abbrev pub is_recording : Stage → Bool
 is_recording (Recording i) = true
-is_recording Describing = true
+is_recording (Describing i) = true
 is_recording SyncingRecords = true
 is_recording stage = false
 
@@ -48,9 +49,11 @@ is_applying (Applying i) = true
 is_applying SyncingHomes = true
 is_applying stage = false
 
--- the block is the descriptor or a record slot of this journal
+-- the block is one of the descriptor or a record slot of this journal
 abbrev pub IsInJournal : ℕ → ℕ → ℕ → Type 0
-IsInJournal slots j b = (b ≡ descriptor_block slots j) ⊎ ((i : ℕ) × (i < slots) × (b ≡ record_block slots j i))
+IsInJournal slots j b =
+    ((i : ℕ) × (i < descriptor_blocks slots) × (b ≡ descriptor_block slots j + i))
+    ⊎ ((i : ℕ) × (i < slots) × (b ≡ record_block slots j i))
 
 -- this write-out leaves the block firm: it isn't loose
 pub record IsFirmFor (slots : ℕ) (p : Progress) (b : ℕ) : Type 0 where
@@ -89,17 +92,17 @@ IsCovered (batch ∷ batches) b = Contains batch.homes b ⊎ IsCovered batches b
 -- how many of so many records are written before this stage; once the batch is committed it doesn't matter
 abbrev pub recorded : ℕ → Stage → ℕ
 recorded blocks (Recording i) = i
-recorded blocks Describing = blocks
+recorded blocks (Describing i) = blocks
 recorded blocks SyncingRecords = blocks
 recorded blocks Opening = blocks
 recorded blocks Committing = blocks
 recorded blocks stage = 0
 
--- the descriptor is written before this stage
-abbrev pub is_described : Stage → Bool
-is_described (Recording i) = false
-is_described Describing = false
-is_described stage = true
+-- how many of so many descriptor blocks are written before this stage
+abbrev pub described : ℕ → Stage → ℕ
+described blocks (Recording i) = 0
+described blocks (Describing i) = i
+described blocks stage = blocks
 
 -- how many of so many home blocks are written before this stage
 abbrev pub applied : ℕ → Stage → ℕ
@@ -115,9 +118,10 @@ pub record IsWritten (v : SuperValue) (new : ℕ → List ℕ) (newer : List Bat
     -- the records so far are New
     pub records : (i : ℕ) → i < length p.batch.homes → i < recorded (length p.batch.homes) p.stage
         → block_at seen (record_block v.slots p.batch.journal i) ≡ new (slice_index p.batch.homes i)
-    pub descriptor : is_described p.stage ≡ true
-        → block_at seen (descriptor_block v.slots p.batch.journal)
-        ≡ descriptor_text (record { mark = p.batch.mark; homes = p.batch.homes })
+    -- the blocks of the descriptor so far are those of its text
+    pub descriptor : (i : ℕ) → i < descriptor_blocks v.slots → i < described (descriptor_blocks v.slots) p.stage
+        → block_at seen (descriptor_block v.slots p.batch.journal + i)
+        ≡ block_at (descriptor_text v.slots (record { mark = p.batch.mark; homes = p.batch.homes })) i
     -- the home blocks so far are the records, where no newer batch has one
     pub homes : (i : ℕ) → i < length p.batch.homes → i < applied (length p.batch.homes) p.stage
         → IsCovered newer (slice_index p.batch.homes i)

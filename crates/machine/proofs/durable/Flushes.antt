@@ -152,7 +152,7 @@ commits batches number ordered some e = by (current batches) refl e
               let there : Contains batches w = subst (λ (l : List WriteOut). Contains l w) (sym n.are)
               (subst (Contains (n.others ++ n.newest ∷ [])) (sym same) (Contains-push n.others n.newest)) in
               let late : has_committed (advanced_of w) ≡ true = committed-at (advanced_of w) (Applying 0)
-              (after_committing (length w.batch.homes) w.steps stage.0 (some w there)) in
+              (after_committing (length w.batch.homes) w.described w.steps stage.0 (some w there)) in
               let found : IsCommitting batches number = record {
                 w = w;
                 there = there;

@@ -403,9 +403,9 @@ module _ (files : List File) (observed : Observed) (s : State) (p number : ℕ) 
       waits_now n same =
           let batch = next_batch s.write_outs number (mark_homes s pages) in
           record {
-            w = begun_of batch;
-            there = Contains-push s.write_outs.batches (begun_of batch);
-            early = begun_early batch;
+            w = begun_of s.write_outs.geometry.slots batch;
+            there = Contains-push s.write_outs.batches (begun_of s.write_outs.geometry.slots batch);
+            early = begun_early s.write_outs.geometry.slots batch;
             mark = same;
           }
 
@@ -432,12 +432,12 @@ module _ (files : List File) (observed : Observed) (s : State) (p number : ℕ) 
               new_are = made_contents next_contents next_fits next_lengths next_parts;
               grown = made_acknowledged;
               marks = All-push (λ (y : WriteOut). Contains made (Mark y.batch.mark)) s.write_outs.batches
-                  (begun_of (next_batch s.write_outs number homes))
+                  (begun_of s.write_outs.geometry.slots (next_batch s.write_outs number homes))
                   (All-weaker (λ (y : WriteOut). Contains w.marked (Mark y.batch.mark)) (λ (y : WriteOut). Contains made
                   (Mark y.batch.mark)) (λ y has. in_made (Mark y.batch.mark) has) s.write_outs.batches w.marks)
                   (Contains-push history (Mark number));
               fresh = λ y there early has. elim (Contains-push_cases s.write_outs.batches
-                  (begun_of (next_batch s.write_outs number homes)) y there) [
+                  (begun_of s.write_outs.geometry.slots (next_batch s.write_outs number homes)) y there) [
                     | inl older ↦ none_early y older early
                     | inr e ↦ mark_is_new (subst (λ (x : WriteOut). Contains w.marked (Mark x.batch.mark)) (sym e) has)
                   ];

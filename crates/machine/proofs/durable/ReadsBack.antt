@@ -23,7 +23,7 @@ use Rattle.machine.proofs.durable.Lists.{some_same}
 pub left_either : (v : SuperValue) (old new : ℕ → List ℕ) (o : Option Stage) (c : List ℕ) → LeftWithin v old new o c
     → Recovers v old c ⊎ Recovers v new c
 left_either v old new (Some (Recording i)) c left = inl left
-left_either v old new (Some Describing) c left = inl left
+left_either v old new (Some (Describing i)) c left = inl left
 left_either v old new (Some SyncingRecords) c left = inl left
 left_either v old new (Some Opening) c left = left
 left_either v old new (Some Committing) c left = left
@@ -140,7 +140,7 @@ module _ (files : List File) (observed : Observed) (s : State) (sound : IsSound 
     before_at : (o : Option Stage) → next_stage y ≡ o → LeftBefore s.table old new o c
         → StopsBefore files observed.history y.batch.mark o c
     before_at (Some (Recording i)) at left = is_old (committed-at y (Recording i) at) left
-    before_at (Some Describing) at left = is_old (committed-at y Describing at) left
+    before_at (Some (Describing i)) at left = is_old (committed-at y (Describing i) at) left
     before_at (Some SyncingRecords) at left = is_old (committed-at y SyncingRecords at) left
     before_at (Some Opening) at left = is_old (committed-at y Opening at) left
     before_at (Some Committing) at (inl left) = inl (is_old (committed-at y Committing at) left)
@@ -151,7 +151,7 @@ module _ (files : List File) (observed : Observed) (s : State) (sound : IsSound 
     within_at : (o : Option Stage) → next_stage y ≡ o → LeftWithin s.table old new o c
         → StopsWithin files observed.history y.batch.mark o c
     within_at (Some (Recording i)) at left = is_old (committed-at y (Recording i) at) left
-    within_at (Some Describing) at left = is_old (committed-at y Describing at) left
+    within_at (Some (Describing i)) at left = is_old (committed-at y (Describing i) at) left
     within_at (Some SyncingRecords) at left = is_old (committed-at y SyncingRecords at) left
     within_at (Some Opening) at (inl left) = inl (is_old (committed-at y Opening at) left)
     within_at (Some Opening) at (inr left) = inr (is_new left)
@@ -235,7 +235,7 @@ left_new : (v : SuperValue) (old new : ℕ → List ℕ) (o : Option Stage) (c :
     → option_map_or is_committed o true ≡ true → LeftWithin v old new o c → Recovers v new c
 left_new v old new None c late left = left
 left_new v old new (Some (Recording i)) c late left = absurd (both_ways false refl late)
-left_new v old new (Some Describing) c late left = absurd (both_ways false refl late)
+left_new v old new (Some (Describing i)) c late left = absurd (both_ways false refl late)
 left_new v old new (Some SyncingRecords) c late left = absurd (both_ways false refl late)
 left_new v old new (Some Opening) c late left = absurd (both_ways false refl late)
 left_new v old new (Some Committing) c late left = absurd (both_ways false refl late)

@@ -183,12 +183,15 @@ module _ (files : List File) (observed : Observed) (s : State) (disk : List ℕ)
           let outs : new.write_outs ≡ begun s.write_outs number homes = ap (λ (x : State). x.write_outs) done
           ∙ cond-false s.write_outs.broken s.write_outs (begun s.write_outs number homes) whole in
           let table : new.table ≡ s.table = ap (λ (x : State). x.table) done in
-          let there : Contains new.write_outs.batches (begun_of (next_batch s.write_outs number homes)) =
-          subst (λ (o : WriteOutsValue). Contains o.batches (begun_of (next_batch s.write_outs number homes)))
-          (sym outs) (Contains-push s.write_outs.batches (begun_of (next_batch s.write_outs number homes))) in
+          let there : Contains new.write_outs.batches
+          (begun_of s.write_outs.geometry.slots (next_batch s.write_outs number homes)) =
+          subst (λ (o : WriteOutsValue). Contains o.batches
+          (begun_of s.write_outs.geometry.slots (next_batch s.write_outs number homes))) (sym outs) (Contains-push
+          s.write_outs.batches (begun_of s.write_outs.geometry.slots (next_batch s.write_outs number homes))) in
           subst (λ (v : SuperValue). AreHomes (geometry_of v) homes) table
           (All-contains (λ (w : WriteOut). AreHomes (geometry_of new.table) w.batch.homes) new.write_outs.batches
-          (begun_of (next_batch s.write_outs number homes)) sound'.write_outs.homes there)
+          (begun_of s.write_outs.geometry.slots (next_batch s.write_outs number homes))
+          sound'.write_outs.homes there)
 
   module _ (number : ℕ) (made : MarkMade s p number new) where
     abbrev marked : Observed

@@ -83,25 +83,25 @@ uncommitted_before Broken batches w there early = record { before = w; there = t
 -- ---- a batch that waits
 
 -- one that was just begun does
-pub begun_early : (batch : Batch) → has_committed (begun_of batch) ≡ false
-begun_early batch = false_from_ne_true (has_committed (begun_of batch))
-    (λ late. let many = committed_steps (begun_of batch) late in omega (arith, many))
+pub begun_early : (slots : ℕ) (batch : Batch) → has_committed (begun_of slots batch) ≡ false
+begun_early slots batch = false_from_ne_true (has_committed (begun_of slots batch))
+    (λ late. let many = committed_steps (begun_of slots batch) late in omega (arith, many))
 
 -- the step by which a batch is committed answers so
-commits_now : (k n mark : ℕ) (o : Option Stage) → IsAt k n o → option_map_or is_committed o true ≡ false → k + 4 ≤ n + 1
-    → option_map_or (answer_at mark) o Broken ≡ Committed mark
-commits_now k n mark (Some (Recording i)) at early late = absurd (omega (arith, at.0, at.1, late))
-commits_now k n mark (Some Describing) at early late = absurd (omega (arith, at, late))
-commits_now k n mark (Some SyncingRecords) at early late = absurd (omega (arith, at, late))
-commits_now k n mark (Some Opening) at early late = absurd (omega (arith, at, late))
-commits_now k n mark (Some Committing) at early late = refl
-commits_now k n mark o at early late = absurd (both_ways true early refl)
+commits_now : (k d n mark : ℕ) (o : Option Stage) → IsAt k d n o → option_map_or is_committed o true ≡ false
+    → k + d + 3 ≤ n + 1 → option_map_or (answer_at mark) o Broken ≡ Committed mark
+commits_now k d n mark (Some (Recording i)) at early late = absurd (omega (arith, at.0, at.1, late))
+commits_now k d n mark (Some (Describing i)) at early late = absurd (omega (arith, at.0, at.1, late))
+commits_now k d n mark (Some SyncingRecords) at early late = absurd (omega (arith, at, late))
+commits_now k d n mark (Some Opening) at early late = absurd (omega (arith, at, late))
+commits_now k d n mark (Some Committing) at early late = refl
+commits_now k d n mark o at early late = absurd (both_ways true early refl)
 
 own_step : (x : WriteOut) → has_committed x ≡ false
     → (has_committed (advanced_of x) ≡ false) ⊎ (answer_of x ≡ Committed x.batch.mark)
 own_step x early = elim (cases_Bool (has_committed (advanced_of x))) [
-  | inl late ↦ inr (commits_now (blocks x) x.steps x.batch.mark (next_stage x) (stage_is (blocks x) x.steps) early
-      (committed_steps (advanced_of x) late))
+  | inl late ↦ inr (commits_now (blocks x) x.described x.steps x.batch.mark (next_stage x)
+      (stage_is (blocks x) x.described x.steps) early (committed_steps (advanced_of x) late))
   | inr still ↦ inl still
 ]
 

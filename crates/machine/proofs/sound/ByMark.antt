@@ -125,7 +125,7 @@ batch_more : (s : State) (hardware : Hardware) (checkpoint : CheckpointState) (h
     })
 batch_more s hardware checkpoint home_list same few whole free frozen homes there is =
     let outs = s.write_outs in
-    let w : WriteOut = begun_of (next_batch outs (s.marks + 1) home_list) in
+    let w : WriteOut = begun_of outs.geometry.slots (next_batch outs (s.marks + 1) home_list) in
     let fine = not_busy s is free in
     let sources : All (λ (x : WriteOut). All (IsSource s.table s.hardware.memory) x.batch.homes)
     (outs.batches ++ w ∷ []) =

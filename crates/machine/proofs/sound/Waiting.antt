@@ -16,14 +16,14 @@ abbrev pub blocks : WriteOut → ℕ
 blocks w = length w.batch.homes
 
 -- a batch is committed once its records, its descriptor and its gate are written and durable
-pub committed_steps : (w : WriteOut) → has_committed w ≡ true → blocks w + 4 ≤ w.steps
-committed_steps w committed = by (next_stage w) (stage_is (blocks w) w.steps) committed
+pub committed_steps : (w : WriteOut) → has_committed w ≡ true → blocks w + w.described + 3 ≤ w.steps
+committed_steps w committed = by (next_stage w) (stage_is (blocks w) w.described w.steps) committed
   where
-    by : (o : Option Stage) → IsAt (blocks w) w.steps o → option_map_or is_committed o true ≡ true
-        → blocks w + 4 ≤ w.steps
+    by : (o : Option Stage) → IsAt (blocks w) w.described w.steps o → option_map_or is_committed o true ≡ true
+        → blocks w + w.described + 3 ≤ w.steps
     by None at e = omega (arith, at)
     by (Some (Recording i)) at e = absurd (cc)
-    by (Some Describing) at e = absurd (cc)
+    by (Some (Describing i)) at e = absurd (cc)
     by (Some SyncingRecords) at e = absurd (cc)
     by (Some Opening) at e = absurd (cc)
     by (Some Committing) at e = absurd (cc)
@@ -32,13 +32,13 @@ committed_steps w committed = by (next_stage w) (stage_is (blocks w) w.steps) co
     by (Some Closing) at e = omega (arith, at)
     by (Some Finishing) at e = omega (arith, at)
 
-pub steps_committed : (w : WriteOut) → blocks w + 4 ≤ w.steps → has_committed w ≡ true
-steps_committed w many = by (next_stage w) (stage_is (blocks w) w.steps)
+pub steps_committed : (w : WriteOut) → blocks w + w.described + 3 ≤ w.steps → has_committed w ≡ true
+steps_committed w many = by (next_stage w) (stage_is (blocks w) w.described w.steps)
   where
-    by : (o : Option Stage) → IsAt (blocks w) w.steps o → option_map_or is_committed o true ≡ true
+    by : (o : Option Stage) → IsAt (blocks w) w.described w.steps o → option_map_or is_committed o true ≡ true
     by None at = refl
     by (Some (Recording i)) at = absurd (omega (arith, many, at.0, at.1))
-    by (Some Describing) at = absurd (omega (arith, many, at))
+    by (Some (Describing i)) at = absurd (omega (arith, many, at.0, at.1))
     by (Some SyncingRecords) at = absurd (omega (arith, many, at))
     by (Some Opening) at = absurd (omega (arith, many, at))
     by (Some Committing) at = absurd (omega (arith, many, at))
@@ -53,13 +53,13 @@ committed_still w committed = steps_committed (advanced_of w) (omega (arith, com
 
 -- a record is written exactly in the steps before the last home block's
 pub record_steps : (w : WriteOut) (i : ℕ) → next_record w ≡ Some i → (w.steps ≡ i) × (i < blocks w)
-record_steps w i is = by (next_stage w) (stage_is (blocks w) w.steps) is
+record_steps w i is = by (next_stage w) (stage_is (blocks w) w.described w.steps) is
   where
-    by : (o : Option Stage) → IsAt (blocks w) w.steps o → option_and_then record_at o ≡ Some i
+    by : (o : Option Stage) → IsAt (blocks w) w.described w.steps o → option_and_then record_at o ≡ Some i
         → (w.steps ≡ i) × (i < blocks w)
     by None at e = absurd (cc)
     by (Some (Recording k)) at e = let same : k ≡ i = cc in (at.0 ∙ same, subst (λ n. n < blocks w) same at.1)
-    by (Some Describing) at e = absurd (cc)
+    by (Some (Describing k)) at e = absurd (cc)
     by (Some SyncingRecords) at e = absurd (cc)
     by (Some Opening) at e = absurd (cc)
     by (Some Committing) at e = absurd (cc)
@@ -69,12 +69,13 @@ record_steps w i is = by (next_stage w) (stage_is (blocks w) w.steps) is
     by (Some Finishing) at e = absurd (cc)
 
 pub no_record_steps : (w : WriteOut) → next_record w ≡ None → blocks w ≤ w.steps
-no_record_steps w is = by (next_stage w) (stage_is (blocks w) w.steps) is
+no_record_steps w is = by (next_stage w) (stage_is (blocks w) w.described w.steps) is
   where
-    by : (o : Option Stage) → IsAt (blocks w) w.steps o → option_and_then record_at o ≡ None → blocks w ≤ w.steps
+    by : (o : Option Stage) → IsAt (blocks w) w.described w.steps o → option_and_then record_at o ≡ None
+        → blocks w ≤ w.steps
     by None at e = omega (arith, at)
     by (Some (Recording k)) at e = absurd (cc)
-    by (Some Describing) at e = omega (arith, at)
+    by (Some (Describing i)) at e = omega (arith, at.0)
     by (Some SyncingRecords) at e = omega (arith, at)
     by (Some Opening) at e = omega (arith, at)
     by (Some Committing) at e = omega (arith, at)

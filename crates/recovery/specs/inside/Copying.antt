@@ -10,11 +10,11 @@ use Rattle.recovery.specs.Opening.{IsUnwritten}
 use Rattle.recovery.specs.Migration.{AreAccounted}
 use Rattle.recovery.specs.Volume.{VolumeState}
 
--- what a crash leaves while a volume of layout 3 is laid out: what it might have left before, with other bytes in the
+-- what a crash leaves while a volume of a layout is laid out: what it might have left before, with other bytes in the
 -- volume's blocks but block 0
-abbrev pub LeftByLaying : {E : Type 0} → Ghosts E → List AskedFile → ℕ → E → List ℕ → Type 0
-LeftByLaying other files slots before c = other.may_leave before c
-    ⊎ ((table : SuperValue) × HasShape 3 files slots (length (other.seen before)) table
+abbrev pub LeftByLaying : {E : Type 0} → Ghosts E → ℕ → List AskedFile → ℕ → E → List ℕ → Type 0
+LeftByLaying other layout files slots before c = other.may_leave before c
+    ⊎ ((table : SuperValue) × HasShape layout files slots (length (other.seen before)) table
     × TornFrom 4096 (4096 * block_count table - 4096) (other.may_leave before) c)
 
 -- Bytes of a volume were read, and written on another device to the n bytes from this offset on alone, or a call of one

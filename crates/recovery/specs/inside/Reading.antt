@@ -1,7 +1,7 @@
 -- How the code's list of open journals reads as batches, and what reading them and the lengths finds.
-use Rattle.std.specs.Prelude.{◌≡◌, ◌⊎◌, ◌+◌, ◌*◌, ◌<◌, ◌≤◌, ℕ, true, List}
+use Rattle.std.specs.Prelude.{◌≡◌, ◌⊎◌, ◌+◌, ◌*◌, ◌<◌, ℕ, zero, suc, true, List}
 use Rattle.std.specs.Prelude.{[], ◌∷◌, map, length, sum_by, Result, Ok, Err}
-use Rattle.std.specs.List.{AllByRecursion}
+use Rattle.std.specs.List.{AllByRecursion, insert}
 use Rattle.page_entry.specs.declared.refusal.Refusal.{Refusal}
 use Rattle.page_entry.specs.declared.refusal.Refusal.TheVariants.{Device, OutOfMemory, Damaged}
 use Rattle.volume_codec.specs.Layout.{GeometryValue, journals_of, block_at}
@@ -24,25 +24,39 @@ batches_of found = map (λ journal. batch_of journal) found
 abbrev pub carry_calls : List Batch → ℕ
 carry_calls batches = sum_by (λ batch. 2 * length batch.homes + 3) batches
 
--- each journal comes after those before it in the list
-abbrev pub AreByJournal : List Batch → Type 0
-AreByJournal [] = Unit {0}
-AreByJournal (batch ∷ batches) = AllByRecursion (λ other. batch.journal < other.journal) batches × AreByJournal batches
-
--- these are the batches of the open journals below this one, in the order of their journals
+-- these are the batches of the open journals below this one
 pub record AreRead (g : GeometryValue) (bytes : List ℕ) (below : ℕ) (batches : List Batch) : Type 0 where
   pub each : AllByRecursion (IsOpenBatch g bytes) batches
   pub low : AllByRecursion (λ batch. batch.journal < below) batches
   pub all : (j : ℕ) → j < below → IsOpen bytes g.slots j → has_journal batches j ≡ true
-  pub few : length batches ≤ below
-  pub rising : AreByJournal batches
+
+-- one of the batches has this mark
+abbrev pub HasMark : ℕ → List Batch → Type 0
+HasMark mark [] = ⊥
+HasMark mark (batch ∷ batches) = (batch.mark ≡ mark) ⊎ HasMark mark batches
+
+-- before this place in the list the marks are higher than this one, and the next one is lower
+abbrev pub IsPlaceOf : ℕ → List Batch → ℕ → Type 0
+IsPlaceOf mark [] place = place ≡ 0
+IsPlaceOf mark (batch ∷ batches) zero = batch.mark < mark
+IsPlaceOf mark (batch ∷ batches) (suc place) = (mark < batch.mark) × IsPlaceOf mark batches place
+
+-- a batch was put among these, to the place of its mark
+abbrev pub IsAdded : Batch → List Batch → List Batch → Type 0
+IsAdded batch old new = (place : ℕ) × IsPlaceOf batch.mark old place × (new ≡ insert old place batch)
+
+-- a journal isn't added where one of the others has its mark
+abbrev pub RefusesAdding : Batch → List Batch → Refusal → Type 0
+RefusesAdding batch batches Damaged = HasMark batch.mark batches
+RefusesAdding batch batches OutOfMemory = Unit {0}
+RefusesAdding batch batches _ = ⊥
 
 -- an open journal is damaged where its descriptor says no value
 abbrev pub RefusesJournal : GeometryValue → List ℕ → Refusal → Type 0
-RefusesJournal g block Damaged = (d : DescriptorValue) → IsDescriptor g d block → ⊥
-RefusesJournal g block Device = Unit {0}
-RefusesJournal g block OutOfMemory = Unit {0}
-RefusesJournal g block _ = ⊥
+RefusesJournal g bytes Damaged = (d : DescriptorValue) → IsDescriptor g d bytes → ⊥
+RefusesJournal g bytes Device = Unit {0}
+RefusesJournal g bytes OutOfMemory = Unit {0}
+RefusesJournal g bytes _ = ⊥
 
 -- journals are damaged where there is no list of the open batches
 abbrev pub RefusesJournals : GeometryValue → List ℕ → Refusal → Type 0
@@ -50,15 +64,6 @@ RefusesJournals g bytes Damaged = (batches : List Batch) → AreOpen g batches b
 RefusesJournals g bytes Device = Unit {0}
 RefusesJournals g bytes OutOfMemory = Unit {0}
 RefusesJournals g bytes _ = ⊥
-
--- a list of two in the other order, or the same list
-abbrev pub IsOrdered : List Batch → List Batch → Type 0
-IsOrdered old new = (new ≡ old) ⊎ ((x : Batch) × (y : Batch) × (old ≡ x ∷ y ∷ []) × (new ≡ y ∷ x ∷ []))
-
--- two batches with one mark
-abbrev pub HaveOneMark : List Batch → Type 0
-HaveOneMark (x ∷ y ∷ []) = x.mark ≡ y.mark
-HaveOneMark batches = ⊥
 
 -- a block of lengths is damaged where it says none
 abbrev pub RefusesStored : SuperValue → List ℕ → Refusal → Type 0

@@ -1,25 +1,24 @@
-use Rattle.std.proofs.Common.{ap, arith}
+use Rattle.std.proofs.Common.{ap, refl, arith}
 use Rattle.volume_codec.specs.Layout.{journals_of, lengths_blocks}
-use Rattle.inspection.specs.inside.Order.{descriptor_at, finishing}
-use Rattle.inspection.proofs.Newest.{calls_of}
+use Rattle.inspection.proofs.Newest.{calls_of, finishing_all-next, finishing_all-end}
 use Rattle.inspection.proofs.order.opening_calls.Goals as goal
+
+pub loop-journal-init : goal.loop-journal-init
+loop-journal-init g c = λ small. refl
+
+pub loop-journal-preserved : goal.loop-journal-preserved
+loop-journal-preserved g c = λ small.
+    let next = finishing_all-next c.args.journals.now c.loop-journal.journal-index c.journal-item.result (omega arith)
+    c.journal-item.is in
+    omega (arith, small, next, c.loop-journal.invariant small, c.finishing_calls.ensures)
 
 pub returns : goal.returns
 returns g c = λ small.
-    let journals = c.args.journals.now in
-    let all = calls_of (descriptor_at 0 journals) (descriptor_at 1 journals) in
-    let first = ap finishing c.descriptor_of.ensures.is in
-    let second = ap finishing c.descriptor_of-2.ensures.is in
-    omega (
-      arith,
-      small,
-      all,
-      first,
-      second,
-      ap journals_of c.layout-layout.ensures.value,
-      ap lengths_blocks c.layout-layout.ensures.value,
-      c.journals.ensures,
-      c.lengths_blocks.ensures.value,
-      c.finishing_calls-first.ensures,
-      c.finishing_calls-second.ensures,
-    )
+    let js = c.args.journals.now in
+    let all = calls_of js in
+    let none = finishing_all-end js c.loop-journal.journal-index (omega arith) in
+    let journals = ap journals_of c.layout-layout.ensures.value in
+    let lengths = ap lengths_blocks c.layout-layout.ensures.value in
+    let sum = c.loop-journal.invariant
+    (omega (arith, small, all, journals, lengths, c.journals.ensures, c.lengths_blocks.ensures.value)) in
+    omega (arith, small, all, none, sum, journals, lengths, c.journals.ensures, c.lengths_blocks.ensures.value)

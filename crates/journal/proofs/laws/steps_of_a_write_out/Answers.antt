@@ -5,8 +5,8 @@ use Rattle.journal.proofs.laws.steps_of_a_write_out.Goals as goal
 
 pub returns : goal.returns
 returns c = record {
-  commits = λ k. stage_from k (k + 3) (Some Committing) refl;
-  finishes = λ k. stage_from k (2 * k + 6) (Some Finishing) refl;
-  ends = λ k n. (done_at k n, stage_from k n None);
+  commits = λ k d. stage_from k d (k + d + 2) (Some Committing) refl;
+  finishes = λ k d. stage_from k d (2 * k + d + 5) (Some Finishing) refl;
+  ends = λ k d n. (done_at k d n, stage_from k d n None);
   calls = λ g batch. all_calls g batch;
 }

@@ -15,7 +15,8 @@ pub returns-in_err-lay_out-clause-torn : goal.returns-in_err-lay_out-clause-torn
 returns-in_err-lay_out-clause-torn g c = λ honest table asked.
     let same = ap (λ n. asked_by (take n c.specs_of-specs.result)) c.file_count.ensures.value
     ∙ c.specs_of-specs.ensures.specs in
-    let one = one_again c.args.slots _ _ c.in_ok-table.table table same c.in_ok-table.ensures.ok.asked asked in
+    let one =
+    one_again c.args.layout c.args.slots _ _ c.in_ok-table.table table same c.in_ok-table.ensures.ok.asked asked in
     let P : SuperValue → Type 0 = λ v. Torn 4096 (4096 * block_count v - 4096) (g.E.Device.seen c.args.new.now)
     (g.E.Device.seen c.lay_out.new.device) in
     subst P one (c.in_err-lay_out.ensures.overwrites.torn honest)
@@ -30,9 +31,10 @@ pub returns-in_err-lay_out-clause-refused : goal.returns-in_err-lay_out-clause-r
 returns-in_err-lay_out-clause-refused g c =
     let same = ap (λ n. asked_by (take n c.specs_of-specs.result)) c.file_count.ensures.value
     ∙ c.specs_of-specs.ensures.specs in
-    let shape = shape_again c.args.slots _ _ _ _ c.in_ok-table.table same c.len.ensures c.in_ok-table.ensures.ok in
+    let shape = shape_again c.args.layout c.args.slots _ _ _ _ c.in_ok-table.table same c.len.ensures
+    c.in_ok-table.ensures.ok in
     let p = err_from_is_err_and c.from_residual-in_err-lay_out.result c.from_residual-in_err-lay_out.ensures.1 in
-    let P : Refusal → Type 0 = RefusesFormat 3 (asked_of c.args.old.now) c.args.slots _ in
+    let P : Refusal → Type 0 = RefusesFormat c.args.layout (asked_of c.args.old.now) c.args.slots _ in
     rw (p.1, p.2) (subst P (sym c.in_err-lay_out.ensures.fault) (c.in_ok-table.table, shape))
 
 pub returns-clause-emptied : goal.returns-clause-emptied
@@ -46,7 +48,8 @@ pub returns-clause-torn : goal.returns-clause-torn
 returns-clause-torn g c = λ honest table asked.
     let same = ap (λ n. asked_by (take n c.specs_of-specs.result)) c.file_count.ensures.value
     ∙ c.specs_of-specs.ensures.specs in
-    let one = one_again c.args.slots _ _ c.in_ok-table.table table same c.in_ok-table.ensures.ok.asked asked in
+    let one =
+    one_again c.args.layout c.args.slots _ _ c.in_ok-table.table table same c.in_ok-table.ensures.ok.asked asked in
     let P : SuperValue → Type 0 = λ v. Torn 4096 (4096 * block_count v - 4096) (g.E.Device.seen c.args.new.now)
     (g.E.Device.seen c.lay_out.new.device) in
     subst P one (c.in_ok-lay_out.ensures.overwrites.torn honest)
@@ -59,14 +62,16 @@ pub returns-in_err-lay_out-clause-time : goal.returns-in_err-lay_out-clause-time
 returns-in_err-lay_out-clause-time g c =
     let same = ap (λ n. asked_by (take n c.specs_of-specs.result)) c.file_count.ensures.value
     ∙ c.specs_of-specs.ensures.specs in
-    let shape = shape_again c.args.slots _ _ _ _ c.in_ok-table.table same c.len.ensures c.in_ok-table.ensures.ok in
+    let shape = shape_again c.args.layout c.args.slots _ _ _ _ c.in_ok-table.table same c.len.ensures
+    c.in_ok-table.ensures.ok in
     leaves_weaker c.in_err-lay_out.ensures.overwrites.time (λ l torn. inr (c.in_ok-table.table, shape, torn))
 
 pub returns-clause-time : goal.returns-clause-time
 returns-clause-time g c =
     let same = ap (λ n. asked_by (take n c.specs_of-specs.result)) c.file_count.ensures.value
     ∙ c.specs_of-specs.ensures.specs in
-    let shape = shape_again c.args.slots _ _ _ _ c.in_ok-table.table same c.len.ensures c.in_ok-table.ensures.ok in
+    let shape = shape_again c.args.layout c.args.slots _ _ _ _ c.in_ok-table.table same c.len.ensures
+    c.in_ok-table.ensures.ok in
     leaves_weaker c.in_ok-lay_out.ensures.overwrites.time (λ l torn. inr (c.in_ok-table.table, shape, torn))
 
 pub returns-clause-left : goal.returns-clause-left

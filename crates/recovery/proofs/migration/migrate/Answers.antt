@@ -18,11 +18,11 @@ use Rattle.recovery.proofs.migration.migrate.Goals as goal
 
 pub copy_files-requires-clause-same : goal.copy_files-requires-clause-same
 copy_files-requires-clause-same g c = ap length (asked_files g.D.Device c.args.old.now c.in_ok-table.ensures.well_formed
-    c.args.slots c.in_ok-table.table c.in_ok-table.ensures.ok.asked)
+    c.args.layout c.args.slots c.in_ok-table.table c.in_ok-table.ensures.ok.asked)
 
 pub copy_files-requires-clause-lengths : goal.copy_files-requires-clause-lengths
 copy_files-requires-clause-lengths g c = asked_lengths_are g.D.Device c.args.old.now c.in_ok-table.ensures.well_formed
-    c.args.slots c.in_ok-table.table c.in_ok-table.ensures.ok.asked
+    c.args.layout c.args.slots c.in_ok-table.table c.in_ok-table.ensures.ok.asked
 
 pub copy_files-requires-clause-fits : goal.copy_files-requires-clause-fits
 copy_files-requires-clause-fits g c = c.in_ok-table.ensures.ok.asked.fits
@@ -68,15 +68,15 @@ returns-in_err-table-clause-kept g c =
 pub returns-in_err-copy_files-clause-past : goal.returns-in_err-copy_files-clause-past
 returns-in_err-copy_files-clause-past g c = λ honest table i asked le.
     let laid = c.in_ok-table.ensures in
-    let same = ap (λ (v : SuperValue). block_count v)
-    (one_asked 3 (asked_of c.args.old.now) c.args.slots table c.in_ok-table.table asked laid.ok.asked) in
+    let same = ap (λ (v : SuperValue). block_count v) (one_asked c.args.layout
+    (asked_of c.args.old.now) c.args.slots table c.in_ok-table.table asked laid.ok.asked) in
     torn_after (c.in_err-copy_files.ensures.copies.torn (laid.kept.honest.1 honest)) i (omega (arith, le, same))
     ∙ torn_after (laid.torn honest table asked) i (omega (arith, le))
 
 pub returns-in_err-copy_files-clause-refused : goal.returns-in_err-copy_files-clause-refused
 returns-in_err-copy_files-clause-refused g c =
     let p = err_from_is_err_and c.from_residual-in_err-copy_files.result c.from_residual-in_err-copy_files.ensures.1 in
-    let P : Refusal → Type 0 = RefusesFormat 3 (asked_of c.args.old.now) c.args.slots _ in
+    let P : Refusal → Type 0 = RefusesFormat c.args.layout (asked_of c.args.old.now) c.args.slots _ in
     rw (p.1, p.2) (subst P (sym c.in_err-copy_files.ensures.fault) (c.in_ok-table.table, c.in_ok-table.ensures.ok))
 
 pub returns-in_err-copy_files-clause-kept : goal.returns-in_err-copy_files-clause-kept
@@ -93,8 +93,8 @@ returns-clause-past g c = λ honest table i asked le.
     let laid = c.in_ok-table.ensures in
     let copies = c.in_ok-copy_files.ensures.copies in
     let honest_1 = laid.kept.honest.1 honest in
-    let same = ap (λ (v : SuperValue). block_count v)
-    (one_asked 3 (asked_of c.args.old.now) c.args.slots table c.in_ok-table.table asked laid.ok.asked) in
+    let same = ap (λ (v : SuperValue). block_count v) (one_asked c.args.layout
+    (asked_of c.args.old.now) c.args.slots table c.in_ok-table.table asked laid.ok.asked) in
     torn_after (c.finish.ensures.finishes.torn ((copies_honest copies).1 honest_1)) i (omega (arith, le))
     ∙ torn_after (copies.torn honest_1) i (omega (arith, le, same))
     ∙ torn_after (laid.torn honest table asked) i (omega (arith, le))
@@ -103,7 +103,7 @@ pub returns-clause-refused : goal.returns-clause-refused
 returns-clause-refused g c =
     MatchResult-weaker c.finish.result c.finish.ensures.fault (λ x t. t)
     (λ (e : Refusal) (is : e ≡ Device).
-    let P : Refusal → Type 0 = RefusesFormat 3 (asked_of c.args.old.now) c.args.slots _ in
+    let P : Refusal → Type 0 = RefusesFormat c.args.layout (asked_of c.args.old.now) c.args.slots _ in
     subst P (sym is) (c.in_ok-table.table, c.in_ok-table.ensures.ok))
 
 pub returns-clause-unchanged : goal.returns-clause-unchanged
@@ -129,28 +129,28 @@ returns-clause-migrated g c = λ honest other.
     on_ok_weaker c.finish.result
     (λ (both : (seen c.finish.new.device ≡ written (seen c.copy_files.new.new) 0 (super_text c.in_ok-table.table))
     × Only (g.E.Device.may_leave c.finish.new.device) (seen c.finish.new.device)).
-    migrated g.D.Device g.E.Device c.args.slots c.args.old.now c.args.new.now c.begin.new.new c.copy_files.new.new
-    c.finish.new.device c.in_ok-table.table laid.ok laid.well_formed honest
+    migrated g.D.Device g.E.Device c.args.layout c.args.slots c.args.old.now c.args.new.now c.begin.new.new
+    c.copy_files.new.new c.finish.new.device c.in_ok-table.table laid.ok laid.well_formed honest
     (laid.emptied other) (laid.torn other c.in_ok-table.table laid.ok.asked) (copies.torn other_1)
     (c.in_ok-copy_files.ensures.copied honest other_1) both.0 both.1)
     (both_ok _ _ c.finish.result (finishes.done other_2) (finishes.synced other_2))
 
 pub returns-in_err-table-clause-crash : goal.returns-in_err-table-clause-crash
 returns-in_err-table-clause-crash g c = λ honest. leaves_weaker c.in_err-table.ensures.time
-    (laying_left g.D.Device g.E.Device c.args.slots c.args.old.now c.args.new.now)
+    (laying_left g.D.Device g.E.Device c.args.layout c.args.slots c.args.old.now c.args.new.now)
 
 pub returns-in_err-copy_files-clause-crash : goal.returns-in_err-copy_files-clause-crash
 returns-in_err-copy_files-clause-crash g c = λ honest.
     let laid = c.in_ok-table.ensures in
-    time_of_copying g.D.Device g.E.Device c.args.slots c.args.old.now c.args.new.now c.begin.new.new c.in_ok-table.table
-    laid.ok laid.time laid.left c.in_err-copy_files.ensures.copies
+    time_of_copying g.D.Device g.E.Device c.args.layout c.args.slots c.args.old.now c.args.new.now c.begin.new.new
+    c.in_ok-table.table laid.ok laid.time laid.left c.in_err-copy_files.ensures.copies
 
 pub returns-clause-crash : goal.returns-clause-crash
 returns-clause-crash g c = λ honest.
     let laid = c.in_ok-table.ensures in
     let copies = c.in_ok-copy_files.ensures.copies in
     let honest_1 = laid.kept.honest.1 honest in
-    time_of_filling g.D.Device g.E.Device c.args.slots c.args.old.now c.args.new.now c.begin.new.new c.in_ok-table.table
-    laid.ok laid.time laid.left copies
+    time_of_filling g.D.Device g.E.Device c.args.layout c.args.slots c.args.old.now c.args.new.now c.begin.new.new
+    c.in_ok-table.table laid.ok laid.time laid.left copies
     laid.well_formed (laid.emptied honest) (λ on_volume. c.in_ok-copy_files.ensures.copied on_volume honest_1) honest_1
     ((copies_honest copies).1 honest_1) c.finish.ensures.finishes

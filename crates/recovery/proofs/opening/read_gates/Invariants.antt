@@ -7,7 +7,7 @@ use Rattle.recovery.proofs.opening.read_gates.Given as goal
 abbrev pub invariant-loop-journal : goal.invariant-loop-journal
 invariant-loop-journal g l = record {
   len : length (g.D.Device.seen l.device) ≡ length (g.D.Device.seen l.initial.device);
-  whole : length l.gates ≡ 2;
+  whole : length l.gates ≡ 4;
   honest : g.D.Device.is_honest l.device ↔ g.D.Device.is_honest l.initial.device;
   unwritten : g.D.Device.is_honest l.initial.device → IsUnwritten g.D.Device l.initial.device l.device;
   found : g.D.Device.is_honest l.initial.device → (j : ℕ) → j < l.journal

@@ -1,8 +1,9 @@
 use Rattle.std.proofs.Common.{arith}
+use Rattle.volume_codec.proofs.Public.{descriptor_blocks-some}
 use Rattle.storage_tests.proofs.codec.written_descriptor.Goals as goal
 
-pub write_descriptor-requires : goal.write_descriptor-requires
-write_descriptor-requires g c = record {
+pub write_descriptor-requires-clause-described : goal.write_descriptor-requires-clause-described
+write_descriptor-requires-clause-described g c = record {
   some_mark = omega arith;
   small_mark = omega arith;
   homes = record {
@@ -15,3 +16,6 @@ write_descriptor-requires g c = record {
     );
   };
 }
+
+pub write_descriptor-requires-clause-within : goal.write_descriptor-requires-clause-within
+write_descriptor-requires-clause-within g c = descriptor_blocks-some c.args.geometry.now.slots

@@ -1,8 +1,7 @@
-use Rattle.std.proofs.Common.{List, ℕ, true≢false, sym, subst, ◌∙◌, arith}
-use Rattle.volume_codec.specs.Descriptor.{RiseWithin}
-use Rattle.volume_codec.proofs.ReadingLemmas.{other_by_ne}
+use Rattle.std.proofs.Common.{List, ℕ, true≢false, ap, sym, subst, ◌∙◌, arith}
+use Rattle.volume_codec.specs.Descriptor.{RiseWithin, IsDescribed, IsDescriptor, descriptor_text}
 use Rattle.volume_codec.proofs.Functional.{reads_descriptor_block, read_descriptor_value}
-use Rattle.volume_codec.proofs.Functional.{refuses_described, refuses_other, found_homes, fallen_homes}
+use Rattle.volume_codec.proofs.Functional.{refuses_described, found_homes, fallen_homes}
 use Rattle.volume_codec.proofs.descriptor.read_descriptor.Goals as goal
 use Rattle.volume_codec.proofs.descriptor.read_descriptor.Goals.{then-mark-eq0-via-then-mark-eq0}
 use Rattle.volume_codec.proofs.descriptor.read_descriptor.Goals.{then-mark-eq0-via-else-mark-eq0+then-count-eq0}
@@ -10,7 +9,7 @@ use Rattle.volume_codec.proofs.descriptor.read_descriptor.Goals.{then-mark-eq0-v
 
 pub returns-then-mark-eq0-clause-refused : goal.returns-then-mark-eq0-clause-refused
 returns-then-mark-eq0-clause-refused g c = λ d is.
-    let r = reads_descriptor_block c.args.geometry.now d c.args.block.now c.slots-slots.ensures.geometry is in
+    let r = reads_descriptor_block c.args.geometry.now d c.args.bytes.now c.slots-slots.ensures.geometry is in
     let i = is.described in
     elim c.then-mark-eq0.branch [
       | then-mark-eq0-via-then-mark-eq0 w ↦
@@ -29,9 +28,9 @@ returns-then-mark-eq0-clause-refused g c = λ d is.
 
 pub returns-then-not-rise_within-clause-refused : goal.returns-then-not-rise_within-clause-refused
 returns-then-not-rise_within-clause-refused g c =
-    refuses_described c.args.geometry.now c.args.block.now
+    refuses_described c.args.geometry.now c.args.bytes.now
     (record { mark = c.u64_at-mark.result; homes = c.deref.result.now })
-    (λ d is. read_descriptor_value c.args.geometry.now d c.args.block.now c.u64_at-mark.result c.u32_at-count.result
+    (λ d is. read_descriptor_value c.args.geometry.now d c.args.bytes.now c.u64_at-mark.result c.u32_at-count.result
     c.deref.result.now c.slots-slots.ensures.geometry is
     c.u64_at-mark.ensures c.u32_at-count.ensures (c.deref.ensures.value ∙ c.in_ok-homes.ensures))
     (λ i.
@@ -39,24 +38,48 @@ returns-then-not-rise_within-clause-refused g c =
     c.first_home.ensures.value c.block_count.ensures.value i.homes) in
     true≢false (sym rises ∙ c.if-not-rise_within.true))
 
-pub write_descriptor-requires : goal.write_descriptor-requires
-write_descriptor-requires g c =
+pub is_spelled-requires-clause-described : goal.is_spelled-requires-clause-described
+is_spelled-requires-clause-described g c =
     let rises = c.rise_within.ensures.0 c.if-not-rise_within.false in
     let same = c.deref.ensures.value ∙ sym c.deref-2.ensures.value in
     let P : List ℕ → Type 0 = λ homes. RiseWithin c.first_home.result c.block_count.result homes in
     record {
       some_mark = omega arith;
       small_mark = omega arith;
-      homes = found_homes c.args.geometry.now c.args.block.now c.deref-2.result.now c.u32_at-count.result _ _
+      homes = found_homes c.args.geometry.now c.args.bytes.now c.deref-2.result.now c.u32_at-count.result _ _
           (c.deref-2.ensures.value ∙ c.in_ok-homes.ensures)
           (omega arith) (omega (arith, c.slots-slots.ensures.value)) c.first_home.ensures.value
           c.block_count.ensures.value (subst P same rises);
     }
 
-pub returns-then-ne-clause-refused : goal.returns-then-ne-clause-refused
-returns-then-ne-clause-refused g c =
-    refuses_other c.args.geometry.now c.args.block.now c.write_descriptor.result _
-    (λ d is. read_descriptor_value c.args.geometry.now d c.args.block.now c.u64_at-mark.result c.u32_at-count.result
-    c.deref-2.result.now c.slots-slots.ensures.geometry is
-    c.u64_at-mark.ensures c.u32_at-count.ensures (c.deref-2.ensures.value ∙ c.in_ok-homes.ensures))
-    c.write_descriptor.ensures.spelled (other_by_ne _ _ _ c.ne.ensures c.if-ne.true)
+pub returns-then-not-is_spelled-clause-refused : goal.returns-then-not-is_spelled-clause-refused
+returns-then-not-is_spelled-clause-refused g c =
+    let geometry = c.args.geometry.now in
+    λ d is.
+    let same = read_descriptor_value geometry d c.args.bytes.now c.u64_at-mark.result c.u32_at-count.result
+    c.deref-2.result.now c.slots-slots.ensures.geometry is c.u64_at-mark.ensures c.u32_at-count.ensures
+    (c.deref-2.ensures.value ∙ c.in_ok-homes.ensures) in
+    let spelled = c.is_spelled.ensures.1 (is.spelled ∙ ap (descriptor_text geometry.slots) (sym same)) in
+    absurd (true≢false (sym spelled ∙ c.if-not-is_spelled.true))
+
+pub returns-clause-ok : goal.returns-clause-ok
+returns-clause-ok g c =
+    let listed = c.deref-2.ensures.value in
+    let rises = c.rise_within.ensures.0 c.if-not-rise_within.false in
+    let same = c.deref.ensures.value ∙ sym c.deref-2.ensures.value in
+    let P : List ℕ → Type 0 = λ homes. RiseWithin c.first_home.result c.block_count.result homes in
+    let is_described : IsDescribed c.args.geometry.now
+    (record { mark = c.u64_at-mark.result; homes = c.deref-2.result.now }) = record {
+      some_mark = omega arith;
+      small_mark = omega arith;
+      homes = found_homes c.args.geometry.now c.args.bytes.now c.deref-2.result.now c.u32_at-count.result _ _
+          (c.deref-2.ensures.value ∙ c.in_ok-homes.ensures)
+          (omega arith) (omega (arith, c.slots-slots.ensures.value)) c.first_home.ensures.value
+          c.block_count.ensures.value (subst P same rises);
+    } in
+    let Q : List ℕ → Type 0 = λ homes. IsDescriptor c.args.geometry.now
+    (record { mark = c.u64_at-mark.result; homes = homes }) c.args.bytes.now in
+    subst Q listed (record {
+      described = is_described;
+      spelled = c.is_spelled.ensures.0 c.if-not-is_spelled.false;
+    })

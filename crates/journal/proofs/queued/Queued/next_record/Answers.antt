@@ -11,4 +11,4 @@ returns-in-Some-Recording-clause-within g c =
     sym c.stage.ensures
     ∙ c.in-Some-Recording.is
     ∙ ap Some c.in-Some-Recording.field-0-is in
-    recording_within (length w.batch.homes) w.steps c.in-Some-Recording.record at
+    recording_within (length w.batch.homes) w.described w.steps c.in-Some-Recording.record at

@@ -7,8 +7,10 @@ pub overflow_add-self : goal.overflow_add-self
 overflow_add-self g c =
     let w = c.args.self.now.write_out in
     let at : next_stage w ≡ Some c.unwrap-stage.result = sym c.stage.ensures ∙ c.unwrap-stage.ensures in
-    let few : w.steps < 2 * length w.batch.homes + 7 =
-    steps_few (length w.batch.homes) w.steps c.unwrap-stage.result at in
-    let inside : c.self.inside.steps < 2 * length c.self.inside.homes.items + 7 =
-    subst (λ f. f.write_out.steps < 2 * length f.write_out.batch.homes + 7) (sym c.self.view_is) few in
-    omega (arith, inside, c.self.invariant.1.few_slots, c.self.invariant.1.is_batch.described.homes.few)
+    let few : w.steps < 2 * length w.batch.homes + w.described + 6 =
+    steps_few (length w.batch.homes) w.described w.steps c.unwrap-stage.result at in
+    let inside : c.self.inside.steps < 2 * length c.self.inside.homes.items + c.self.inside.described + 6 =
+    subst (λ f. f.write_out.steps < 2 * length f.write_out.batch.homes + f.write_out.described + 6)
+    (sym c.self.view_is) few in
+    let is = c.self.invariant.1 in
+    omega (arith, inside, is.few_slots, is.is_batch.described.homes.few, is.described)

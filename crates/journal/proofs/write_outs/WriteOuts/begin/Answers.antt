@@ -1,4 +1,4 @@
-use Rattle.std.proofs.Common.{◌≡◌, ◌<◌, [], ◌∷◌, ◌++◌, map, ap, ◌∙◌, sym, subst, arith, refl}
+use Rattle.std.proofs.Common.{◌≡◌, ◌<◌, ◌≤◌, [], ◌∷◌, ◌++◌, length, map, ap, ◌∙◌, sym, subst, arith, refl}
 use Rattle.std.specs.Prelude.{is_ok, IsOk}
 use Rattle.std.specs.Vec.{vec_capacity}
 use Rattle.std.specs.List.{AllByRecursion}
@@ -8,9 +8,24 @@ use Rattle.journal.specs.inside.Queued.{queued_of}
 use Rattle.journal.specs.WriteOuts.{WriteOutsValue, is_busy, next_batch, begun}
 use Rattle.journal.specs.inside.Room.{outs_of, HasRoom}
 use Rattle.journal.specs.inside.Sound.{IsSound}
+use Rattle.journal.proofs.Alls.{all_back}
 use Rattle.journal.proofs.Sounding.{IsFree, not_busy, next_is_batch, begun_sound}
 use Rattle.journal.proofs.Rooms.{begun_view, begun_room, popped_last, length-write_outs}
 use Rattle.journal.proofs.write_outs.WriteOuts.begin.Goals as goal
+
+-- a spare list has room for the home blocks of a batch
+pub refilled-list-requires : goal.refilled-list-requires
+refilled-list-requires g c =
+    let slots = c.self.inside.geometry.slots in
+    let left = map (λ list. vec_capacity list) c.pop.new.self.items in
+    let popped = popped_last (λ list. vec_capacity list) c.self.inside.spare.items c.pop.new.self.items c.pop.result
+    c.unwrap.result c.pop.ensures.items c.unwrap.ensures in
+    let rooms = subst (AllByRecursion (λ r. slots ≤ r)) popped c.self.invariant.spare_are in
+    let own = (all_back (λ r. slots ≤ r) left (vec_capacity c.unwrap.result ∷ []) rooms).0 in
+    let few : length c.args.homes.now ≤ slots =
+    subst (λ (o : WriteOutsValue). length c.args.homes.now ≤ o.geometry.slots) (sym c.self.view_is)
+    c.requires.homes.few in
+    omega (arith, own, few)
 
 module _ (g : _) (c : goal.After-self-1 g) where
   abbrev outs : WriteOutsValue
@@ -36,7 +51,8 @@ module _ (g : _) (c : goal.After-self-1 g) where
 
   pushed : c.push.new.self.items
       ≡ c.self.inside.queued.items
-      ++ queued_of (next_batch outs c.args.mark c.args.homes.now) (vec_capacity c.refilled-list.result) ∷ []
+      ++ queued_of c.self.inside.geometry.slots (next_batch outs c.args.mark c.args.homes.now)
+      (vec_capacity c.refilled-list.result) ∷ []
   pushed =
       let size = c.self.inside.queued.ok.0 in
       let ok : IsOk c.push.result = c.push.ensures.succeeds (omega (
@@ -50,7 +66,8 @@ module _ (g : _) (c : goal.After-self-1 g) where
       ∙ cond-true (is_ok c.push.result)
       (c.self.inside.queued.items ++ c.new-one.result ∷ []) c.self.inside.queued.items ok
       ∙ ap (λ f. c.self.inside.queued.items ++ f ∷ [])
-      (c.new-one.ensures ∙ ap (λ l. queued_of (next_batch outs c.args.mark l) (vec_capacity c.refilled-list.result))
+      (c.new-one.ensures ∙ ap (λ l.
+      queued_of c.self.inside.geometry.slots (next_batch outs c.args.mark l) (vec_capacity c.refilled-list.result))
       c.refilled-list.ensures.items)
 
 pub invariant_of-self : goal.invariant_of-self

@@ -37,6 +37,18 @@ step-answer-requires-clause-batch g c =
     (all_at (IsWriteOut c.self.inside.geometry) (write_outs_in queued) w c.self.invariant.sound.each
     (c.unwrap-at.result, is.within, here)).batch
 
+pub step-answer-requires-clause-described : goal.step-answer-requires-clause-described
+step-answer-requires-clause-described g c =
+    let queued = c.self.inside.queued.items in
+    let w = c.index_mut-one.result.now.write_out in
+    let is : IsCurrent (write_outs_in queued) c.unwrap-at.result =
+    subst (λ o. IsCurrent o.batches c.unwrap-at.result) (sym c.self.view_is)
+    (subst (λ o. IfSome o (IsCurrent c.args.self.now.batches)) c.unwrap-at.ensures c.current_place.ensures.some) in
+    let lt : c.unwrap-at.result < length queued = omega (arith, is.within, length-write_outs queued) in
+    let here = at_place queued c.unwrap-at.result c.index_mut-one.result.now lt c.index_mut-one.ensures.value w in
+    (all_at (IsWriteOut c.self.inside.geometry) (write_outs_in queued) w c.self.invariant.sound.each
+    (c.unwrap-at.result, is.within, here)).described
+
 pub step-answer-requires-clause-going : goal.step-answer-requires-clause-going
 step-answer-requires-clause-going g c =
     let queued = c.self.inside.queued.items in
