@@ -1,5 +1,6 @@
 pub mod Stage
 pub mod Work
+pub mod Pages
 pub mod WriteOut
 pub mod WriteOuts
 pub mod Recovered

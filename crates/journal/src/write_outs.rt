@@ -1,12 +1,13 @@
 // The write-outs of a volume that aren't done.
-ghost use Rattle.std.specs.Prelude.{◌≡◌, ◌≢◌, ◌↔◌, ◌⊎◌, ℕ, ◌*◌, ◌<◌, ◌≤◌, false, true, IsTrue, List, [], length, map, Some, IfSome, IfNone, IfOk};
-ghost use Rattle.std.specs.List.{AllByRecursion};
+ghost use Rattle.std.specs.Prelude.{◌≡◌, ◌≢◌, ◌↔◌, ◌⊎◌, ℕ, ◌+◌, ◌*◌, ◌<◌, ◌≤◌, false, true, IsTrue, List, [], ◌++◌, length, map, Some, IfSome, IfNone, IfOk};
+ghost use Rattle.std.specs.List.{All, AllByRecursion};
 ghost use Rattle.std.specs.Vec.{vec_len, vec_capacity};
 ghost use Rattle.device.specs.Device.{LeavesOnly};
 ghost use Rattle.device.specs.Did.{Did};
 ghost use Rattle.volume_codec.specs.Layout.{IsGeometry, journals_of};
 ghost use Rattle.volume_codec.specs.Descriptor.{AreHomes};
 ghost use Rattle.volume_codec.specs.Super.{SuperValue};
+ghost use Rattle.journal.specs.Pages.{HasHome, home_of, homes_of};
 ghost use Rattle.journal.specs.Work.{has_done};
 ghost use Rattle.journal.specs.WriteOut.{broken_after};
 ghost use Rattle.journal.specs.WriteOuts.{none_of, has_uncommitted, current, current_stage, outs_record, outs_home, next_work, next_answer, outs_after, is_busy, following, begun, HasBlock};
@@ -17,9 +18,10 @@ ghost use Rattle.journal.specs.LedTo.{HasLedTo};
 use crate::queued::Queued;
 use crate::{Flushed, Stage};
 use device::Device;
+use page_entry::FilePage;
 use std::alloc::{AllocError, Allocator};
 use std::marker::Model;
-use volume_codec::Geometry;
+use volume_codec::{Geometry, Super};
 
 /// The write-outs of a volume that aren't done: at most one for each journal. A batch may be recorded and committed
 /// while an older one is still applied; its own application waits until the older one is done.
@@ -87,16 +89,44 @@ fn blank_block() -> [u8; 4096] {
     [0; 4096]
 }
 
-// A list of these home blocks, in the memory of another.
-fn refilled<A: Allocator + Copy>(mut list: Vec<u32, A>, homes: &[u32]) -> Vec<u32, A>
-    requires { length homes.now ≤ vec_capacity list }
-    ensures items { result.items ≡ homes.now }
+// The home block of a page.
+fn home_of<A: Allocator + Copy>(table: &Super<A>, page: FilePage) -> u32
+    requires { HasHome table.now page }
+    ensures { result ≡ home_of table.now page }
+{
+    let _blocks = table.block_count();
+    table.first_home(page.file as usize) + page.page
+}
+
+// The home block of the lengths, where one was set, in the memory of another list.
+fn refilled<A: Allocator + Copy>(
+    mut list: Vec<u32, A>,
+    table: &Super<A>,
+    resized: bool,
+) -> Vec<u32, A>
+    requires { 1 ≤ vec_capacity list }
+    ensures items { result.items ≡ homes_of table.now resized [] }
     ensures room { vec_capacity list ≤ vec_capacity result }
 {
     list.clear();
-    // There is room for them.
-    let _ = list.extend_from_slice(homes);
+    if resized {
+        // There is room for it.
+        let _ = list.push(table.geometry().first_home());
+    }
     list
+}
+
+// Then those of pages.
+fn add_homes<A: Allocator + Copy>(list: &mut Vec<u32, A>, table: &Super<A>, pages: &[FilePage])
+    requires room { vec_len list.old + length pages.now ≤ vec_capacity list.old }
+    requires pages { All (HasHome table.now) pages.now }
+    ensures items { list.new.items ≡ list.old.items ++ map (home_of table.now) pages.now }
+    ensures room { vec_capacity list.old ≤ vec_capacity list.new }
+{
+    for page in pages {
+        // There is room for it.
+        let _ = list.push(home_of(table, *page));
+    }
 }
 
 // What follows of a step's answer: the oldest leaves where it is done, and its list is spare again; or a device call
@@ -234,18 +264,21 @@ impl<A: Allocator + Copy> WriteOuts<A> {
         self.queued[at].next_home()
     }
 
-    /// Begins the write-out of a batch of these home blocks, in rising order, under a mark above those of all that
-    /// aren't done. It goes through the journal whose turn it is: journals take turns by batches, from journal 0 on,
-    /// and that one is free since the write-outs aren't busy. It takes no memory and makes no device call.
-    pub fn begin(&mut self, mark: u64, homes: &[u32])
+    /// Begins the write-out of a batch of pages of the table's files, in rising order, after the block of the files'
+    /// lengths where one was set, under a mark above those of all that aren't done. It goes through the journal whose
+    /// turn it is: journals take turns by batches, from journal 0 on, and that one is free since the write-outs aren't
+    /// busy. It takes no memory and makes no device call.
+    pub fn begin(&mut self, mark: u64, table: &Super<A>, resized: bool, pages: &[FilePage])
         requires whole { self.old.broken ≡ false }
         requires free { is_busy self.old ≡ false }
         requires some_mark { 0 < mark }
-        requires homes { AreHomes self.old.geometry homes.now }
+        requires pages { All (HasHome table.now) pages.now }
+        requires homes { AreHomes self.old.geometry (homes_of table.now resized pages.now) }
         requires newest { AllByRecursion (λ w. w.batch.mark < mark) self.old.batches }
-        ensures { self.new ≡ begun self.old mark homes.now }
+        ensures { self.new ≡ begun self.old mark (homes_of table.now resized pages.now) }
     {
-        let list = refilled(self.spare.pop().unwrap(), homes);
+        let mut list = refilled(self.spare.pop().unwrap(), table, resized);
+        add_homes(&mut list, table, pages);
         let one = Queued::new(&self.geometry, self.next, mark, list);
         // There is room for a write-out in each journal.
         let _ = self.queued.push(one);

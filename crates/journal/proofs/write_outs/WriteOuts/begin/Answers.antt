@@ -1,9 +1,15 @@
-use Rattle.std.proofs.Common.{◌≡◌, ◌<◌, ◌≤◌, [], ◌∷◌, ◌++◌, length, map, ap, ◌∙◌, sym, subst, arith, refl}
+use Rattle.std.proofs.Common.{◌≡◌, ◌<◌, ◌≤◌, ◌+◌, Bool, true, false, List, [], ◌∷◌, ◌++◌, cond, length, map, ap, ◌∙◌, sym}
+use Rattle.std.proofs.Common.{ℕ, subst, arith, refl}
 use Rattle.std.specs.Prelude.{is_ok, IsOk}
 use Rattle.std.specs.Vec.{vec_capacity}
 use Rattle.std.specs.List.{AllByRecursion}
 use Rattle.std.proofs.lemmas.Bool.{cond-true}
+use Rattle.std.proofs.lemmas.List.{length-append, length-map}
 use Rattle.volume_codec.specs.Descriptor.{AreHomes}
+use Rattle.page_entry.specs.declared.numbers.FilePage.{FilePage}
+use Rattle.volume_codec.specs.Layout.{first_home}
+use Rattle.volume_codec.specs.Super.{SuperValue}
+use Rattle.journal.specs.Pages.{home_of, homes_of}
 use Rattle.journal.specs.inside.Queued.{queued_of}
 use Rattle.journal.specs.WriteOuts.{WriteOutsValue, is_busy, next_batch, begun}
 use Rattle.journal.specs.inside.Room.{outs_of, HasRoom}
@@ -11,38 +17,74 @@ use Rattle.journal.specs.inside.Sound.{IsSound}
 use Rattle.journal.proofs.Alls.{all_back}
 use Rattle.journal.proofs.Sounding.{IsFree, not_busy, next_is_batch, begun_sound}
 use Rattle.journal.proofs.Rooms.{begun_view, begun_room, popped_last, length-write_outs}
+use Rattle.journal.proofs.write_outs.WriteOuts.begin.Goals.{After-unwrap}
 use Rattle.journal.proofs.write_outs.WriteOuts.begin.Goals as goal
 
+-- first that of the lengths, then those of the pages
+parts : (table : SuperValue) (resized : Bool) (pages : List FilePage)
+    → homes_of table resized [] ++ map (home_of table) pages ≡ homes_of table resized pages
+parts table true pages = refl
+parts table false pages = refl
+
 -- a spare list has room for the home blocks of a batch
+module _ (g : _) (c : After-unwrap g) where
+  room : length (homes_of c.args.table.now c.args.resized c.args.pages.now) ≤ vec_capacity c.unwrap.result
+  room =
+      let slots = c.self.inside.geometry.slots in
+      let left = map (λ list. vec_capacity list) c.pop.new.self.items in
+      let popped = popped_last (λ list. vec_capacity list) c.self.inside.spare.items c.pop.new.self.items c.pop.result
+      c.unwrap.result c.pop.ensures.items c.unwrap.ensures in
+      let rooms = subst (AllByRecursion (λ r. slots ≤ r)) popped c.self.invariant.spare_are in
+      let own = (all_back (λ r. slots ≤ r) left (vec_capacity c.unwrap.result ∷ []) rooms).0 in
+      let few : length (homes_of c.args.table.now c.args.resized c.args.pages.now) ≤ slots =
+      subst (λ (o : WriteOutsValue).
+      length (homes_of c.args.table.now c.args.resized c.args.pages.now) ≤ o.geometry.slots) (sym c.self.view_is)
+      c.requires.homes.few in
+      omega (arith, own, few)
+
 pub refilled-list-requires : goal.refilled-list-requires
 refilled-list-requires g c =
-    let slots = c.self.inside.geometry.slots in
-    let left = map (λ list. vec_capacity list) c.pop.new.self.items in
-    let popped = popped_last (λ list. vec_capacity list) c.self.inside.spare.items c.pop.new.self.items c.pop.result
-    c.unwrap.result c.pop.ensures.items c.unwrap.ensures in
-    let rooms = subst (AllByRecursion (λ r. slots ≤ r)) popped c.self.invariant.spare_are in
-    let own = (all_back (λ r. slots ≤ r) left (vec_capacity c.unwrap.result ∷ []) rooms).0 in
-    let few : length c.args.homes.now ≤ slots =
-    subst (λ (o : WriteOutsValue). length c.args.homes.now ≤ o.geometry.slots) (sym c.self.view_is)
-    c.requires.homes.few in
-    omega (arith, own, few)
+    omega (arith, room g (goal.at.refilled-list-requires g c).After-unwrap, c.requires.homes.some)
+
+pub add_homes-requires-clause-room : goal.add_homes-requires-clause-room
+add_homes-requires-clause-room g c =
+    let first = homes_of c.args.table.now c.args.resized [] in
+    let pages = map (home_of c.args.table.now) c.args.pages.now in
+    omega (
+      arith,
+      room g (goal.at.add_homes-requires-clause-room g c).After-unwrap,
+      ap length (parts c.args.table.now c.args.resized c.args.pages.now),
+      length-append first pages,
+      length-map c.args.pages.now (home_of c.args.table.now),
+      ap length c.refilled-list.ensures.items,
+      c.refilled-list.result.ok.0,
+      c.refilled-list.ensures.room,
+    )
 
 module _ (g : _) (c : goal.After-self-1 g) where
+  abbrev homes : List ℕ
+  homes = homes_of c.args.table.now c.args.resized c.args.pages.now
+
+  listed : c.add_homes.new.list.items ≡ homes
+  listed = c.add_homes.ensures.items
+      ∙ ap (λ (l : List ℕ). l ++ map (home_of c.args.table.now) c.args.pages.now) c.refilled-list.ensures.items
+      ∙ parts c.args.table.now c.args.resized c.args.pages.now
+
   abbrev outs : WriteOutsValue
   outs = outs_of c.self.inside.geometry c.self.inside.next c.self.inside.queued.items c.self.inside.broken
 
   free : IsFree outs
   free = not_busy outs c.self.invariant.sound (ap is_busy c.self.view_is ∙ c.requires.free)
 
-  sound : IsSound (begun outs c.args.mark c.args.homes.now)
+  sound : IsSound (begun outs c.args.mark homes)
   sound =
       let below = subst (λ (o : WriteOutsValue). AllByRecursion (λ w. w.batch.mark < c.args.mark) o.batches)
       (sym c.self.view_is) c.requires.newest in
-      let homes =
-      subst (λ (o : WriteOutsValue). AreHomes o.geometry c.args.homes.now) (sym c.self.view_is) c.requires.homes in
-      begun_sound outs c.args.mark c.args.homes.now c.self.invariant.sound free
-      (next_is_batch outs c.args.mark c.args.homes.now c.self.invariant.sound c.requires.some_mark
-      (omega (arith, c.ranges.mark.fits)) homes) below
+      let are =
+      subst (λ (o : WriteOutsValue). AreHomes o.geometry homes) (sym c.self.view_is) c.requires.homes in
+      begun_sound outs c.args.mark homes c.self.invariant.sound free
+      (next_is_batch outs c.args.mark homes c.self.invariant.sound c.requires.some_mark
+      (omega (arith, c.ranges.mark.fits)) are) below
 
   popped : map (λ list. vec_capacity list) c.self.inside.spare.items
       ≡ map (λ list. vec_capacity list) c.pop.new.self.items ++ vec_capacity c.unwrap.result ∷ []
@@ -51,8 +93,8 @@ module _ (g : _) (c : goal.After-self-1 g) where
 
   pushed : c.push.new.self.items
       ≡ c.self.inside.queued.items
-      ++ queued_of c.self.inside.geometry.slots (next_batch outs c.args.mark c.args.homes.now)
-      (vec_capacity c.refilled-list.result) ∷ []
+      ++ queued_of c.self.inside.geometry.slots (next_batch outs c.args.mark homes)
+      (vec_capacity c.add_homes.new.list) ∷ []
   pushed =
       let size = c.self.inside.queued.ok.0 in
       let ok : IsOk c.push.result = c.push.ensures.succeeds (omega (
@@ -67,20 +109,20 @@ module _ (g : _) (c : goal.After-self-1 g) where
       (c.self.inside.queued.items ++ c.new-one.result ∷ []) c.self.inside.queued.items ok
       ∙ ap (λ f. c.self.inside.queued.items ++ f ∷ [])
       (c.new-one.ensures ∙ ap (λ l.
-      queued_of c.self.inside.geometry.slots (next_batch outs c.args.mark l) (vec_capacity c.refilled-list.result))
-      c.refilled-list.ensures.items)
+      queued_of c.self.inside.geometry.slots (next_batch outs c.args.mark l) (vec_capacity c.add_homes.new.list))
+      listed)
 
 pub invariant_of-self : goal.invariant_of-self
 invariant_of-self g c =
     let has = begun_room (outs g c) c.self.inside.queued.items c.push.new.self.items
     (map (λ list. vec_capacity list) c.self.inside.spare.items) (map (λ list. vec_capacity list) c.pop.new.self.items)
     (vec_capacity c.self.inside.queued) (vec_capacity c.push.new.self) (vec_capacity c.self.inside.spare)
-    (vec_capacity c.pop.new.self) c.args.mark c.args.homes.now (vec_capacity c.unwrap.result)
-    (vec_capacity c.refilled-list.result)
-    c.self.invariant (sound g c) (pushed g c) (popped g c) c.refilled-list.ensures.room c.push.ensures.capacity
+    (vec_capacity c.pop.new.self) c.args.mark (homes g c) (vec_capacity c.unwrap.result)
+    (vec_capacity c.add_homes.new.list)
+    c.self.invariant (sound g c) (pushed g c) (popped g c) (omega (arith, c.refilled-list.ensures.room, c.add_homes.ensures.room)) c.push.ensures.capacity
     (omega (arith, c.pop.ensures.capacity)) in
-    let same = begun_view (outs g c) c.self.inside.queued.items c.push.new.self.items c.args.mark c.args.homes.now
-    (vec_capacity c.refilled-list.result) c.journal_after-self-inside.result refl
+    let same = begun_view (outs g c) c.self.inside.queued.items c.push.new.self.items c.args.mark (homes g c)
+    (vec_capacity c.add_homes.new.list) c.journal_after-self-inside.result refl
     (pushed g c) c.journal_after-self-inside.ensures in
     subst (λ o. HasRoom o c.push.new.self.items (vec_capacity c.push.new.self)
     (map (λ list. vec_capacity list) c.pop.new.self.items) (vec_capacity c.pop.new.self))
@@ -88,7 +130,7 @@ invariant_of-self g c =
 
 pub returns : goal.returns
 returns g c =
-    begun_view (outs g c) c.self.inside.queued.items c.push.new.self.items c.args.mark c.args.homes.now
-    (vec_capacity c.refilled-list.result) c.journal_after-self-inside.result refl
+    begun_view (outs g c) c.self.inside.queued.items c.push.new.self.items c.args.mark (homes g c)
+    (vec_capacity c.add_homes.new.list) c.journal_after-self-inside.result refl
     (pushed g c) c.journal_after-self-inside.ensures
-    ∙ ap (λ o. begun o c.args.mark c.args.homes.now) c.self.view_is
+    ∙ ap (λ o. begun o c.args.mark (homes g c)) c.self.view_is
