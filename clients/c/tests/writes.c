@@ -9,8 +9,8 @@
 
 #define SLOTS 1020
 #define COMMITS 3
-/* How many blocks one call writes at most. */
-#define MOST_BLOCKS 1024
+/* How many ranges of memory one call writes at most. */
+#define MOST_RANGES 1024
 
 static atomic_uint writes, syncs;
 
@@ -54,22 +54,39 @@ static unsigned slots_for(struct shape shape)
     return homes_of(shape) > SLOTS ? homes_of(shape) : SLOTS;
 }
 
-/* How many calls write a run of so many blocks. */
-static unsigned calls_for(unsigned blocks)
+/* How many calls write a gate and this: runs of so many blocks. Where the core has each block by itself, a call writes
+   as many blocks as ranges; those that lie one behind the other in memory are one range. */
+struct count {
+    unsigned least, most;
+};
+
+static struct count count_of(unsigned runs, unsigned blocks)
 {
-    return (blocks + MOST_BLOCKS - 1) / MOST_BLOCKS;
+    return (struct count){1 + runs, 1 + runs * ((blocks + MOST_RANGES - 1) / MOST_RANGES)};
 }
 
-/* How many calls write a commit up to its acknowledgement, in which its descriptor and its records are one run, and how
-   many write it home. */
-static unsigned writes_to_commit(struct shape shape)
+/* What is written up to a commit's acknowledgement, where its descriptor and its records are one run, and after it. */
+static struct count writes_to_commit(struct shape shape)
 {
-    return calls_for(descriptor_blocks(slots_for(shape)) + homes_of(shape)) + 1;
+    return count_of(1, descriptor_blocks(slots_for(shape)) + homes_of(shape));
 }
 
-static unsigned writes_home(struct shape shape)
+static struct count writes_home(struct shape shape)
 {
-    return (shape.apart > 1 ? shape.pages : calls_for(homes_of(shape))) + 1;
+    return shape.apart > 1 ? count_of(shape.pages, 1) : count_of(1, homes_of(shape));
+}
+
+static bool were_made(struct count count)
+{
+    return count.least <= writes && writes <= count.most;
+}
+
+/* So many commits were written, and home. */
+static bool were_written(struct shape shape, unsigned commits)
+{
+    struct count first = writes_to_commit(shape), then = writes_home(shape);
+    return were_made((struct count){commits * (first.least + then.least), commits * (first.most + then.most)}) &&
+           syncs == 4 * commits;
 }
 
 static void make_file(struct shape shape)
@@ -122,7 +139,7 @@ static void count_commits(struct shape shape, enum way way, struct famsync_optio
             usleep(20000);
     }
     end(way);
-    if (writes != COMMITS * (writes_to_commit(shape) + writes_home(shape)) || syncs != COMMITS * 4) {
+    if (!were_written(shape, COMMITS)) {
         fprintf(stderr, "writes: %u pages, every %u, layout %u: %u writes and %u syncs of %d commits\n", shape.pages,
                 shape.apart, shape.layout, writes, syncs, COMMITS);
         exit(1);
@@ -155,7 +172,7 @@ static void beside_others(struct shape shape)
     atomic_store(&stopped, true);
     pthread_join(loader, NULL);
     end(BY_POINTER);
-    WANT(writes == COMMITS * (writes_to_commit(shape) + writes_home(shape)) && syncs == COMMITS * 4);
+    WANT(were_written(shape, COMMITS));
 }
 
 /* What an ended process left of its commit is what is to be written home and two syncs, after the sync with which each
@@ -169,13 +186,13 @@ static void after_an_end(struct shape shape)
     if (child == 0) {
         begin((struct famsync_options){.foreground = 1}, BY_POINTER);
         commit(shape, BY_POINTER, 1);
-        _exit(writes == writes_to_commit(shape) && syncs == 2 ? 0 : 1);
+        _exit(were_made(writes_to_commit(shape)) && syncs == 2 ? 0 : 1);
     }
     WANT(waitpid(child, &status, 0) == child && WIFEXITED(status) && WEXITSTATUS(status) == 0);
     atomic_store(&writes, 0);
     atomic_store(&syncs, 0);
     handle = opened_with((struct famsync_options){.frames = 1});
-    WANT(writes == writes_home(shape) && syncs == 3);
+    WANT(were_made(writes_home(shape)) && syncs == 3);
     WANT_CODE(famsync_close(handle), FAMSYNC_OK);
 }
 
