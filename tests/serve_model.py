@@ -4,6 +4,7 @@ It has the files' bytes and lengths, the mappings, the pages that were stored to
 commit is made: no TLB, no frames, no journal. Where an answer hangs on those, it says so.
 """
 
+import collections
 import json
 import re
 import struct
@@ -135,28 +136,53 @@ def request_of(line):
     return [step_of(value)]
 
 
+def journals_of(layout):
+    return {1: 1, 2: 2, 3: 2, 4: 4}[layout]
+
+
+def has_lengths(layout):
+    """Whether a volume of the layout has a block for the lengths of its files."""
+    return layout >= 3
+
+
+def descriptor_blocks(slots):
+    """How many blocks the descriptor of a journal with so many slots has: 16 bytes and 4 for each slot."""
+    return (16 + 4 * slots + PAGE - 1) // PAGE
+
+
+def gates_of(layout, slots):
+    """The gate blocks of the journals. Each has its descriptor behind it, and then its slots."""
+    return [1 + journal * (1 + descriptor_blocks(slots) + slots) for journal in range(journals_of(layout))]
+
+
+def first_home(layout, slots):
+    """The first block after the journals."""
+    return 1 + journals_of(layout) * (1 + descriptor_blocks(slots) + slots)
+
+
 def files_of(volume):
     """What the bytes of a volume recover to: home blocks, with the records of open journals in their places, and in
-    layout 3 each file cut at the length that the block before them says."""
+    layouts 3 and 4 each file cut at the length that the block before them says."""
+    layout = int(volume[7:8])
     count, slots = struct.unpack(">II", volume[8:16])
-    gates = [1] if volume[:8] == b"FAMSYNC1" else [1, 3 + slots]
     journals = []
-    for gate in gates:
+    for gate in gates_of(layout, slots):
         if volume[gate * PAGE] == 0xA7:
             begin = (gate + 1) * PAGE
             mark, records = struct.unpack(">QI", volume[begin : begin + 12])
             homes = struct.unpack(f">{records}I", volume[begin + 16 : begin + 16 + 4 * records])
-            journals.append((mark, {home: gate + 2 + record for record, home in enumerate(homes)}))
+            slot = gate + 1 + descriptor_blocks(slots)
+            journals.append((mark, {home: slot + record for record, home in enumerate(homes)}))
     places = {}
     for _, records in sorted(journals, key=lambda journal: journal[0]):
         places.update(records)
     contents = []
-    block_of_lengths = 5 + 2 * slots
+    block_of_lengths = first_home(layout, slots)
     lengths_at = PAGE * places.get(block_of_lengths, block_of_lengths)
     for file in range(count):
         begin = 64 + 48 * file
         length, home, pages = struct.unpack(">QII", volume[begin : begin + 16])
-        if volume[:8] == b"FAMSYNC3":
+        if has_lengths(layout):
             (length,) = struct.unpack(">Q", volume[lengths_at + 8 * file : lengths_at + 8 * file + 8])
         blocks = (PAGE * places.get(block, block) for block in range(home, home + pages))
         contents.append(b"".join(volume[block : block + PAGE] for block in blocks)[:length])
@@ -169,9 +195,9 @@ def pages_of(length):
 
 class Model:
     """One processor, or several that are all active and in whatever space they were switched to. `capacities` are those
-    of the files in layout 3; in another layout there are none."""
+    of the files in layouts 3 and 4; in another layout there are none."""
 
-    def __init__(self, files, cpus=1, capacities=None):
+    def __init__(self, files, cpus=1, capacities=None, journals=2):
         self.lengths = [length for _, length in files]
         self.capacities = capacities
         self.memory = [bytearray(PAGE * pages_of(length)) for length in self.lengths]
@@ -179,8 +205,8 @@ class Model:
         self.resized = False
         self.kept = [bytes(memory) for memory in self.memory]
         self.stored = set()
-        # pages of the last two commits, whose write-outs may still be under way
-        self.last, self.earlier = set(), set()
+        # pages of the last commits, one for each journal, whose write-outs may still be under way
+        self.last = collections.deque(maxlen=journals)
         self.marks = 0
         self.spaces = {}
         self.current = [0] * cpus
@@ -260,7 +286,7 @@ class Model:
             return "noframe after a whole page, or after 0"
         cut = (act, processor, at, done if act == "loads" else bytes.fromhex(what[: 2 * done]))
         whole = self.range(cut)
-        stay = self.stored | self.last | self.earlier | self.past_the_end()
+        stay = self.stored.union(*self.last) | self.past_the_end()
         if len(stay) < frames:
             return f"a page more, as {len(stay)} have to stay in memory and there are {frames} frames"
         return f"noframe after {done}" + (" " + whole[7:] if act == "loads" and done > 0 else "")
@@ -268,7 +294,7 @@ class Model:
     def commit(self):
         self.marks += 1
         if self.stored or self.resized:
-            self.last, self.earlier = set(self.stored), self.last
+            self.last.append(set(self.stored))
         self.kept_lengths, self.resized = list(self.lengths), False
         self.kept = [kept[: len(memory)].ljust(len(memory), b"\0") for kept, memory in zip(self.kept, self.memory)]
         for file, page in self.stored:

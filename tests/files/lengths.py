@@ -13,22 +13,28 @@ GROWS += [[0, "setlength", 0, 9000], [1, "ack"], [0, "change"], [1, "resume"]]
 SHORT, LONG = "a 5000\nb 4096\n", "a 9000\n000000002320" + " 00" * 7 + " 07\nb 4096\n"
 
 
-def growing_volume():
+def growing_volume(layout):
     clear()
-    made = famsync("format", "--layout", "3", "v.img", "4", "a=5000/12288", "b=4096")
-    want((made.status, made.out) == (0, "formatted 18 blocks\n"), "a volume whose file may grow", made)
+    made = famsync("format", "--layout", layout, "v.img", "4", "a=5000/12288", "b=4096")
+    blocks = {"3": 18, "4": 30}[layout]
+    want((made.status, made.out) == (0, f"formatted {blocks} blocks\n"), "a volume whose file may grow", made)
 
 
 def lengths():
+    for layout in "34":
+        lengths_in(layout)
+
+
+def lengths_in(layout):
     """A file grows: of a run that is killed at a call the length is the old one or the new one, with its bytes; and
     what threads do with it is a trace that is run again."""
     shape = {"cpus": 2, "tlb": 8, "frames": 3, "copies": 0}
     stored = GROWS + [[0, "fix", 12288, "write"], [0, "store", 13095, [7]], [0, "msync", 0, 0, 4], [1, "ack"], [0, "change"]]
     write("grows.json", json.dumps({**shape, "steps": stored + [[0, "flush"]] * 13}))
     words, found = ["run", "v.img", "grows.json"], []
-    growing_volume()
+    growing_volume(layout)
     for call in range(1, calls_of(words) + 2):
-        growing_volume()
+        growing_volume(layout)
         ran = famsync(*words, fault=f"kill:{call}")
         found.append(has(SHORT, LONG))
         want(found[-1] == 1 or "committed" not in ran.out, "an acknowledged length is there", call, ran)
@@ -38,7 +44,7 @@ def lengths():
     # The steps of a script of threads, and those of its trace.
     programs = [[["store", 13095, [7]], ["msync", 0, 0, 4]], [["await", 13095, 7], ["load", 9096, 1]]]
     write("threads.json", json.dumps({**shape, "trace": 1000, "steps": GROWS, "programs": programs}))
-    growing_volume()
+    growing_volume(layout)
     before = bytes_of("v.img")
     ran = famsync("threads", "v.img", "threads.json")
     entries = ran.out.splitlines()[1:]

@@ -21,7 +21,7 @@ def migrations():
     made = famsync("migrate", "--json", "v.img", "w.img", "2")
     want((made.status, json.loads(made.out)) == (0, {"blocks": 13}), "as JSON, over another", made)
     # Volumes of each layout, cut off at each call of a second commit, so that gates are open.
-    for layout in "123":
+    for layout in "1234":
         clear()
         want(famsync("format", "--layout", layout, "v.img", "5", "a=5000", "b=4096").status == 0, "a volume is made", layout)
         want(famsync("run", "v.img", "old.json").status == 0, "and written to", layout)

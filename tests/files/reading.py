@@ -16,8 +16,11 @@ from files.program import (
 
 def info_of(image):
     """What a volume says, read from its bytes."""
-    layout = {b"FAMSYNC1": 1, b"FAMSYNC2": 2, b"FAMSYNC3": 3}[image[:8]]
+    layout = int(image.removeprefix(b"FAMSYNC")[:1])
     count, slots, blocks = struct.unpack_from(">III", image, 8)
+    journals = {1: 1, 2: 2, 3: 2, 4: 4}[layout]
+    described = -(-(16 + 4 * slots) // 4096)  # the blocks of a descriptor
+    has_lengths = layout >= 3
     said = {"layout": layout, "slots": slots, "blocks": blocks, "bytes": 4096 * blocks, "files": [], "journals": []}
     places = {}
     for i in range(count):
@@ -25,16 +28,19 @@ def info_of(image):
         capacity, home, pages = struct.unpack_from(">QII", image, 64 + 48 * i)
         said["files"].append({"name": name, "length": capacity, "capacity": capacity, "pages": pages, "home": home})
         places.update({home + page: {"file": name, "page": page} for page in range(pages)})
-    said["opening_calls"] = 2 + layout
-    lengths = [(0, 5 + 2 * slots)] if layout == 3 else []  # which block has the lengths, after which mark
-    for number in range(min(layout, 2)):
-        at = 4096 * (1 + number * (2 + slots))
+    # the super block, a sync, each gate and the lengths
+    said["opening_calls"] = 2 + journals + has_lengths
+    # which block has the lengths, after which mark
+    lengths = [(0, 1 + journals * (1 + described + slots))] if has_lengths else []
+    for number in range(journals):
+        at = 4096 * (1 + number * (1 + described + slots))
         journal = {"number": number, "gate": image[at], "open": image[at] == 0xA7}
         if journal["open"]:
             mark, records = struct.unpack_from(">QI", image, at + 4096)
             homes = struct.unpack_from(f">{records}I", image, at + 4096 + 16)
             journal.update(mark=mark, blocks=[places.get(home, {"block": home}) for home in homes])
-            lengths += [(mark, at // 4096 + 2 + i) for i, home in enumerate(homes) if home not in places]
+            slot = at // 4096 + 1 + described
+            lengths += [(mark, slot + i) for i, home in enumerate(homes) if home not in places]
             said["opening_calls"] += 2 * records + 4
         said["journals"].append(journal)
     for _, block in sorted(lengths)[-1:]:
@@ -98,7 +104,9 @@ def looked_at(path):
 
 def looks():
     """Volumes after each call of a run: what is said of them, and that nothing is written to them."""
-    for layout, slots, length in (("1", "4", "5000"), ("2", "4", "5000"), ("3", "5", "5000/12288")):
+    shapes = [("1", "4", "5000"), ("2", "4", "5000"), ("3", "5", "5000/12288"), ("4", "5", "5000/12288")]
+    shapes.append(("4", "1021", "5000/12288"))  # descriptors of two blocks
+    for layout, slots, length in shapes:
         words = ["run", "v.img", "newer.json"]
         states = set()
         for call in itertools.count(1):

@@ -22,7 +22,7 @@ static uint64_t mapped(famsync *handle, const char *file)
 
 static void in_the_background(void)
 {
-    for (unsigned layout = 1; layout <= 3; layout++) {
+    for (unsigned layout = 1; layout <= LAYOUTS; layout++) {
         make_volume_of(layout, 16, "a=65536");
         famsync *handle = opened();
         uint64_t address = mapped(handle, "a"), mark;
@@ -63,11 +63,27 @@ static void in_the_foreground(void)
     WANT_CODE(famsync_close(handle), FAMSYNC_OK);
 }
 
-/* A session that is cut off after its commit: the next one carries it out, in each layout and from either journal. */
+/* How many gates are open. */
+static unsigned open_gates(unsigned layout, unsigned slots)
+{
+    unsigned count = 0;
+    int file = open(volume, O_RDONLY | O_CLOEXEC);
+    for (unsigned journal = 0; journal < journals_of(layout); journal++) {
+        unsigned char gate = 0;
+        WANT(pread(file, &gate, 1, (off_t)gate_block(slots, journal) * 4096) == 1);
+        count += gate == 0xA7;
+    }
+    WANT(close(file) == 0);
+    return count;
+}
+
+/* A session that is cut off after its commits, of which each journal has one: the next one carries them out, in each
+   layout and from any journal on. */
 static void cut_off(void)
 {
-    for (unsigned layout = 1; layout <= 3; layout++)
-        for (uint64_t rounds = 1; rounds <= 3; rounds++) {
+    for (unsigned layout = 1; layout <= LAYOUTS; layout++)
+        for (uint64_t rounds = 1; rounds <= 5; rounds++) {
+            unsigned journals = journals_of(layout);
             int status;
             make_volume_of(layout, 16, "a=65536");
             pid_t child = fork();
@@ -82,7 +98,9 @@ static void cut_off(void)
                 kill(getpid(), SIGKILL);
             }
             WANT(waitpid(child, &status, 0) == child && WIFSIGNALED(status));
+            WANT(open_gates(layout, 16) == (rounds < journals ? rounds : journals));
             famsync *handle = opened();
+            WANT(open_gates(layout, 16) == 0);
             uint64_t address = mapped(handle, "a"), value;
             for (uint64_t round = 0; round <= rounds; round++) {
                 WANT_CODE(famsync_load(handle, address + round * 4096, &value, 8, NULL), FAMSYNC_OK);
@@ -90,6 +108,52 @@ static void cut_off(void)
             }
             WANT_CODE(famsync_close(handle), FAMSYNC_OK);
         }
+}
+
+/* Commits of 1,500 pages in layout 4, whose descriptors have two blocks; each page has its number and that of the
+   commit. Three of them were acknowledged when the session is cut off, and the next session has them. */
+#define LARGE 1500u
+
+static void store_large(famsync *handle, uint64_t address, uint64_t round)
+{
+    for (uint64_t page = 0; page < LARGE; page++) {
+        uint64_t words[2] = {page, round};
+        WANT_CODE(famsync_store(handle, address + page * 4096 + 8 * (page % 500), words, 16, NULL), FAMSYNC_OK);
+    }
+}
+
+static void large_commits(void)
+{
+    unsigned char byte = 1;
+    int status;
+    make_volume_of(4, LARGE + 1, "a=6160384 b=5000/9000"); /* `a` has 1,504 pages */
+    pid_t child = fork();
+    if (child == 0) {
+        famsync *handle = opened_with((struct famsync_options){.foreground = 1});
+        uint64_t address = mapped(handle, "a");
+        for (uint64_t round = 1; round <= 3; round++) {
+            store_large(handle, address, round);
+            WANT_CODE(famsync_setlength(handle, "b", 5000 - round), FAMSYNC_OK);
+            WANT_CODE(famsync_msync(handle, NULL), FAMSYNC_OK);
+        }
+        kill(getpid(), SIGKILL);
+    }
+    WANT(waitpid(child, &status, 0) == child && WIFSIGNALED(status));
+    WANT(open_gates(4, LARGE + 1) == 3);
+    famsync *handle = opened();
+    WANT(open_gates(4, LARGE + 1) == 0);
+    WANT(famsync_frames(handle) == LARGE && famsync_file_length(handle, 1) == 4997);
+    uint64_t address = mapped(handle, "a"), words[2];
+    for (uint64_t page = 0; page < LARGE; page++) {
+        WANT_CODE(famsync_load(handle, address + page * 4096 + 8 * (page % 500), words, 16, NULL), FAMSYNC_OK);
+        WANT(words[0] == page && words[1] == 3);
+    }
+    store_large(handle, address, 4);
+    WANT_CODE(famsync_store(handle, address + LARGE * 4096, &byte, 1, NULL), FAMSYNC_NOFRAME);
+    WANT_CODE(famsync_msync(handle, NULL), FAMSYNC_OK);
+    WANT_CODE(famsync_store(handle, address + LARGE * 4096, &byte, 1, NULL), FAMSYNC_OK);
+    WANT_CODE(famsync_close(handle), FAMSYNC_OK);
+    WANT(open_gates(4, LARGE + 1) == 0);
 }
 
 static void in_child(famsync *handle, famsync_memory *memory)
@@ -226,6 +290,7 @@ int main(void)
     in_the_background();
     in_the_foreground();
     cut_off();
+    large_commits();
     forked();
     forked_meanwhile();
     shared_commits();

@@ -1,6 +1,6 @@
 /*
  * A core for tests of the host alone: it keeps the calls of famsync_core.h over a volume in the format of
- * docs/FORMATS.md, with a journal, by plain code that nobody proved. What it is for: the host is linked with it where
+ * docs/FORMATS.md, in each layout, by plain code that nobody proved. What it is for: the host is linked with it where
  * the real core isn't built, and its recorded calls can be logged and compared with those that the host makes.
  *
  *   MOCK_LOG=PATH   each call that is recorded is written there, a line each: core W OFFSET HEX, or core S; and how
@@ -19,7 +19,7 @@
 
 #define PAGE 4096u
 #define MOST_FILES 64u
-#define MOST_SLOTS 1020u
+#define MOST_JOURNALS 4u
 #define GATE_OPEN 0xA7
 
 enum { KIND_WRITE = 1, KIND_SYNC = 2 };
@@ -44,11 +44,12 @@ struct file {
 
 /* A journal, and how far its commit is written home. */
 struct journal {
-    uint32_t gate; /* its block; the descriptor's is the next, and then come the records */
+    uint32_t gate; /* its block; the descriptor's are the next, and then come the records */
     bool open;
-    uint32_t mark, count, made;
-    uint32_t home[MOST_SLOTS];
-    uint8_t *record[MOST_SLOTS];
+    uint64_t mark;
+    uint32_t count, made;
+    uint32_t *home;   /* room for as many as the journal has slots */
+    uint8_t **record; /* the same */
 };
 
 struct mapping {
@@ -65,7 +66,8 @@ struct core {
     unsigned layout;
     uint32_t slots, head, files;
     struct file file[MOST_FILES];
-    struct journal journal[2];
+    struct journal journal[MOST_JOURNALS];
+    unsigned next; /* the journal of the next commit */
     struct mapping *mapping;
     size_t mappings;
     uint32_t frames, resident, turn;
@@ -292,25 +294,69 @@ int32_t famsync_core_carried_out(famsync_core handle, uint32_t count, uint8_t **
     return FAMSYNC_CORE_OK;
 }
 
+/* Layouts, by their numbers. */
+
+static unsigned journals(const struct core *core)
+{
+    static const unsigned count[] = {1, 2, 2, 4};
+    return count[core->layout - 1];
+}
+
+static bool has_lengths(const struct core *core)
+{
+    return core->layout >= 3;
+}
+
+static uint32_t most_slots(const struct core *core)
+{
+    return core->layout == 4 ? 65535 : 1020;
+}
+
+/* How many blocks the descriptor of a journal has: 16 bytes, and 4 for each slot. */
+static uint32_t descriptor_blocks(const struct core *core)
+{
+    return (16 + 4 * core->slots + PAGE - 1) / PAGE;
+}
+
+/* The first block of a journal's descriptor, and that of a record. */
+static uint32_t descriptor_block(const struct journal *journal)
+{
+    return journal->gate + 1;
+}
+
+static uint32_t record_block(const struct core *core, const struct journal *journal, uint32_t record)
+{
+    return journal->gate + 1 + descriptor_blocks(core) + record;
+}
+
+/* The first block that a commit can replace; it has the lengths, where there are any. */
+static uint32_t first_home(const struct core *core)
+{
+    return core->head - has_lengths(core);
+}
+
 /* Opening. */
 
 static int read_head(struct core *core)
 {
     const uint8_t *super = core->block[0];
-    uint32_t files;
+    uint32_t journal_blocks;
     if (!super)
         return FAMSYNC_CORE_ARGUMENT;
-    if (memcmp(super, "FAMSYNC", 7) != 0 || super[7] < '1' || super[7] > '3')
+    if (memcmp(super, "FAMSYNC", 7) != 0 || super[7] < '1' || super[7] > '4')
         return FAMSYNC_CORE_NOTAVOLUME;
     core->layout = super[7] - '0';
-    files = (uint32_t)number_at(super + 8, 4);
+    core->files = (uint32_t)number_at(super + 8, 4);
     core->slots = (uint32_t)number_at(super + 12, 4);
-    if (files < 1 || files > MOST_FILES || core->slots < (core->layout == 3 ? 2 : 1) || core->slots > MOST_SLOTS)
+    if (core->files < 1 || core->files > MOST_FILES || core->slots <= has_lengths(core) ||
+        core->slots > most_slots(core)) {
+        core->files = 0;
         return FAMSYNC_CORE_DAMAGED;
-    core->files = files;
-    core->head = core->layout == 1 ? 3 + core->slots : 5 + 2 * core->slots + (core->layout == 3);
-    core->journal[0].gate = 1;
-    core->journal[1].gate = 3 + core->slots;
+    }
+    journal_blocks = 1 + descriptor_blocks(core) + core->slots;
+    core->head = 1 + journals(core) * journal_blocks + has_lengths(core);
+    for (unsigned i = 0; i < journals(core); i++)
+        core->journal[i].gate = 1 + i * journal_blocks;
     return FAMSYNC_CORE_OK;
 }
 
@@ -339,64 +385,126 @@ static int read_table(struct core *core)
     return home == number_at(super + 16, 4) && home <= core->blocks ? FAMSYNC_CORE_OK : FAMSYNC_CORE_DAMAGED;
 }
 
-static unsigned journals(const struct core *core)
+/* Room for what commits have, and for the files' pages. */
+static int take_room(struct core *core)
 {
-    return core->layout == 1 ? 1 : 2;
+    bool all = true;
+    for (unsigned i = 0; i < journals(core); i++) {
+        struct journal *journal = &core->journal[i];
+        journal->home = memory(core->slots * sizeof *journal->home);
+        journal->record = memory(core->slots * sizeof *journal->record);
+        all = all && journal->home && journal->record;
+    }
+    for (uint32_t i = 0; i < core->files; i++) {
+        struct file *file = &core->file[i];
+        file->page = memory(file->pages * sizeof *file->page);
+        all = all && file->page;
+    }
+    return all ? FAMSYNC_CORE_OK : FAMSYNC_CORE_NOMEMORY;
 }
 
-static bool is_open(const struct core *core, const struct journal *journal)
+/* A number in the descriptor of a journal, whose blocks are one text; no number lies in two of them. */
+static uint64_t described(const struct core *core, const struct journal *journal, uint32_t offset, unsigned count)
 {
-    return core->block[journal->gate][0] == GATE_OPEN;
+    return number_at(core->block[descriptor_block(journal) + offset / PAGE] + offset % PAGE, count);
+}
+
+/* Reads the descriptor of an open journal, and judges it. */
+static int read_journal(struct core *core, struct journal *journal)
+{
+    uint32_t before = first_home(core) - 1, end = descriptor_blocks(core) * PAGE;
+    journal->mark = described(core, journal, 0, 8);
+    journal->count = (uint32_t)described(core, journal, 8, 4);
+    if (journal->mark < 1 || journal->count < 1 || journal->count > core->slots || described(core, journal, 12, 4) != 0)
+        return FAMSYNC_CORE_DAMAGED;
+    for (uint32_t i = 0; i < journal->count; i++) {
+        journal->home[i] = (uint32_t)described(core, journal, 16 + 4 * i, 4);
+        if (journal->home[i] <= before || journal->home[i] >= number_at(core->block[0] + 16, 4))
+            return FAMSYNC_CORE_DAMAGED;
+        before = journal->home[i];
+    }
+    for (uint32_t at = 16 + 4 * journal->count; at < end; at += 4)
+        if (described(core, journal, at, 4) != 0)
+            return FAMSYNC_CORE_DAMAGED;
+    return FAMSYNC_CORE_OK;
+}
+
+/* Reads what the open journals say; two of them don't have the same mark. */
+static int read_journals(struct core *core)
+{
+    for (unsigned i = 0; i < journals(core); i++) {
+        struct journal *journal = &core->journal[i];
+        if (core->block[journal->gate][0] != GATE_OPEN)
+            continue;
+        if (read_journal(core, journal) != FAMSYNC_CORE_OK)
+            return FAMSYNC_CORE_DAMAGED;
+        for (unsigned j = 0; j < i; j++)
+            if (core->journal[j].open && core->journal[j].mark == journal->mark)
+                return FAMSYNC_CORE_DAMAGED;
+        journal->open = true;
+    }
+    return FAMSYNC_CORE_OK;
+}
+
+/* The block with what the first home block recovers to: its record in the newest open journal that has one, else
+   itself. That record is the first one, as home blocks rise. */
+static const uint8_t *recovered_first(const struct core *core)
+{
+    const struct journal *newest = NULL;
+    for (unsigned i = 0; i < journals(core); i++) {
+        const struct journal *journal = &core->journal[i];
+        if (journal->open && journal->home[0] == first_home(core) && (!newest || journal->mark > newest->mark))
+            newest = journal;
+    }
+    return core->block[newest ? record_block(core, newest, 0) : first_home(core)];
+}
+
+/* The lengths of the files, where there are any besides their capacities; what follows them is zeros. */
+static int read_lengths(struct core *core)
+{
+    const uint8_t *lengths = recovered_first(core);
+    if (!has_lengths(core))
+        return FAMSYNC_CORE_OK;
+    for (uint32_t i = 0; i < PAGE / 8; i++) {
+        uint64_t length = number_at(lengths + 8 * i, 8);
+        if (length > (i < core->files ? core->file[i].capacity : 0))
+            return FAMSYNC_CORE_DAMAGED;
+        if (i < core->files)
+            core->file[i].length = length;
+    }
+    return FAMSYNC_CORE_OK;
+}
+
+static struct journal *oldest_open(struct core *core)
+{
+    struct journal *oldest = NULL;
+    for (unsigned i = 0; i < MOST_JOURNALS; i++)
+        if (core->journal[i].open && (!oldest || core->journal[i].mark < oldest->mark))
+            oldest = &core->journal[i];
+    return oldest;
 }
 
 /* Writes the records of an open journal home, and closes it. */
-static int recover(struct core *core, const struct journal *journal)
+static bool recover(struct core *core, struct journal *journal)
 {
-    const uint8_t *descriptor = core->block[journal->gate + 1];
-    uint32_t count = (uint32_t)number_at(descriptor + 8, 4);
     static const uint8_t closed[1];
-    if (count < 1 || count > core->slots)
-        return FAMSYNC_CORE_DAMAGED;
-    for (uint32_t i = 0; i < count; i++) {
-        uint32_t home = (uint32_t)number_at(descriptor + 16 + 4 * i, 4);
-        if (home < core->head - (core->layout == 3) || home >= core->blocks)
-            return FAMSYNC_CORE_DAMAGED;
-        if (!put(core, home, core->block[journal->gate + 2 + i], PAGE))
-            return FAMSYNC_CORE_NOMEMORY;
-    }
-    return sync_disk(core) && put(core, journal->gate, closed, 1) && sync_disk(core) ? FAMSYNC_CORE_OK
-                                                                                     : FAMSYNC_CORE_NOMEMORY;
+    for (uint32_t i = 0; i < journal->count; i++)
+        if (!put(core, journal->home[i], core->block[record_block(core, journal, i)], PAGE))
+            return false;
+    journal->open = false;
+    journal->count = 0;
+    return sync_disk(core) && put(core, journal->gate, closed, 1) && sync_disk(core);
 }
 
+/* What was written before is made sure of; then comes what each open journal has, the oldest first. */
 static int recover_all(struct core *core)
 {
-    int code = FAMSYNC_CORE_OK;
-    for (unsigned round = 0; round < 2 && code == FAMSYNC_CORE_OK; round++) {
-        const struct journal *oldest = NULL;
-        for (unsigned i = 0; i < journals(core); i++) {
-            const struct journal *journal = &core->journal[i];
-            if (is_open(core, journal) &&
-                (!oldest || number_at(core->block[journal->gate + 1], 8) < number_at(core->block[oldest->gate + 1], 8)))
-                oldest = journal;
-        }
-        if (oldest)
-            code = recover(core, oldest);
-    }
-    return code;
-}
-
-static int read_lengths(struct core *core)
-{
-    for (uint32_t i = 0; i < core->files; i++) {
-        struct file *file = &core->file[i];
-        if (core->layout == 3)
-            file->length = number_at(core->block[core->head - 1] + 8 * i, 8);
-        if (file->length > file->capacity)
-            return FAMSYNC_CORE_DAMAGED;
-        file->page = memory(file->pages * sizeof *file->page);
-        if (!file->page)
+    struct journal *journal;
+    if (!sync_disk(core))
+        return FAMSYNC_CORE_NOMEMORY;
+    while ((journal = oldest_open(core)))
+        if (!recover(core, journal))
             return FAMSYNC_CORE_NOMEMORY;
-    }
     return FAMSYNC_CORE_OK;
 }
 
@@ -415,16 +523,17 @@ int32_t famsync_core_open(famsync_core handle, uint32_t frames, uint32_t copies,
         }
     if (code == FAMSYNC_CORE_OK)
         code = read_table(core);
-    most = core->slots - (core->layout == 3);
+    most = core->slots - has_lengths(core);
     if (code == FAMSYNC_CORE_OK && (frames > most || copies > 64))
         code = FAMSYNC_CORE_BADSHAPE;
-    /* what was written before is made sure of */
-    if (code == FAMSYNC_CORE_OK && !sync_disk(core))
-        code = FAMSYNC_CORE_NOMEMORY;
     if (code == FAMSYNC_CORE_OK)
-        code = recover_all(core);
+        code = take_room(core);
+    if (code == FAMSYNC_CORE_OK)
+        code = read_journals(core);
     if (code == FAMSYNC_CORE_OK)
         code = read_lengths(core);
+    if (code == FAMSYNC_CORE_OK)
+        code = recover_all(core);
     core->frames = frames ? frames : most;
     core->open = code == FAMSYNC_CORE_OK;
     return code;
@@ -469,15 +578,6 @@ int64_t famsync_core_file_name(famsync_core handle, uint32_t file, uint8_t *name
 }
 
 /* Commits. */
-
-static struct journal *oldest_open(struct core *core)
-{
-    struct journal *oldest = NULL;
-    for (unsigned i = 0; i < 2; i++)
-        if (core->journal[i].open && (!oldest || core->journal[i].mark < oldest->mark))
-            oldest = &core->journal[i];
-    return oldest;
-}
 
 static void drop_records(struct journal *journal)
 {
@@ -535,7 +635,7 @@ static bool collect(struct core *core, struct journal *journal)
     if (core->resized) {
         for (uint32_t i = 0; i < core->files; i++)
             put_number(lengths + 8 * i, 8, core->file[i].length);
-        all = add_record(journal, core->head - 1, lengths);
+        all = add_record(journal, first_home(core), lengths);
     }
     for (uint32_t i = 0; i < core->files; i++)
         for (uint32_t page = 0; page < core->file[i].pages && all; page++)
@@ -544,19 +644,34 @@ static bool collect(struct core *core, struct journal *journal)
     return all;
 }
 
-static bool write_journal(struct core *core, struct journal *journal)
+/* The number at this offset of a journal's descriptor, where it has one of four bytes. */
+static uint64_t to_describe(const struct journal *journal, uint32_t offset)
 {
-    static const uint8_t open_gate[1] = {GATE_OPEN};
-    uint8_t descriptor[PAGE] = {0};
-    put_number(descriptor, 8, journal->mark);
-    put_number(descriptor + 8, 4, journal->count);
-    for (uint32_t i = 0; i < journal->count; i++) {
-        put_number(descriptor + 16 + 4 * i, 4, journal->home[i]);
-        if (!put(core, journal->gate + 2 + i, journal->record[i], PAGE))
+    if (offset < 16)
+        return offset == 4 ? journal->mark : offset == 8 ? journal->count : 0;
+    return (offset - 16) / 4 < journal->count ? journal->home[(offset - 16) / 4] : 0;
+}
+
+static bool write_descriptor(struct core *core, const struct journal *journal)
+{
+    for (uint32_t block = 0; block < descriptor_blocks(core); block++) {
+        uint8_t text[PAGE];
+        for (uint32_t at = 0; at < PAGE; at += 4)
+            put_number(text + at, 4, to_describe(journal, block * PAGE + at));
+        if (!put(core, descriptor_block(journal) + block, text, PAGE))
             return false;
     }
-    return put(core, journal->gate + 1, descriptor, PAGE) && sync_disk(core) &&
-           put(core, journal->gate, open_gate, 1) && sync_disk(core);
+    return true;
+}
+
+static bool write_journal(struct core *core, const struct journal *journal)
+{
+    static const uint8_t open_gate[1] = {GATE_OPEN};
+    for (uint32_t i = 0; i < journal->count; i++)
+        if (!put(core, record_block(core, journal, i), journal->record[i], PAGE))
+            return false;
+    return write_descriptor(core, journal) && sync_disk(core) && put(core, journal->gate, open_gate, 1) &&
+           sync_disk(core);
 }
 
 static void clean(struct core *core)
@@ -570,7 +685,7 @@ static void clean(struct core *core)
 int32_t famsync_core_commit(famsync_core handle, uint32_t *mark, uint8_t **at)
 {
     struct core *core = core_of(handle);
-    struct journal *journal = &core->journal[(core->mark + 1) % journals(core)];
+    struct journal *journal = &core->journal[core->next];
     *at = handle.at;
     if (!core->open || core->broken)
         return core->open ? FAMSYNC_CORE_BROKEN : FAMSYNC_CORE_ORDER;
@@ -593,6 +708,7 @@ int32_t famsync_core_commit(famsync_core handle, uint32_t *mark, uint8_t **at)
         return broken(core);
     }
     journal->open = true;
+    core->next = (core->next + 1) % journals(core);
     clean(core);
     return FAMSYNC_CORE_OK;
 }
@@ -809,7 +925,7 @@ int32_t famsync_core_set_length(famsync_core handle, uint32_t number, uint64_t l
         return FAMSYNC_CORE_ORDER;
     if (number >= core->files)
         return FAMSYNC_CORE_NOFILE;
-    if (core->layout != 3 || length > file->capacity)
+    if (!has_lengths(core) || length > file->capacity)
         return FAMSYNC_CORE_EINVAL;
     if (length > file->length)
         code = grow(core, file, length);
@@ -833,8 +949,11 @@ void famsync_core_close(famsync_core handle)
             drop_page(core, &core->file[i].page[page]);
         give_back(core->file[i].page);
     }
-    for (unsigned i = 0; i < 2; i++)
+    for (unsigned i = 0; i < MOST_JOURNALS; i++) {
         drop_records(&core->journal[i]);
+        give_back(core->journal[i].home);
+        give_back(core->journal[i].record);
+    }
     for (uint32_t block = 0; block < core->blocks; block++)
         give_back(core->block[block]);
     give_back(core->block);

@@ -126,9 +126,30 @@ static void spoilt_volumes(void)
     make_volume(16, "a=65536");
     set_bytes(64, "\377\377\377\377\377\377\377\377", 8); /* a capacity */
     WANT_CODE(code_of(volume), FAMSYNC_DAMAGED);
-    make_volume(16, "a=65536");
-    set_bytes(4096, "\247", 1); /* an open gate, and no descriptor */
-    WANT_CODE(code_of(volume), FAMSYNC_DAMAGED);
+    for (unsigned layout = 1; layout <= LAYOUTS; layout++) { /* an open gate of the last journal, and no descriptor */
+        make_volume_of(layout, 16, "a=65536");
+        set_bytes((off_t)gate_block(16, journals_of(layout) - 1) * 4096, "\247", 1);
+        WANT_CODE(code_of(volume), FAMSYNC_DAMAGED);
+    }
+}
+
+/* The least number of slots and 1,020 of them are served; one less and one more than there may be make it no volume. */
+static void numbers_of_slots(void)
+{
+    for (unsigned layout = 1; layout <= LAYOUTS; layout++) {
+        unsigned char head[4];
+        unsigned least = has_lengths(layout) ? 2 : 1, most = layout == 4 ? 65535 : 1020;
+        make_volume_of(layout, least, "a=4096");
+        WANT_CODE(code_of(volume), FAMSYNC_OK);
+        put_number(head, 4, least - 1);
+        set_bytes(12, (const char *)head, 4);
+        WANT_CODE(code_of(volume), FAMSYNC_DAMAGED);
+        make_volume_of(layout, 1020, "a=4096");
+        WANT_CODE(code_of(volume), FAMSYNC_OK);
+        put_number(head, 4, most + 1);
+        set_bytes(12, (const char *)head, 4);
+        WANT_CODE(code_of(volume), FAMSYNC_DAMAGED);
+    }
 }
 
 static void other_lengths(void)
@@ -287,6 +308,7 @@ int main(void)
     arguments();
     other_files();
     spoilt_volumes();
+    numbers_of_slots();
     other_lengths();
     other_names();
     marked();

@@ -98,7 +98,7 @@ static void set_length(void)
 {
     uint64_t length = below(A_MOST + 2000);
     int code = famsync_setlength(handle, "a", length);
-    if (layout < 3 || length > A_MOST) {
+    if (!has_lengths(layout) || length > A_MOST) {
         check(code == FAMSYNC_EINVAL, "a length is set that can't be");
         return;
     }
@@ -149,11 +149,11 @@ static void look_at_a_copy(void)
 static void session(void)
 {
     unsigned slots = below(3) ? 2 + below(12) : 40;
-    layout = 1 + seed % 3;
+    layout = 1 + seed % LAYOUTS;
     options = (struct famsync_options){.foreground = (int)below(2), .frames = below(2) ? 0 : 1 + below(slots - 1)};
-    make_volume_of(layout, slots, layout == 3 ? "a=5000/40000 b=30000" : "a=40000 b=30000");
+    make_volume_of(layout, slots, has_lengths(layout) ? "a=5000/40000 b=30000" : "a=40000 b=30000");
     memset(&committed, 0, sizeof committed);
-    committed.length = layout == 3 ? 5000 : A_MOST;
+    committed.length = has_lengths(layout) ? 5000 : A_MOST;
     begin();
     for (unsigned calls = 60 + below(60); calls > 0; calls--) {
         static void (*const call[])(void) = {load, load, store, store, store_to_memory, store_to_memory, set_length};
@@ -175,7 +175,7 @@ static void session(void)
 
 int main(int count, char **words)
 {
-    unsigned sessions = count > 1 ? (unsigned)atoi(words[1]) : 24, first = count > 2 ? (unsigned)atoi(words[2]) : 1;
+    unsigned sessions = count > 1 ? (unsigned)atoi(words[1]) : 32, first = count > 2 ? (unsigned)atoi(words[2]) : 1;
     make_folder();
     snprintf(copied, sizeof copied, "%s/copy.img", folder);
     for (seed = first; seed < first + sessions; seed++) {

@@ -2,7 +2,7 @@
  * A session for tests that cut it off or make a call of it fail. Of the file `a` the first ten pages have one number in
  * each, the same in all, that is raised by one and committed, round by round; `b` has the number as its length.
  *
- *   session VOLUME make [FILES]               makes a volume
+ *   session VOLUME make [FILES [LAYOUT]]      makes a volume; of layout 3 where that isn't said
  *   session VOLUME work ROUNDS [foreground|few]
  *                                             prints each call that fails, and the number of each round that is done;
  *                                             `few`: in the foreground, with no more frames than a round stores to, and
@@ -16,6 +16,7 @@
 
 #include <stdatomic.h>
 
+#define FILES "a=163840 b=0/5000"
 #define PAGES 10
 #define THREADS 3
 #define FEW (PAGES + 1) /* as many pages as a round stores to */
@@ -155,7 +156,7 @@ int main(int count, char **words)
     snprintf(volume, sizeof volume, "%s", words[1]);
     if (strcmp(words[2], "make") == 0) {
         strcpy(folder, ".");
-        make_volume_of(3, 48, count > 3 ? words[3] : "a=163840 b=0/5000");
+        make_volume_of(count > 4 ? (unsigned)atoi(words[4]) : 3, 48, count > 3 ? words[3] : FILES);
         return 0;
     }
     if (strcmp(words[2], "work") == 0)

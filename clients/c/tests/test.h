@@ -71,15 +71,45 @@ static inline void put_number(unsigned char *bytes, unsigned count, uint64_t num
         bytes[i - 1] = (unsigned char)number;
 }
 
+/* Layouts 1 to LAYOUTS, as docs/FORMATS.md has them. */
+#define LAYOUTS 4u
+
+static inline bool has_lengths(unsigned layout)
+{
+    return layout >= 3;
+}
+
+static inline unsigned journals_of(unsigned layout)
+{
+    return layout == 1 ? 1 : layout == 4 ? 4 : 2;
+}
+
+/* How many blocks the descriptor of a journal with so many slots has, and which block the gate of a journal is. */
+static inline uint32_t descriptor_blocks(unsigned slots)
+{
+    return (16 + 4 * slots + 4095) / 4096;
+}
+
+static inline uint32_t gate_block(unsigned slots, unsigned journal)
+{
+    return 1 + journal * (1 + descriptor_blocks(slots) + slots);
+}
+
+/* The first block after the journals: the lengths block, or where there is none a file's first one. */
+static inline uint32_t first_home(unsigned layout, unsigned slots)
+{
+    return gate_block(slots, journals_of(layout));
+}
+
 /* The super block and the lengths block of a volume with these files, `NAME=LENGTH` or `NAME=LENGTH/CAPACITY`, with
    blanks between them. Answers how many blocks it has; `*lengths_at` is where the lengths block lies, 0 where it has
    none. */
 static inline uint32_t lay_out(unsigned layout, unsigned slots, const char *files, unsigned char super[4096],
                                unsigned char lengths[4096], uint32_t *lengths_at)
 {
-    uint32_t next = layout == 1 ? 3 + slots : layout == 2 ? 5 + 2 * slots : 6 + 2 * slots;
+    uint32_t next = first_home(layout, slots) + has_lengths(layout);
     unsigned count = 0;
-    *lengths_at = layout == 3 ? next - 1 : 0;
+    *lengths_at = has_lengths(layout) ? next - 1 : 0;
     for (const char *at = files; *at; at += strspn(at, " "), count++) {
         unsigned long long length, capacity;
         char name[33] = "";
@@ -99,7 +129,8 @@ static inline uint32_t lay_out(unsigned layout, unsigned slots, const char *file
         put_number(lengths + 8 * count, 8, length);
         next += (uint32_t)((capacity + 4095) / 4096);
     }
-    memcpy(super, layout == 1 ? "FAMSYNC1" : layout == 2 ? "FAMSYNC2" : "FAMSYNC3", 8);
+    memcpy(super, "FAMSYNC", 7);
+    super[7] = (unsigned char)('0' + layout);
     put_number(super + 8, 4, count);
     put_number(super + 12, 4, slots);
     put_number(super + 16, 4, next);

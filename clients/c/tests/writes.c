@@ -1,5 +1,6 @@
 /* How many calls of the system a commit is, counted to the end of its write-out: four writes and one more for each
-   further run of neighbouring pages, and four syncs; however many pages it has, and whoever calls meanwhile. */
+   further run of neighbouring pages, and four syncs; whoever calls meanwhile, and however many pages it has, as long as
+   a run is no longer than one call can write. */
 #include "test.h"
 
 #include <stdatomic.h>
@@ -8,6 +9,8 @@
 
 #define SLOTS 1020
 #define COMMITS 3
+/* How many ranges of memory one call writes at most. */
+#define MOST_RANGES 1024
 
 static atomic_uint writes, syncs;
 
@@ -28,6 +31,9 @@ struct shape {
     unsigned layout, pages, apart;
 };
 
+/* More pages than the other layouts have in a commit: the descriptor has two blocks, and each run takes two calls. */
+static const struct shape LARGE = {4, 1500, 1};
+
 enum way { BY_POINTER, BY_CALL };
 
 static famsync *handle;
@@ -35,11 +41,60 @@ static famsync_memory *memory;
 static uint64_t address;
 static atomic_bool stopped;
 
+/* The home blocks of a commit: its pages, and the block of the lengths, which is a neighbour of the first file's first
+   page. */
+static unsigned homes_of(struct shape shape)
+{
+    return shape.pages + has_lengths(shape.layout);
+}
+
+/* The slots of its volume. */
+static unsigned slots_for(struct shape shape)
+{
+    return homes_of(shape) > SLOTS ? homes_of(shape) : SLOTS;
+}
+
+/* How many calls write a gate and this: runs of so many blocks. Where the core has each block by itself, a call writes
+   as many blocks as ranges; those that lie one behind the other in memory are one range. */
+struct count {
+    unsigned least, most;
+};
+
+static struct count count_of(unsigned runs, unsigned blocks)
+{
+    return (struct count){1 + runs, 1 + runs * ((blocks + MOST_RANGES - 1) / MOST_RANGES)};
+}
+
+/* What is written up to a commit's acknowledgement, where its descriptor and its records are one run, and after it. */
+static struct count writes_to_commit(struct shape shape)
+{
+    return count_of(1, descriptor_blocks(slots_for(shape)) + homes_of(shape));
+}
+
+static struct count writes_home(struct shape shape)
+{
+    return shape.apart > 1 ? count_of(shape.pages, 1) : count_of(1, homes_of(shape));
+}
+
+static bool were_made(struct count count)
+{
+    return count.least <= writes && writes <= count.most;
+}
+
+/* So many commits were written, and home. */
+static bool were_written(struct shape shape, unsigned commits)
+{
+    struct count first = writes_to_commit(shape), then = writes_home(shape);
+    return were_made((struct count){commits * (first.least + then.least), commits * (first.most + then.most)}) &&
+           syncs == 4 * commits;
+}
+
 static void make_file(struct shape shape)
 {
     char files[60];
-    snprintf(files, sizeof files, "a=%u%s", shape.pages * shape.apart * 4096, shape.layout == 3 ? " b=9000" : "");
-    make_volume_of(shape.layout, SLOTS, files);
+    snprintf(files, sizeof files, "a=%u%s", shape.pages * shape.apart * 4096,
+             has_lengths(shape.layout) ? " b=9000" : "");
+    make_volume_of(shape.layout, slots_for(shape), files);
 }
 
 static void begin(struct famsync_options options, enum way way)
@@ -68,8 +123,7 @@ static void commit(struct shape shape, enum way way, uint64_t number)
         else
             WANT_CODE(famsync_store(handle, address + at, &number, sizeof number, NULL), FAMSYNC_OK);
     }
-    /* the block of the lengths, which is a neighbour of the first file's first page */
-    if (shape.layout == 3)
+    if (has_lengths(shape.layout))
         WANT_CODE(famsync_setlength(handle, "b", 9000 - number), FAMSYNC_OK);
     WANT_CODE(famsync_msync(handle, NULL), FAMSYNC_OK);
 }
@@ -77,7 +131,6 @@ static void commit(struct shape shape, enum way way, uint64_t number)
 /* Every second commit comes right after the one before, and the others later, when that may be written home. */
 static void count_commits(struct shape shape, enum way way, struct famsync_options options)
 {
-    unsigned runs = shape.apart > 1 ? shape.pages : 1;
     make_file(shape);
     begin(options, way);
     for (uint64_t number = 1; number <= COMMITS; number++) {
@@ -86,7 +139,7 @@ static void count_commits(struct shape shape, enum way way, struct famsync_optio
             usleep(20000);
     }
     end(way);
-    if (writes != COMMITS * (3 + runs) || syncs != COMMITS * 4) {
+    if (!were_written(shape, COMMITS)) {
         fprintf(stderr, "writes: %u pages, every %u, layout %u: %u writes and %u syncs of %d commits\n", shape.pages,
                 shape.apart, shape.layout, writes, syncs, COMMITS);
         exit(1);
@@ -119,11 +172,11 @@ static void beside_others(struct shape shape)
     atomic_store(&stopped, true);
     pthread_join(loader, NULL);
     end(BY_POINTER);
-    WANT(writes == COMMITS * 4 && syncs == COMMITS * 4);
+    WANT(were_written(shape, COMMITS));
 }
 
-/* What an ended process left of its commit is two writes and two syncs, after the sync with which each opening begins;
-   also in a session that has fewer frames. */
+/* What an ended process left of its commit is what is to be written home and two syncs, after the sync with which each
+   opening begins; also in a session that has fewer frames. */
 static void after_an_end(struct shape shape)
 {
     int status;
@@ -133,13 +186,13 @@ static void after_an_end(struct shape shape)
     if (child == 0) {
         begin((struct famsync_options){.foreground = 1}, BY_POINTER);
         commit(shape, BY_POINTER, 1);
-        _exit(writes == 2 && syncs == 2 ? 0 : 1);
+        _exit(were_made(writes_to_commit(shape)) && syncs == 2 ? 0 : 1);
     }
     WANT(waitpid(child, &status, 0) == child && WIFEXITED(status) && WEXITSTATUS(status) == 0);
     atomic_store(&writes, 0);
     atomic_store(&syncs, 0);
     handle = opened_with((struct famsync_options){.frames = 1});
-    WANT(writes == 2 && syncs == 3);
+    WANT(were_made(writes_home(shape)) && syncs == 3);
     WANT_CODE(famsync_close(handle), FAMSYNC_OK);
 }
 
@@ -147,20 +200,25 @@ int main(void)
 {
     for (int foreground = 0; foreground <= 1; foreground++) {
         struct famsync_options options = {.foreground = foreground};
-        for (unsigned layout = 1; layout <= 3; layout++) {
-            unsigned most = layout == 3 ? SLOTS - 1 : SLOTS;
+        for (unsigned layout = 1; layout <= LAYOUTS; layout++) {
+            unsigned most = SLOTS - has_lengths(layout);
             count_commits((struct shape){layout, most, 1}, BY_POINTER, options);
             count_commits((struct shape){layout, 1, 1}, BY_POINTER, options);
         }
         count_commits((struct shape){1, SLOTS, 1}, BY_CALL, options);
         count_commits((struct shape){1, 300, 2}, BY_POINTER, options);
         count_commits((struct shape){2, 300, 2}, BY_CALL, options);
+        count_commits((struct shape){4, 300, 2}, BY_CALL, options);
+        count_commits(LARGE, BY_POINTER, options);
+        count_commits(LARGE, BY_CALL, options);
     }
-    for (unsigned layout = 1; layout <= 3; layout++) {
-        struct shape shape = {layout, layout == 3 ? SLOTS - 1 : SLOTS, 1};
+    for (unsigned layout = 1; layout <= LAYOUTS; layout++) {
+        struct shape shape = {layout, SLOTS - has_lengths(layout), 1};
         beside_others(shape);
         after_an_end(shape);
     }
+    beside_others(LARGE);
+    after_an_end(LARGE);
     printf("clients/c: writes: as it should be\n");
     return 0;
 }

@@ -126,8 +126,8 @@ class Volume:
         return Mapping(self._session, name, address.value, length)
 
     def set_length(self, name: str, length: int) -> None:
-        """Sets the length of a file, up to its capacity, in a volume of layout 3; else Invalid. Bytes past a new end
-        are gone, and what a file grows by is zeros; the pages that it grows by go into the next commit, and NoFrame
+        """Sets the length of a file, up to its capacity, in a volume of layout 3 or 4; else Invalid. Bytes past a new
+        end are gone, and what a file grows by is zeros; the pages that it grows by go into the next commit, and NoFrame
         says that one can't have them all. Like a store it is durable after that commit.
 
         Busy as long as plain memory of the file is open. A mapping stays as it is: its pages past the file's end answer

@@ -27,11 +27,21 @@ def put(block, at, count, number):
     block[at : at + count] = number.to_bytes(count, "big")
 
 
+def has_lengths(layout):
+    return layout >= 3
+
+
+def first_home(layout, slots):
+    """The first block after the journals, each of which has a gate, its descriptor and its slots."""
+    journals, descriptor = {1: 1, 2: 2, 3: 2, 4: 4}[layout], -(-(16 + 4 * slots) // PAGE)
+    return 1 + journals * (1 + descriptor + slots)
+
+
 def make_volume(path, slots, *files, layout=1):
     """Makes a volume as docs/FORMATS.md says, with files `NAME=LENGTH` or `NAME=LENGTH/CAPACITY`."""
     head, lengths = bytearray(PAGE), bytearray(PAGE)
-    home = {1: 3 + slots, 2: 5 + 2 * slots, 3: 6 + 2 * slots}[layout]
-    lengths_at = home - 1
+    lengths_at = first_home(layout, slots)
+    home = lengths_at + has_lengths(layout)
     for number, file in enumerate(files):
         name, _, length = file.partition("=")
         length, _, capacity = length.partition("/")
@@ -49,7 +59,7 @@ def make_volume(path, slots, *files, layout=1):
     with open(path, "wb") as volume:
         volume.truncate(home * PAGE)
         volume.write(head)
-        if layout == 3:
+        if has_lengths(layout):
             volume.seek(lengths_at * PAGE)
             volume.write(lengths)
 

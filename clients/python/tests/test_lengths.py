@@ -1,11 +1,11 @@
-"""Lengths that are set, in a volume of layout 3."""
+"""Lengths that are set, in a volume of layout 3 or 4."""
 
 import unittest
 
 from support import PAGE, InAFolder, famsync
 
 
-class Lengths(InAFolder):
+class InLayout3(InAFolder):
     slots, files, layout = 6, ("a=5000/40000", "b=0/4096"), 3
 
     def test_what_is_refused(self):
@@ -50,6 +50,24 @@ class Lengths(InAFolder):
         volume.set_length("a", 20000)
         with volume.memory("a") as memory, volume.memory("b") as other:
             self.assertEqual((len(memory), len(other), memory[4999], memory[5000]), (20000, 4096, 5, 0))
+
+
+class InLayout4(InLayout3):
+    layout = 4
+
+    def test_a_commit_of_more_pages_than_another_layout_has(self):
+        self.make(1501, "a=6144000", "b=5/4096", layout=4)
+        with famsync.open("v.img") as volume:
+            self.assertEqual(volume.frames, 1500)
+            with volume.memory("a") as memory:
+                for page in range(1500):
+                    memory[page * PAGE + page] = page % 255 + 1
+                volume.set_length("b", 0)
+                self.assertEqual(volume.commit(), 1)
+        with famsync.open("v.img") as volume:
+            mapping = volume.map("a")
+            found = [mapping[page * PAGE + page] for page in range(1500)]
+            self.assertEqual((volume.files["b"], found), (0, [page % 255 + 1 for page in range(1500)]))
 
 
 if __name__ == "__main__":

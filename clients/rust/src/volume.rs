@@ -153,7 +153,7 @@ impl Volume {
         unsafe { ffi::famsync_acknowledged(self.session.handle()) }
     }
 
-    /// Sets the length of a file, as `ftruncate` does: up to its capacity, in a volume of layout 3; else
+    /// Sets the length of a file, as `ftruncate` does: up to its capacity, in a volume of layout 3 or 4; else
     /// [`Code::Einval`]. Bytes past a new end are gone, and what a file grows by is zeros. Like a store it is durable
     /// after the next commit. The pages that a file grows by, and the one in which it ended, count as stored to:
     /// [`Code::NoFrame`] where they and those that were stored to don't go into one commit.

@@ -11,7 +11,12 @@ fn length(volume: &Volume, name: &str) -> u64 {
 
 #[test]
 fn a_file_grows_and_shrinks() {
-    let made = make_volume(3, 16, "a=5000/40000 b=0/4096");
+    grows_and_shrinks(3);
+    grows_and_shrinks(4);
+}
+
+fn grows_and_shrinks(layout: u8) {
+    let made = make_volume(layout, 16, "a=5000/40000 b=0/4096");
     let mut volume = Volume::open(made.path()).unwrap();
     assert_eq!((length(&volume, "a"), length(&volume, "b")), (5000, 0));
     assert_eq!(volume.memory("b").unwrap_err().code(), Code::Argument);
@@ -36,12 +41,30 @@ fn a_file_grows_and_shrinks() {
 
 #[test]
 fn what_is_past_the_end() {
-    let volume = Volume::open(make_volume(3, 16, "a=5000/40000").path()).unwrap();
-    let a = volume.map("a", ..40000, Access::ReadWrite).unwrap();
-    assert_eq!(volume.store(a, 8192, b"hello").unwrap_err().code(), Code::BusAdrErr);
-    volume.set_length("a", 8200).unwrap();
-    volume.store(a, 8192, b"hello").unwrap();
-    assert_eq!(volume.set_length("a", 40001).unwrap_err().code(), Code::Einval);
+    for layout in [3, 4] {
+        let volume = Volume::open(make_volume(layout, 16, "a=5000/40000").path()).unwrap();
+        let a = volume.map("a", ..40000, Access::ReadWrite).unwrap();
+        assert_eq!(volume.store(a, 8192, b"hello").unwrap_err().code(), Code::BusAdrErr);
+        volume.set_length("a", 8200).unwrap();
+        volume.store(a, 8192, b"hello").unwrap();
+        assert_eq!(volume.set_length("a", 40001).unwrap_err().code(), Code::Einval);
+    }
+}
+
+#[test]
+fn a_commit_has_more_pages_than_another_layout_has() {
+    let made = make_volume(4, 1501, "a=6144000");
+    let mut volume = Volume::open(made.path()).unwrap();
+    assert_eq!(volume.frames(), 1500);
+    let a = volume.memory_mut("a").unwrap();
+    for page in 0..1500 {
+        a[page * 4096 + page] = (page % 255 + 1) as u8;
+    }
+    assert_eq!(volume.commit().unwrap(), 1);
+    drop(volume);
+    let volume = Volume::open(made.path()).unwrap();
+    let a = volume.memory("a").unwrap();
+    assert!((0..1500).all(|page| a[page * 4096 + page] == (page % 255 + 1) as u8));
 }
 
 #[test]

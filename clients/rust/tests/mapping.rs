@@ -49,7 +49,7 @@ fn what_a_mapping_refuses() {
 
 #[test]
 fn a_mapping_of_another_volume() {
-    let [made, other] = [1, 2].map(|layout| make_volume(layout, 16, "a=8192"));
+    let [made, other] = [1, 4].map(|layout| make_volume(layout, 16, "a=8192"));
     let volume = Volume::open(made.path()).unwrap();
     let old: Mapping = volume.map("a", .., Access::ReadWrite).unwrap();
     let other = Volume::open(other.path()).unwrap();

@@ -138,7 +138,7 @@ static bool have(const char *letter, int rows)
 /* A transaction may have a page less than a commit, of which one is the database's first. */
 static void refuses_large_transactions(unsigned layout, const char *cache)
 {
-    int most = SLOTS - 2 - (layout == 3);
+    int most = SLOTS - 2 - has_lengths(layout);
     begin(layout);
     must(database, cache);
     for (int first = 1; first < 40; first += 10)
@@ -153,6 +153,20 @@ static void refuses_large_transactions(unsigned layout, const char *cache)
     reopen();
     WANT(have("y", most) && have("x", 40 - most));
     must(database, "UPDATE row SET bytes = replace(bytes, 'x', 'z') WHERE id > 35");
+    end();
+}
+
+/* In layout 4 a transaction may change more pages than a commit of another layout has. */
+static void takes_large_transactions(void)
+{
+    fresh(4, 1602, "db=8192000");
+    WANT(open_database(path, &database) == SQLITE_OK);
+    must(database, "PRAGMA journal_mode=MEMORY; CREATE TABLE row (id INTEGER PRIMARY KEY, bytes BLOB)");
+    WANT(store_rows(1, 1500) == SQLITE_OK && have("x", 1500));
+    WANT(change_rows(1500) == SQLITE_OK && have("y", 1500));
+    reopen();
+    WANT(have("y", 1500));
+    WANT(store_rows(1501, 1700) == SQLITE_FULL && have("y", 1500) && have("x", 0));
     end();
 }
 
@@ -235,10 +249,11 @@ int main(int count, char **words)
     names(words[1]);
     refuses_volumes();
     refuses_what_is_in_use();
-    for (unsigned layout = 1; layout <= 3; layout++) {
+    for (unsigned layout = 1; layout <= LAYOUTS; layout++) {
         refuses_large_transactions(layout, "PRAGMA cache_size=2000");
         refuses_large_transactions(layout, "PRAGMA cache_size=5");
     }
+    takes_large_transactions();
     refuses_a_large_database();
     answers_pragmas();
     printf("clients/sqlite: limits: as they should be\n");

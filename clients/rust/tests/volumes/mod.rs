@@ -29,14 +29,21 @@ fn put_number(bytes: &mut [u8], number: u64) {
     bytes.copy_from_slice(&all[8 - bytes.len()..]);
 }
 
+/// The first block after the journals, each of which has a gate, its descriptor and its slots.
+fn first_home(layout: u8, slots: u64) -> u64 {
+    let journals = [1, 2, 2, 4][usize::from(layout) - 1];
+    1 + journals * (1 + (16 + 4 * slots + 4095) / 4096 + slots)
+}
+
 /// Makes a volume of a layout with so many slots and these files: `NAME=LENGTH` or `NAME=LENGTH/CAPACITY`, with blanks
 /// between them.
 pub fn make_volume(layout: u8, slots: u64, files: &str) -> Made {
     static COUNT: std::sync::atomic::AtomicU32 = std::sync::atomic::AtomicU32::new(0);
     let count = COUNT.fetch_add(1, std::sync::atomic::Ordering::Relaxed);
     let folder = std::env::temp_dir().join(format!("famsync-rust-{}-{count}", std::process::id()));
-    let mut next = [3 + slots, 5 + 2 * slots, 6 + 2 * slots][usize::from(layout) - 1];
-    let lengths_at = next - 1;
+    let has_lengths = layout >= 3;
+    let lengths_at = first_home(layout, slots);
+    let mut next = lengths_at + u64::from(has_lengths);
     let (mut head, mut lengths) = (vec![0; 4096], vec![0; 4096]);
     for (number, file) in files.split_whitespace().enumerate() {
         let (name, length) = file.split_once('=').unwrap();
@@ -60,7 +67,7 @@ pub fn make_volume(layout: u8, slots: u64, files: &str) -> Made {
     std::fs::write(made.path(), head).unwrap();
     let file = std::fs::OpenOptions::new().write(true).open(made.path()).unwrap();
     file.set_len(next * 4096).unwrap();
-    if layout == 3 {
+    if has_lengths {
         std::os::unix::fs::FileExt::write_all_at(&file, &lengths, lengths_at * 4096).unwrap();
     }
     made
