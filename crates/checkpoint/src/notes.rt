@@ -103,9 +103,11 @@ pub(crate) fn list_noted<A: Allocator + Copy>(
     ensures capacity { vec_capacity pages.new ≡ vec_capacity pages.old }
 {
     pages.clear();
-    for frame in frames.in_order() {
-        let page = frames.owner(*frame).unwrap();
-        if notes[*frame as usize] {
+    let order = frames.in_order();
+    for place in 0..order.len() {
+        let frame = order.get(place);
+        let page = frames.owner(frame).unwrap();
+        if notes[frame as usize] {
             pages.push_reserved(page);
         }
     }

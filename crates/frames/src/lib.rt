@@ -10,8 +10,9 @@ mod guesses;
 mod order;
 mod pages;
 
+use chunked_list::ChunkedList;
 use guesses::Guesses;
-use order::{insert_at, place_of};
+use order::place_of;
 use page_entry::{FilePage, FrameNumber, Refusal};
 use pages::{Pages, zero_bytes};
 use std::alloc::{AllocError, Allocator, Global};
@@ -27,13 +28,12 @@ pub type CopyNumber = u32;
 pub struct Frames<A: Allocator + Copy = Global> {
     frames: Pages<A>,
     // The frames in use, in the order of their pages. There is room for each frame.
-    order: Vec<FrameNumber, A>,
+    order: ChunkedList<A>,
     guesses: Guesses,
     copies: Pages<A>,
 }
 
 impl<A: Allocator + Copy> Model for Frames<A> {
-    ghost use Rattle.std.specs.Vec.{vec_capacity};
     ghost use Rattle.frames.specs.Frames.{FramesState};
     ghost use Rattle.frames.specs.inside.Order.{IsListed};
 
@@ -42,7 +42,7 @@ impl<A: Allocator + Copy> Model for Frames<A> {
     ghost view = { λ f. record { frames = f.frames; copies = f.copies } };
 
     ghost invariant = { λ f. IsListed (record { frames = f.frames; copies = f.copies }) f.order.items
-        (vec_capacity f.order) };
+        f.order.room };
 }
 
 impl<A: Allocator + Copy> Frames<A> {
@@ -52,7 +52,7 @@ impl<A: Allocator + Copy> Frames<A> {
     {
         Ok(Frames {
             frames: Pages::new(alloc, frames)?,
-            order: Vec::with_capacity(alloc, frames as usize)?,
+            order: ChunkedList::new(alloc, frames)?,
             guesses: Guesses::new(),
             copies: Pages::new(alloc, copies)?,
         })
@@ -89,9 +89,9 @@ impl<A: Allocator + Copy> Frames<A> {
     }
 
     /// The frames in use, in the order of their pages' home blocks: by file, then by page.
-    pub fn in_order(&self) -> &[FrameNumber]
-        ensures order { AreInOrder self.now result.now }
-        ensures few { length result.now ≤ length self.now.frames }
+    pub fn in_order(&self) -> &ChunkedList<A>
+        ensures order { AreInOrder self.now result.now.items }
+        ensures few { length result.now.items ≤ length self.now.frames }
     {
         &self.order
     }
@@ -115,7 +115,10 @@ impl<A: Allocator + Copy> Frames<A> {
         ensures none { IfNone result (HasNoFrame self.now page) }
     {
         let place = place_of(&self.frames, &self.order, page);
-        let frame = *self.order.get(place)?;
+        if place == self.order.len() {
+            return None;
+        }
+        let frame = self.order.get(place);
         if self.frames.page(frame) == Some(page) {
             Some(frame)
         } else {
@@ -131,7 +134,10 @@ impl<A: Allocator + Copy> Frames<A> {
         ensures are { AreFrames self.now }
     {
         let place = place_of(&self.frames, &self.order, page);
-        let frame = *self.order.get(place)?;
+        if place == self.order.len() {
+            return None;
+        }
+        let frame = self.order.get(place);
         match self.frames.page(frame) {
             Some(owner) if owner.file == page.file => Some(frame),
             _ => None,
@@ -166,7 +172,7 @@ impl<A: Allocator + Copy> Frames<A> {
         let Some(frame) = self.frames.insert(page, bytes) else {
             return Err(Refusal::NoFrame);
         };
-        insert_at(&mut self.order, place, frame);
+        self.order.insert(place, frame);
         self.guesses.put(page, frame);
         Ok(frame)
     }

@@ -82,7 +82,16 @@ fn have_neither(frames: &Frames, frame: FrameNumber, page: FilePage) -> bool {
 
 // Whether these are the frames in use, by their pages.
 fn are_in_order(frames: &Frames, expected: &[FrameNumber]) -> bool {
-    frames.in_order() == expected
+    let order = frames.in_order();
+    if order.len() != expected.len() {
+        return false;
+    }
+    for place in 0..expected.len() {
+        if order.get(place) != expected[place] {
+            return false;
+        }
+    }
+    true
 }
 
 // Takes both frames, for the first page and then the second one.

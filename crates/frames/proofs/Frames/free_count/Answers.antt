@@ -10,9 +10,8 @@ returns-clause-count g c =
     omega (
       arith,
       c.count.ensures,
-      c.len.ensures,
+      c.len.ensures.count,
       c.self.invariant.counted,
-      c.self.inside.order.ok.0,
       free_and_used c.self.inside.frames,
     ) in
     inside ∙ ap (λ (s : FramesState). count_by is_none s.frames) c.self.view_is

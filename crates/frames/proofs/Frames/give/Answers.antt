@@ -1,4 +1,4 @@
-use Rattle.std.proofs.Common.{subst, sym, ◌∙◌}
+use Rattle.std.proofs.Common.{sym, ◌∙◌}
 use Rattle.frames.specs.Frames.{FramesState}
 use Rattle.frames.specs.inside.Order.{IsPlaceOf}
 use Rattle.frames.proofs.Listing.{IsListed-without_frame}
@@ -8,8 +8,7 @@ pub invariant_of-self : goal.invariant_of-self
 invariant_of-self g c =
     let s : FramesState = record { frames = c.self.inside.frames; copies = c.self.inside.copies } in
     let at : IsPlaceOf c.self.inside.frames c.self.inside.order.items c.unwrap-page.result c.place_of-place.result =
-    subst (λ order. IsPlaceOf c.self.inside.frames order c.unwrap-page.result c.place_of-place.result)
-    c.deref.ensures.value c.place_of-place.ensures in
-    rw (c.give.ensures, c.remove.ensures.items, c.remove.ensures.capacity)
+    c.place_of-place.ensures in
+    rw (c.give.ensures, c.remove.ensures)
     (IsListed-without_frame s c.self.inside.order.items _ c.args.frame c.unwrap-page.result c.place_of-place.result
     c.self.invariant (sym c.page.ensures ∙ c.unwrap-page.ensures) at)

@@ -7,7 +7,6 @@ use Rattle.frames.proofs.Frames.is_unused.Goals as goal
 -- no frame is listed
 pub returns-then-is_empty : goal.returns-then-is_empty
 returns-then-is_empty g c =
-    let len = c.self.inside.order.ok.0 in
     let counted = c.self.invariant.counted in
     let empty = c.if-is_empty.ensures in
     let none : ltb 0 (count_by is_some c.self.inside.frames) ≡ false = grind (arith, nat_tests) in
@@ -18,7 +17,6 @@ returns-then-is_empty g c =
 -- a frame is listed
 pub returns-else-is_empty : goal.returns-else-is_empty
 returns-else-is_empty g c =
-    let len = c.self.inside.order.ok.0 in
     let counted = c.self.invariant.counted in
     let empty = c.if-is_empty.ensures in
     let some : ltb 0 (count_by is_some c.self.inside.frames) ≡ true = grind (arith, nat_tests) in

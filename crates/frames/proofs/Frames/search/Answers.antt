@@ -10,15 +10,12 @@ returns-else-eq-clause-none g c =
     let s : FramesState = record { frames = c.self.inside.frames; copies = c.self.inside.copies } in
     let order = c.self.inside.order.items in
     let place = c.place_of-place.result in
-    let frame = c.in_ok-frame.field-0.now in
+    let frame = c.get-frame.result in
     let at : IsPlaceOf c.self.inside.frames order c.args.page place =
-    subst (λ order. IsPlaceOf c.self.inside.frames order c.args.page place) c.deref.ensures.value
     c.place_of-place.ensures in
-    let read : frame ≡ get_or order place frame =
-    c.in_ok-frame.ensures.lookup.1
-    ∙ ap (λ xs. get_or xs place frame) c.deref-2.ensures.value in
+    let read : frame ≡ get_or order place 0 = c.get-frame.ensures in
     subst (λ (s : FramesState). HasNoFrame s c.args.page) c.self.view_is
-    (no_frame_elsewhere s order c.self.invariant.in_order c.args.page place frame at (λ has.
+    (no_frame_elsewhere s order c.self.invariant.in_order c.args.page place 0 at (λ has.
     let found : c.page.result ≡ Some c.args.page =
     c.page.ensures
     ∙ ap (λ n. page_of (get_or c.self.inside.frames n None)) read
