@@ -4,7 +4,7 @@
 -- growth of memory is refused. Sources: POSIX.1-2024 (mmap, munmap, mprotect, msync), Intel SDM volume 3 (4-level
 -- paging, TLBs, PCIDs), Black and others 1989 (shootdown), Park, Kelly and Shen 2013 (failure-atomic msync).
 use Rattle.std.specs.Prelude.{ℕ, ◌≡◌, ◌≢◌, ◌+◌, ◌/◌, ◌<◌, ◌⊎◌, nat_le, Bool, true, false, not, List, [], ◌∷◌}
-use Rattle.std.specs.Prelude.{map, Option, Some, None, Ok, Err, slice_index_or, slice_set, if◌then◌else◌}
+use Rattle.std.specs.Prelude.{Option, Some, None, Ok, Err, slice_index_or, slice_set, if◌then◌else◌}
 use Rattle.std.specs.Option.{option_map_or}
 use Rattle.std.specs.FinMap as maps
 use Rattle.page_entry.specs.declared.numbers.FilePage.{FilePage}
@@ -17,7 +17,7 @@ use Rattle.mappings.specs.declared.page_range.PageRange.{PageRange}
 use Rattle.volume_codec.specs.Layout.{first_file_home}
 use Rattle.volume_codec.specs.Lengths.{lengths_text}
 use Rattle.frames.specs.Frames.{FramesState, Frame, frame_at, bytes_of, without_frame, without_copies}
-use Rattle.journal.specs.Pages.{homes_of}
+use Rattle.journal.specs.Pages.{home_of, homes_of}
 use Rattle.journal.specs.declared.flushed.Flushed.{Flushed}
 use Rattle.journal.specs.declared.flushed.Flushed.TheVariants as flushed
 use Rattle.journal.specs.Work.{Work, worked, TornByWork}

@@ -2,14 +2,21 @@
 use Rattle.machine.proofs.Names.{ℕ, ◌≡◌, ◌<◌, ◌+◌, ◌++◌, Bool, true, false, not, cond, List, [], ◌∷◌, length, get_or}
 use Rattle.machine.proofs.Names.{refl, sym, ap, ◌∙◌, subst, arith, both_ways, All, FilePage, first_home}
 use Rattle.machine.proofs.Names.{is_busy, begun, CheckpointState, Gathers, State, IsInFile, IsSound, HasHome, MayBegin}
-use Rattle.machine.proofs.Names.{mark_homes, with_batch, with_homes}
+use Rattle.machine.proofs.Names.{IsPageOf, mark_homes, with_batch, with_homes}
+use Rattle.machine.proofs.code.Parts.{pages-in_file}
 use Rattle.machine.proofs.sound.ByMark.{gathered_there}
 use Rattle.machine.proofs.sound.Homes.{home-below}
 use Rattle.machine.proofs.sound.Uses.{batch_homes, newest_mark}
 
--- a page that begins before the end of its file is one of the file's
-pub page_there : (s : State) (owner : FilePage) → IsSound s → IsInFile s owner → HasHome s.table owner
-page_there s owner sound is = record { file = is.there; within = home-below s sound.within owner is; }
+-- a page that begins before the end of its file is one of the file's, and has a home block
+pub page_there : (s : State) (owner : FilePage) → IsSound s → IsInFile s owner → IsPageOf s.table owner
+page_there s owner sound is = record {
+  file = is.there;
+  page = omega (arith, is.inside, sound.within owner.file, pages-in_file s.table.files owner.file is.there);
+}
+
+has_home : (s : State) (owner : FilePage) → IsSound s → IsInFile s owner → HasHome s.table owner
+has_home s owner sound is = record { file = is.there; within = home-below s sound.within owner is; }
 
 module _ (s : State) (sound : IsSound s) (noted : CheckpointState) (pages : List FilePage)
     (gathers : Gathers s.hardware.spaces s.hardware.memory s.checkpoint noted (not s.write_outs.broken) pages) where
@@ -24,7 +31,7 @@ module _ (s : State) (sound : IsSound s) (noted : CheckpointState) (pages : List
   pub frozen_there : All (HasHome s.table) noted.frozen
   frozen_there =
       by_pages (All (HasHome s.table)) (λ k d within. absurd (omega (arith, within)))
-      (λ k d within. page_there s (get_or pages k d) sound
+      (λ k d within. has_home s (get_or pages k d) sound
       ((gathered_there s noted (not s.write_outs.broken) pages sound.memory gathers).1 k d within))
 
   frozen_if : (broken : Bool) → s.write_outs.broken ≡ broken → noted.frozen ≡ cond (not broken) pages []
