@@ -1,5 +1,5 @@
 -- What a crash since an opening began leaves, where nothing was run after it.
-use Rattle.std.proofs.Common.{◌≡◌, inl, inr, ℕ, List}
+use Rattle.std.proofs.Common.{inl, inr, ℕ, List}
 use Rattle.device.specs.Device.{LeavesOnly}
 use Rattle.device.specs.declared.device.Device.{Ghosts}
 use Rattle.device.proofs.Public.{leaves_weaker}

@@ -1,9 +1,8 @@
 -- A machine that was booted over an opened volume is at the start of a run.
-use Rattle.std.proofs.Common.{ℕ, List, refl, sym, ◌∙◌, inl, inr, subst}
+use Rattle.std.proofs.Common.{List, refl, sym, ◌∙◌, inl, inr, subst}
 use Rattle.device.specs.declared.device.Device.{Ghosts}
 use Rattle.page_entry.specs.declared.refusal.Refusal.{Refusal}
 use Rattle.volume_codec.specs.Files.{File}
-use Rattle.volume_codec.specs.Layout.{block_at}
 use Rattle.volume_codec.specs.Recovery.{RecoversTo}
 use Rattle.recovery.specs.Opening.{HasOpened}
 use Rattle.recovery.specs.Volume.{VolumeState, IsAtRest, files_of}

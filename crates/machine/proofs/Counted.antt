@@ -1,14 +1,14 @@
 -- What the write-out of one mark asks of the device in a run, until it is committed and until it is done.
 use Rattle.machine.proofs.Names.{committed_parts, ℕ, suc, ◌≡◌, ◌≢◌, ◌+◌, ◌*◌, ◌<◌, ◌≤◌, ◌⊎◌, inl, inr, Bool, true}
-use Rattle.machine.proofs.Names.{false, cond, eqb, List, [], ◌∷◌, ◌++◌, length, map, drop, sum_by, Option, Some, None}
-use Rattle.machine.proofs.Names.{is_some, refl, sym, ap, ◌∙◌, subst, arith, append_assoc, append-nil, length-append}
+use Rattle.machine.proofs.Names.{false, cond, eqb, List, [], ◌∷◌, ◌++◌, length, drop, sum_by, Option, Some, None}
+use Rattle.machine.proofs.Names.{refl, sym, ap, ◌∙◌, subst, arith, append_assoc, append-nil, length-append}
 use Rattle.machine.proofs.Names.{AllByRecursion, option_map_or, cond-true, cond-false, cases_Bool, both_ways, eq-eqb}
-use Rattle.machine.proofs.Names.{ne_eqb, length-map, sum_by-append, All-weaker, recursion_from_All, FilePage, Ghosts}
+use Rattle.machine.proofs.Names.{ne_eqb, sum_by-append, All-weaker, recursion_from_All, Ghosts}
 use Rattle.machine.proofs.Names.{File, GeometryValue, Batch, Stage, Committing, Finishing, Flushed, answer_at, Work}
 use Rattle.machine.proofs.Names.{Nothing, work_at, calls_of, WriteOut, next_stage, begun_of, advanced_of, work_of}
 use Rattle.machine.proofs.Names.{answer_of, calls_in_steps, WriteOutsValue, has_uncommitted, advanced, outs_after}
-use Rattle.machine.proofs.Names.{outs_record, next_answer, next_batch, begun, IsAt, stage_is, early_calls, all_calls}
-use Rattle.machine.proofs.Names.{current-oldest, Act, Reply, Step, State, Whole, home_of, Acts, MarkMade}
+use Rattle.machine.proofs.Names.{next_answer, next_batch, begun, IsAt, stage_is, early_calls, all_calls}
+use Rattle.machine.proofs.Names.{current-oldest, Act, Reply, Step, State, Whole, Acts, MarkMade}
 use Rattle.machine.proofs.Names.{with_batch, mark_homes, is_page_next, after_record}
 use Rattle.machine.proofs.Names.{reply_to, step_work, StepTaken, StepsTaken, listed_work}
 use Rattle.machine.proofs.Names.{asked_for, AskFor, IsReached, IsSound, Performed, Moved, Marked, Failed}

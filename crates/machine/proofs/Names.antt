@@ -38,6 +38,7 @@ pub use Rattle.journal.proofs.Public.{consistent_first, consistent_left, consist
 pub use Rattle.journal.specs.Crash.{LeftBefore, LeftWithin}
 pub use Rattle.journal.specs.Stage.{answer_at, is_committed}
 pub use Rattle.journal.specs.LedTo.{MayBegin}
+pub use Rattle.journal.specs.Pages.{HasHome, home_of, homes_of}
 pub use Rattle.journal.specs.Work.{CopyBlock, HasFailed, Nothing, Sync, TornByWork, TornFromWork, Work, WriteAt}
 pub use Rattle.journal.specs.Work.{calls_of, has_done, work_at, worked}
 pub use Rattle.journal.specs.WriteOut.{WriteOut, advanced_of, answer_of, begun_of, broken_after, calls_in_steps}
@@ -80,7 +81,7 @@ pub use Rattle.machine.specs.Rules.{after_failure, after_record, begin_change, b
 pub use Rattle.machine.specs.Rules.{next_page, with_batch, with_hardware, with_shootdown, with_spaces}
 pub use Rattle.machine.specs.Rules.{is_page_next, mark_homes, work_asked}
 pub use Rattle.machine.specs.Runs.{StepTaken, StepsTaken}
-pub use Rattle.machine.specs.State.{State, Whole, capacity_of, cut_at_end, home_of, length_of, page_from, part}
+pub use Rattle.machine.specs.State.{State, Whole, capacity_of, cut_at_end, length_of, page_from, part}
 pub use Rattle.machine.specs.Steps.{StepMade, step_work, observed_first}
 pub use Rattle.machine.specs.Stops.{IsAcknowledged, IsNew, IsOld, Stops, StopsBefore, StopsInStep, StopsWithin}
 pub use Rattle.machine.specs.Sums.{AskFor, CallsAddUp, asked_for, listed_work}

@@ -1,5 +1,5 @@
 -- The laws hold that a run reached: each step of a tracked machine keeps it tracked.
-use Rattle.machine.proofs.Names.{ℕ, ◌≡◌, List, [], ◌∷◌, ◌++◌, length, map, get_or, refl, sym, ap, ◌∙◌, subst, arith}
+use Rattle.machine.proofs.Names.{ℕ, ◌≡◌, List, [], ◌∷◌, ◌++◌, refl, sym, ap, subst}
 use Rattle.machine.proofs.Names.{State, AreLengths, Ghosts, File, Act, Reply, Step, Whole}
 use Rattle.machine.proofs.Names.{Observed, observe, observe_all, EachStep}
 use Rattle.machine.proofs.Names.{IsLawful, observed_first, StepTaken, StepsTaken}

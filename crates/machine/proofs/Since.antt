@@ -1,6 +1,6 @@
 -- What a crash leaves since some machine of a run.
-use Rattle.machine.proofs.Names.{ℕ, zero, suc, ◌≤◌, ◌⊎◌, List, [], ◌∷◌, refl, subst, arith}
-use Rattle.machine.proofs.Names.{Ghosts, File, Reply, Step, Whole, Observed, observe, StepTaken}
+use Rattle.machine.proofs.Names.{ℕ, zero, suc, ◌≤◌, ◌⊎◌, List, [], ◌∷◌, subst, arith}
+use Rattle.machine.proofs.Names.{Ghosts, File, Reply, Step, Whole, Observed, observe}
 use Rattle.machine.proofs.Names.{StepsTaken, StepIsSafe, Refines, ReadsBack}
 use Rattle.std.proofs.Common.{inl, inr}
 use Rattle.machine.specs.Laws.{ReadsBackSince}

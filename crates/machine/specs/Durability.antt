@@ -6,12 +6,13 @@ use Rattle.page_entry.specs.declared.numbers.FilePage.{FilePage}
 use Rattle.volume_codec.specs.Layout.{first_file_home}
 use Rattle.volume_codec.specs.Super.{SuperValue}
 use Rattle.volume_codec.specs.Recovery.{Recovers}
+use Rattle.journal.specs.Pages.{home_of}
 use Rattle.journal.specs.WriteOuts.{WriteOutsValue}
 use Rattle.spaces.specs.Spaces.{entry_at}
 use Rattle.shootdown.specs.Shootdown.{processor_at}
 use Rattle.shootdown.specs.Coherence.{IsUsable}
 use Rattle.checkpoint.specs.Checkpoint.{Holds, is_held}
-use Rattle.machine.specs.State.{State, home_of, length_of, part}
+use Rattle.machine.specs.State.{State, length_of, part}
 
 -- the home blocks whose records aren't written yet
 abbrev pub waiting_homes : WriteOutsValue → List ℕ

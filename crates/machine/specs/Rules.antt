@@ -4,7 +4,7 @@
 -- growth of memory is refused. Sources: POSIX.1-2024 (mmap, munmap, mprotect, msync), Intel SDM volume 3 (4-level
 -- paging, TLBs, PCIDs), Black and others 1989 (shootdown), Park, Kelly and Shen 2013 (failure-atomic msync).
 use Rattle.std.specs.Prelude.{ℕ, ◌≡◌, ◌≢◌, ◌+◌, ◌/◌, ◌<◌, ◌⊎◌, nat_le, Bool, true, false, not, List, [], ◌∷◌}
-use Rattle.std.specs.Prelude.{◌++◌, map, Option, Some, None, Ok, Err, slice_index_or, slice_set, if◌then◌else◌}
+use Rattle.std.specs.Prelude.{Option, Some, None, Ok, Err, slice_index_or, slice_set, if◌then◌else◌}
 use Rattle.std.specs.Option.{option_map_or}
 use Rattle.std.specs.FinMap as maps
 use Rattle.page_entry.specs.declared.numbers.FilePage.{FilePage}
@@ -14,9 +14,10 @@ use Rattle.mappings.specs.Places.{splits}
 use Rattle.mappings.specs.declared.place.Place.{Place}
 use Rattle.mappings.specs.declared.place.Rights.{Rights}
 use Rattle.mappings.specs.declared.page_range.PageRange.{PageRange}
-use Rattle.volume_codec.specs.Layout.{first_home, first_file_home}
+use Rattle.volume_codec.specs.Layout.{first_file_home}
 use Rattle.volume_codec.specs.Lengths.{lengths_text}
 use Rattle.frames.specs.Frames.{FramesState, Frame, frame_at, bytes_of, without_frame, without_copies}
+use Rattle.journal.specs.Pages.{home_of, homes_of}
 use Rattle.journal.specs.declared.flushed.Flushed.{Flushed}
 use Rattle.journal.specs.declared.flushed.Flushed.TheVariants as flushed
 use Rattle.journal.specs.Work.{Work, worked, TornByWork}
@@ -43,7 +44,7 @@ use Rattle.machine.specs.declared.act.Act.TheVariants as acts
 use Rattle.machine.specs.declared.act.Reply.{Reply}
 use Rattle.machine.specs.declared.act.Reply.TheVariants as replies
 use Rattle.machine.specs.declared.act.Step.{Step}
-use Rattle.machine.specs.State.{State, length_of, home_of, cut_at_end, page_from}
+use Rattle.machine.specs.State.{State, length_of, cut_at_end, page_from}
 use Rattle.machine.specs.Refusals.{reason_against, reads_page}
 
 -- the machine with this hardware, and all else as it was
@@ -219,8 +220,7 @@ pub record ResizeMade (s : State) (p : ℕ) (new : State) : Type 0 where
 -- the home blocks that a mark of these pages writes: the one of the lengths first, if a length was set since the last
 -- mark
 abbrev pub mark_homes : State → List FilePage → List ℕ
-mark_homes s pages =
-    (if s.resized then first_home s.table.layout s.table.slots ∷ [] else []) ++ map (home_of s.table) pages
+mark_homes s pages = homes_of s.table s.resized pages
 
 -- the batches after a mark of these home blocks: one more, unless there is nothing to write or the machine is broken
 abbrev pub with_batch : State → ℕ → List ℕ → WriteOutsValue

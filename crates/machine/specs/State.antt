@@ -1,11 +1,12 @@
 -- What contracts see of a machine: the states of its layers.
-use Rattle.std.specs.Prelude.{ℕ, Bool, ◌-◌, ◌*◌, ◌+◌, List, map, take, slice_index_or}
+use Rattle.std.specs.Prelude.{ℕ, Bool, ◌-◌, ◌*◌, List, map, take, slice_index_or}
 use Rattle.page_entry.specs.declared.numbers.FilePage.{FilePage}
-use Rattle.volume_codec.specs.Super.{SuperValue, first_home_of}
+use Rattle.volume_codec.specs.Super.{SuperValue}
 use Rattle.volume_codec.specs.Text.{padded}
 use Rattle.volume_codec.specs.Layout.{block_at}
 use Rattle.cpu.specs.Access.{Hardware}
 use Rattle.checkpoint.specs.Checkpoint.{CheckpointState}
+use Rattle.journal.specs.Pages.{home_of}
 use Rattle.journal.specs.WriteOuts.{WriteOutsValue}
 
 -- A machine without its device: the volume's table of files, and the length of each in bytes; the processors with
@@ -32,10 +33,6 @@ length_of s file = slice_index_or s.lengths file 0
 -- the greatest length that the file with this number may have
 abbrev pub capacity_of : State → ℕ → ℕ
 capacity_of s file = slice_index_or (map (λ f. f.capacity) s.table.files) file 0
-
--- the home block of a page of a file
-abbrev pub home_of : SuperValue → FilePage → ℕ
-home_of table owner = first_home_of table owner.file + owner.page
 
 -- the bytes of a page up to its file's end, of files of these lengths
 abbrev pub part : List ℕ → FilePage → List ℕ → List ℕ

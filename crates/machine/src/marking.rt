@@ -1,49 +1,26 @@
 // Marks: all stores so far belong to one.
-ghost use Rattle.std.specs.Prelude.{ℕ, List, ◌≡◌, ◌+◌, ◌≤◌, ◌<◌, length, map, take, drop, Some, Ok};
+ghost use Rattle.std.specs.Prelude.{ℕ, List, ◌≡◌, ◌<◌, length, Some, Ok};
 ghost use Rattle.std.specs.List.{All};
 ghost use Rattle.spaces.specs.declared.change.Change.TheVariants.{Checkpoint};
 ghost use Rattle.shootdown.specs.Calls.{HandsOut};
 ghost use Rattle.machine.specs.declared.act.Act.TheVariants.{Change};
-ghost use Rattle.machine.specs.State.{home_of};
 ghost use Rattle.machine.specs.inside.Sound.{IsSound};
 ghost use Rattle.machine.specs.Rules.{Answers, mark_homes};
-ghost use Rattle.machine.specs.inside.Layers.{state_in, IsQuiet, IsPageOf, with_homes};
+ghost use Rattle.machine.specs.inside.Layers.{state_in, IsQuiet, with_homes};
 ghost use Rattle.journal.specs.LedTo.{MayBegin};
+ghost use Rattle.journal.specs.Pages.{HasHome};
 
 use crate::Reply;
 use crate::layers::Layers;
-use crate::paging::home_block;
 use device::Device;
-use page_entry::{FilePage, ProcessorNumber};
+use page_entry::ProcessorNumber;
 use std::alloc::Allocator;
-use volume_codec::Super;
-
-/// The most blocks of a batch: a journal has no more record slots.
-const MOST_BLOCKS: usize = 1020;
-
-// The home blocks of pages, in their order, after so many others.
-fn homes_of<A: Allocator + Copy>(
-    table: &Super<A>,
-    others: usize,
-    pages: &[FilePage],
-) -> [u32; MOST_BLOCKS]
-    requires few { others + length pages.now ≤ 1020 }
-    requires pages { All (IsPageOf table.now) pages.now }
-    ensures { take (length pages.now) (drop others result) ≡ map (home_of table.now) pages.now }
-{
-    let mut homes = [0; MOST_BLOCKS];
-    for (place, page) in pages.iter().enumerate() {
-        homes[others + place] = home_block(table, *page);
-    }
-    homes
-}
 
 impl<D: Device, A: Allocator + Copy> Layers<D, A> {
     // The lengths, if one was set, and the frozen pages are written out as a batch of the last mark, if there is
     // anything to write.
     fn write_out(&mut self)
-        requires few { length (mark_homes (state_in self.old) self.old.checkpoint.frozen) ≤ 1020 }
-        requires pages { All (IsPageOf self.old.table) self.old.checkpoint.frozen }
+        requires pages { All (HasHome self.old.table) self.old.checkpoint.frozen }
         requires batch { 0 < length (mark_homes (state_in self.old) self.old.checkpoint.frozen)
             → MayBegin self.old.write_outs self.old.marks
             (mark_homes (state_in self.old) self.old.checkpoint.frozen) }
@@ -53,19 +30,11 @@ impl<D: Device, A: Allocator + Copy> Layers<D, A> {
         } }
     {
         let pages = self.checkpoint.frozen();
-        if self.resized {
-            let mut homes = homes_of(&self.table, 1, pages);
-            homes[0] = self.table.geometry().first_home();
-            self.write_outs
-                .begin(u64::from(self.marks), &homes[..1 + pages.len()]);
+        if !self.resized && pages.is_empty() {
             return;
         }
-        if pages.is_empty() {
-            return;
-        }
-        let homes = homes_of(&self.table, 0, pages);
         self.write_outs
-            .begin(u64::from(self.marks), &homes[..pages.len()]);
+            .begin(u64::from(self.marks), &self.table, self.resized, pages);
     }
 
     // Rule: empty mark

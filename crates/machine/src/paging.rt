@@ -2,7 +2,7 @@
 ghost use Rattle.std.specs.Prelude.{◌≡◌, ◌↔◌, ◌<◌, length, take, replicate, slice_index_or, IsTrue};
 ghost use Rattle.volume_codec.specs.Super.{block_count, pages_of};
 ghost use Rattle.volume_codec.specs.Text.{padded};
-ghost use Rattle.machine.specs.State.{home_of};
+ghost use Rattle.journal.specs.Pages.{home_of};
 ghost use Rattle.machine.specs.Refusals.{pages_in_file};
 
 use page_entry::{FileNumber, FilePage, PAGE};

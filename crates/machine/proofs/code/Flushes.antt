@@ -1,5 +1,5 @@
 -- Steps of the write-outs, by what the journal answers.
-use Rattle.machine.proofs.Names.{ℕ, ◌≡◌, ◌≢◌, ◌⊎◌, Bool, true, false, not, cond, List, [], Option, Some, None, is_some}
+use Rattle.machine.proofs.Names.{ℕ, ◌≡◌, ◌≢◌, ◌⊎◌, Bool, true, false, not, cond, List, [], Option, Some, None}
 use Rattle.machine.proofs.Names.{refl, sym, ap, subst, ⊎_elim, MatchBool, Torn, Ghosts, Did, did_nothing, Refusal}
 use Rattle.machine.proofs.Names.{Flushed, Work, WriteAt, CopyBlock, Sync, Nothing, worked, TornByWork, has_done}
 use Rattle.machine.proofs.Names.{WriteOutsValue, is_page_next, next_answer, outs_after, is_running, ShootdownState}

@@ -1,19 +1,22 @@
 -- The batch of a mark: the pages that it gathers, unless the machine is broken.
-use Rattle.machine.proofs.Names.{ℕ, ◌≡◌, ◌<◌, ◌≤◌, ◌+◌, Bool, true, false, not, cond, List, [], ◌∷◌, length, map}
-use Rattle.machine.proofs.Names.{get_or, refl, sym, ap, ◌∙◌, subst, ⊎_elim, arith, cases_lt, length-map, All, FilePage}
-use Rattle.machine.proofs.Names.{GeometryValue, is_busy, begun, CheckpointState, Gathers, State, home_of, IsInFile}
-use Rattle.machine.proofs.Names.{IsSound, with_batch, IsPageOf, MayBegin, with_homes}
-use Rattle.machine.proofs.Names.{◌++◌, mark_homes, both_ways, first_home}
-use Rattle.machine.proofs.sound.ByMark.{gathered_there}
-use Rattle.machine.proofs.sound.Uses.{batch_homes, newest_mark}
+use Rattle.machine.proofs.Names.{ℕ, ◌≡◌, ◌<◌, ◌+◌, ◌++◌, Bool, true, false, not, cond, List, [], ◌∷◌, length, get_or}
+use Rattle.machine.proofs.Names.{refl, sym, ap, ◌∙◌, subst, arith, both_ways, All, FilePage, first_home}
+use Rattle.machine.proofs.Names.{is_busy, begun, CheckpointState, Gathers, State, IsInFile, IsSound, HasHome, MayBegin}
+use Rattle.machine.proofs.Names.{IsPageOf, mark_homes, with_batch, with_homes}
 use Rattle.machine.proofs.code.Parts.{pages-in_file}
+use Rattle.machine.proofs.sound.ByMark.{gathered_there}
+use Rattle.machine.proofs.sound.Homes.{home-below}
+use Rattle.machine.proofs.sound.Uses.{batch_homes, newest_mark}
 
--- a page that begins before the end of its file is one of the file's
+-- a page that begins before the end of its file is one of the file's, and has a home block
 pub page_there : (s : State) (owner : FilePage) → IsSound s → IsInFile s owner → IsPageOf s.table owner
 page_there s owner sound is = record {
   file = is.there;
   page = omega (arith, is.inside, sound.within owner.file, pages-in_file s.table.files owner.file is.there);
 }
+
+has_home : (s : State) (owner : FilePage) → IsSound s → IsInFile s owner → HasHome s.table owner
+has_home s owner sound is = record { file = is.there; within = home-below s sound.within owner is; }
 
 module _ (s : State) (sound : IsSound s) (noted : CheckpointState) (pages : List FilePage)
     (gathers : Gathers s.hardware.spaces s.hardware.memory s.checkpoint noted (not s.write_outs.broken) pages) where
@@ -25,10 +28,10 @@ module _ (s : State) (sound : IsSound s) (noted : CheckpointState) (pages : List
       by true = none
       by false = all
 
-  pub frozen_there : All (IsPageOf s.table) noted.frozen
+  pub frozen_there : All (HasHome s.table) noted.frozen
   frozen_there =
-      by_pages (All (IsPageOf s.table)) (λ k d within. absurd (omega (arith, within)))
-      (λ k d within. page_there s (get_or pages k d) sound
+      by_pages (All (HasHome s.table)) (λ k d within. absurd (omega (arith, within)))
+      (λ k d within. has_home s (get_or pages k d) sound
       ((gathered_there s noted (not s.write_outs.broken) pages sound.memory gathers).1 k d within))
 
   frozen_if : (broken : Bool) → s.write_outs.broken ≡ broken → noted.frozen ≡ cond (not broken) pages []
@@ -51,19 +54,6 @@ module _ (s : State) (sound : IsSound s) (noted : CheckpointState) (pages : List
       by true is =
           subst P (sym (ap (λ (owners : List FilePage). mark_homes s owners) (frozen_if true is) ∙ none_broken is)) none
       by false is = subst P (sym (ap (λ (owners : List FilePage). mark_homes s owners) (frozen_if false is))) (all is)
-
-  few_homes : length (mark_homes s pages) ≤ 1020
-  few_homes = ⊎_elim
-      (λ some. omega (
-        arith,
-        (batch_homes s sound noted (not s.write_outs.broken) pages gathers some).few,
-        ap (λ (g : GeometryValue). g.slots) sound.write_outs.geometry,
-        sound.fits.few_slots,
-      ))
-      (λ none. omega (arith, none)) (cases_lt 0 (length (mark_homes s pages)))
-
-  pub few_frozen : length (mark_homes s noted.frozen) ≤ 1020
-  few_frozen = by_homes (λ (l : List ℕ). length l ≤ 1020) (omega arith) (λ whole. few_homes)
 
   pub may_begin : (s.write_outs.broken ≡ false → is_busy s.write_outs ≡ false) → 0 < length (mark_homes s noted.frozen)
       → MayBegin s.write_outs (s.marks + 1) (mark_homes s noted.frozen)

@@ -1,10 +1,10 @@
 -- The page whose record a step of a write-out writes, and the mark that a step answers.
 use Rattle.machine.proofs.Names.{ℕ, suc, ◌≡◌, ◌<◌, ◌≤◌, ◌-◌, ◌*◌, ◌^◌, Bool, true, false, cond, List, [], ◌∷◌, ◌++◌}
-use Rattle.machine.proofs.Names.{length, take, Option, Some, None, is_some, IsSome, refl, sym, ap, ◌∙◌, arith, All}
-use Rattle.machine.proofs.Names.{option_map_or, option_and_then, take_all, append-nil, GeometryValue, Batch, zeros}
-use Rattle.machine.proofs.Names.{padded, zeros-nil, Stage, Recording, Committing, Finishing, answer_at, Broken, Nothing}
-use Rattle.machine.proofs.Names.{work_at, WriteOut, next_stage, record_at, work_of, answer_of, WriteOutsValue}
-use Rattle.machine.proofs.Names.{has_uncommitted, outs_record, next_work, next_answer, is_in_memory, State, length_of}
+use Rattle.machine.proofs.Names.{length, take, Option, Some, None, sym, ap, ◌∙◌, arith, All}
+use Rattle.machine.proofs.Names.{option_map_or, take_all, append-nil, zeros}
+use Rattle.machine.proofs.Names.{padded, zeros-nil, Stage, Committing, Finishing, answer_at, Broken}
+use Rattle.machine.proofs.Names.{WriteOut, next_stage, answer_of}
+use Rattle.machine.proofs.Names.{has_uncommitted, next_answer, is_in_memory, State, length_of}
 use Rattle.machine.proofs.Names.{IsInFile, IsSound, next_page, bytes_at_mark, HasSmallMark}
 use Rattle.journal.specs.WriteOuts.{current}
 use Rattle.machine.proofs.Names.{is_page_next, cond-true, cond-false, cut_at_end, lengths_text}

@@ -1,12 +1,12 @@
 -- What a change of a file's length asks of frames and pages, and why it is refused.
-use Rattle.machine.proofs.Names.{ℕ, ◌≡◌, ◌≢◌, ◌+◌, ◌-◌, ◌*◌, ◌/◌, ◌%◌, ◌^◌, ◌<◌}
-use Rattle.machine.proofs.Names.{◌≤◌, Bool, true, false, not, eqb, ltb, leb}
-use Rattle.machine.proofs.Names.{cond, cond-true, cond-false, List, [], ◌∷◌}
+use Rattle.machine.proofs.Names.{ℕ, ◌≡◌, ◌≢◌, ◌-◌, ◌*◌, ◌/◌, ◌%◌, ◌^◌, ◌<◌}
+use Rattle.machine.proofs.Names.{◌≤◌, Bool, true, false, not, eqb, ltb}
+use Rattle.machine.proofs.Names.{cond, cond-true, cond-false, [], ◌∷◌}
 use Rattle.machine.proofs.Names.{length, Option, Some, None, is_none, count_by}
 use Rattle.machine.proofs.Names.{refl, sym, ap, ◌∙◌, subst, arith, Ok, ltb-false, ne_eqb, eq-eqb, Refusal, FilePage}
-use Rattle.machine.proofs.Names.{Holds, HandsOut, not_free, pages_of, total_pages, block_count, State, capacity_of}
-use Rattle.machine.proofs.Names.{length_of, MayChange, IsSound, IsResizable, lacks_frames, lacks_last_page}
-use Rattle.machine.proofs.Names.{length_refusal, resize_refusal, reason_against, option_or}
+use Rattle.machine.proofs.Names.{Holds, HandsOut, not_free, pages_of, State, capacity_of}
+use Rattle.machine.proofs.Names.{length_of, IsSound, IsResizable, lacks_last_page}
+use Rattle.machine.proofs.Names.{length_refusal, resize_refusal, reason_against}
 use Rattle.spaces.specs.declared.change.Change.TheVariants as changes
 use Rattle.machine.specs.declared.act.Act.TheVariants as acts
 use Rattle.machine.proofs.sound.Ended.{prepared_change}

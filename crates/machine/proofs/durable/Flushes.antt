@@ -1,15 +1,15 @@
 -- A step of the write-outs: it writes a record that New has, and once it commits a batch, what was New is Old, too.
-use Rattle.machine.proofs.Names.{◌≡◌, ◌<◌, ◌≤◌, ◌+◌, ◌-◌, ◌*◌, ℕ, true, false, not, List, [], ◌∷◌, ◌++◌, length, map}
+use Rattle.machine.proofs.Names.{◌≡◌, ◌<◌, ◌≤◌, ◌-◌, ◌*◌, ℕ, true, false, not, List, [], ◌∷◌, ◌++◌, length}
 use Rattle.machine.proofs.Names.{take, drop, get_or, Option, Some, None, inl, inr, refl, sym, ap, ◌∙◌, subst}
 use Rattle.machine.proofs.Names.{arith, ◌==◌, ◌⊎◌, suc, cond, Bool, Contains, flat_map, All, option_map}
 use Rattle.machine.proofs.Names.{option_map_or, option_and_then, cond-false, cases_Bool, both_ways, or_from}
-use Rattle.machine.proofs.Names.{not_from_true, or_parts, append-nil, drop_more, length-take, list_any-append}
+use Rattle.machine.proofs.Names.{not_from_true, or_parts, length-take, list_any-append}
 use Rattle.machine.proofs.Names.{Contains-push, Contains-get_or, All-contains, FilePage, length-padded}
-use Rattle.machine.proofs.Names.{IsBefore, before_each, AreRising, Stage, Recording}
+use Rattle.machine.proofs.Names.{IsBefore, before_each, AreRising, Stage}
 use Rattle.machine.proofs.Names.{Committing, Applying, Committed, Broken, answer_at, WriteOut, next_stage}
-use Rattle.machine.proofs.Names.{has_committed, advanced_of, record_at, next_record, next_home, answer_of, broken_after}
-use Rattle.machine.proofs.Names.{WriteOutsValue, has_uncommitted, advanced, outs_record, outs_home, next_answer}
-use Rattle.machine.proofs.Names.{outs_after, current_stage, batches_after, AreInOrder, stage_at-is, after_committing}
+use Rattle.machine.proofs.Names.{has_committed, advanced_of, next_record, next_home, answer_of, broken_after}
+use Rattle.machine.proofs.Names.{WriteOutsValue, has_uncommitted, advanced, outs_home, next_answer}
+use Rattle.machine.proofs.Names.{outs_after, current_stage, batches_after, AreInOrder, after_committing}
 use Rattle.machine.proofs.Names.{newest_of, current-newest, advanced-newest, committed-at, current_committed}
 use Rattle.machine.proofs.Names.{older_committed, batch_before, consistent_within, consistent_after, consistent_failed}
 use Rattle.machine.proofs.Names.{consistent_other, State, length_of, home_of}
@@ -23,7 +23,6 @@ use Rattle.machine.specs.declared.act.Act.TheVariants as acts
 use Rattle.machine.specs.Rules.{next_record as record_asked}
 use Rattle.journal.specs.declared.flushed.Flushed.TheVariants as flushed
 use Rattle.page_entry.specs.declared.refusal.Refusal.TheVariants as refusals
-use Rattle.machine.proofs.sound.Waiting.{waiting-none}
 use Rattle.machine.proofs.durable.Lists.{only_one, some_same, none_some, contains_none}
 use Rattle.machine.proofs.durable.Pages.{bytes_with-freed}
 use Rattle.machine.proofs.durable.Uncommitted.{current_there, none_uncommitted, uncommitted_before, waits_after}

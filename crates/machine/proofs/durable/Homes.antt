@@ -10,8 +10,8 @@ use Rattle.machine.proofs.Names.{is_of_page, is_frozen, same_page, bytes_with, b
 use Rattle.machine.proofs.Names.{All-contains, is_in_memory, WriteOut, HasBlock, memory_of, after}
 use Rattle.machine.proofs.Names.{is_touched, Observed, Refines}
 use Rattle.machine.proofs.Names.{IsSource, first_home, lengths_text, eqb-true}
-use Rattle.machine.proofs.Names.{◌&&◌, and_right, and_from, eq-eqb, mark_homes}
-use Rattle.machine.proofs.Names.{lengths_blocks, Bool, false≢true}
+use Rattle.machine.proofs.Names.{◌&&◌, and_from, eq-eqb, mark_homes}
+use Rattle.machine.proofs.Names.{Bool, false≢true}
 use Rattle.machine.proofs.sound.Homes.{home-below, same_home}
 use Rattle.machine.proofs.durable.Lists.{none_some, contains_head, contains_cons, contains_unmapped}
 use Rattle.machine.proofs.durable.Pages.{holder, bytes_with-held}

@@ -1,12 +1,12 @@
 -- One step of a machine over an honest device: it stays tracked, and a crash within the step or after it reads back.
-use Rattle.machine.proofs.Names.{◌≡◌, ◌≢◌, ◌<◌, ℕ, inl, inr, cond, true, false, not, List, [], ◌∷◌, ◌++◌, length, map}
-use Rattle.machine.proofs.Names.{is_some, refl, sym, ap, ◌∙◌, subst, arith, Contains, cond-false, false≢true}
-use Rattle.machine.proofs.Names.{All-contains, Contains-push, FilePage, Refusal, Only, LeavesOnly, Ghosts, File}
+use Rattle.machine.proofs.Names.{◌≡◌, ◌≢◌, ◌<◌, ℕ, inl, inr, cond, true, false, not, List, [], ◌∷◌, ◌++◌, length}
+use Rattle.machine.proofs.Names.{refl, sym, ap, ◌∙◌, subst, arith, Contains, cond-false, false≢true}
+use Rattle.machine.proofs.Names.{All-contains, Contains-push, Refusal, Only, LeavesOnly, Ghosts, File}
 use Rattle.machine.proofs.Names.{SuperValue, geometry_of, AreHomes, without_notes, Flushed, Work, Sync, Nothing, worked}
 use Rattle.machine.proofs.Names.{TornFromWork, WriteOut, begun_of, WriteOutsValue, current_stage, next_answer}
-use Rattle.machine.proofs.Names.{next_batch, begun, outs_record, outs_after, LeftWithin, IsConsistent, IsTied}
+use Rattle.machine.proofs.Names.{next_batch, begun, outs_after, LeftWithin, IsConsistent, IsTied}
 use Rattle.machine.proofs.Names.{consistent_left, Act, Reply, Step, Event, Memory, Acknowledge, memory_of, has_unmarked}
-use Rattle.machine.proofs.Names.{State, Whole, home_of, end_change, FlushMade}
+use Rattle.machine.proofs.Names.{State, Whole, end_change, FlushMade}
 use Rattle.machine.proofs.Names.{HasStepped, FlushFailed, MarkMade, with_batch}
 use Rattle.machine.proofs.Names.{work_asked, reply_to, after_record, after_failure}
 use Rattle.machine.proofs.Names.{Observed, observe, ended_by, ReadsBack}

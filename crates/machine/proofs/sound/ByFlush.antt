@@ -1,9 +1,9 @@
 -- A step of the write-outs keeps a machine sound, and so does one whose device call failed.
 use Rattle.machine.proofs.Names.{ℕ, ◌≡◌, ◌≢◌, ◌<◌, ◌≤◌, true, false, cond, List, [], ◌∷◌, length, map, drop, Option}
-use Rattle.machine.proofs.Names.{Some, None, is_some, refl, sym, ap, ◌∙◌, subst, arith, option_map_or, option_and_then}
+use Rattle.machine.proofs.Names.{Some, None, refl, sym, ap, ◌∙◌, subst, arith, option_map_or, option_and_then}
 use Rattle.machine.proofs.Names.{cond-false, false≢true, length-map, length-drop, drop-map, get_or_default, All-drop}
 use Rattle.machine.proofs.Names.{Refusal, without_copies, GeometryValue, journals_of, Flushed, WriteOut, next_record}
-use Rattle.machine.proofs.Names.{answer_of, has_uncommitted, advanced, batches_after, outs_after, outs_record}
+use Rattle.machine.proofs.Names.{answer_of, has_uncommitted, advanced, batches_after, outs_after}
 use Rattle.machine.proofs.Names.{next_answer, is_busy, committed_parts, not_running, without_copy_of, released, thawed}
 use Rattle.machine.proofs.Names.{AreRising-drop, AreBacked-thawed, AreBacked-released, AreCopiesOfFrozen-release}
 use Rattle.machine.proofs.Names.{is_in_memory, Reply, State, home_of, refuse_if, reason_against, next_page, reply_to}
@@ -17,8 +17,8 @@ use Rattle.machine.proofs.Names.{inl, inr, leb, cases_Bool, cond-true, file_home
 use Rattle.machine.proofs.sound.Admitted.{first_none, refuse_none}
 use Rattle.machine.proofs.sound.Records.{coming, page_next, no_page_next}
 use Rattle.machine.proofs.sound.Groups.{still_sound, unchanged_sound, memory_same}
-use Rattle.machine.proofs.sound.Waiting.{waits_of, waiting, waiting-none, length-advanced}
-use Rattle.machine.proofs.sound.Waiting.{older-rest, older-advanced, recorded, unrecorded}
+use Rattle.machine.proofs.sound.Waiting.{waiting, waiting-none, length-advanced}
+use Rattle.machine.proofs.sound.Waiting.{older-rest, older-advanced, unrecorded}
 use Rattle.machine.proofs.sound.Steps.{none_after, stepped_write_outs, stepped_spaces, done_none}
 use Rattle.machine.proofs.sound.Steps.{none_recorded, free-advanced, free-done}
 use Rattle.machine.proofs.sound.Steps.{IsMemory-without_copy_of, IsMemory-without_copies, none_left}

@@ -2,7 +2,7 @@
 use Rattle.machine.proofs.Names.{ℕ, ◌≡◌, ◌+◌, ◌^◌, ◌<◌, ◌≤◌, eqb, not, Bool, true, false, cond, List, [], ◌∷◌, ◌++◌}
 use Rattle.machine.proofs.Names.{length, map, get_or, refl, sym, ap, ◌∙◌, subst, ⊎_elim, arith, All, list_any}
 use Rattle.machine.proofs.Names.{cases_Bool, or_parts, eqb-false, false≢true, cond-true, cond-false, length-replicate}
-use Rattle.machine.proofs.Names.{length-append, flat_map_more, All-push, All-map, Contains-get_or, FilePage}
+use Rattle.machine.proofs.Names.{length-append, flat_map_more, All-push, Contains-get_or, FilePage}
 use Rattle.machine.proofs.Names.{FramesState, GeometryValue, journals_of, geometry_of, AreHomes, WriteOut, begun_of}
 use Rattle.machine.proofs.Names.{WriteOutsValue, has_uncommitted, is_busy, next_batch, Spaces, protected_where}
 use Rattle.machine.proofs.Names.{place_at-EditsEntries, AreSpaces-EditsEntries, ChangesOnlyAffected-checkpoint}

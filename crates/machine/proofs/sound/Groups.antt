@@ -3,7 +3,7 @@ use Rattle.machine.proofs.Names.{arith, List, Fits, AreSpacesSound, ℕ, ◌≡�
 use Rattle.machine.proofs.Names.{get_or, Some, IsSome, refl, sym, ap, ◌∙◌, subst, All, list_any, Contains-get_or}
 use Rattle.machine.proofs.Names.{FilePage, protect_refusal, Places, SuperValue, WriteOutsValue, is_busy, HasBlock}
 use Rattle.machine.proofs.Names.{Change, Unmap, Protect, Reclaim, Checkpoint, Spaces, has_space, space_at}
-use Rattle.machine.proofs.Names.{◌-◌, ◌*◌, ◌/◌, ◌%◌, ◌≤◌, ◌&&◌, not, ltb, eqb, is_none}
+use Rattle.machine.proofs.Names.{◌-◌, ◌/◌, ◌%◌, ◌≤◌, ◌&&◌, not, ltb, eqb, is_none}
 use Rattle.machine.proofs.Names.{count_by, Bool, [], pages_of, lengths_blocks}
 use Rattle.spaces.specs.declared.change.Change.TheVariants.{SetLength}
 use Rattle.machine.proofs.Names.{is_user_space, Lock, ShootdownState, IsShootdown, current, Coheres, CheckpointState}

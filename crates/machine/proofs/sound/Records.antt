@@ -2,8 +2,8 @@
 use Rattle.machine.proofs.Names.{inl, inr, ◌||◌, cases_Bool, cond-true, list_any-has_page, ◌≤◌, ℕ, suc, ◌≡◌, ◌<◌, Bool}
 use Rattle.machine.proofs.Names.{true, false, cond, List, [], ◌∷◌, length, map, get_or, slice_index, Option, Some, None}
 use Rattle.machine.proofs.Names.{refl, sym, ap, ◌∙◌, arith, list_any, option_map, option_and_then, cond-false, or_parts}
-use Rattle.machine.proofs.Names.{length-map, length-drop, get_or-drop, get_or-map, FilePage, FramesState, Frame}
-use Rattle.machine.proofs.Names.{frame_at, copy_at, page_of, bytes_of, HasNoCopy, next_home, outs_record, outs_home}
+use Rattle.machine.proofs.Names.{length-map, get_or-map, FilePage, FramesState, Frame}
+use Rattle.machine.proofs.Names.{frame_at, copy_at, page_of, bytes_of, HasNoCopy, next_home, outs_home}
 use Rattle.machine.proofs.Names.{is_of_page, same_page, same_page-true, list_any-no_page, is_in_memory, State, home_of}
 use Rattle.machine.proofs.Names.{next_page, bytes_with, bytes_at_mark, IsMemory, IsSound}
 use Rattle.journal.specs.WriteOut.{next_record as record_of}

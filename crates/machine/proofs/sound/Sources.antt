@@ -1,8 +1,8 @@
 -- The home blocks of a mark: that of the lengths before those of pages.
-use Rattle.machine.proofs.Names.{ℕ, zero, suc, ◌≡◌, ◌<◌, ◌≤◌, ◌++◌, Bool, true}
+use Rattle.machine.proofs.Names.{ℕ, zero, suc, ◌≡◌, ◌<◌, ◌++◌, Bool, true}
 use Rattle.machine.proofs.Names.{false, cond, leb, List, [], ◌∷◌, map, get_or}
-use Rattle.machine.proofs.Names.{refl, sym, ap, ◌∙◌, subst, inl, inr, arith, All, All-cons, All-map, Contains, filter}
-use Rattle.machine.proofs.Names.{cases_Bool, cond-true, cond-false, false_from_ne_true, false≢true, le-leb, leb-true}
+use Rattle.machine.proofs.Names.{refl, ap, ◌∙◌, subst, inl, inr, arith, All, All-cons, All-map, Contains, filter}
+use Rattle.machine.proofs.Names.{cases_Bool, cond-true, cond-false, false_from_ne_true, le-leb, leb-true}
 use Rattle.machine.proofs.Names.{FilePage, FramesState, SuperValue, first_home, first_file_home, lengths_blocks, State}
 use Rattle.machine.proofs.Names.{home_of, is_in_memory, mark_homes, file_homes, IsSource}
 use Rattle.machine.proofs.durable.Lists.{contains_cons}

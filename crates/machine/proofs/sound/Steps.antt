@@ -6,7 +6,7 @@ use Rattle.machine.proofs.Names.{both_ways, false_from_ne_true, length-drop, Fil
 use Rattle.machine.proofs.Names.{without_copies, journals_of, geometry_of, AreHomes, Batch, Flushed, WriteOut}
 use Rattle.machine.proofs.Names.{has_committed, next_record, answer_of, WriteOutsValue, has_uncommitted, advanced}
 use Rattle.machine.proofs.Names.{batches_after, is_busy, done_committed, committed_parts, CheckpointState, is_of_page}
-use Rattle.machine.proofs.Names.{freed_copy, without_copy_of, is_in_memory, Hardware, State, home_of, IsMemory}
+use Rattle.machine.proofs.Names.{freed_copy, without_copy_of, Hardware, State, home_of, IsMemory}
 use Rattle.machine.proofs.Names.{AreOlderCommitted, AreSpacesSound, AreWriteOutsSound, IsSound}
 use Rattle.journal.specs.declared.flushed.Flushed.TheVariants as flushed
 use Rattle.journal.specs.WriteOuts.{current}

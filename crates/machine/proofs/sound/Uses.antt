@@ -1,8 +1,8 @@
 -- What a sound machine gives to those who work on its parts: the conditions of their calls.
-use Rattle.machine.proofs.Names.{ℕ, ◌≡◌, ◌+◌, ◌<◌, Bool, List, length, map, Some, IsSome, sym, subst, arith, ◌/◌, Ok}
+use Rattle.machine.proofs.Names.{ℕ, ◌≡◌, ◌+◌, ◌<◌, Bool, List, length, Some, IsSome, sym, subst, arith, ◌/◌, Ok}
 use Rattle.machine.proofs.Names.{AllByRecursion, recursion_from_All, Mapped, FilePage, Place, frame_at, GeometryValue}
 use Rattle.machine.proofs.Names.{AreHomes, WriteOut, entry_at, CheckpointState, Gathers, HasNotes, HasNotes-backed}
-use Rattle.machine.proofs.Names.{place_of_fault, IsReachable, State, home_of, IsSound}
+use Rattle.machine.proofs.Names.{place_of_fault, IsReachable, State, IsSound}
 use Rattle.shootdown.specs.Shootdown.{current as current_space}
 use Rattle.machine.proofs.sound.Frames.{in_use}
 use Rattle.machine.proofs.refining.Faults.{led_to}

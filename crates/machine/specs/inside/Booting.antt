@@ -1,5 +1,5 @@
 -- The memory that a machine takes when it is made.
-use Rattle.std.specs.Prelude.{ℕ, ◌≡◌, ◌<◌, ◌≤◌, List, None}
+use Rattle.std.specs.Prelude.{ℕ, ◌≡◌, ◌<◌, ◌≤◌, ◌^◌, List, None}
 use Rattle.volume_codec.specs.Super.{SuperValue, geometry_of}
 use Rattle.frames.specs.Frames.{all_free}
 use Rattle.spaces.specs.Spaces.{first_spaces}
@@ -15,7 +15,7 @@ pub record IsFit (shape : Shape) : Type 0 where
   pub few_processors : shape.cpus ≤ 16
   pub some_entries : 0 < shape.tlb
   pub few_entries : shape.tlb ≤ 64
-  pub few_frames : shape.frames ≤ 1020
+  pub few_frames : shape.frames < 2 ^ 32
   pub few_copies : shape.copies ≤ 64
 
 -- room of a machine that was just made over a volume with this table and these lengths

@@ -1,5 +1,5 @@
 -- How the code keeps a machine: its layers, and what private calls promise of them.
-use Rattle.std.specs.Prelude.{ℕ, ◌≡◌, ◌*◌, ◌≤◌, ◌<◌, false, List, [], ◌∷◌, length, Option, Some, None, Result, Ok, Err}
+use Rattle.std.specs.Prelude.{ℕ, ◌≡◌, ◌*◌, ◌≤◌, ◌<◌, List, [], ◌∷◌, length, Option, Some, None, Result, Ok, Err}
 use Rattle.page_entry.specs.declared.refusal.Refusal.{Refusal}
 use Rattle.page_entry.specs.declared.numbers.FilePage.{FilePage}
 use Rattle.mappings.specs.declared.page_range.PageRange.{PageRange}
@@ -12,9 +12,10 @@ use Rattle.machine.specs.declared.act.Reply.{Reply}
 use Rattle.machine.specs.declared.act.Reply.TheVariants as replies
 use Rattle.machine.specs.declared.layers.Layers.{Layers}
 use Rattle.frames.specs.Frames.{frame_at, bytes_of}
+use Rattle.journal.specs.Pages.{home_of}
 use Rattle.journal.specs.WriteOuts.{WriteOutsValue, begun, HasBlock}
 use Rattle.checkpoint.specs.Checkpoint.{IsDirty}
-use Rattle.machine.specs.State.{State, Whole, home_of, cut_at_end}
+use Rattle.machine.specs.State.{State, Whole, cut_at_end}
 use Rattle.machine.specs.Refusals.{pages_in_file}
 use Rattle.machine.specs.inside.Sound.{IsSound}
 

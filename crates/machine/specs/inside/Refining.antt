@@ -8,6 +8,7 @@ use Rattle.frames.specs.Frames.{frame_at, bytes_of}
 use Rattle.volume_codec.specs.Files.{File}
 use Rattle.volume_codec.specs.Super.{SuperValue}
 use Rattle.volume_codec.specs.Lengths.{HasLengths, lengths_in}
+use Rattle.journal.specs.Pages.{home_of}
 use Rattle.journal.specs.WriteOut.{WriteOut, has_committed}
 use Rattle.journal.specs.WriteOuts.{has_uncommitted}
 use Rattle.journal.specs.inside.Consistent.{IsConsistent}
@@ -21,7 +22,7 @@ use Rattle.checkpoint.specs.Checkpoint.{Holds, IsDirty}
 use Rattle.fault.specs.Fault.{is_in_memory}
 use Rattle.machine.specs.History.{Event, SetLength, Memory, memory_of, after, lengths_of}
 use Rattle.machine.specs.History.{lengths_after, since_mark, is_touched, Mark, Acknowledge, IsMarked}
-use Rattle.machine.specs.State.{State, home_of, part, cut_at_end}
+use Rattle.machine.specs.State.{State, part, cut_at_end}
 use Rattle.machine.specs.Rules.{bytes_at_mark}
 use Rattle.machine.specs.Durability.{IsInFile, within_file}
 use Rattle.machine.specs.inside.Sound.{IsSound}

@@ -9,6 +9,7 @@ use Rattle.frames.specs.Frames.{FramesState, Frame, frame_at, bytes_of}
 use Rattle.volume_codec.specs.Layout.{max_frames, journals_of, lengths_blocks, first_home}
 use Rattle.volume_codec.specs.Super.{SuperValue, Fits, geometry_of}
 use Rattle.volume_codec.specs.Descriptor.{AreHomes}
+use Rattle.journal.specs.Pages.{home_of}
 use Rattle.journal.specs.WriteOut.{WriteOut, has_committed}
 use Rattle.journal.specs.WriteOuts.{is_busy}
 use Rattle.spaces.specs.declared.change.Change.{Change}
@@ -21,7 +22,7 @@ use Rattle.shootdown.specs.Coherence.{Coheres}
 use Rattle.checkpoint.specs.Checkpoint.{Holds, is_noted, is_frozen, AreRising}
 use Rattle.checkpoint.specs.Backing.{AreBacked}
 use Rattle.fault.specs.Fault.{is_in_memory}
-use Rattle.machine.specs.State.{State, capacity_of, length_of, home_of}
+use Rattle.machine.specs.State.{State, capacity_of, length_of}
 use Rattle.machine.specs.Refusals.{pages_in_file, lacks_last_page, lacks_frames}
 use Rattle.machine.specs.Durability.{IsInFile, frozen_homes}
 

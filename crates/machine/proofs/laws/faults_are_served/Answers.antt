@@ -2,7 +2,7 @@ use Rattle.machine.proofs.Names.{ℕ, List, [], ◌∷◌, subst, Ghosts, Step, 
 use Rattle.machine.proofs.Names.{State, Whole, Acts, ServesNext, FaultsAreServed}
 use Rattle.machine.specs.declared.act.Act.TheVariants as acts
 use Rattle.machine.specs.declared.act.Reply.TheVariants as replies
-use Rattle.machine.specs.Runs.{StepTaken, StepsTaken}
+use Rattle.machine.specs.Runs.{StepsTaken}
 use Rattle.machine.proofs.refining.Lawful.{access_answers}
 use Rattle.machine.proofs.laws.faults_are_served.Goals as goal
 

@@ -1,4 +1,4 @@
-use Rattle.machine.proofs.Names.{ℕ, refl, sym, subst, arith, length_of, set, true, PagesResized, state_in}
+use Rattle.machine.proofs.Names.{ℕ, subst, arith, set, true, PagesResized, state_in}
 use Rattle.spaces.specs.declared.change.Change.TheVariants as changes
 use Rattle.machine.proofs.code.Parts.{may_change}
 use Rattle.machine.proofs.code.Resizes.{resizable_held, pages_inside, room_for, both_small}

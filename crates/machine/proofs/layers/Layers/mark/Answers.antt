@@ -1,8 +1,8 @@
-use Rattle.machine.proofs.Names.{◌<◌, ◌≤◌, ◌+◌, false, not, List, length, refl, sym, ap, ◌∙◌, subst, All, FilePage}
+use Rattle.machine.proofs.Names.{◌<◌, ◌+◌, false, not, List, length, refl, sym, ap, ◌∙◌, subst, All, FilePage}
 use Rattle.machine.proofs.Names.{Checkpoint, finished, CheckpointState, Gathers, Layers, MarkMade, state_in}
-use Rattle.machine.proofs.Names.{IsPageOf, MayBegin, mark_homes}
+use Rattle.machine.proofs.Names.{HasHome, MayBegin, mark_homes}
 use Rattle.machine.proofs.code.Parts.{may_change}
-use Rattle.machine.proofs.code.Marks.{few_frozen, frozen_there, may_begin, with_homes-batch}
+use Rattle.machine.proofs.code.Marks.{frozen_there, may_begin, with_homes-batch}
 use Rattle.machine.proofs.layers.Layers.mark.Goals.{After-gather}
 use Rattle.machine.proofs.layers.Layers.mark.Goals as goal
 
@@ -16,20 +16,12 @@ gathered g c =
     subst (λ b. Gathers s.hardware.spaces s.hardware.memory s.checkpoint c.gather.new.self (not b)
     c.gather.ensures.gathered.0) c.is_broken-freezes.ensures c.gather.ensures.gathered.2
 
-pub write_out-requires-clause-few : goal.write_out-requires-clause-few
-write_out-requires-clause-few g c =
-    let s = state_in c.args.self.now in
-    let pages = c.gather.ensures.gathered.0 in
-    let gathers = gathered g (goal.at.write_out-requires-clause-few g c).After-gather in
-    subst (λ (owners : List FilePage). length (mark_homes s owners) ≤ 1020) (ap (λ (x : CheckpointState). x.frozen)
-    (sym c.protect_all.ensures.notes)) (few_frozen s c.requires.sound c.gather.new.self pages gathers)
-
 pub write_out-requires-clause-pages : goal.write_out-requires-clause-pages
 write_out-requires-clause-pages g c =
     let s = state_in c.args.self.now in
     let pages = c.gather.ensures.gathered.0 in
     let gathers = gathered g (goal.at.write_out-requires-clause-pages g c).After-gather in
-    subst (All (IsPageOf s.table)) (ap (λ (x : CheckpointState). x.frozen) (sym c.protect_all.ensures.notes))
+    subst (All (HasHome s.table)) (ap (λ (x : CheckpointState). x.frozen) (sym c.protect_all.ensures.notes))
     (frozen_there s c.requires.sound c.gather.new.self pages gathers)
 
 pub write_out-requires-clause-batch : goal.write_out-requires-clause-batch

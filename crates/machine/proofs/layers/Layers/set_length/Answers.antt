@@ -1,7 +1,7 @@
 use Rattle.machine.proofs.Names.{refl, sym, ap, ◌∙◌, err_from_is_err_and, None}
 use Rattle.machine.proofs.Names.{Some, ShootdownState, with_shootdown, state_in}
 use Rattle.machine.proofs.code.Parts.{quiet_begun}
-use Rattle.machine.proofs.code.Resizes.{same_length_reason, other_length_reason}
+use Rattle.machine.proofs.code.Resizes.{other_length_reason}
 use Rattle.machine.proofs.layers.Layers.set_length.Goals as goal
 
 pub returns-in_err-admit_resize-clause-rules : goal.returns-in_err-admit_resize-clause-rules
