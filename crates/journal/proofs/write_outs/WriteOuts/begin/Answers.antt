@@ -1,4 +1,4 @@
-use Rattle.std.proofs.Common.{◌≡◌, ◌<◌, ◌≤◌, ◌+◌, Bool, true, false, List, [], ◌∷◌, ◌++◌, cond, length, map, ap, ◌∙◌, sym}
+use Rattle.std.proofs.Common.{◌≡◌, ◌<◌, ◌≤◌, ◌+◌, Bool, true, false, List, [], ◌∷◌, ◌++◌, length, map, ap, ◌∙◌, sym}
 use Rattle.std.proofs.Common.{ℕ, subst, arith, refl}
 use Rattle.std.specs.Prelude.{is_ok, IsOk}
 use Rattle.std.specs.Vec.{vec_capacity}
@@ -119,7 +119,8 @@ invariant_of-self g c =
     (vec_capacity c.self.inside.queued) (vec_capacity c.push.new.self) (vec_capacity c.self.inside.spare)
     (vec_capacity c.pop.new.self) c.args.mark (homes g c) (vec_capacity c.unwrap.result)
     (vec_capacity c.add_homes.new.list)
-    c.self.invariant (sound g c) (pushed g c) (popped g c) (omega (arith, c.refilled-list.ensures.room, c.add_homes.ensures.room)) c.push.ensures.capacity
+    c.self.invariant (sound g c) (pushed g c) (popped g c)
+    (omega (arith, c.refilled-list.ensures.room, c.add_homes.ensures.room)) c.push.ensures.capacity
     (omega (arith, c.pop.ensures.capacity)) in
     let same = begun_view (outs g c) c.self.inside.queued.items c.push.new.self.items c.args.mark (homes g c)
     (vec_capacity c.add_homes.new.list) c.journal_after-self-inside.result refl

@@ -11,7 +11,7 @@ returns-then-not-has_block g c =
     let left : c.saturating_sub-left.result ≡ length =
     omega (arith, c.saturating_sub-left.ensures, c.file_length.ensures, c.from.ensures) in
     elim c.if-not-is_dirty.branch [
-      then-not-is_dirty w ↦ (
+      | then-not-is_dirty w ↦ (
         λ cut. record {
           clean = λ dirty. absurd (false≢true (w.if-not-is_dirty.ensures.1 dirty));
           written = λ has. absurd (false≢true (sym (ap not (w.has_block.ensures.1
@@ -25,5 +25,5 @@ returns-then-not-has_block g c =
             (subst (λ (bytes : List ℕ). bytes ≡ padded 4096 (take length bytes)) (sym c.bytes.ensures.bytes) home.plain)),
       )
       | else-not-is_dirty w ↦
-        absurd (false≢true (sym (ap not w.if-not-is_dirty.false) ∙ sym w.value-is ∙ c.if-not-has_block.true))
+          absurd (false≢true (sym (ap not w.if-not-is_dirty.false) ∙ sym w.value-is ∙ c.if-not-has_block.true))
     ]
