@@ -22,7 +22,8 @@ returns-then-not-has_block g c =
               (c.is_cut.ensures.0 cut));
         },
         λ home. c.is_cut.ensures.1 (subst (λ n. c.bytes.result.now ≡ padded 4096 (take n c.bytes.result.now)) (sym left)
-            (subst (λ (bytes : List ℕ). bytes ≡ padded 4096 (take length bytes)) (sym c.bytes.ensures.bytes) home.plain)),
+            (subst (λ (bytes : List ℕ). bytes ≡ padded 4096 (take length bytes)) (sym c.bytes.ensures.bytes)
+            home.plain)),
       )
       | else-not-is_dirty w ↦
           absurd (false≢true (sym (ap not w.if-not-is_dirty.false) ∙ sym w.value-is ∙ c.if-not-has_block.true))
