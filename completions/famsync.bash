@@ -9,12 +9,14 @@ _famsync() {
     elif [ "$command" = help ]; then
         words='format migrate run threads serve replay dump info check export crashes'
     elif [ "${COMP_WORDS[COMP_CWORD - 1]}" = --layout ]; then
-        words='1 2 3'
+        words='1 2 3 4'
+        [ "$command" != migrate ] || words='3 4'
     elif [[ $word == -* ]]; then
         case $command in
         format) words='--layout --json --help' ;;
         run | threads | serve | replay) words='--trust --help' ;;
-        migrate | dump | info | check | export) words='--trust --json --help' ;;
+        migrate) words='--layout --trust --json --help' ;;
+        dump | info | check | export) words='--trust --json --help' ;;
         crashes) words='--trust --json --html --help' ;;
         esac
     fi

@@ -1,4 +1,8 @@
 // The command line: what the words ask for.
+ghost use Rattle.std.specs.Prelude.{◌≡◌, ◌↔◌, ◌<◌, IsTrue};
+ghost use Rattle.volume_codec.specs.Layout.{number_of, lengths_blocks};
+ghost use Rattle.volume_codec.specs.declared.layout.Layout.{Layout as AnyLayout};
+
 use crate::job::{Export, Form, Job, Look, Migration};
 use crate::word_fault::WordFault;
 use crate::words::{decimal, file_spec};
@@ -6,9 +10,7 @@ use clap::error::ErrorKind;
 use clap::{Arg, ArgAction, ArgMatches, Command, Error};
 use std::alloc::{AllocError, Allocator, Global};
 use std::convert::AsStr;
-
-/// The layout whose files may grow, so that a capacity may be given for one.
-const LAYOUT_THREE: u64 = 3;
+use volume_codec::Layout;
 
 /// Reads the words of a command line, of which the first is the program's name.
 pub fn read_words<'a, A: Allocator + Copy, S: AsStr>(
@@ -113,6 +115,16 @@ fn look_at<'a>(words: &ArgMatches<'a>) -> Look<'a> {
     }
 }
 
+// Whether files may grow in the layout of this number, so that a capacity may be given for one.
+fn may_grow(layout: u64) -> bool
+    ensures { IsTrue result ↔ (l : AnyLayout) × (number_of l ≡ layout) × (0 < lengths_blocks l) }
+{
+    match Layout::from_number(layout) {
+        Some(layout) => layout.lengths_blocks() > 0,
+        None => false,
+    }
+}
+
 fn format_job<'a, A: Allocator + Copy>(
     alloc: A,
     words: &ArgMatches<'a>,
@@ -121,9 +133,10 @@ fn format_job<'a, A: Allocator + Copy>(
     let layout = decimal(layout).ok_or(WordFault::Layout(layout))?;
     let slots = text(words, "SLOTS");
     let slots = decimal(slots).ok_or(WordFault::Slots(slots))?;
+    let grows = may_grow(layout);
     let mut files = Vec::new(alloc);
     for word in words.get_strs("FILE").unwrap_or(&[]) {
-        let file = file_spec(word, layout == LAYOUT_THREE);
+        let file = file_spec(word, grows);
         files.push(file.ok_or(WordFault::FileSpec(word))?)?;
     }
     Ok(Job::Format {
@@ -138,11 +151,14 @@ fn format_job<'a, A: Allocator + Copy>(
 fn migrate_job<'a, A: Allocator + Copy>(
     words: &ArgMatches<'a>,
 ) -> Result<Job<'a, A>, WordFault<'a>> {
+    let layout = text(words, "layout");
+    let layout = decimal(layout).ok_or(WordFault::Layout(layout))?;
     let slots = text(words, "SLOTS");
     let slots = decimal(slots).ok_or(WordFault::Slots(slots))?;
     Ok(Job::Migrate(Migration {
         old: text(words, "OLD"),
         new: text(words, "NEW"),
+        layout,
         slots,
         trust: words.get_flag("trust"),
         json: words.get_flag("json"),
@@ -212,13 +228,13 @@ fn format_command<'a>(alloc: Global) -> Result<Command<'a>, AllocError> {
         .arg(word(
             alloc,
             "SLOTS",
-            "Record slots of each journal, 1 to 1020, in layout 3 from 2 on: the most blocks that one commit can have",
+            "Record slots of each journal, 1 to 1020, in layout 3 from 2 on, in layout 4 from 2 to 65535: the most blocks that one commit can have",
         ))?
         .arg(
             word(
                 alloc,
                 "FILE",
-                "A file of the volume, as NAME=LENGTH in bytes, in layout 3 also as NAME=LENGTH/CAPACITY",
+                "A file of the volume, as NAME=LENGTH in bytes, in layouts 3 and 4 also as NAME=LENGTH/CAPACITY",
             )
             .action(ArgAction::Append)
             .num_args(1..),
@@ -228,8 +244,9 @@ fn format_command<'a>(alloc: Global) -> Result<Command<'a>, AllocError> {
 fn migrate_command<'a>(alloc: Global) -> Result<Command<'a>, AllocError> {
     Command::new(alloc, "migrate")
         .about(
-            "Makes or replaces the file NEW by a volume in layout 3 with the files of the volume in OLD",
+            "Makes or replaces the file NEW by a volume whose files may grow, with the files of the volume in OLD",
         )
+        .arg(new_layout_option(alloc))?
         .arg(trust_option(alloc))?
         .arg(json_option(alloc))?
         .arg(word(
@@ -241,7 +258,7 @@ fn migrate_command<'a>(alloc: Global) -> Result<Command<'a>, AllocError> {
         .arg(word(
             alloc,
             "SLOTS",
-            "Record slots of each journal of the new volume, 2 to 1020",
+            "Record slots of each journal of the new volume, 2 to 1020, in layout 4 to 65535",
         ))
 }
 
@@ -251,8 +268,16 @@ fn layout_option<'a>(alloc: Global) -> Arg<'a> {
         .value_name("LAYOUT")
         .default_value("1")
         .help(
-            "The number of the volume's layout: 1 has one journal, 2 has two, and 3 has two and files that may grow",
+            "The number of the volume's layout: 1 has one journal, 2 has two, 3 has two and files that may grow, and 4 has four, such files, and room for larger commits",
         )
+}
+
+fn new_layout_option<'a>(alloc: Global) -> Arg<'a> {
+    Arg::new(alloc, "layout")
+        .long("layout")
+        .value_name("LAYOUT")
+        .default_value("3")
+        .help("The number of the new volume's layout: 3, or 4, and none below that of OLD")
 }
 
 fn trust_option<'a>(alloc: Global) -> Arg<'a> {

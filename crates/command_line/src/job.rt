@@ -79,13 +79,14 @@ pub struct Export<'a> {
     pub json: bool,
 }
 
-/// A volume that is made of another: the paths of the old one's file and of the new one's, the record slots of each
-/// journal of the new one, whether the old one is trusted though it may be marked as suspect, and whether what is
-/// printed is JSON.
+/// A volume that is made of another: the paths of the old one's file and of the new one's, the number of the new one's
+/// layout, the record slots of each of its journals, whether the old one is trusted though it may be marked as suspect,
+/// and whether what is printed is JSON.
 #[derive(Clone, Copy)]
 pub struct Migration<'a> {
     pub old: &'a str,
     pub new: &'a str,
+    pub layout: u64,
     pub slots: u64,
     pub trust: bool,
     pub json: bool,

@@ -18,7 +18,7 @@ pub enum WordFault<'a> {
     #[error("SLOTS is {0:?}, which isn't a decimal number up to 2^64 - 1")]
     Slots(&'a str),
     /// A word for a file isn't a name with a length.
-    #[error("FILE is {0:?}, which isn't a name, `=` and a decimal length up to 2^64 - 1, in layout 3 also with `/` and a capacity")]
+    #[error("FILE is {0:?}, which isn't a name, `=` and a decimal length up to 2^64 - 1, in layouts 3 and 4 also with `/` and a capacity")]
     FileSpec(&'a str),
     /// Memory was refused.
     #[error("out of memory")]
