@@ -2,6 +2,8 @@
 #![tactic(auto)]
 
 #[cfg(test)]
+mod four_journals;
+#[cfg(test)]
 mod script_runs;
 #[cfg(test)]
 mod watched;

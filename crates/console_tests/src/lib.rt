@@ -3,7 +3,11 @@
 #![tactic(auto)]
 
 #[cfg(test)]
+mod four_journals;
+#[cfg(test)]
 mod looks;
+#[cfg(test)]
+mod migrations;
 #[cfg(test)]
 mod volumes;
 #[cfg(test)]

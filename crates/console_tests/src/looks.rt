@@ -124,7 +124,7 @@ fn a_damaged_volume_is_told(rt: HostRuntime) {
         )
     );
     let fault =
-        r#"{"fault":"disk \"hurt.img\": notavolume: the file doesn't begin with FAMSYNC1, FAMSYNC2 or FAMSYNC3","status":3}"#;
+        r#"{"fault":"disk \"hurt.img\": notavolume: the file doesn't begin with FAMSYNC1, FAMSYNC2, FAMSYNC3 or FAMSYNC4","status":3}"#;
     assert!(rt; prints(&rt, "check|--json|hurt.img", 3, &[], &[fault, "\n"]));
     assert!(rt; removes(&rt, &["hurt.img"]));
 }

@@ -6,7 +6,7 @@ use std::alloc::{AllocError, Global};
 use std::fs;
 
 // An image of the volume of layout 2 with the same files and as many slots, and with these bytes at these offsets changed.
-fn image_of_two(alloc: Global, changes: &[(usize, u8)]) -> Result<Vec<u8>, AllocError> {
+pub fn image_of_two(alloc: Global, changes: &[(usize, u8)]) -> Result<Vec<u8>, AllocError> {
     let mut image = vec![in alloc; 0; 65_536]?;
     put(&mut image, 0, b"FAMSYNC2");
     put(&mut image, 8, &[0, 0, 0, 2, 0, 0, 0, 4, 0, 0, 0, 16]);
@@ -29,7 +29,7 @@ fn image_of_two(alloc: Global, changes: &[(usize, u8)]) -> Result<Vec<u8>, Alloc
 }
 
 // Whether a file is the volume in layout 2 with these bytes changed.
-fn holds_image_of_two<R: Host>(rt: &R, path: &str, changes: &[(usize, u8)]) -> bool {
+pub fn holds_image_of_two<R: Host>(rt: &R, path: &str, changes: &[(usize, u8)]) -> bool {
     match image_of_two(rt.alloc(), changes) {
         Ok(image) => holds(rt, path, &image),
         Err(_) => false,
@@ -63,7 +63,7 @@ fn a_volume_has_two_journals(rt: HostRuntime) {
 }
 
 // Mark 1 has 65 in the first page of `a`, mark 2 has 66 there, and both journals are open.
-const BOTH_OPEN: [(usize, u8); 10] = [
+pub const BOTH_OPEN: [(usize, u8); 10] = [
     (4096, 0xA7),
     (8199, 1),
     (8203, 1),
@@ -77,7 +77,7 @@ const BOTH_OPEN: [(usize, u8); 10] = [
 ];
 
 // They are closed, and home block 13 has what the newer one has.
-const BOTH_CLOSED: [(usize, u8); 9] = [
+pub const BOTH_CLOSED: [(usize, u8); 9] = [
     (8199, 1),
     (8203, 1),
     (8211, 13),
@@ -89,7 +89,7 @@ const BOTH_CLOSED: [(usize, u8); 9] = [
     (53_248, 66),
 ];
 
-const DUMP_OF_TWO: &str =
+pub const DUMP_OF_TWO: &str =
     "a 5000\n000000000000 42 00 00 00 00 00 00 00 00 00 00 00 00 00 00 00\nb 4096\n";
 
 // Makes a file of 100,000 bytes, none of them zero.
@@ -210,7 +210,8 @@ fn refuses_image<R: Host>(rt: &R, changes: &[(usize, u8)], len: usize, cause: &s
     }
 }
 
-const FOREIGN: &str = "notavolume: the file doesn't begin with FAMSYNC1, FAMSYNC2 or FAMSYNC3";
+const FOREIGN: &str =
+    "notavolume: the file doesn't begin with FAMSYNC1, FAMSYNC2, FAMSYNC3 or FAMSYNC4";
 
 const SPOILT: &str = "damaged: the super block breaks the format";
 

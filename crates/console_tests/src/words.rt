@@ -47,6 +47,18 @@ const BAD_WORDS: &[(&str, &str)] = &[
     ("format|--layout|3|bad.img|4|a=5/6/7", "FILE is \"a=5/6/7\""),
     ("format|--layout|3|bad.img|4|a=5/", "FILE is \"a=5/\""),
     ("format|--layout|3|bad.img|4|a=/5", "FILE is \"a=/5\""),
+    ("format|--layout|4|bad.img|4|a=5/6/7", "FILE is \"a=5/6/7\""),
+    ("format|--layout|5|bad.img|4|a=5/6", "FILE is \"a=5/6\""),
+    (
+        "migrate|--layout|four|worse.img|bad.img|4",
+        "LAYOUT is \"four\"",
+    ),
+    (
+        "migrate|--layout=+4|worse.img|bad.img|4",
+        "LAYOUT is \"+4\"",
+    ),
+    ("migrate|--layout=|worse.img|bad.img|4", "LAYOUT is \"\""),
+    ("migrate|--layout|4|worse.img|bad.img|4x", "SLOTS is \"4x\""),
     (
         "run|bad.img",
         "the following required arguments were not provided: <SCRIPT>",
@@ -81,6 +93,26 @@ const FAULTS: &[(&str, &str)] = &[
         "disk \"none.img\": badshape: SLOTS is 1, and 2 to 1020 are allowed\n",
     ),
     (
+        "format|--layout|3|none.img|1021|a=1",
+        "disk \"none.img\": badshape: SLOTS is 1021, and 2 to 1020 are allowed\n",
+    ),
+    (
+        "format|--layout|4|none.img|1|a=1",
+        "disk \"none.img\": badshape: SLOTS is 1, and 2 to 65535 are allowed\n",
+    ),
+    (
+        "format|--layout|4|none.img|65536|a=1",
+        "disk \"none.img\": badshape: SLOTS is 65536, and 2 to 65535 are allowed\n",
+    ),
+    (
+        "format|--layout|4|none.img|4|a=0",
+        "disk \"none.img\": badshape: the capacity of \"a\" is 0, and capacities begin at 1\n",
+    ),
+    (
+        "format|--layout|4|none.img|4|a=6/5",
+        "disk \"none.img\": badshape: the length of \"a\" is 6, and its capacity is 5\n",
+    ),
+    (
         "format|--layout|3|none.img|4|a=0",
         "disk \"none.img\": badshape: the capacity of \"a\" is 0, and capacities begin at 1\n",
     ),
@@ -113,12 +145,12 @@ const FAULTS: &[(&str, &str)] = &[
         "disk \"none.img\": badshape: the volume would have more than 4294967295 blocks\n",
     ),
     (
-        "format|--layout|4|none.img|4|a=1",
-        "disk \"none.img\": badshape: LAYOUT is 4, and 1 to 3 are served\n",
+        "format|--layout|5|none.img|4|a=1",
+        "disk \"none.img\": badshape: LAYOUT is 5, and 1 to 4 are served\n",
     ),
     (
         "format|--layout=0|none.img|4|a=1",
-        "disk \"none.img\": badshape: LAYOUT is 0, and 1 to 3 are served\n",
+        "disk \"none.img\": badshape: LAYOUT is 0, and 1 to 4 are served\n",
     ),
     ("format|none/x.img|4|a=1", "file \"none/x.img.new\": "),
     ("format|none/x\n.img|4|a=1", "file \"none/x\\n.img.new\": "),
@@ -194,6 +226,10 @@ fn help_is_printed(rt: HostRuntime) {
         (
             "format|--help",
             "Usage: famsync format [OPTIONS] <DISK> <SLOTS> <FILE>...",
+        ),
+        (
+            "migrate|--help",
+            "Usage: famsync migrate [OPTIONS] <OLD> <NEW> <SLOTS>",
         ),
         ("dump|-h", "Usage: famsync dump [OPTIONS] <DISK>"),
         ("--version", "famsync 0.2.0\n"),

@@ -61,3 +61,59 @@ fn each_crash_leaves_a_mark(rt: HostRuntime) {
     assert!(rt; removes(&rt, &["crashes.img", "crashes.json"]));
     assert!(rt; complains(&rt, words, 3, &["file \"crashes.json\": "]));
 }
+
+const SHAPE_OF_FOUR: &str = r#"{"cpus":1,"tlb":8,"frames":3,"copies":0,"steps":["#;
+
+// The same with the four journals of layout 4, with 4 record slots: opening reads four gates, and the lengths in block 25.
+const OPENING_OF_FOUR: &str = "    1 read  super                     4096   mark 0 x1
+    2 sync                               0   mark 0 x1
+    3 read  gate 0                       1   mark 0 x1
+    4 read  gate 1                       1   mark 0 x1
+    5 read  gate 2                       1   mark 0 x1
+    6 read  gate 3                       1   mark 0 x1
+    7 read  home 25                   4096   mark 0 x1
+            space 1
+            mapped
+            switched
+    8 read  page a:0                  4096   mark 0 x1
+            fixed
+            stored
+            begun
+            marked 1
+";
+
+const COMMIT_OF_FOUR: &str = "    9 write record 0:0                4096   mark 0 x6
+            going
+   10 write descriptor 0              4096   mark 0 x8
+            going
+   11 sync                               0   mark 0 x8
+            going
+   12 write gate 0                       1   mark 0 x3  mark 1 x3
+            going
+   13 sync                               0   mark 0 x3  mark 1 x3
+            committed 1
+";
+
+const REST_OF_FOUR: &str = "   14 read  record 0:0                4096   mark 1 x1
+   15 write page a:0                  4096   mark 1 x6
+            going
+   16 sync                               0   mark 1 x6
+            going
+   17 write gate 0                       1   mark 1 x6
+            going
+   18 sync                               0   mark 1 x6
+            done 1
+  end                                        mark 1 x1
+18 calls, 68 crash states opened; at most 30 mixtures of blocks for each call
+";
+
+#[test]
+fn each_crash_leaves_a_mark_of_four_journals(rt: HostRuntime) {
+    let make = "format|--layout|4|crashes_four.img|4|a=5000/12288|b=4096";
+    let words = "crashes|crashes_four.img|crashes_four.json";
+    assert!(rt; prints(&rt, make, 0, &["formatted 30 blocks\n"], &[]));
+    assert!(rt; writes(&rt, "crashes_four.json", &[SHAPE_OF_FOUR, STEPS]));
+    let lines = [OPENING_OF_FOUR, COMMIT_OF_FOUR, REST_OF_FOUR];
+    assert!(rt; prints(&rt, words, 0, &lines, &[]));
+    assert!(rt; removes(&rt, &["crashes_four.img", "crashes_four.json"]));
+}

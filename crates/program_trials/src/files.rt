@@ -99,6 +99,58 @@ pub fn holds_image<R: Host>(rt: &R, path: &str, changes: &[(usize, u8)]) -> bool
     }
 }
 
+/// An image of the volume in layout 4 of the files `a` of 5,000 bytes, which may grow to 12,288, and `b` of 4,096, with 4
+/// record slots in each journal and with these bytes at these offsets changed. It has 30 blocks. The journals begin in
+/// blocks 1, 7, 13 and 19, each with its gate, one block of its descriptor, and its records. The lengths are in block 25,
+/// `a` is in blocks 26 to 28, and `b` in block 29.
+pub fn image_of_four(alloc: Global, changes: &[(usize, u8)]) -> Result<Vec<u8>, AllocError> {
+    let mut image = vec![in alloc; 0; 122_880]?;
+    put(&mut image, 0, b"FAMSYNC4");
+    put(&mut image, 8, &[0, 0, 0, 2, 0, 0, 0, 4, 0, 0, 0, 30]);
+    put(&mut image, 32, b"a");
+    put(
+        &mut image,
+        64,
+        &[0, 0, 0, 0, 0, 0, 0x30, 0, 0, 0, 0, 26, 0, 0, 0, 3],
+    );
+    put(&mut image, 80, b"b");
+    put(
+        &mut image,
+        112,
+        &[0, 0, 0, 0, 0, 0, 0x10, 0, 0, 0, 0, 29, 0, 0, 0, 1],
+    );
+    put(
+        &mut image,
+        102_400,
+        &[0, 0, 0, 0, 0, 0, 0x13, 0x88, 0, 0, 0, 0, 0, 0, 0x10, 0],
+    );
+    for (at, byte) in changes {
+        put(&mut image, *at, &[*byte]);
+    }
+    Ok(image)
+}
+
+/// Whether a file is the volume in layout 4 with these bytes changed.
+pub fn holds_image_of_four<R: Host>(rt: &R, path: &str, changes: &[(usize, u8)]) -> bool {
+    match image_of_four(rt.alloc(), changes) {
+        Ok(image) => holds(rt, path, &image),
+        Err(_) => false,
+    }
+}
+
+/// Changes bytes of a file, and tells whether that succeeds.
+pub fn changes_file<R: Host>(rt: &R, path: &str, changes: &[(usize, u8)]) -> bool {
+    match fs::read(rt, path) {
+        Ok(mut bytes) => {
+            for (at, byte) in changes {
+                put(&mut bytes, *at, &[*byte]);
+            }
+            fs::write(rt, path, bytes.as_slice()).is_ok()
+        }
+        Err(_) => false,
+    }
+}
+
 pub const FIRST_SCRIPT: &str =
     r#"{"cpus":1,"tlb":8,"frames":4,"copies":0,"steps":[[0,"create"],[0,"map",1,4096,12288,0,0,"rw","rw"],[0,"switch",1,"drop"],[0,"store",4096,[65]],[0,"fix",4096,"write"],[0,"store",4096,[65]],[0,"msync",4096,4096,4],[0,"change"],[0,"flush"],[0,"flush"],[0,"flush"],[0,"flush"],[0,"flush"],[0,"flush"],[0,"flush"],[0,"flush"],[0,"flush"]]}"#;
 

@@ -6,7 +6,7 @@ mod files;
 mod trial;
 
 pub use files::{
-    FIRST_DUMP, FIRST_REPLIES, FIRST_SCRIPT, holds, holds_image, image, makes_volume, put, removes,
-    writes, writes_script,
+    FIRST_DUMP, FIRST_REPLIES, FIRST_SCRIPT, changes_file, holds, holds_image, holds_image_of_four,
+    image, image_of_four, makes_volume, put, removes, writes, writes_script,
 };
 pub use trial::{Host, Outcome, complains, famsync, is_cut_off, prints, run};

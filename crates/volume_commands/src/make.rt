@@ -1,4 +1,6 @@
 // Making a volume, migrating one, and copying a file out of one; each prints how much was made.
+ghost use Rattle.std.specs.Prelude.{◌≡◌};
+
 use crate::print::{print_blocks, print_bytes};
 use command_line::{Export, Migration};
 use std::alloc::Allocator;
@@ -25,6 +27,19 @@ where
     print_blocks(rt.alloc(), json, "formatted", blocks, out)
 }
 
+// What is migrated, and where to.
+fn plan_of<'a>(asked: &Migration<'a>) -> MigrationPlan<'a>
+    ensures layout { result.layout ≡ asked.now.layout }
+    ensures slots { result.slots ≡ asked.now.slots }
+{
+    MigrationPlan {
+        old: asked.old,
+        new: asked.new,
+        layout: asked.layout,
+        slots: asked.slots,
+    }
+}
+
 /// Makes a volume of another one, with its files, which can grow in the new one, and prints how many blocks that has.
 /// `note` gets what is to be said of a sync that failed.
 pub fn migrate<'a, R, A, W>(
@@ -39,11 +54,7 @@ where
     A: Allocator + Copy,
     W: io::Write,
 {
-    let plan = MigrationPlan {
-        old: asked.old,
-        new: asked.new,
-        slots: asked.slots,
-    };
+    let plan = plan_of(&asked);
     let blocks = volume_files::migrate(rt, alloc, plan, asked.trust, note)?;
     print_blocks(rt.alloc(), asked.json, "migrated", blocks, out)
 }

@@ -1,10 +1,13 @@
 // Why a volume is refused, as far as it can be told: what was found, and what is allowed.
+ghost use Rattle.std.specs.Prelude.{◌≡◌, ◌+◌};
+ghost use Rattle.volume_codec.specs.Layout.{lengths_blocks, max_slots as most_slots};
+
 use device::Device;
 use page_entry::{PAGE, Refusal};
 use std::alloc::Allocator;
 use std::fmt;
 use thiserror::Error;
-use volume_codec::{FileSpec, read_super};
+use volume_codec::{FileSpec, Layout, read_super};
 
 /// A refusal, and its cause where it could be told. Its text is the refusal's word, and after it the cause.
 #[derive(Clone, Copy, Debug)]
@@ -25,12 +28,20 @@ impl fmt::Display for Refused<'_> {
 /// What was found, and what is allowed.
 #[derive(Clone, Copy, Debug, Error)]
 pub enum Cause<'a> {
-    #[error("LAYOUT is {0}, and 1 to 3 are served")]
+    #[error("LAYOUT is {0}, and 1 to 4 are served")]
     Layout(u64),
-    #[error("SLOTS is {found}, and {least} to 1020 are allowed")]
+    #[error("LAYOUT is {0}, and a volume is migrated to 3 or 4")]
+    NewLayout(u64),
+    #[error("LAYOUT is {found}, and a volume in layout {old} isn't migrated to a lower one")]
+    LowerLayout {
+        found: u64,
+        old: u64,
+    },
+    #[error("SLOTS is {found}, and {least} to {most} are allowed")]
     Slots {
         found: u64,
         least: u64,
+        most: u64,
     },
     #[error("{0} files are asked for, and 1 to 64 are allowed")]
     FileCount(usize),
@@ -52,7 +63,7 @@ pub enum Cause<'a> {
     TooManyBlocks,
     #[error("the file has {0} bytes, and a volume has 4096 at least")]
     TooShort(u64),
-    #[error("the file doesn't begin with FAMSYNC1, FAMSYNC2 or FAMSYNC3")]
+    #[error("the file doesn't begin with FAMSYNC1, FAMSYNC2, FAMSYNC3 or FAMSYNC4")]
     Magic,
     #[error("the super block breaks the format")]
     SuperBlock,
@@ -84,32 +95,68 @@ pub fn refused_to_format<'a>(
     Refused { refusal, cause }
 }
 
-/// Why no volume of layout 3 with so many slots is made of the files of another.
-pub fn refused_to_migrate<'a>(refusal: Refusal, slots: u64) -> Refused<'a> {
+/// Why no volume in the layout of this number and with so many slots is made of the files of one in another layout.
+pub fn refused_to_migrate<'a>(
+    refusal: Refusal,
+    old: Layout,
+    layout: u64,
+    slots: u64,
+) -> Refused<'a> {
     let cause = match refusal {
-        Refusal::BadShape if !(2..=1_020).contains(&slots) => Some(Cause::Slots {
-            found: slots,
-            least: 2,
-        }),
-        Refusal::BadShape => Some(Cause::TooManyBlocks),
+        Refusal::BadShape => Some(cause_in_migration(old, layout, slots)),
         Refusal::Device => Some(Cause::Call),
         _ => None,
     };
     Refused { refusal, cause }
 }
 
+// What of a migration from a layout is outside the limits.
+fn cause_in_migration<'a>(old: Layout, layout: u64, slots: u64) -> Cause<'a> {
+    match Layout::from_number(layout) {
+        Some(new) if new.lengths_blocks() > 0 => {
+            if layout < old.number() {
+                return Cause::LowerLayout {
+                    found: layout,
+                    old: old.number(),
+                };
+            }
+            cause_in_slots(new, slots).unwrap_or(Cause::TooManyBlocks)
+        }
+        _ => Cause::NewLayout(layout),
+    }
+}
+
+// The fewest and the most record slots that each journal of a layout may have: a batch may have the lengths besides a
+// page.
+fn slots_of(layout: Layout) -> (u64, u64)
+    ensures { result ≡ (lengths_blocks layout + 1, most_slots layout) }
+{
+    (
+        u64::from(layout.lengths_blocks()) + 1,
+        u64::from(layout.max_slots()),
+    )
+}
+
+// What is outside the limits where each journal of a layout is to have so many record slots.
+fn cause_in_slots<'a>(layout: Layout, slots: u64) -> Option<Cause<'a>> {
+    let (least, most) = slots_of(layout);
+    if (least..=most).contains(&slots) {
+        return None;
+    }
+    Some(Cause::Slots {
+        found: slots,
+        least,
+        most,
+    })
+}
+
 // What is outside the limits of volumes.
 fn cause_in_files<'a>(layout: u64, files: &[FileSpec<'a>], slots: u64) -> Cause<'a> {
-    if !matches!(layout, 1 | 2 | 3) {
+    let Some(layout) = Layout::from_number(layout) else {
         return Cause::Layout(layout);
-    }
-    // A batch of layout 3 may have the lengths besides a page.
-    let least = if layout == 3 { 2 } else { 1 };
-    if !(least..=1_020).contains(&slots) {
-        return Cause::Slots {
-            found: slots,
-            least,
-        };
+    };
+    if let Some(cause) = cause_in_slots(layout, slots) {
+        return cause;
     }
     if !(1..=64).contains(&files.len()) {
         return Cause::FileCount(files.len());
@@ -129,11 +176,11 @@ fn cause_in_files<'a>(layout: u64, files: &[FileSpec<'a>], slots: u64) -> Cause<
 }
 
 // What is outside the limits of a file's length and capacity.
-fn cause_in_extent<'a>(layout: u64, file: &FileSpec<'a>) -> Option<Cause<'a>> {
+fn cause_in_extent<'a>(layout: Layout, file: &FileSpec<'a>) -> Option<Cause<'a>> {
     let name = file.name;
     let length = file.length;
     let capacity = file.capacity;
-    if capacity == 0 && layout == 3 {
+    if capacity == 0 && layout.lengths_blocks() > 0 {
         Some(Cause::NoCapacity(name))
     } else if capacity == 0 {
         Some(Cause::NoLength(name))

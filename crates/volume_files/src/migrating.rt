@@ -1,5 +1,11 @@
 // Migrating a volume: its files go into a new one whose files can grow, which is made in a file of its own as `format`
 // makes one.
+ghost use Rattle.std.specs.Prelude.{◌≡◌, ◌↔◌, IsTrue, IfOk, IfErr, OnOk, length};
+ghost use Rattle.volume_codec.specs.Super.{SuperValue, IsAsked, block_count};
+ghost use Rattle.recovery.specs.Format.{RefusesFormat};
+ghost use Rattle.recovery.specs.Migration.{asked_of, HasMigrated};
+ghost use Rattle.volume_files.specs.Migration.{MayMigrate};
+
 use crate::cause::{refused_to_migrate, refused_to_open};
 use crate::disk::{VolumeDisk, not_opened, open_to_write};
 use crate::failure::FileFailure;
@@ -14,19 +20,22 @@ use std::fs;
 use std::fs::{File, Files};
 use std::io::ErrorKind;
 use std::os::unix::fs::MetadataExt;
+use volume_codec::Layout;
 
-/// Which volume is migrated, and where to: the paths of the two files, and the record slots of each journal of the new
-/// volume.
+/// Which volume is migrated, and where to: the paths of the two files, the number of the new volume's layout, 3 or 4
+/// and not below the old one's, and the record slots of each of its journals.
 #[derive(Clone, Copy)]
 pub struct MigrationPlan<'a> {
     pub old: &'a str,
     pub new: &'a str,
+    pub layout: u64,
     pub slots: u64,
 }
 
 impl<'a> MigrationPlan<'a> {
-    // Why the new volume wasn't made. Of a device that failed it is the new one's, if a call of that failed.
-    fn refused(&self, refusal: Refusal, new_failed: bool) -> FileFailure<'a> {
+    // Why the new volume wasn't made of one in this layout. Of a device that failed it is the new one's, if a call of
+    // that failed.
+    fn refused(&self, refusal: Refusal, old: Layout, new_failed: bool) -> FileFailure<'a> {
         let path = match refusal {
             Refusal::OutOfMemory => return FileFailure::Memory(AllocError),
             Refusal::Device if !new_failed => self.old,
@@ -34,15 +43,15 @@ impl<'a> MigrationPlan<'a> {
         };
         FileFailure::Disk {
             path,
-            cause: refused_to_migrate(refusal, self.slots),
+            cause: refused_to_migrate(refusal, old, self.layout, self.slots),
         }
     }
 }
 
-/// Opens a volume, makes or replaces the file at another path by one in layout 3 with the same files, and says how many
-/// blocks that has. The old volume is written to by its opening alone. The new one is made in another file beside its
-/// place, `.new`, which takes its name once all of it is on the disk: where this fails before or is cut off, a file that
-/// had the name is as it was. Two paths of one file are refused before anything is touched.
+/// Opens a volume, makes or replaces the file at another path by one in the plan's layout with the same files, and
+/// says how many blocks that has. The old volume is written to by its opening alone. The new one is made in another
+/// file beside its place, `.new`, which takes its name once all of it is on the disk: where this fails before or is
+/// cut off, a file that had the name is as it was. Two paths of one file are refused before anything is touched.
 pub fn migrate<'a, R, A>(
     rt: &R,
     alloc: A,
@@ -120,6 +129,34 @@ where
     }
 }
 
+// Whether a volume in a layout may be migrated to the layout of this number: files may grow there, and it isn't lower.
+fn may_migrate(old: Layout, number: u64) -> bool
+    ensures { IsTrue result ↔ MayMigrate old number }
+{
+    match Layout::from_number(number) {
+        Some(new) => new.lengths_blocks() > 0 && old.number() <= number,
+        None => false,
+    }
+}
+
+// The number of blocks of the new volume. `BadShape` where there is none of the plan's shape, or where its layout isn't
+// one that the volume may be migrated to.
+fn blocks_of<D: Device, A: Allocator + Copy>(
+    plan: MigrationPlan<'_>,
+    volume: &Volume<D, A>,
+) -> Result<u64, Refusal>
+    ensures ok { IfOk result (λ blocks. MayMigrate volume.now.table.layout plan.entry.layout × (v : SuperValue)
+        × IsAsked plan.entry.layout (asked_of volume.now) plan.entry.slots v × (blocks ≡ block_count v)) }
+    ensures err { IfErr result (λ refusal. (refusal ≡ Refusal.BadShape)
+        × (MayMigrate volume.now.table.layout plan.entry.layout → (v : SuperValue)
+        → IsAsked plan.entry.layout (asked_of volume.now) plan.entry.slots v → ⊥)) }
+{
+    if !may_migrate(volume.layout(), plan.layout) {
+        return Err(Refusal::BadShape);
+    }
+    recovery::migrated_blocks(volume, plan.layout, plan.slots)
+}
+
 // Makes the new volume at a place, where its shape is accepted, and says how many blocks it has.
 fn made_of<'a, R, D, A>(
     rt: &R,
@@ -134,9 +171,9 @@ where
     A: Allocator + Copy,
 {
     let path = plan.new;
-    let blocks = match recovery::migrated_blocks(volume, 3, plan.slots) {
+    let blocks = match blocks_of(plan, volume) {
         Ok(blocks) => blocks,
-        Err(refusal) => return Err(plan.refused(refusal, false)),
+        Err(refusal) => return Err(plan.refused(refusal, volume.layout(), false)),
     };
     // Both files are locked until the end.
     let old = old_file(rt, path, to)?;
@@ -181,11 +218,27 @@ where
     A: Allocator + Copy,
 {
     let mut disk = disk;
-    match recovery::migrate(alloc, volume, &mut disk, 3, plan.slots) {
+    let old = volume.layout();
+    match copy(alloc, plan, volume, &mut disk) {
         Ok(()) => Ok(disk.into_file()),
         Err(refusal) => {
             let new_failed = disk.faults() > 0;
-            Err(plan.refused(refusal, new_failed))
+            Err(plan.refused(refusal, old, new_failed))
         }
     }
+}
+
+// Makes the new volume on a device.
+fn copy<D: Device, E: Device, A: Allocator + Copy>(
+    alloc: A,
+    plan: MigrationPlan<'_>,
+    volume: &mut Volume<D, A>,
+    new: &mut E,
+) -> Result<(), Refusal>
+    ensures migrated { D.is_honest volume.old.device → E.is_honest new.old
+        → OnOk result (HasMigrated D.Device E.Device plan.entry.layout plan.entry.slots volume.old new.old new.new) }
+    ensures refused { IfErr result
+        (RefusesFormat plan.entry.layout (asked_of volume.old) plan.entry.slots (length (E.seen new.old))) }
+{
+    recovery::migrate(alloc, volume, new, plan.layout, plan.slots)
 }
