@@ -16,7 +16,7 @@ page_there s owner sound is = record {
 }
 
 has_home : (s : State) (owner : FilePage) → IsSound s → IsInFile s owner → HasHome s.table owner
-has_home s owner sound is = record { file = is.there; within = home-below s sound.within owner is; }
+has_home s owner sound is = record { file = is.there; within = home-below s sound.within owner is }
 
 module _ (s : State) (sound : IsSound s) (noted : CheckpointState) (pages : List FilePage)
     (gathers : Gathers s.hardware.spaces s.hardware.memory s.checkpoint noted (not s.write_outs.broken) pages) where
