@@ -17,7 +17,7 @@ use machine::{Act, Machine, Reply, Shape, Step, nothing_stored};
 use page_entry::{ProcessorNumber, Refusal};
 use recovery::opened_as_recovered;
 use std::alloc::{AllocError, Allocator};
-use volume_codec::one_reading;
+use volume_codec::{Geometry, one_reading};
 
 /// Makes steps one at a time, up to one that is answered that the device failed.
 pub fn make<D: Device, A: Allocator + Copy>(
@@ -88,8 +88,11 @@ fn not_opened<D: Device + Drop, A: Allocator + Copy>(
     }
 }
 
-// The most steps that a write-out has up to the one that commits it, for a batch of 1,020 pages.
-const MOST_FLUSHES: u64 = 1_024;
+// The most steps that a write-out of a volume has up to the one that commits it: a record for each slot, the blocks of
+// the descriptor, a sync, the gate, and a sync.
+fn most_flushes(geometry: Geometry) -> u64 {
+    u64::from(geometry.slots()) + u64::from(geometry.descriptor_blocks()) + 3
+}
 
 /// Sees to it that a mark that was just made is acknowledged, where these are the replies before it: it is at once
 /// where no store was made, and no length set, since the mark before it, and else it is written out by steps of this
@@ -118,7 +121,8 @@ fn commit<D: Device, A: Allocator + Copy>(
     ensures { OnOk result (HasCommitted D.Device machine.old number machine.new) }
 {
     let step = Step { p, act: Act::Flush };
-    for _ in 0..MOST_FLUSHES {
+    let most = most_flushes(machine.table().geometry());
+    for _ in 0..most {
         let reply = machine.enter(&step);
         if is_committed(&reply, number) {
             return Ok(());

@@ -39,19 +39,19 @@ impl<A: Allocator + Copy> Places<A> {
         if block == 0 {
             return Part::Super;
         }
+        let slots = geometry.slots();
         for journal in 0..geometry.journals() {
-            let gate = geometry.gate_block(journal);
-            let descriptor = geometry.descriptor_block(journal);
-            if block == gate {
+            if block == geometry.gate_block(journal) {
                 return Part::Gate(journal);
             }
-            if block == descriptor {
+            let first = geometry.record_block(journal, 0);
+            if block >= geometry.descriptor_block(journal) && block < first {
                 return Part::Descriptor(journal);
             }
-            if block > descriptor && block - descriptor <= geometry.slots() {
+            if block >= first && block - first < slots {
                 return Part::Record {
                     journal,
-                    slot: block - descriptor - 1,
+                    slot: block - first,
                 };
             }
         }

@@ -3,6 +3,8 @@
 #![tactic(auto)]
 
 #[cfg(test)]
+mod layout_four;
+#[cfg(test)]
 mod layout_three;
 #[cfg(test)]
 mod machines;

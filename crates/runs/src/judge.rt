@@ -429,12 +429,19 @@ fn first_byte(alloc: Global, value: &Value, name: &str) -> Result<u8, Failure> {
     }
 }
 
-// Where the gates of a layout are: each journal has a gate, a descriptor and its record slots.
+// Where the gates of a layout are: each journal has a gate, the blocks of its descriptor and its record slots.
 fn gates(alloc: Global, layout: u64, slots: u64) -> Result<Vec<u64>, Failure> {
+    let journals: u64 = match layout {
+        2 | 3 => 2,
+        4 => 4,
+        _ => 1,
+    };
+    let descriptor = slots.saturating_mul(4).saturating_add(4111) / 4096;
+    let blocks = descriptor.saturating_add(slots).saturating_add(1);
     let mut gates = Vec::new(alloc);
-    gates.push(4096)?;
-    if matches!(layout, 2 | 3) {
-        gates.push(slots.saturating_add(3).saturating_mul(4096))?;
+    for journal in 0..journals {
+        let gate = blocks.saturating_mul(journal).saturating_add(1);
+        gates.push(gate.saturating_mul(4096))?;
     }
     Ok(gates)
 }

@@ -30,7 +30,7 @@ use Rattle.session.specs.inside.Made.{AttemptsLength}
 
 -- one more than the steps that a write-out has left
 abbrev pub steps_left : WriteOut → ℕ
-steps_left w = suc (length (stages (length w.batch.homes)) - w.steps)
+steps_left w = suc (length (stages (length w.batch.homes) w.described) - w.steps)
 
 abbrev pub all_left : List WriteOut → ℕ
 all_left [] = 0
@@ -40,16 +40,17 @@ abbrev pub left_of : State → ℕ
 left_of s = all_left s.write_outs.batches
 
 -- a stage comes next only where steps are left
-staged : (blocks steps : ℕ) (stage : Stage) → stage_at blocks steps ≡ Some stage → steps < length (stages blocks)
+staged : (blocks described steps : ℕ) (stage : Stage) → stage_at blocks described steps ≡ Some stage
+    → steps < length (stages blocks described)
 unfolding stage_at
-staged blocks steps stage is = slice_get_within (stages blocks) steps stage is
+staged blocks described steps stage is = slice_get_within (stages blocks described) steps stage is
 
 one_fewer : (w : WriteOut) → answer_of w ≢ flushed.Broken → steps_left (advanced_of w) < steps_left w
 one_fewer w some = go (next_stage w) refl
   where
     go : (o : Option Stage) → next_stage w ≡ o → steps_left (advanced_of w) < steps_left w
     go None is = absurd (some (ap (λ o. option_map_or (answer_at w.batch.mark) o flushed.Broken) is))
-    go (Some stage) is = omega (arith, staged (length w.batch.homes) w.steps stage is)
+    go (Some stage) is = omega (arith, staged (length w.batch.homes) w.described w.steps stage is)
 
 advanced_fewer : (batches : List WriteOut) → option_map_or answer_of (current batches) flushed.Broken ≢ flushed.Broken
     → all_left (advanced batches) < all_left batches

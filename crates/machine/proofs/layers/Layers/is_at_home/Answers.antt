@@ -3,6 +3,10 @@ use Rattle.machine.proofs.Names.{length_of, HasBlock, state_in}
 use Rattle.machine.proofs.layers.Layers.is_at_home.Goals.{then-not-is_dirty, else-not-is_dirty}
 use Rattle.machine.proofs.layers.Layers.is_at_home.Goals as goal
 
+-- a page has zeros after its first bytes
+abbrev IsCut : ℕ → List ℕ → Type 0
+IsCut n bytes = bytes ≡ padded 4096 (take n bytes)
+
 pub returns-then-not-has_block : goal.returns-then-not-has_block
 returns-then-not-has_block g c =
     let s = state_in c.args.self.now in
@@ -17,13 +21,11 @@ returns-then-not-has_block g c =
           written = λ has. absurd (false≢true (sym (ap not (w.has_block.ensures.1
               (subst (HasBlock s.write_outs) (sym w.home_block.ensures.home) has)))
               ∙ sym w.value-is ∙ c.if-not-has_block.true));
-          plain = subst (λ (bytes : List ℕ). bytes ≡ padded 4096 (take length bytes)) c.bytes.ensures.bytes
-              (subst (λ n. c.bytes.result.now ≡ padded 4096 (take n c.bytes.result.now)) left
-              (c.is_cut.ensures.0 cut));
+          plain = subst (IsCut length) c.bytes.ensures.bytes
+              (subst (λ n. IsCut n c.bytes.result.now) left (c.is_cut.ensures.0 cut));
         },
-        λ home. c.is_cut.ensures.1 (subst (λ n. c.bytes.result.now ≡ padded 4096 (take n c.bytes.result.now)) (sym left)
-            (subst (λ (bytes : List ℕ). bytes ≡ padded 4096 (take length bytes)) (sym c.bytes.ensures.bytes)
-            home.plain)),
+        λ home. c.is_cut.ensures.1 (subst (λ n. IsCut n c.bytes.result.now) (sym left)
+            (subst (IsCut length) (sym c.bytes.ensures.bytes) home.plain)),
       )
       | else-not-is_dirty w ↦
           absurd (false≢true (sym (ap not w.if-not-is_dirty.false) ∙ sym w.value-is ∙ c.if-not-has_block.true))
