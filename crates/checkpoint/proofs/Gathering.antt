@@ -1,98 +1,30 @@
--- The pages of the frames that are noted, listed frame by frame in the order of home blocks.
-use Rattle.std.proofs.Common.{ℕ, zero, suc, ◌≡◌, ◌<◌, ◌+◌, Bool, true, false, cond, List}
-use Rattle.std.proofs.Common.{[], ◌∷◌, ◌++◌, length, get_or, take, drop, Contains, Option}
-use Rattle.std.proofs.Common.{Some, None, IsSome, refl, sym, ap, subst, ◌∙◌, ⊎_elim, arith}
-use Rattle.std.specs.List.{filter_map, cons_option}
+-- The pages of the frames that are noted, found frame by frame and then sorted.
+use Rattle.std.proofs.Common.{ℕ, zero, suc, ◌≡◌, ◌<◌, ◌≤◌, ◌+◌, Bool, true, false, cond, List}
+use Rattle.std.proofs.Common.{[], ◌∷◌, ◌++◌, length, get_or, drop, Contains, Option, sum_by}
+use Rattle.std.proofs.Common.{Some, None, refl, sym, ap, subst, ◌∙◌, inl, inr, ⊎_elim, arith}
+use Rattle.std.specs.List.Sorted.{IsPermutation, IsSorted}
 use Rattle.std.specs.Option.{option_to_list}
-use Rattle.std.proofs.lemmas.Bool.{cond-true}
-use Rattle.std.proofs.lemmas.List.{take_more, get_or_default, drop_all}
-use Rattle.std.proofs.lemmas.List.Elements.{filter_map-append}
+use Rattle.std.specs.Ordering.{is_lt}
+use Rattle.std.proofs.lemmas.Bool.{cond-true, cases_lt, cases_eq}
+use Rattle.std.proofs.lemmas.Bool.Decides.{nat_tests}
+use Rattle.std.proofs.lemmas.List.{drop_all}
+use Rattle.std.proofs.lemmas.List.Elements.{Contains-append_left, Contains-append_right, Contains-append_cases}
+use Rattle.std.proofs.lemmas.List.Sorted.{Contains-permutation, IsPermutation-sym, sum_by-IsPermutation}
+use Rattle.std.proofs.lemmas.List.Sums.{sum_by-cons, sum_by-append}
 use Rattle.page_entry.specs.declared.numbers.FilePage.{FilePage}
-use Rattle.frames.specs.Frames.{FramesState, Frame, frame_at, AreInOrder, IsBefore, page_of}
+use Rattle.frames.specs.Frames.{FramesState, frame_at, AreFrames, IsBefore, page_of}
 use Rattle.spaces.specs.Spaces.{Spaces}
-use Rattle.checkpoint.specs.Checkpoint.{CheckpointState, Holds, AreRising, Gathers}
+use Rattle.checkpoint.specs.Checkpoint.{CheckpointState, Holds, AreRising, Gathers, same_page}
 use Rattle.checkpoint.specs.inside.Notes.{AreNoted, AreNotedPages, IsAnyPage, noted_in, noted_page}
-use Rattle.checkpoint.proofs.Lists.{Contains-head, Contains-tail, Contains-cons_cases}
+use Rattle.checkpoint.proofs.Lists.{Contains-head, Contains-tail}
+use Rattle.checkpoint.proofs.BackingLaws.{Holds-within}
+use Rattle.checkpoint.proofs.PagesInUse.{same_page-true, same_page-refl}
+use Rattle.checkpoint.proofs.Searches.{order_of}
 
-filter_map-one : {X Y : Type 0} (h : X → Option Y) (x : X) → filter_map h (x ∷ []) ≡ option_to_list (h x)
-filter_map-one h x =
-    elim (h x) as (λ o. filter_map (λ (y : _). o) (x ∷ []) ≡ option_to_list o) [ None ↦ refl | Some y ↦ refl ]
-
--- one more place of the list is looked at
-pub filter_map-more : {X Y : Type 0} (h : X → Option Y) (xs : List X) (i : ℕ) (d : X) (ys new : List Y)
-    → i < length xs → ys ≡ filter_map h (take i xs) → new ≡ ys ++ option_to_list (h (get_or xs i d))
-    → new ≡ filter_map h (take (i + 1) xs)
-filter_map-more h xs i d ys new within so_far is =
-    is ∙ ap (λ zs. zs ++ option_to_list (h (get_or xs i d))) so_far
-    ∙ ap (λ zs. filter_map h (take i xs) ++ zs) (sym (filter_map-one h (get_or xs i d)))
-    ∙ sym (filter_map-append h (take i xs) (get_or xs i d ∷ []))
-    ∙ ap (filter_map h) (sym (take_more xs i d within))
-
--- what a list gives is of some element, and of each
-pub record Given {X Y : Type 0} (h : X → Option Y) (xs : List X) (y : Y) : Type 0 where
-  pub item : X
-  pub there : Contains xs item
-  pub gives : h item ≡ Some y
-
-Given-filter_map : {X Y : Type 0} (h : X → Option Y) (xs : List X) (y : Y) → Contains (filter_map h xs) y → Given h xs y
-Given-filter_map h [] y c = absurd (let lt : c.0 < 0 = c.1 in omega arith)
-Given-filter_map h (x ∷ xs) y c =
-    elim (h x) as (λ o. h x ≡ o → Contains (cons_option o (filter_map h xs)) y → Given h (x ∷ xs) y) [
-      | None ↦ λ _ c. later x xs y (Given-filter_map h xs y c)
-      | Some z ↦ λ is c. ⊎_elim
-          (λ same. record { item = x; there = Contains-head x xs; gives = is ∙ ap (λ v. Some v) same })
-          (λ rest. later x xs y (Given-filter_map h xs y rest))
-          (Contains-cons_cases z (filter_map h xs) y c)
-    ] refl c
-  where
-    later : (x : _) (xs : List _) (y : _) → Given h xs y → Given h (x ∷ xs) y
-    later x xs y g = record { item = g.item; there = Contains-tail x xs g.item g.there; gives = g.gives }
-
-pub filter_map-gives : {X Y : Type 0} (h : X → Option Y) (xs : List X) (x : X) (y : Y) → Contains xs x → h x ≡ Some y
-    → Contains (filter_map h xs) y
-filter_map-gives h [] x y (k, within, is) gives = absurd (omega arith)
-filter_map-gives h (z ∷ zs) x y (zero, within, is) gives =
-    subst (λ o. Contains (cons_option o (filter_map h zs)) y) (sym (ap h is ∙ gives))
-    (Contains-head y (filter_map h zs))
-filter_map-gives h (z ∷ zs) x y (suc k, within, is) gives =
-    let rest = filter_map-gives h zs x y (k, omega arith, is) gives in
-    elim (h z) as (λ o. Contains (cons_option o (filter_map h zs)) y) [
-      | None ↦ rest
-      | Some v ↦ Contains-tail v (filter_map h zs) y rest
-    ]
-
--- each page that a list gives comes before those that it gives after it
-abbrev Rises : (ℕ → Option FilePage) → List ℕ → Type 0
-Rises h [] = Unit {0}
-Rises h (x ∷ xs) = ((y : ℕ) (a b : FilePage) → Contains xs y → h x ≡ Some a → h y ≡ Some b → IsBefore a b) × Rises h xs
-
-Rises-by_places : (h : ℕ → Option FilePage) (xs : List ℕ)
-    → ((i j : ℕ) (a b : FilePage) → i < j → j < length xs
-    → h (get_or xs i 0) ≡ Some a → h (get_or xs j 0) ≡ Some b → IsBefore a b)
-    → Rises h xs
-Rises-by_places h [] before = tt
-Rises-by_places h (x ∷ xs) before = (
-  λ y a b there first second. before 0 (suc there.0) a b (omega arith) (omega (arith, there.1)) first
-      (ap h (get_or_default xs there.0 0 y there.1 ∙ there.2) ∙ second),
-  Rises-by_places h xs
-      (λ i j a b less within first second. before (suc i) (suc j) a b (omega arith) (omega arith) first second),
-)
-
-AreRising-given : (h : ℕ → Option FilePage) (xs : List ℕ) → Rises h xs → AreRising (filter_map h xs)
-AreRising-given h [] rises = tt
-AreRising-given h (x ∷ xs) rises =
-    let rest = AreRising-given h xs rises.1 in
-    elim (h x) as (λ o. h x ≡ o → AreRising (cons_option o (filter_map h xs))) [
-      | None ↦ λ _. rest
-      | Some a ↦ λ is. first a (filter_map h xs) (λ b there. let g = Given-filter_map h xs b there in
-          rises.0 g.item a b g.there is g.gives) rest
-    ] refl
-  where
-    first : (a : FilePage) (pages : List FilePage)
-        → ((b : FilePage) → Contains pages b → IsBefore a b) → AreRising pages
-        → AreRising (a ∷ pages)
-    first a [] before rising = tt
-    first a (b ∷ pages) before rising = (before b (Contains-head b pages), rising)
+-- the pages of the frames below a number that are noted, by their frames
+abbrev pub noted_below : FramesState → List Bool → ℕ → List FilePage
+noted_below memory notes zero = []
+noted_below memory notes (suc n) = noted_below memory notes n ++ option_to_list (noted_page memory notes n)
 
 -- a frame that is noted gives its page
 noted_page-from : (memory : FramesState) (notes : List Bool) (frame : ℕ) (owner : FilePage)
@@ -113,34 +45,157 @@ noted_page-holds memory notes frame owner noted holds =
     cond-true (noted_in notes frame) (page_of (frame_at memory frame)) None noted
     ∙ holds
 
--- a frame that has a page is in use
-pub in_use-Holds : (memory : FramesState) (frame : ℕ) (owner : FilePage) → Holds memory frame owner
-    → IsSome (frame_at memory frame)
-in_use-Holds memory frame owner holds = used (frame_at memory frame) holds
-  where
-    used : (f : Option Frame) → page_of f ≡ Some owner → IsSome f
-    used None e = cc
-    used (Some f) e = refl
+-- an element of a list of at most one
+only : (o : Option FilePage) (owner : FilePage) → Contains (option_to_list o) owner → o ≡ Some owner
+only None owner (k, within, is) = absurd (omega arith)
+only (Some page) owner (zero, within, is) = ap (λ p. Some p) is
+only (Some page) owner (suc k, within, is) = absurd (omega arith)
 
--- the pages of the frames that are noted are exactly those that the frames in order give
-pub AreNotedPages-listed : (memory : FramesState) (notes : List Bool) (order : List ℕ) (pages : List FilePage)
-    → AreInOrder memory order → pages ≡ filter_map (noted_page memory notes) order
+only-there : (o : Option FilePage) (owner : FilePage) → o ≡ Some owner → Contains (option_to_list o) owner
+only-there None owner e = absurd (cc)
+only-there (Some page) owner e =
+    let same : page ≡ owner = cc in subst (λ p. Contains (page ∷ []) p) same (Contains-head page [])
+
+-- each of the pages is that of a noted frame, and each noted frame has its page among them
+noted_below-from : (memory : FramesState) (notes : List Bool) (n : ℕ) (owner : FilePage)
+    → Contains (noted_below memory notes n) owner
+    → (frame : ℕ) × (frame < n) × (noted_page memory notes frame ≡ Some owner)
+noted_below-from memory notes zero owner (k, within, is) = absurd (omega arith)
+noted_below-from memory notes (suc n) owner there =
+    ⊎_elim
+    (λ before. let h = noted_below-from memory notes n owner before in (h.0, omega (arith, h.1), h.2))
+    (λ here. (n, omega arith, only (noted_page memory notes n) owner here))
+    (Contains-append_cases (noted_below memory notes n) (option_to_list (noted_page memory notes n)) owner there)
+
+noted_below-there : (memory : FramesState) (notes : List Bool) (n frame : ℕ) (owner : FilePage)
+    → frame < n → noted_page memory notes frame ≡ Some owner → Contains (noted_below memory notes n) owner
+noted_below-there memory notes zero frame owner within gives = absurd (omega arith)
+noted_below-there memory notes (suc n) frame owner within gives =
+    elim (cases_eq frame n) [
+      | inl same ↦ Contains-append_right (noted_below memory notes n) (option_to_list (noted_page memory notes n)) owner
+          (only-there (noted_page memory notes n) owner (ap (noted_page memory notes) (sym same) ∙ gives))
+      | inr other ↦ Contains-append_left (noted_below memory notes n) (option_to_list (noted_page memory notes n)) owner
+          (noted_below-there memory notes n frame owner (omega (arith, other)) gives)
+    ]
+
+-- how often a page is in a list
+abbrev weight : Bool → ℕ
+weight same = cond same 1 0
+
+abbrev times : FilePage → List FilePage → ℕ
+times owner pages = sum_by (λ page. weight (same_page owner page)) pages
+
+times-cons : (owner page : FilePage) (pages : List FilePage)
+    → times owner (page ∷ pages) ≡ weight (same_page owner page) + times owner pages
+times-cons owner page pages = sum_by-cons (λ p. weight (same_page owner p)) page pages
+
+times-append : (owner : FilePage) (pages others : List FilePage)
+    → times owner (pages ++ others) ≡ times owner pages + times owner others
+times-append owner pages others = sum_by-append (λ p. weight (same_page owner p)) pages others
+
+-- where it isn't, it is there no time
+times-none : (owner : FilePage) (pages : List FilePage) → (Contains pages owner → ⊥) → times owner pages ≡ 0
+times-none owner [] none = refl
+times-none owner (page ∷ pages) none =
+    elim (same_page owner page)
+    as (λ b. same_page owner page ≡ b → times owner (page ∷ pages) ≡ 0) [
+      | true ↦ λ same. absurd (none (subst (λ p. Contains (page ∷ pages) p) (sym (same_page-true owner page same))
+          (Contains-head page pages)))
+      | false ↦ λ other. omega (
+        arith,
+        times-cons owner page pages,
+        ap weight other,
+        times-none owner pages (λ there. none (Contains-tail page pages owner there)),
+      )
+    ] refl
+
+-- a page is in one frame alone, so that none is there twice
+times-once : (memory : FramesState) (notes : List Bool) → AreFrames memory → (n : ℕ) (owner : FilePage)
+    → times owner (noted_below memory notes n) ≤ 1
+times-once memory notes are zero owner = omega arith
+times-once memory notes are (suc n) owner =
+    elim (noted_page memory notes n)
+    as (λ o. noted_page memory notes n ≡ o → times owner (noted_below memory notes n ++ option_to_list o) ≤ 1) [
+      | None ↦ λ _.
+          omega (arith, times-append owner (noted_below memory notes n) [], times-once memory notes are n owner)
+      | Some page ↦ λ is. one page is (times-once memory notes are n owner)
+    ] refl
+  where
+    one : (page : FilePage) → noted_page memory notes n ≡ Some page → times owner (noted_below memory notes n) ≤ 1
+        → times owner (noted_below memory notes n ++ page ∷ []) ≤ 1
+    one page is before =
+        let both = times-append owner (noted_below memory notes n) (page ∷ []) in
+        let last = times-cons owner page [] in
+        elim (same_page owner page)
+        as (λ b. same_page owner page ≡ b → times owner (noted_below memory notes n ++ page ∷ []) ≤ 1) [
+          | true ↦ λ same.
+              let holds : Holds memory n owner =
+              (noted_page-from memory notes n page is).1 ∙ ap (λ p. Some p) (sym (same_page-true owner page same)) in
+              let none = times-none owner (noted_below memory notes n) (λ there.
+              let h = noted_below-from memory notes n owner there in
+              let same_frame = are.one_frame h.0 n owner (noted_page-from memory notes h.0 owner h.2).1 holds in
+              omega (arith, h.1, same_frame)) in
+              omega (arith, both, last, none, ap weight same)
+          | false ↦ λ other. omega (arith, both, last, before, ap weight other)
+        ] refl
+
+-- of two pages that aren't the same, the one that isn't greater comes before
+before_from_order : (a b : FilePage) → is_lt (order_of b a) ≡ false → same_page a b ≡ false → IsBefore a b
+before_from_order a b least other =
+    elim (cases_lt a.file b.file) [
+      | inl less ↦ inl less
+      | inr no_less ↦ inr (grind (arith, nat_tests), grind (arith, nat_tests))
+    ]
+
+-- sorted pages rise, where none is there twice
+rising_sorted : (pages : List FilePage) → IsSorted order_of pages → ((owner : FilePage) → times owner pages ≤ 1)
+    → AreRising pages
+rising_sorted [] sorted once = tt
+rising_sorted (a ∷ []) sorted once = tt
+rising_sorted (a ∷ b ∷ pages) sorted once = (
+  before_from_order a b (sorted 0 a (omega arith) (omega arith)) (elim (same_page a b)
+      as (λ v. same_page a b ≡ v → same_page a b ≡ false) [
+        | true ↦ λ same. absurd (omega (
+          arith,
+          once a,
+          times-cons a a (b ∷ pages),
+          times-cons a b pages,
+          ap weight (same_page-refl a),
+          ap weight same,
+        ))
+        | false ↦ λ differ. differ
+      ] refl),
+  rising_sorted (b ∷ pages) (λ k d least within.
+      ap (λ m. is_lt (order_of (get_or (a ∷ b ∷ pages) m d) (get_or (b ∷ pages) k d)))
+      (let next : suc (k + 1) ≡ suc k + 1 = omega arith in next)
+      ∙ sorted (suc k) d (omega arith) (omega (arith, within)))
+      (λ owner. omega (arith, times-cons owner a (b ∷ pages), once owner)),
+)
+
+-- the pages of the frames that are noted, once sorted, are exactly those
+pub AreNotedPages-sorted : (memory : FramesState) (notes : List Bool) (found pages : List FilePage)
+    → AreFrames memory → found ≡ noted_below memory notes (length memory.frames)
+    → IsPermutation found pages → IsSorted order_of pages
     → AreNotedPages memory notes pages
-AreNotedPages-listed memory notes order pages in_order listed = record {
-  rising = subst AreRising (sym listed)
-      (AreRising-given (noted_page memory notes) order (Rises-by_places (noted_page memory notes) order
-      (λ i j a b less within first second.
-      in_order.rising i j 0 less within a b (noted_page-from memory notes (get_or order i 0) a first).1
-      (noted_page-from memory notes (get_or order j 0) b second).1)));
-  noted = λ owner. (
-    λ there.
-        let g = Given-filter_map (noted_page memory notes) order owner (subst (λ xs. Contains xs owner) listed there) in
-        let from = noted_page-from memory notes g.item owner g.gives in
-        (g.item, from.1, from.0),
-    λ h. subst (λ xs. Contains xs owner) (sym listed) (filter_map-gives (noted_page memory notes) order h.0 owner
-        ((in_order.used h.0).1 (in_use-Holds memory h.0 owner h.1)) (noted_page-holds memory notes h.0 owner h.2 h.1)),
-  );
-}
+AreNotedPages-sorted memory notes found pages are listed moved sorted =
+    let all = length memory.frames in record {
+      rising = rising_sorted pages sorted (λ owner. omega (
+        arith,
+        sum_by-IsPermutation (λ p. weight (same_page owner p)) found pages moved,
+        ap (times owner) listed,
+        times-once memory notes are all owner,
+      ));
+      noted = λ owner. (
+        λ there.
+            let h = noted_below-from memory notes all owner (subst (λ ps. Contains ps owner) listed
+            (Contains-permutation pages found owner (IsPermutation-sym found pages moved) there)) in
+            let from = noted_page-from memory notes h.0 owner h.2 in
+            (h.0, from.1, from.0),
+        λ h. Contains-permutation found pages owner moved (subst (λ ps. Contains ps owner) (sym listed)
+            (noted_below-there memory notes all h.0 owner (Holds-within memory h.0 owner h.1)
+            (noted_page-holds memory notes h.0 owner h.2 h.1))),
+      );
+    }
 
 -- where dirty entries are noted, and the pages of what is noted are listed, the dirty pages are gathered
 pub Gathers-noted : (spaces : Spaces) (memory : FramesState) (old new : CheckpointState)

@@ -6,11 +6,11 @@ ghost use Rattle.page_entry.specs.Entry.{frame_of};
 ghost use Rattle.spaces.specs.Spaces.{has_space};
 ghost use Rattle.checkpoint.specs.Checkpoint.{HasDirtyEntry, IsInRange, IsInSpace, IsMappingOf};
 ghost use Rattle.checkpoint.specs.Backing.{HasNotes};
-ghost use Rattle.checkpoint.specs.inside.Notes.{AreNoted, IsAnyPage, AreNotedPages};
+ghost use Rattle.checkpoint.specs.inside.Notes.{AreNoted, IsAnyPage, AreNotedPages, noted_page};
 
 use frames::Frames;
 use mappings::PageRange;
-use page_entry::{Entry, FilePage, Pcid};
+use page_entry::{Entry, FilePage, FrameNumber, Pcid};
 use spaces::{ALL_PAGES, Spaces};
 use std::alloc::Allocator;
 
@@ -90,8 +90,25 @@ pub(crate) fn has_dirty_entry<A: Allocator + Copy>(spaces: &Spaces<A>, page: Fil
     false
 }
 
+// The page in a frame, if the frame is noted.
+fn noted_page<A: Allocator + Copy>(
+    notes: &[bool],
+    frames: &Frames<A>,
+    frame: FrameNumber,
+) -> Option<FilePage>
+    requires { frame < length notes.now }
+    ensures { result ≡ noted_page frames.now notes.now frame }
+{
+    if notes[frame as usize] {
+        frames.owner(frame)
+    } else {
+        None
+    }
+}
+
 /// Lists the pages of the frames in use that are noted, in the order of their home blocks. There is room for a page of
-/// each frame, so that no memory is taken.
+/// each frame, so that no memory is taken. It goes over the notes, and sorts what they name: a commit of few pages
+/// costs little, however many frames are in use.
 pub(crate) fn list_noted<A: Allocator + Copy>(
     pages: &mut Vec<FilePage, A>,
     notes: &[bool],
@@ -103,12 +120,10 @@ pub(crate) fn list_noted<A: Allocator + Copy>(
     ensures capacity { vec_capacity pages.new ≡ vec_capacity pages.old }
 {
     pages.clear();
-    let order = frames.in_order();
-    for place in 0..order.len() {
-        let frame = order.get(place);
-        let page = frames.owner(frame).unwrap();
-        if notes[frame as usize] {
+    for frame in 0..frames.count() {
+        if let Some(page) = noted_page(notes, frames, frame) {
             pages.push_reserved(page);
         }
     }
+    pages.sort_unstable();
 }

@@ -1,5 +1,4 @@
 use Rattle.std.proofs.Common.{◌≡◌, sym, subst, ◌∙◌, ap, Some, None, get_or}
-use Rattle.std.proofs.lemmas.List.{get_or_default}
 use Rattle.frames.specs.Frames.{FramesState, HasNoneFrom, page_of}
 use Rattle.frames.specs.inside.Order.{IsPlaceOf}
 use Rattle.frames.proofs.Listing.{has_none_from}
