@@ -2,7 +2,6 @@
 ghost use Rattle.std.specs.Prelude.{◌≡◌, ◌+◌, ◌≤◌, ◌∷◌, [], ◌++◌, length, IsTrue, is_ok};
 ghost use Rattle.device.specs.Memory.{seen_of};
 
-use crate::sample::{crash, put};
 use device::{BlockFile, Device, DeviceFault, FailingDisk, FileDisk, MemDisk};
 use std::alloc::Global;
 use std::fs::{File, OpenOptions};
@@ -62,7 +61,7 @@ impl<R: Abort> BlockFile for CountedFile<'_, R> {
     ghost use Rattle.std.specs.Prelude.{Some, map};
     ghost use Rattle.device.specs.File.{any_list, any_time};
     ghost use Rattle.device.specs.File.FileCall.{read, write, sync_all, sync_data};
-    ghost use Rattle.storage_tests.specs.declared.disks.Call.TheVariants.{Read, Write, SyncAll, SyncData};
+    ghost use Rattle.disk_tests.specs.declared.disks.Call.TheVariants.{Read, Write, SyncAll, SyncData};
 
     ghost seen = { λ file. [] };
 
@@ -239,7 +238,11 @@ fn write_and_sync_twice<D: Device>(disk: &mut D) -> bool
 
 // Whether a crash of a disk with this choice leaves these bytes.
 fn crash_leaves(rt: &impl Abort, disk: &mut MemDisk<Global>, choice: &[u8], wanted: &[u8]) -> bool {
-    crash(rt, disk, choice);
+    assert!(rt;
+        choice.len() == disk.bytes().len(),
+        "the choice is as long as the disk"
+    );
+    disk.stop(choice);
     disk.bytes() == wanted
 }
 
@@ -279,8 +282,8 @@ fn second_write_fails<D: Device>(disk: &mut D) -> bool
 // The bytes that it leaves.
 fn spoilt() -> [u8; 10_000] {
     let mut left = [0; 10_000];
-    put(&mut left, 0, &[1, 2, 3]);
-    put(&mut left, 1000, &[0xEE; 8000]);
+    left[..3].copy_from_slice(&[1, 2, 3]);
+    left[1000..9000].copy_from_slice(&[0xEE; 8000]);
     left
 }
 

@@ -1,5 +1,5 @@
 use Rattle.std.proofs.Common.{◌*◌, replicate}
-use Rattle.storage_tests.proofs.deferring.unknown_zeros.Given as goal
+use Rattle.disk_tests.proofs.deferring.unknown_zeros.Given as goal
 
 -- its content: zeros
 abbrev pub ghost-new : goal.ghost-new

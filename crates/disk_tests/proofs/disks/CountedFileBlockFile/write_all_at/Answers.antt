@@ -1,7 +1,7 @@
 -- Nothing is known of the file, so a crash may leave any list, before the write and after it.
 use Rattle.std.proofs.Common.{inr, arith, length}
 use Rattle.device.proofs.Ranges.{torn_none}
-use Rattle.storage_tests.proofs.disks.CountedFileBlockFile.write_all_at.Goals as goal
+use Rattle.disk_tests.proofs.disks.CountedFileBlockFile.write_all_at.Goals as goal
 
 pub returns-clause-left : goal.returns-clause-left
 returns-clause-left g c = λ list left. (list, tt, torn_none c.args.at (length c.args.bytes.now) list)

@@ -1,12 +1,12 @@
 // Volumes of each layout that are migrated to layout 3: the same files, and what is refused, fails or is cut off.
-use crate::sample::{
-    LENGTH_ONE, LENGTH_THREE, LENGTH_TWO, crash, put, put_lengths, put_super_one, put_super_three,
-    put_super_two, volume_of,
-};
 use counting_alloc::CountingAllocator;
 use device::{Device, FailingDisk, MemDisk};
 use page_entry::Refusal;
 use recovery::{Volume, migrate, migrated_blocks, open};
+use sample_volumes::{
+    LENGTH_ONE, LENGTH_THREE, LENGTH_TWO, put, put_lengths, put_super_one, put_super_three,
+    put_super_two,
+};
 use std::alloc::{Allocator, Global};
 use std::process::Abort;
 use volume_codec::Layout;
@@ -29,6 +29,23 @@ const MIGRATED_GROWING: u64 = 73_728;
 fn disk_of<R: Abort + AllocGlobal>(rt: &R, image: &[u8]) -> Disk {
     let bytes = image.to_vec(rt.alloc()).expect(rt, "memory");
     MemDisk::from_bytes(rt.alloc(), bytes).expect(rt, "memory")
+}
+
+// A crash of a disk of as many bytes as the choice.
+fn crash(rt: &impl Abort, disk: &mut Disk, choice: &[u8]) {
+    assert!(rt;
+        choice.len() == disk.bytes().len(),
+        "the choice is as long as the disk"
+    );
+    disk.stop(choice);
+}
+
+// The volume of a disk that opens.
+fn volume_of<R: Abort + AllocGlobal>(rt: &R, disk: Disk) -> Volume<Disk, Global> {
+    match open(rt.alloc(), disk) {
+        Ok(volume) => volume,
+        Err((refusal, _)) => panic!(rt; "{refusal}"),
+    }
 }
 
 // A disk of so many bytes, none of them zero.
