@@ -2,7 +2,6 @@
 use crate::failure::Failure;
 use crate::form::{list, list_of, member, number, number_of, text};
 use crate::image::{File, Put, difference, read_put, read_puts};
-use crate::trial::compare_count;
 use device::{Device, FailingDisk, MemDisk};
 use page_entry::Refusal;
 use recovery::{Volume, open};
@@ -297,6 +296,15 @@ fn compare_image(alloc: Global, before: &[u8], writes: &[Put], came: &[u8]) -> R
         write.write(alloc, &mut wanted)?;
     }
     compare_bytes(alloc, "the disk", &wanted, came)
+}
+
+/// Compares a count.
+pub fn compare_count(alloc: Global, what: &str, wanted: u64, came: u64) -> Result<(), Failure> {
+    if wanted == came {
+        Ok(())
+    } else {
+        Err(Failure::differs(alloc, what, &wanted, &came))
+    }
 }
 
 /// Says at which offset bytes differ, if they do.
