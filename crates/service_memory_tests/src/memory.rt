@@ -3,11 +3,11 @@ ghost use Rattle.std.specs.Prelude.{◌≡◌, length, Some};
 ghost use Rattle.machine.specs.Fresh.{IsFresh};
 ghost use Rattle.service.specs.Serving.{IsCapacity};
 
-use crate::setting::{Disk, booted};
 use counting_alloc::CountingAllocator;
 use machine::{Act, Machine, Reply};
 use page_entry::Refusal;
 use service::{Cpu, Origin, Service};
+use service_trials::{Disk, booted};
 use std::alloc::Global;
 use std::marker::Brand;
 use std::process::Abort;
@@ -95,7 +95,7 @@ fn started_again<R: Wait + Abort + AllocGlobal>(
 )
     requires { IsCapacity capacity → capacity ≡ 5 }
 {
-    let machine = booted(rt, alloc, 2);
+    let machine = booted(alloc, rt.alloc(), 2).expect(rt, "a machine");
     let blank = Blank::new(u64::from(machine.processors()));
     start_again::<Brand, R>(rt, alloc, machine, blank, n, capacity, why);
 }

@@ -1,5 +1,5 @@
 use Rattle.std.specs.Prelude.{Some}
-use Rattle.service_tests.proofs.threads.served.Given as goal
+use Rattle.service_thread_tests.proofs.threads.served.Given as goal
 
 abbrev pub ghosts-serve-L-Origin : goal.ghosts-serve-L-Origin
 ghosts-serve-L-Origin g a = record { all = a.blank.parts; start = Some a.machine; capacity = 50000 }

@@ -1,5 +1,5 @@
 use Rattle.std.specs.Prelude.{Some}
-use Rattle.service_tests.proofs.memory.started_again.Given as goal
+use Rattle.service_memory_tests.proofs.memory.started_again.Given as goal
 
 abbrev pub ghosts-start_again-L-Origin : goal.ghosts-start_again-L-Origin
 ghosts-start_again-L-Origin g a = record { all = a.blank.parts; start = Some a.machine; capacity = 5 }

@@ -2,10 +2,10 @@
 ghost use Rattle.std.specs.Prelude.{◌≡◌, length, Some};
 ghost use Rattle.machine.specs.Fresh.{IsFresh};
 
-use crate::setting::{Disk, MAP, MSYNC, SWITCH, Trial, booted, gathered, started};
 use machine::{Act, FewBytes, ProcState, Reply};
 use page_entry::Refusal;
 use service::{Cpu, Entry, Origin};
+use service_trials::{Disk, MAP, MSYNC, SWITCH, Trial, booted, gathered, started};
 use std::alloc::Global;
 use std::marker::Brand;
 use std::process::Abort;
@@ -207,18 +207,21 @@ fn serve<L: Origin<Disk> + Send + Sync, R: Threads + Wait + Sync + Abort + Alloc
     requires parts { (blank.parts ≡ L.parts) × (L.all ≡ L.parts)
         × (blank.parts ≡ length machine.state.hardware.shootdown.processors) }
 {
-    let (service, mut cpus) = started::<L, R>(rt, machine, CAPACITY, blank);
+    let (service, mut cpus) = started::<L>(rt.alloc(), machine, CAPACITY, blank).expect(
+        rt,
+        "a service",
+    );
     prepare(rt, cpus.as_mut_slice());
     let mut cpus = thread::map_vec(rt, cpus, &|cpu| worked(rt, cpu)).expect(rt, "threads");
     let seen = seen_by_all(rt, cpus.as_mut_slice());
-    let (machine, trace) = gathered(rt, service, cpus);
+    let (machine, trace) = gathered(rt, service, cpus).expect(rt, "a trace");
     (machine, trace, seen)
 }
 
 fn served<R: Threads + Wait + Sync + Abort + AllocGlobal>(
     rt: &R,
 ) -> (Trial, Vec<Entry>, (u64, u64)) {
-    let machine = booted(rt, rt.alloc(), THREADS);
+    let machine = booted(rt.alloc(), rt.alloc(), THREADS).expect(rt, "a machine");
     let blank = Blank::new(u64::from(machine.processors()));
     serve::<Brand, R>(rt, machine, blank)
 }
@@ -230,7 +233,7 @@ fn is_whole(trace: &[Entry], seen: (u64, u64)) -> bool {
 
 // Whether another machine, booted on an equal disk, answers a trace in the same way, and leaves the same bytes.
 fn is_same<R: Abort + AllocGlobal>(rt: &R, machine: &Trial, trace: &[Entry]) -> bool {
-    let mut again = booted(rt, rt.alloc(), THREADS);
+    let mut again = booted(rt.alloc(), rt.alloc(), THREADS).expect(rt, "a machine");
     replays(&mut again, trace) && again.device().bytes() == machine.device().bytes()
 }
 
