@@ -1,11 +1,10 @@
 // Where a run is cut, what a crash leaves then, and what is opened.
-use crate::choice::{Choice, halves, read_choices};
-use crate::failure::Failure;
-use crate::form::{Span, list_of, number, span_of};
-use crate::image::Put;
-use crate::opening::{Wanted, compare, compare_bytes, crash, cut, read_wanted};
-use crate::trial::{Stopped, Trial, compare_count};
+use crate::trial::{Stopped, Trial};
 use device::MemDisk;
+use run_files::{
+    Choice, Failure, Put, Span, Wanted, compare, compare_bytes, compare_count, crash, cut, halves,
+    list_of, number, read_choices, read_wanted, span_of,
+};
 use serde_json::Value;
 use std::alloc::Global;
 use std::fmt;

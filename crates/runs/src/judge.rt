@@ -1,15 +1,14 @@
 // Files of runs, line by line.
-use crate::choice::read_choice_of;
 use crate::ending::{Ending, crashed};
-use crate::failure::Failure;
-use crate::form::{bytes, list_of, member, number, number_of, number_or, only, parsed, text};
-use crate::image::{File, Plan, Put, formatted, read_files, read_puts};
-use crate::opening::compare_bytes;
 use crate::trial::{Ended, Run, Trial, read_shape};
+use run_files::{
+    Failure, Plan, Put, bytes, compare_bytes, formatted, list_of, member, number, number_of,
+    number_or, only, parsed, read_choice_of, read_files, read_puts, text,
+};
 use scripts::read_step;
 use serde_json::{Map, Value};
 use std::alloc::Global;
-use std::fs::File as RealFile;
+use std::fs::File;
 use std::io::{self, Write};
 use std::rt::Files;
 use std::{fs, str};
@@ -25,7 +24,7 @@ struct Counts {
 /// for each file, and a sum. The status is 0; 1 where a file differs or is refused; and 2 where no file is named.
 pub fn judge_all<R, W>(rt: &R, words: &[String], out: &mut W) -> io::Result<u8>
 where
-    R: Files<File = RealFile> + AllocGlobal,
+    R: Files<File = File> + AllocGlobal,
     W: Write,
 {
     let mut all = Counts {
@@ -62,7 +61,7 @@ where
 // Makes the runs of a file, and writes its line. There are no counts where it differs or is refused.
 fn judge_file<R, W>(rt: &R, path: &str, out: &mut W) -> io::Result<Option<Counts>>
 where
-    R: Files<File = RealFile> + AllocGlobal,
+    R: Files<File = File> + AllocGlobal,
     W: Write,
 {
     match fs::read_to_string(rt, path) {

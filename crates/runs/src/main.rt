@@ -2,14 +2,9 @@
 //! must get, and what is opened afterwards. It says for each file whether all came as it says.
 #![tactic(auto)]
 
-mod choice;
 mod ending;
-mod failure;
-mod form;
 mod heard;
-mod image;
 mod judge;
-mod opening;
 mod trial;
 
 use judge::judge_all;

@@ -1,12 +1,9 @@
 // A disk in memory, and a run of a machine on it that can be made again and again from the same beginning.
-use crate::failure::Failure;
-use crate::form::number_of;
 use crate::heard::Heard;
-use crate::image::File;
-use crate::opening::{Disk, compare_refusal};
 use device::{Device, FailingDisk, MemDisk};
 use machine::{Act, Reply, Shape, Step};
 use page_entry::Refusal;
+use run_files::{Disk, Failure, File, compare_count, compare_refusal, number_of};
 use serde_json::Value;
 use std::alloc::Global;
 
@@ -233,15 +230,6 @@ impl Run {
         let line = self.line.saturating_add(step);
         let what = format!(in alloc; "the step in line {line}")?;
         Err(Failure::differs(alloc, what.as_str(), &wanted, &came))
-    }
-}
-
-/// Compares a count.
-pub fn compare_count(alloc: Global, what: &str, wanted: u64, came: u64) -> Result<(), Failure> {
-    if wanted == came {
-        Ok(())
-    } else {
-        Err(Failure::differs(alloc, what, &wanted, &came))
     }
 }
 

@@ -2,10 +2,10 @@
 ghost use Rattle.std.specs.Prelude.{◌≡◌, length, Some};
 ghost use Rattle.machine.specs.Fresh.{IsFresh};
 
-use crate::setting::{Disk, MSYNC, Trial, booted, entry, gathered, reply_to, started};
 use machine::{Act, ProcState, Reply};
 use page_entry::Refusal;
 use service::{Cpu, Entry, Origin, Service, Shared};
+use service_trials::{Disk, MSYNC, Trial, booted, entry, gathered, reply_to, started};
 use std::alloc::Global;
 use std::marker::Brand;
 use std::process::Abort;
@@ -43,7 +43,7 @@ fn enters_two(shared: &mut Shared<Disk, Global>) -> bool {
 
 #[test]
 fn a_machine_is_shared_with_its_trace(rt: HostRuntime) {
-    let machine = booted(&rt, rt.alloc(), 2);
+    let machine = booted(rt.alloc(), rt.alloc(), 2).expect(&rt, "a machine");
     let Ok(mut shared) = Shared::new(rt.alloc(), machine, 2) else {
         panic!(rt; "no memory for a trace");
     };
@@ -152,14 +152,14 @@ fn serve_three<L: Origin<Disk>, R: Wait + Abort + AllocGlobal>(rt: &R, machine: 
     requires parts { (blank.parts ≡ L.parts) × (L.all ≡ L.parts)
         × (blank.parts ≡ length machine.state.hardware.shootdown.processors) }
 {
-    let (service, mut cpus) = started::<L, R>(rt, machine, 3, blank);
+    let (service, mut cpus) = started::<L>(rt.alloc(), machine, 3, blank).expect(rt, "a service");
     assert!(rt; fills(rt, cpus.as_mut_slice()));
     let second = cpus.pop().expect(rt, "a processor");
     let (service, mut cpus) = refused(rt, service, cpus);
     if cpus.push(second).is_err() {
         panic!(rt; "no memory for a processor");
     }
-    let (mut machine, trace) = gathered(rt, service, cpus);
+    let (mut machine, trace) = gathered(rt, service, cpus).expect(rt, "a trace");
     assert!(rt; is_of_three(trace.as_slice()));
     assert!(rt; is_after_three(&mut machine));
 }
@@ -172,7 +172,7 @@ fn serve_one<L: Origin<Disk>, R: Wait + Abort + AllocGlobal>(rt: &R, machine: Tr
     requires parts { (blank.parts ≡ L.parts) × (L.all ≡ L.parts)
         × (blank.parts ≡ length machine.state.hardware.shootdown.processors) }
 {
-    let (service, mut cpus) = started::<L, R>(rt, machine, 3, blank);
+    let (service, mut cpus) = started::<L>(rt.alloc(), machine, 3, blank).expect(rt, "a service");
     let idle = cpus.pop().expect(rt, "a processor");
     assert!(rt; idle.calls() == 0 && cpus.len() == 1);
     assert!(rt; cpus[0].call(rt, Act::Create) == Reply::Space(1));
@@ -180,13 +180,13 @@ fn serve_one<L: Origin<Disk>, R: Wait + Abort + AllocGlobal>(rt: &R, machine: Tr
     if cpus.push(idle).is_err() {
         panic!(rt; "no memory for a processor");
     }
-    let (machine, trace) = gathered(rt, service, cpus);
+    let (machine, trace) = gathered(rt, service, cpus).expect(rt, "a trace");
     assert!(rt; trace.as_slice() == [entry(0, Act::Create, Reply::Space(1))].as_slice());
     assert!(rt; machine.state(1) == Ok(ProcState::Active));
 }
 
 fn one_is_served<R: Wait + Abort + AllocGlobal>(rt: &R) {
-    let machine = booted(rt, rt.alloc(), 2);
+    let machine = booted(rt.alloc(), rt.alloc(), 2).expect(rt, "a machine");
     let blank = Blank::new(u64::from(machine.processors()));
     serve_one::<Brand, R>(rt, machine, blank);
 }
@@ -197,7 +197,7 @@ fn a_service_is_not_gathered_without_an_idle_processor(rt: HostRuntime) {
 }
 
 fn three_are_served<R: Wait + Abort + AllocGlobal>(rt: &R) {
-    let machine = booted(rt, rt.alloc(), 2);
+    let machine = booted(rt.alloc(), rt.alloc(), 2).expect(rt, "a machine");
     let blank = Blank::new(u64::from(machine.processors()));
     serve_three::<Brand, R>(rt, machine, blank);
 }

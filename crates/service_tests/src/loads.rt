@@ -3,9 +3,9 @@
 ghost use Rattle.std.specs.Prelude.{◌≡◌, length, Some};
 ghost use Rattle.machine.specs.Fresh.{IsFresh};
 
-use crate::setting::{Disk, MAP, SWITCH, Trial, booted, started};
 use machine::{Act, FewBytes, Reply, Step};
 use service::{Cpu, Origin};
+use service_trials::{Disk, MAP, SWITCH, Trial, booted, started};
 use std::alloc::Global;
 use std::marker::Brand;
 use std::process::Abort;
@@ -41,7 +41,7 @@ fn are_entered(machine: &mut Trial, count: u64, wanted: &Reply) -> bool {
 }
 
 fn enter<R: Abort + AllocGlobal>(rt: &R, count: u64) {
-    let mut machine = booted(rt, rt.alloc(), 1);
+    let mut machine = booted(rt.alloc(), rt.alloc(), 1).expect(rt, "a machine");
     for act in &PREPARED {
         machine.enter(&Step { p: 0, act: *act });
     }
@@ -76,7 +76,10 @@ fn call<L: Origin<Disk>, R: Wait + Abort + AllocGlobal>(
     requires parts { (blank.parts ≡ L.parts) × (L.all ≡ L.parts)
         × (blank.parts ≡ length machine.state.hardware.shootdown.processors) }
 {
-    let (_service, mut cpus) = started::<L, R>(rt, machine, CAPACITY, blank);
+    let (_service, mut cpus) = started::<L>(rt.alloc(), machine, CAPACITY, blank).expect(
+        rt,
+        "a service",
+    );
     assert!(rt; cpus.len() == 1);
     for act in &PREPARED {
         cpus[0].call(rt, *act);
@@ -86,7 +89,7 @@ fn call<L: Origin<Disk>, R: Wait + Abort + AllocGlobal>(
 }
 
 fn called<R: Wait + Abort + AllocGlobal>(rt: &R, count: u64) {
-    let machine = booted(rt, rt.alloc(), 1);
+    let machine = booted(rt.alloc(), rt.alloc(), 1).expect(rt, "a machine");
     let blank = Blank::new(u64::from(machine.processors()));
     call::<Brand, R>(rt, machine, blank, count);
 }

@@ -1,9 +1,8 @@
 // The bytes of a small volume in each layout, and the limits. Which blocks are refused is in the runs as text.
-use crate::sample::{
-    FILES, GROWING, SPECS, many_files, put, put_lengths, put_super_one, put_super_three,
-    put_super_two,
-};
 use page_entry::Refusal;
+use sample_volumes::{
+    FILES, GROWING, SPECS, put, put_lengths, put_super_one, put_super_three, put_super_two,
+};
 use std::alloc::Global;
 use std::process::Abort;
 use volume_codec::{
@@ -323,6 +322,23 @@ fn tables_of_layout_3_outside_the_rules(rt: HostRuntime) {
     for (length, capacity, slots) in [(0, 0, 4), (2, 1, 4), (1, 1, 0), (1, 1, 1), (1, 1, 1021)] {
         assert!(rt; block_count_as(3, &file_of(length, capacity), slots) == Err(Refusal::BadShape));
     }
+}
+
+// Names of one character each.
+const NAMES: &str = "abcdefghijklmnopqrstuvwxyzABCDEFGHIJKLMNOPQRSTUVWXYZ0123456789-_+";
+
+// 65 files of one page each, with these names.
+fn files_named(names: &'static str) -> [(&'static str, u64); 65] {
+    let mut files = [("", 4096); 65];
+    for i in 0..65 {
+        files[i] = (names.get(i..i + 1).unwrap_or(""), 4096);
+    }
+    files
+}
+
+// 65 files of one page each, with names of one character.
+fn many_files() -> [(&'static str, u64); 65] {
+    files_named(NAMES)
 }
 
 // Whether the most files, with the most slots, are written and read.

@@ -2,13 +2,13 @@
 // a volume tells of its files.
 ghost use Rattle.std.specs.Prelude.{◌≡◌, length};
 
-use crate::sample::{
-    FILES, GROWING, LENGTH_ONE, LENGTH_THREE, LENGTH_TWO, SPECS, put, put_lengths, put_super_one,
-    put_super_three, put_super_two, volume_of,
-};
 use device::{Device, MemDisk};
 use page_entry::Refusal;
 use recovery::{Volume, blocks, blocks_as, format, format_as, open};
+use sample_volumes::{
+    FILES, GROWING, LENGTH_ONE, LENGTH_THREE, LENGTH_TWO, SPECS, put, put_lengths, put_super_one,
+    put_super_three, put_super_two,
+};
 use std::alloc::Global;
 use std::process::Abort;
 use volume_codec::{FileSpec, Layout};
@@ -29,7 +29,10 @@ fn disk_of<R: Abort + AllocGlobal>(rt: &R, image: &[u8]) -> Disk {
 
 // The volume of an image.
 fn opened<R: Abort + AllocGlobal>(rt: &R, image: &[u8]) -> Volume<Disk, Global> {
-    volume_of(rt, disk_of(rt, image))
+    match open(rt.alloc(), disk_of(rt, image)) {
+        Ok(volume) => volume,
+        Err((refusal, _)) => panic!(rt; "{refusal}"),
+    }
 }
 
 // Reads a part of a file.

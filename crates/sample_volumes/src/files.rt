@@ -1,0 +1,33 @@
+// The files of the sample.
+use volume_codec::FileSpec;
+
+/// The names and lengths of the files.
+pub const FILES: [(&str, u64); 2] = [("a", 5000), ("b", 4096)];
+
+/// The same files, as long as they may become.
+pub const SPECS: [FileSpec; 2] = [
+    FileSpec {
+        name: "a",
+        length: 5000,
+        capacity: 5000,
+    },
+    FileSpec {
+        name: "b",
+        length: 4096,
+        capacity: 4096,
+    },
+];
+
+/// The same files in layout 3, where `a` may grow to 12,288 bytes.
+pub const GROWING: [FileSpec; 2] = [
+    FileSpec {
+        name: "a",
+        length: 5000,
+        capacity: 12_288,
+    },
+    FileSpec {
+        name: "b",
+        length: 4096,
+        capacity: 4096,
+    },
+];
