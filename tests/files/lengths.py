@@ -4,7 +4,7 @@ import json
 import os
 
 from files.program import (
-    EXPORT, MIGRATE, START, bytes_of, calls_of, clear, dumped, famsync, has, start, want, write, write_image,
+    EXPORT, START, bytes_of, calls_of, clear, dumped, famsync, has, migrating, start, want, write, write_image,
 )
 
 # A file of 5,000 bytes gets 4,000 more, on two processors, the last of them 7.
@@ -40,7 +40,7 @@ def lengths_in(layout):
         want(found[-1] == 1 or "committed" not in ran.out, "an acknowledged length is there", call, ran)
     want(found == sorted(found) and set(found) == {0, 1}, "the old length up to a call, and then the new one", found)
     want(famsync(*EXPORT).status == 0 and bytes_of("a.copy") == bytes(8999) + b"\x07", "so many bytes are exported")
-    want(famsync(*MIGRATE).status == 0 and dumped("w.img") == LONG, "the length goes over")
+    want(famsync(*migrating(layout)).status == 0 and dumped("w.img") == LONG, "the length goes over")
     # The steps of a script of threads, and those of its trace.
     programs = [[["store", 13095, [7]], ["msync", 0, 0, 4]], [["await", 13095, 7], ["load", 9096, 1]]]
     write("threads.json", json.dumps({**shape, "trace": 1000, "steps": GROWS, "programs": programs}))

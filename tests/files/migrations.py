@@ -7,7 +7,7 @@ import os
 import subprocess
 
 from files.program import (
-    MIGRATE, NEWER, OLD, OTHER, bytes_of, calls_of, clear, complains, dumped, famsync, has, start, volume, want,
+    MIGRATE, NEWER, OLD, OTHER, bytes_of, calls_of, clear, complains, dumped, famsync, has, migrating, start, volume, want,
 )
 
 
@@ -25,15 +25,13 @@ def migrations():
         clear()
         want(famsync("format", "--layout", layout, "v.img", "5", "a=5000", "b=4096").status == 0, "a volume is made", layout)
         want(famsync("run", "v.img", "old.json").status == 0, "and written to", layout)
-        # (a volume doesn't become one of a lower layout)
-        words = ["migrate", "--layout", layout, *MIGRATE[1:]] if layout == "4" else MIGRATE
         image, found = bytes_of("v.img"), set()
         for call in range(1, calls_of(["run", "v.img", "newer.json"]) + 1):
             with open("v.img", "wb") as file:
                 file.write(image)
             famsync("run", "v.img", "newer.json", fault=f"kill:{call}")
             before = dumped("v.img")
-            want(famsync(*words).status == 0 and dumped("w.img") == before == dumped("v.img"), "the files go over", layout, call)
+            want(famsync(*migrating(layout)).status == 0 and dumped("w.img") == before == dumped("v.img"), "the files go over", layout, call)
             found.add(before)
         want(found == {OLD, NEWER}, "old files and newer ones", layout, found)
     # Lengths below capacities, and of 0, go over, and bytes past a length don't.

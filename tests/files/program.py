@@ -150,6 +150,12 @@ def stopped(words, call):
 MIGRATE = ["migrate", "v.img", "w.img", "2"]
 
 
+def migrating(layout):
+    """Gives the words by which a volume of this layout goes over: to layout 3, but of layout 4 to the same, since none
+    becomes one of a lower layout."""
+    return ["migrate", "--layout", "4", *MIGRATE[1:]] if layout == "4" else MIGRATE
+
+
 def dumped(path):
     over = famsync("dump", path)
     want(over.status == 0, "a volume is opened", path, over)
