@@ -108,7 +108,7 @@ static int open_core(famsync *handle, const struct famsync_options *options)
     }
     if (code == FAMSYNC_OK)
         code = read_files(handle);
-    /* Between two syncs no more is written than a journal has, which comes before the files. */
+    /* Between two syncs no more is written than two journals have, or one where there are no four, before the files. */
     if (code == FAMSYNC_OK)
         code = begin_gathering(&handle->gathered, handle->head);
     return code == FAMSYNC_OK ? drain(handle) : code;

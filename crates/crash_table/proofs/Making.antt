@@ -5,7 +5,7 @@ use Rattle.std.specs.Prelude.{slice_get}
 use Rattle.std.proofs.lemmas.List.{drop_more}
 use Rattle.device.specs.declared.device.Device.{Ghosts}
 use Rattle.machine.specs.declared.act.Reply.{Reply}
-use Rattle.machine.specs.declared.act.Reply.TheVariants.{Marked, Going, Committed}
+use Rattle.machine.specs.declared.act.Reply.TheVariants.{Marked, Committed}
 use Rattle.machine.specs.declared.act.Step.{Step}
 use Rattle.machine.specs.Runs.{StepsTaken}
 use Rattle.machine.specs.State.{Whole}
@@ -43,15 +43,15 @@ ComesAfter {D} disk mid step reply new =
     (start : Whole D) (steps : List Step) (replies : List Reply) → StepsTaken disk start steps replies mid
     → StepsTaken disk start (steps ++ step ∷ []) (replies ++ reply ∷ []) new
 
--- one that is answered that the write-out goes on
+-- one that isn't answered that a mark was made
 pub goes_on : {D : Type 0} (disk : Ghosts D) (old mid new : Whole D) (step : Step) (reply : Reply)
     → IsUnderWay disk old mid
-    → ComesAfter disk mid step reply new → reply ≡ Going → IsUnderWay disk old new
-goes_on disk old mid new step reply (steps, going, taken, unmarked) after going_is = (
+    → ComesAfter disk mid step reply new → ((k : ℕ) → reply ≡ Marked k → ⊥) → IsUnderWay disk old new
+goes_on disk old mid new step reply (steps, going, taken, unmarked) after other = (
   steps ++ step ∷ [],
   going ++ reply ∷ [],
   after old steps going taken,
-  unmarked_more going reply (λ k marked. let c : Going ≡ Marked k = sym going_is ∙ marked in cc) unmarked,
+  unmarked_more going reply other unmarked,
 )
 
 -- and the last, that the mark is committed

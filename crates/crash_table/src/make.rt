@@ -1,5 +1,5 @@
 // Making steps, and noting what they are answered.
-ghost use Rattle.std.specs.Prelude.{◌≡◌, ℕ, List, [], length, take, false, IfOk, OnOk, IsTrue, ◌↔◌};
+ghost use Rattle.std.specs.Prelude.{◌≡◌, ◌≢◌, ℕ, List, [], length, take, false, IfOk, OnOk, IsTrue, ◌↔◌};
 ghost use Rattle.device.specs.Device.{Only};
 ghost use Rattle.volume_codec.specs.Files.{File};
 ghost use Rattle.volume_codec.specs.Recovery.{RecoversTo};
@@ -88,10 +88,11 @@ fn not_opened<D: Device + Drop, A: Allocator + Copy>(
     }
 }
 
-// The most steps that a write-out of a volume has up to the one that commits it: a record for each slot, the blocks of
-// the descriptor, a sync, the gate, and a sync.
+// The most steps that come up to the one that commits a write-out of a volume: a record for each slot, the blocks of
+// the descriptor, a sync, the gate, and a sync; and where write-outs share that first sync, before it the home blocks of
+// the write-out before, and the gate of the one before that.
 fn most_flushes(geometry: Geometry) -> u64 {
-    u64::from(geometry.slots()) + u64::from(geometry.descriptor_blocks()) + 3
+    2 * u64::from(geometry.slots()) + u64::from(geometry.descriptor_blocks()) + 4
 }
 
 /// Sees to it that a mark that was just made is acknowledged, where these are the replies before it: it is at once
@@ -141,11 +142,11 @@ fn is_committed(reply: &Reply, number: u32) -> bool
     reply.is_same(&Reply::Committed(number))
 }
 
-// Whether a reply says that a write-out goes on.
+// Whether a reply says that write-outs go on, or that an older one is done, which no mark is.
 fn is_going(reply: &Reply) -> bool
-    ensures { IsTrue result ↔ (reply.now ≡ replied.Going) }
+    ensures { IsTrue result → (mark : ℕ) → reply.now ≢ replied.Marked mark }
 {
-    matches!(reply, Reply::Going)
+    matches!(reply, Reply::Going | Reply::Done(_))
 }
 
 // Why a mark isn't written out, where a step of its write-out is answered so.

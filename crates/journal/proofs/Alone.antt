@@ -25,7 +25,8 @@ use Rattle.journal.specs.Work.{Work, Nothing, TornFromWork, has_done}
 use Rattle.journal.specs.WriteOut.{WriteOut, FlushValue, IsBatch, next_stage, advanced_of, next_home}
 use Rattle.journal.specs.WriteOut.{work_of, answer_of, write_out_after, broken_after, begun_of}
 use Rattle.journal.specs.WriteOut.{flush_of, flush_home, flush_work, flush_answer, flush_after}
-use Rattle.journal.specs.WriteOuts.{WriteOutsValue, none_of, current, advanced, current_stage, outs_home}
+use Rattle.journal.specs.WriteOuts.{WriteOutsValue, none_of, shares_syncs, moving, moved, current, current_stage}
+use Rattle.journal.specs.WriteOuts.{outs_moving, outs_home}
 use Rattle.journal.specs.WriteOuts.{next_work, next_answer, outs_after, is_busy, begun, HasBlock}
 use Rattle.journal.specs.Crash.{LeftBefore, LeftWithin}
 use Rattle.journal.specs.LedTo.{IsStep}
@@ -38,6 +39,7 @@ use Rattle.journal.proofs.Stages.{stage_at-is, stage_from, next_in}
 use Rattle.journal.proofs.Tying.{stage_of}
 use Rattle.journal.proofs.Sounding.{next_from, first_stage}
 use Rattle.journal.proofs.Leaving.{is_last}
+use Rattle.journal.proofs.Moving.{lone_moves}
 use Rattle.journal.proofs.KeptConsistent.{tied_first, consistent_going, consistent_begun}
 use Rattle.journal.proofs.KeptConsistent.{consistent_stepped, consistent_left, consistent_within}
 
@@ -61,8 +63,10 @@ stage_same flush = by (next_stage flush.write_out) refl
         ap (λ (l : List WriteOut). option_and_then next_stage (current l)) (one_of flush.write_out stage at)
 
 module _ (flush : FlushValue) (stage : Stage) (at : next_stage flush.write_out ≡ Some stage) where
-  current_is : current (alone_of flush).batches ≡ Some flush.write_out
-  current_is = ap current (one_of flush.write_out stage at)
+  mover_is : outs_moving (alone_of flush) ≡ Some flush.write_out
+  mover_is =
+      ap (moving (shares_syncs flush.geometry.layout)) (one_of flush.write_out stage at)
+      ∙ (lone_moves (shares_syncs flush.geometry.layout) flush.write_out).0
 
   pub some_left : (alone_of flush).batches ≡ [] → ⊥
   some_left e = none (sym (one_of flush.write_out stage at) ∙ e)
@@ -73,13 +77,13 @@ module _ (flush : FlushValue) (stage : Stage) (at : next_stage flush.write_out �
   pub work_same : (bytes : List ℕ) → next_work (alone_of flush) bytes ≡ flush_work flush bytes
   work_same bytes =
       ap (λ (o : Option WriteOut). cond flush.broken Nothing (option_map_or (work_of flush.geometry bytes) o Nothing))
-      current_is
+      mover_is
 
   pub answer_same : next_answer (alone_of flush) ≡ flush_answer flush
-  answer_same = ap (λ (o : Option WriteOut). cond flush.broken Broken (option_map_or answer_of o Broken)) current_is
+  answer_same = ap (λ (o : Option WriteOut). cond flush.broken Broken (option_map_or answer_of o Broken)) mover_is
 
   pub home_same : outs_home (alone_of flush) ≡ flush_home flush
-  home_same = ap (λ (o : Option WriteOut). cond flush.broken None (option_and_then next_home o)) current_is
+  home_same = ap (λ (o : Option WriteOut). cond flush.broken None (option_and_then next_home o)) mover_is
 
 -- ---- after a step
 
@@ -117,8 +121,10 @@ module _ (flush : FlushValue) (stage : Stage) (at : next_stage flush.write_out �
       → outs_after (alone_of flush) answer ≡ alone_of (flush_after flush answer)
   after_going not_last answer is =
       let next = follows g w stage own at not_last in
-      let lists : advanced (unless_done w) ≡ unless_done (advanced_of w) =
-      ap advanced (one_of w stage at)
+      let sharing = shares_syncs flush.geometry.layout in
+      let lists : moved sharing (unless_done w) ≡ unless_done (advanced_of w) =
+      ap (moved sharing) (one_of w stage at)
+      ∙ (lone_moves sharing w).1
       ∙ sym (one_of (advanced_of w) next.0 next.1) in
       ⊎_elim
       (λ e. subst (λ (a : Flushed). outs_after (alone_of flush) a ≡ alone_of (flush_after flush a)) (sym e)
@@ -130,8 +136,10 @@ module _ (flush : FlushValue) (stage : Stage) (at : next_stage flush.write_out �
   after_done : stage ≡ Finishing
       → outs_after (alone_of flush) (Done w.batch.mark) ≡ alone_of (flush_after flush (Done w.batch.mark))
   after_done last =
-      let lists : drop 1 (unless_done w) ≡ unless_done (advanced_of w) =
-      ap (drop 1) (one_of w stage at)
+      let sharing = shares_syncs flush.geometry.layout in
+      let lists : drop 1 (moved sharing (unless_done w)) ≡ unless_done (advanced_of w) =
+      ap (λ (l : List WriteOut). drop 1 (moved sharing l)) (one_of w stage at)
+      ∙ ap (drop 1) (lone_moves sharing w).1
       ∙ sym (none_left (advanced_of w) (ends w (at ∙ ap Some last))) in
       ap (λ (l : List WriteOut). record (alone_of flush) { batches = l }) lists
 
@@ -177,6 +185,7 @@ begun_alone v batch room new seen may is_batch volume only outside =
           few = omega arith;
           each = tt;
           ordered = tt;
+          spaced = λ e. tt;
           turn = tt;
         }) refl
         (tied_first v seen may volume only)

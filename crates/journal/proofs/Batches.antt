@@ -1,17 +1,18 @@
 -- The write-outs under way: the newest that isn't committed, or the oldest, and those whose gates are open.
 use Rattle.std.proofs.Common.{◌≡◌, ◌⊎◌, inl, inr, true, false, not, ◌||◌, List, []}
-use Rattle.std.proofs.Common.{◌∷◌, ◌++◌, Option, Some, refl, ap, ◌∙◌, subst, arith}
+use Rattle.std.proofs.Common.{◌∷◌, ◌++◌, cond, drop, map, Bool, Option, Some, refl, ap, ◌∙◌, subst, arith}
 use Rattle.std.specs.List.{AllByRecursion, Contains}
 use Rattle.std.specs.Option.{option_map_or}
 use Rattle.std.proofs.lemmas.Bool.{cond-true, cond-false, both_ways, or_parts, or_right}
-use Rattle.std.proofs.lemmas.Bool.{or_cases, not-true, not_from_false, cases_Bool}
+use Rattle.std.proofs.lemmas.Bool.{or_cases, not-true, not_from_false, cases_Bool, cond_both}
 use Rattle.std.proofs.lemmas.List.Elements.{Contains-append_cases, Contains-append_right, Contains-push_cases}
 use Rattle.journal.specs.declared.stage.Stage.{Stage}
 use Rattle.journal.specs.declared.flushed.Flushed.{Flushed}
 use Rattle.journal.specs.declared.flushed.Flushed.TheVariants.{Going, Committed, Done, Device, Broken}
-use Rattle.journal.specs.Stage.{is_committed}
+use Rattle.journal.specs.Stage.{is_committed, may_share}
 use Rattle.journal.specs.WriteOut.{WriteOut, next_stage, has_committed, advanced_of}
-use Rattle.journal.specs.WriteOuts.{has_uncommitted, current, advanced, batches_after}
+use Rattle.journal.specs.WriteOuts.{has_uncommitted, is_at, gives_way, joined, moved, current, advanced}
+use Rattle.journal.specs.WriteOuts.{batches_after}
 use Rattle.journal.specs.inside.Sound.{IsOlder, AreInOrder}
 use Rattle.journal.proofs.Alls.{all_back}
 
@@ -101,7 +102,29 @@ advanced-oldest w newer none = cond-false (has_uncommitted newer) (w ∷ advance
 pub committed-at : (w : WriteOut) (stage : Stage) → next_stage w ≡ Some stage → has_committed w ≡ is_committed stage
 committed-at w stage e = ap (λ (o : Option Stage). option_map_or is_committed o true) e
 
+pub at-is : (has : Stage → Bool) (w : WriteOut) (stage : Stage) → next_stage w ≡ Some stage → is_at has w ≡ has stage
+at-is has w stage e = ap (λ (o : Option Stage). option_map_or has o false) e
+
+-- the one whose step comes next without shared syncs is the newest of these, where that isn't committed
+pub current-later : (older : List WriteOut) (w : WriteOut) (newer : List WriteOut) → has_uncommitted newer ≡ true
+    → current (older ++ w ∷ newer) ≡ current newer
+current-later [] w newer has = cond-true (has_uncommitted newer) (current newer) (Some w) has
+current-later (x ∷ older) w newer has =
+    cond-true (has_uncommitted (older ++ w ∷ newer)) (current (older ++ w ∷ newer)) (Some x)
+    (uncommitted_later older w newer has)
+    ∙ current-later older w newer has
+  where
+    uncommitted_later : (older : List WriteOut) (w : WriteOut) (newer : List WriteOut) → has_uncommitted newer ≡ true
+        → has_uncommitted (older ++ w ∷ newer) ≡ true
+    uncommitted_later [] w newer has = or_right (not (has_committed w)) (has_uncommitted newer) has
+    uncommitted_later (x ∷ older) w newer has =
+        or_right (not (has_committed x)) (has_uncommitted (older ++ w ∷ newer)) (uncommitted_later older w newer has)
+
 -- ---- a step makes no batch
+
+-- one of these has the batch
+abbrev WasThere : List WriteOut → WriteOut → Type 0
+WasThere batches w = (before : WriteOut) × Contains batches before × (before.batch ≡ w.batch)
 
 met : {X : Type 0} (x : X) (xs : List X) (y : X) → Contains (x ∷ xs) y → (x ≡ y) ⊎ Contains xs y
 met x xs y there = elim (Contains-append_cases (x ∷ []) xs y there) [
@@ -109,29 +132,55 @@ met x xs y there = elim (Contains-append_cases (x ∷ []) xs y there) [
   | inr rest ↦ inr rest
 ]
 
-batch_stays : (batches : List WriteOut) (w : WriteOut) → Contains (advanced batches) w
-    → (before : WriteOut) × Contains batches before × (before.batch ≡ w.batch)
-batch_stays [] w there = absurd (omega (arith, there.1))
-batch_stays (x ∷ newer) w there = elim (cases_Bool (has_uncommitted newer)) [
-  | inl later ↦ elim (met x (advanced newer) w (subst (λ (l : List WriteOut). Contains l w)
-      (cond-true (has_uncommitted newer) (x ∷ advanced newer) (advanced_of x ∷ newer) later) there)) [
+was_later : (x : WriteOut) (newer : List WriteOut) (w : WriteOut) → WasThere newer w → WasThere (x ∷ newer) w
+was_later x newer w before = (before.0, Contains-append_right (x ∷ []) newer before.0 before.1, before.2)
+
+all_stay : (batches : List WriteOut) (w : WriteOut) → Contains (map advanced_of batches) w → WasThere batches w
+all_stay [] w there = absurd (omega (arith, there.1))
+all_stay (x ∷ newer) w there = elim (met (advanced_of x) (map advanced_of newer) w there) [
+  | inl e ↦ (x, (0, omega arith, refl), ap (λ (y : WriteOut). y.batch) e)
+  | inr rest ↦ was_later x newer w (all_stay newer w rest)
+]
+
+joined_stay : (shares : Bool) (x : WriteOut) (newer : List WriteOut) (w : WriteOut) → Contains (joined shares x newer) w
+    → WasThere newer w
+joined_stay shares x newer w =
+    cond_both shares (cond (is_at may_share x) (map advanced_of newer) newer) newer
+    (λ (l : List WriteOut). Contains l w → WasThere newer w)
+    (λ e. cond_both (is_at may_share x) (map advanced_of newer) newer
+    (λ (l : List WriteOut). Contains l w → WasThere newer w)
+    (λ all there. all_stay newer w there) (λ none there. (w, there, refl)))
+    (λ e there. (w, there, refl))
+
+batch_stays : (shares : Bool) (batches : List WriteOut) (w : WriteOut) → Contains (moved shares batches) w
+    → WasThere batches w
+batch_stays shares [] w there = absurd (omega (arith, there.1))
+batch_stays shares (x ∷ newer) w there = elim (cases_Bool (gives_way shares x newer)) [
+  | inl later ↦ elim (met x (moved shares newer) w (subst (λ (l : List WriteOut). Contains l w)
+      (cond-true (gives_way shares x newer) (x ∷ moved shares newer) (advanced_of x ∷ joined shares x newer) later)
+      there)) [
         | inl e ↦ (x, (0, omega arith, refl), ap (λ (y : WriteOut). y.batch) e)
-        | inr rest ↦ (let before = batch_stays newer w rest in
-            (before.0, Contains-append_right (x ∷ []) newer before.0 before.1, before.2))
+        | inr rest ↦ was_later x newer w (batch_stays shares newer w rest)
       ]
-  | inr none ↦ elim (met (advanced_of x) newer w (subst (λ (l : List WriteOut). Contains l w)
-      (cond-false (has_uncommitted newer) (x ∷ advanced newer) (advanced_of x ∷ newer) none) there)) [
+  | inr none ↦ elim (met (advanced_of x) (joined shares x newer) w (subst (λ (l : List WriteOut). Contains l w)
+      (cond-false (gives_way shares x newer) (x ∷ moved shares newer) (advanced_of x ∷ joined shares x newer) none)
+      there)) [
         | inl e ↦ (x, (0, omega arith, refl), ap (λ (y : WriteOut). y.batch) e)
-        | inr rest ↦ (w, Contains-append_right (x ∷ []) newer w rest, refl)
+        | inr rest ↦ was_later x newer w (joined_stay shares x newer w rest)
       ]
 ]
 
-pub batch_before : (answer : Flushed) (batches : List WriteOut) (w : WriteOut)
-    → Contains (batches_after answer batches) w
+rest_stays : (shares : Bool) (batches : List WriteOut) (w : WriteOut) (l : List WriteOut)
+    → (Contains l w → WasThere batches w) → Contains (drop 1 l) w → WasThere batches w
+rest_stays shares batches w [] all there = all there
+rest_stays shares batches w (x ∷ l) all there = all (Contains-append_right (x ∷ []) l w there)
+
+pub batch_before : (shares : Bool) (answer : Flushed) (batches : List WriteOut) (w : WriteOut)
+    → Contains (batches_after shares answer batches) w
     → (before : WriteOut) × Contains batches before × (before.batch ≡ w.batch)
-batch_before Going batches w there = batch_stays batches w there
-batch_before (Committed mark) batches w there = batch_stays batches w there
-batch_before (Done mark) [] w there = absurd (omega (arith, there.1))
-batch_before (Done mark) (x ∷ newer) w there = (w, Contains-append_right (x ∷ []) newer w there, refl)
-batch_before Device batches w there = (w, there, refl)
-batch_before Broken batches w there = (w, there, refl)
+batch_before shares Going batches w there = batch_stays shares batches w there
+batch_before shares (Committed mark) batches w there = batch_stays shares batches w there
+batch_before shares (Done mark) batches w there =
+    rest_stays shares batches w (moved shares batches) (batch_stays shares batches w) there
+batch_before shares Device batches w there = (w, there, refl)
+batch_before shares Broken batches w there = (w, there, refl)

@@ -108,7 +108,7 @@ module _ (v : SuperValue) (seen : List ℕ) where
             journals = λ e. let m = ap (λ (x : Batch). x.mark) (one_batch (geometry_of v) seen a b is own each.0 e) in
                 absurd (omega (arith, m, lt));
             committed = found_committed v.slots a (some_homes a own);
-            waits = λ e. applying_first v.slots b (some_homes b each.0);
+            waits = λ e. inl (applying_first v.slots b (some_homes b each.0));
           } in r))
 
   -- a block of the descriptor of one of them

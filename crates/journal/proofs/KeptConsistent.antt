@@ -24,8 +24,9 @@ use Rattle.journal.specs.declared.flushed.Flushed.TheVariants.{Going, Committed,
 use Rattle.journal.specs.Stage.{is_committed}
 use Rattle.journal.specs.Work.{Work, Nothing, Sync, worked, TornFromWork, has_done}
 use Rattle.journal.specs.WriteOut.{WriteOut, next_stage, begun_of, next_home, work_of}
-use Rattle.journal.specs.WriteOuts.{WriteOutsValue, none_of, has_uncommitted, current, current_stage}
-use Rattle.journal.specs.WriteOuts.{next_work, next_answer, outs_after, is_busy, next_batch, begun, outs_home}
+use Rattle.journal.specs.WriteOuts.{WriteOutsValue, none_of, has_uncommitted, shares_syncs, moving, current_stage}
+use Rattle.journal.specs.WriteOuts.{outs_moving, next_work, next_answer, outs_after, is_busy, next_batch, begun}
+use Rattle.journal.specs.WriteOuts.{outs_home}
 use Rattle.journal.specs.WriteOut.{IsBatch}
 use Rattle.journal.specs.Crash.{LeftBefore, LeftWithin}
 use Rattle.journal.specs.LedTo.{IsStep, HasLedTo, AtFirst, Begun, AnyOld, Stepped}
@@ -42,7 +43,7 @@ use Rattle.journal.proofs.Stepping.{durable_push, left_same, all_committed, befo
 use Rattle.journal.proofs.Sounding.{turn_free, first_stage, not_busy, next_is_batch, begun_sound}
 use Rattle.journal.proofs.Answering.{AreSound, stage_committed, work_in, answer_in, after_in, sound_of}
 use Rattle.journal.proofs.Answering.{outs_after-is, step_sound, failed_sound, sound_after, answer_same}
-use Rattle.journal.proofs.Keeping.{IsWithin, GoesOn, steps_of, tied_of, left_before}
+use Rattle.journal.proofs.Keeping.{sharing, IsWithin, GoesOn, steps_of, tied_of, left_before}
 
 module _ (v : SuperValue) (old new : ℕ → List ℕ) where
   -- ---- what is read
@@ -130,7 +131,7 @@ module _ (v : SuperValue) (old new : ℕ → List ℕ) where
     left = λ c left. subst
         (λ b. MatchBool b (LeftWithin v old new (current_stage outs) c) (LeftBefore v old new (current_stage outs) c))
         (sym whole)
-        (left_before v old new seen may [] outs.next outs.batches c (are_sound outs geometry sound) tied left);
+        (left_before v old new seen may outs.next outs.batches c (are_sound outs geometry sound) tied left);
     reads = λ e b home none. reads_new outs.batches seen b tied.seen_is home none;
     rests = λ e empty. at_rest outs.batches empty tied;
     sound = sound;
@@ -186,13 +187,15 @@ module _ (v : SuperValue) (old new : ℕ → List ℕ) where
     work_same : next_work outs bytes ≡ work_in (geometry_of v) bytes outs.batches
     work_same =
         cond-false outs.broken Nothing
-        (option_map_or (work_of outs.geometry bytes) (current outs.batches) Nothing) whole
-        ∙ ap (λ (g : GeometryValue). option_map_or (work_of g bytes) (current outs.batches) Nothing) s.geometry
+        (option_map_or (work_of outs.geometry bytes) (outs_moving outs) Nothing) whole
+        ∙ ap (λ (g : GeometryValue). work_in g bytes outs.batches) s.geometry
 
     steps : IsWithin v old new seen may bytes outs.batches × GoesOn v old new seen may bytes outs.batches
     steps = steps_of v old new seen may bytes outs.next outs.batches size some (are_sound outs s.geometry s.sound)
         (s.tied whole) (λ home e.
-        is_new home (cond-false outs.broken None (option_and_then next_home (current outs.batches)) whole ∙ e))
+        is_new home (cond-false outs.broken None (option_and_then next_home (outs_moving outs)) whole
+        ∙ ap (λ (g : GeometryValue). option_and_then next_home (moving (shares_syncs g.layout) outs.batches)) s.geometry
+        ∙ e))
 
     -- what a crash may leave within the next step
     pub consistent_within : (c : List ℕ) → TornFromWork (next_work outs bytes) may c
@@ -219,9 +222,12 @@ module _ (v : SuperValue) (old new : ℕ → List ℕ) where
         (ap (λ (o : WriteOutsValue). o.geometry) e ∙ s.geometry) (step_sound outs s.sound whole some)
         (ap (λ (o : WriteOutsValue). o.broken) e ∙ whole)
         (subst (λ (l : List WriteOut). IsTied v l old new (worked seen (next_work outs bytes)) may')
-        (sym (ap (λ (o : WriteOutsValue). o.batches) e))
+        (sym (ap (λ (o : WriteOutsValue). o.batches) e
+        ∙ ap (λ (g : GeometryValue).
+        after_in (shares_syncs g.layout) (answer_in (shares_syncs g.layout) outs.batches) outs.batches) s.geometry))
         (subst (λ (work : Work).
-        IsTied v (after_in (answer_in outs.batches) outs.batches) old new (worked seen work) may')
+        IsTied v (after_in (sharing v old new) (answer_in (sharing v old new) outs.batches) outs.batches) old new
+        (worked seen work) may')
         (sym work_same) tied))
 
 -- ---- at first
@@ -251,6 +257,7 @@ consistent_first v seen may is_geometry volume only =
       few = omega arith;
       each = tt;
       ordered = tt;
+      spaced = λ e. tt;
       turn = tt;
     }) refl
     (tied_first v seen may volume only)

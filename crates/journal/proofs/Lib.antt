@@ -12,11 +12,16 @@ pub mod Firm
 pub mod Leaving
 pub mod Stepping
 pub mod Sounding
+pub mod Moving
+pub mod OneAnswer
 pub mod Answering
 pub mod Keeping
 pub mod KeptConsistent
+pub mod Counting
 pub mod Found
 pub mod UnderWay
 pub mod Rooms
+pub mod Joined
+pub mod Finding
 pub mod Alone
 pub mod Public

@@ -1,20 +1,24 @@
 -- The list of write-outs that the code keeps, and the write-out whose step comes next.
-use Rattle.std.proofs.Common.{◌≡◌, ℕ, zero, suc, ◌+◌, ◌<◌, ◌≤◌, Bool, true, false, not, ◌||◌, List}
+use Rattle.std.proofs.Common.{◌≡◌, ℕ, zero, suc, ◌+◌, ◌<◌, ◌≤◌, Bool, true, false, not, ◌||◌, cond, List}
 use Rattle.std.proofs.Common.{[], ◌∷◌, ◌++◌, length, drop, get_or, set, map, Option, Some, refl}
-use Rattle.std.proofs.Common.{sym, ap, ◌∙◌, subst, arith, length-append, length-set, option_to_list}
+use Rattle.std.proofs.Common.{sym, ap, ◌∙◌, subst, arith, length-append, option_to_list}
+use Rattle.std.specs.Prelude.{IfSome}
 use Rattle.std.specs.List.{AllByRecursion, Contains}
-use Rattle.std.proofs.lemmas.Bool.{both_ways, cond-true, not_from_true}
+use Rattle.std.proofs.lemmas.Bool.{cond-true}
 use Rattle.std.proofs.lemmas.List.{get_or_default, length-map}
+use Rattle.volume_codec.specs.Layout.{GeometryValue}
 use Rattle.journal.specs.WriteOut.{WriteOut, has_committed, advanced_of, begun_of}
 use Rattle.journal.specs.declared.flushed.Flushed.{Flushed}
 use Rattle.journal.specs.declared.flushed.Flushed.TheVariants.{Going, Committed, Done, Device, Broken}
+use Rattle.journal.specs.Work.{has_done}
 use Rattle.journal.specs.WriteOut.{broken_after}
 use Rattle.journal.specs.inside.Queued.{QueuedWriteOut, queued_of, queued_after}
-use Rattle.journal.specs.WriteOuts.{WriteOutsValue, has_uncommitted, current, advanced}
+use Rattle.journal.specs.WriteOuts.{WriteOutsValue, has_uncommitted, shares_syncs, moving, moved, current, advanced}
 use Rattle.journal.specs.WriteOuts.{following, next_batch, begun, batches_after, outs_after}
-use Rattle.journal.specs.inside.Sound.{AreInOrder, IsSound}
-use Rattle.journal.specs.inside.Room.{write_outs_in, IsCurrent, HasRoom, kept_after, spare_after}
+use Rattle.journal.specs.inside.Sound.{IsWriteOut, AreInOrder, IsSound}
+use Rattle.journal.specs.inside.Room.{write_outs_in, rooms_in, IsCurrent, IsLone, HasRoom, kept_after, spare_after}
 use Rattle.journal.proofs.Alls.{all-append, all_front, all_back, all_at}
+use Rattle.journal.proofs.Batches.{current-oldest, advanced-oldest, committed_parts}
 
 -- ---- the write-outs in the code's list
 
@@ -26,6 +30,11 @@ get-write_outs (f ∷ queued) (suc i) d = get-write_outs queued i d
 
 pub length-write_outs : (queued : List QueuedWriteOut) → length (write_outs_in queued) ≡ length queued
 length-write_outs queued = length-map queued (λ f. f.write_out)
+
+-- there is one
+pub some_queued : (queued : List QueuedWriteOut) → (write_outs_in queued ≡ [] → ⊥) → 0 < length queued
+some_queued [] some = absurd (some refl)
+some_queued (one ∷ queued) some = omega arith
 
 -- what stands at a place
 pub at_place : (queued : List QueuedWriteOut) (i : ℕ) (f : QueuedWriteOut)
@@ -111,13 +120,29 @@ last_advanced (w ∷ x ∷ newer) (suc n) d e ordered has =
 pub last_is_current : (batches : List WriteOut) (n : ℕ) → suc n ≡ length batches
     → AreInOrder batches → has_uncommitted batches ≡ true
     → IsCurrent batches n
-last_is_current batches n e ordered has = record {
+last_is_current batches n e ordered has =
+    record { within = omega arith; current = λ d. last_current batches n d e ordered has }
+
+-- without shared syncs it makes the next step
+pub last_is_lone : (batches : List WriteOut) (n : ℕ) → suc n ≡ length batches
+    → AreInOrder batches → has_uncommitted batches ≡ true
+    → IsLone false batches n
+last_is_lone batches n e ordered has = record {
   within = omega arith;
-  current = λ d. last_current batches n d e ordered has;
-  first = λ d committed. absurd (both_ways (has_uncommitted batches)
-      (newest_tells batches n d e ordered ∙ not_from_true (has_committed (get_or batches n d)) committed) has);
-  advanced = λ d. last_advanced batches n d e ordered has;
+  mover = λ d. last_current batches n d e ordered has;
+  after = λ d. last_advanced batches n d e ordered has;
 }
+
+pub first_is_lone : (batches : List WriteOut) → (batches ≡ [] → ⊥) → has_uncommitted batches ≡ false
+    → IsLone false batches 0
+first_is_lone [] some none = absurd (some refl)
+first_is_lone (w ∷ newer) some none =
+    let parts = committed_parts w newer none in
+    record {
+      within = omega arith;
+      mover = λ d. current-oldest w newer parts.1;
+      after = λ d. advanced-oldest w newer parts.1;
+    }
 
 -- ---- a batch begins
 
@@ -125,6 +150,11 @@ write_outs-push : (queued : List QueuedWriteOut) (f : QueuedWriteOut)
     → write_outs_in (queued ++ f ∷ []) ≡ write_outs_in queued ++ f.write_out ∷ []
 write_outs-push [] f = refl
 write_outs-push (x ∷ queued) f = ap (λ (l : List WriteOut). x.write_out ∷ l) (write_outs-push queued f)
+
+rooms-push : (queued : List QueuedWriteOut) (f : QueuedWriteOut)
+    → rooms_in (queued ++ f ∷ []) ≡ rooms_in queued ++ f.room ∷ []
+rooms-push [] f = refl
+rooms-push (x ∷ queued) f = ap (λ (l : List ℕ). x.room ∷ l) (rooms-push queued f)
 
 -- the value's write-outs, as the code's list has them
 pub begun_view : (outs : WriteOutsValue) (queued queued' : List QueuedWriteOut)
@@ -152,9 +182,10 @@ begun_room outs queued queued' spare spare' queued_room queued_room' spare_room 
     let rooms = subst (AllByRecursion (λ r. outs.geometry.slots ≤ r)) popped has.spare_are in
     record {
       sound = sound;
-      queued_are = subst (AllByRecursion (λ (one : QueuedWriteOut). outs.geometry.slots ≤ one.room)) (sym pushed)
-          (all-append (λ (one : QueuedWriteOut). outs.geometry.slots ≤ one.room) queued
-          (queued_of outs.geometry.slots (next_batch outs mark homes) room ∷ []) has.queued_are
+      queued_are = subst (AllByRecursion (λ r. outs.geometry.slots ≤ r))
+          (sym (ap rooms_in pushed
+          ∙ rooms-push queued (queued_of outs.geometry.slots (next_batch outs mark homes) room)))
+          (all-append (λ r. outs.geometry.slots ≤ r) (rooms_in queued) (room ∷ []) has.queued_are
           (omega (arith, bigger, (all_back (λ r. outs.geometry.slots ≤ r) spare' (list_room ∷ []) rooms).0), tt));
       spare_are = all_front (λ r. outs.geometry.slots ≤ r) spare' (list_room ∷ []) rooms;
       count = omega (
@@ -179,7 +210,7 @@ popped_last f old new o x is some = ap (map f) (is ∙ ap (λ (p : Option _). ne
     by [] = refl
     by (y ∷ l) = ap (λ r. f y ∷ r) (by l)
 
--- ---- a step
+-- ---- a step of one of them
 
 write_outs-set : (queued : List QueuedWriteOut) (i : ℕ) (f : QueuedWriteOut)
     → write_outs_in (set queued i f) ≡ set (write_outs_in queued) i f.write_out
@@ -193,113 +224,144 @@ set-same [] i d lt = absurd (omega arith)
 set-same (w ∷ batches) zero d lt = refl
 set-same (w ∷ batches) (suc i) d lt = ap (λ (l : List WriteOut). w ∷ l) (set-same batches i d (omega arith))
 
-all-set : (P : QueuedWriteOut → Type 0) (queued : List QueuedWriteOut) (i : ℕ) (f : QueuedWriteOut)
-    → AllByRecursion P queued → P f
-    → AllByRecursion P (set queued i f)
-all-set P [] i f all is = tt
-all-set P (x ∷ queued) zero f all is = (is, all.1)
-all-set P (x ∷ queued) (suc i) f all is = (all.0, all-set P queued i f all.1 is)
+pub rooms-set : (queued : List QueuedWriteOut) (i : ℕ) (f f' : QueuedWriteOut) → f ≡ get_or queued i f
+    → f'.room ≡ f.room → rooms_in (set queued i f') ≡ rooms_in queued
+rooms-set [] i f f' here same = refl
+rooms-set (x ∷ queued) zero f f' here same =
+    ap (λ r. r ∷ rooms_in queued) (same ∙ ap (λ (y : QueuedWriteOut). y.room) here)
+rooms-set (x ∷ queued) (suc i) f f' here same =
+    ap (λ (l : List ℕ). x.room ∷ l) (rooms-set queued i f f' here same)
 
-write_outs-rest : (queued : List QueuedWriteOut) (i : ℕ) (f : QueuedWriteOut) → i ≡ 0
-    → write_outs_in (drop 1 (set queued i f)) ≡ drop 1 (write_outs_in queued)
-write_outs-rest queued i f first = ap (λ k. write_outs_in (drop 1 (set queued k f))) first ∙ by queued
+pub room_after : (f : QueuedWriteOut) (answer : Flushed) → (queued_after f answer).room ≡ f.room
+room_after f answer = refl
+
+pub lone_batches : (shares : Bool) (queued : List QueuedWriteOut) (at : ℕ) (f f' : QueuedWriteOut) (answer : Flushed)
+    → f ≡ get_or queued at f → IsLone shares (write_outs_in queued) at → f' ≡ queued_after f answer
+    → (answer ≡ Broken → ⊥)
+    → write_outs_in (set queued at f')
+    ≡ cond (has_done answer) (moved shares (write_outs_in queued)) (write_outs_in queued)
+lone_batches shares queued at f f' answer here lone after not_broken = by answer after not_broken
   where
-    by : (l : List QueuedWriteOut) → write_outs_in (drop 1 (set l 0 f)) ≡ drop 1 (write_outs_in l)
-    by [] = refl
-    by (x ∷ l) = refl
+    place : (d : WriteOut) → get_or (write_outs_in queued) at d ≡ f.write_out
+    place d = at_place queued at f (omega (arith, lone.within, length-write_outs queued)) here d
 
-module _ (outs : WriteOutsValue) (queued : List QueuedWriteOut) (at : ℕ) (f f' : QueuedWriteOut)
-    (are : outs.batches ≡ write_outs_in queued) (current_at : IsCurrent (write_outs_in queued) at)
-    (here : f ≡ get_or queued at f) where
-  within : at < length queued
-  within = omega (arith, current_at.within, length-write_outs queued)
+    goes : f'.write_out ≡ advanced_of f.write_out
+        → write_outs_in (set queued at f') ≡ moved shares (write_outs_in queued)
+    goes is =
+        write_outs-set queued at f'
+        ∙ ap (set (write_outs_in queued) at) (is ∙ ap advanced_of (sym (place f.write_out)))
+        ∙ sym (lone.after f.write_out)
 
-  place : (d : WriteOut) → get_or (write_outs_in queued) at d ≡ f.write_out
-  place d = at_place queued at f within here d
+    by : (a : Flushed) → f' ≡ queued_after f a → (a ≡ Broken → ⊥)
+        → write_outs_in (set queued at f')
+        ≡ cond (has_done a) (moved shares (write_outs_in queued)) (write_outs_in queued)
+    by Going is sane = goes (ap (λ (x : QueuedWriteOut). x.write_out) is)
+    by (Committed mark) is sane = goes (ap (λ (x : QueuedWriteOut). x.write_out) is)
+    by (Done mark) is sane = goes (ap (λ (x : QueuedWriteOut). x.write_out) is)
+    by Device is sane =
+        write_outs-set queued at f'
+        ∙ ap (set (write_outs_in queued) at) (ap (λ (x : QueuedWriteOut). x.write_out) is ∙ sym (place f.write_out))
+        ∙ set-same (write_outs_in queued) at f.write_out lone.within
+    by Broken is sane = absurd (sane refl)
 
-  -- the write-outs after a step that goes on
-  going_on : f'.write_out ≡ advanced_of f.write_out → write_outs_in (set queued at f') ≡ advanced outs.batches
-  going_on is =
-      write_outs-set queued at f' ∙ ap (set (write_outs_in queued) at) (is ∙ ap advanced_of (sym (place f.write_out)))
-      ∙ sym (current_at.advanced f.write_out) ∙ ap advanced (sym are)
+-- ---- after a step, when the oldest may leave
 
-  -- the value after a step
-  stepped_batches : (answer : Flushed) → f' ≡ queued_after f answer → (answer ≡ Broken → ⊥)
-      → ((mark : ℕ) → answer ≡ Done mark → has_committed f.write_out ≡ true)
-      → write_outs_in (kept_after answer (set queued at f')) ≡ batches_after answer outs.batches
-  stepped_batches Going is not_broken ends = going_on (ap (λ (x : QueuedWriteOut). x.write_out) is)
-  stepped_batches (Committed mark) is not_broken ends = going_on (ap (λ (x : QueuedWriteOut). x.write_out) is)
-  stepped_batches (Done mark) is not_broken ends =
-      let first : at ≡ 0 = current_at.first f.write_out (ap has_committed (place f.write_out) ∙ ends mark refl) in
-      write_outs-rest queued at f' first ∙ ap (drop 1) (sym are)
-  stepped_batches Device is not_broken ends =
-      write_outs-set queued at f'
-      ∙ ap (set (write_outs_in queued) at) (ap (λ (x : QueuedWriteOut). x.write_out) is ∙ sym (place f.write_out))
-      ∙ set-same (write_outs_in queued) at f.write_out current_at.within
-      ∙ sym are
-  stepped_batches Broken is not_broken ends = absurd (not_broken refl)
+write_outs-rest : (queued : List QueuedWriteOut) → write_outs_in (drop 1 queued) ≡ drop 1 (write_outs_in queued)
+write_outs-rest [] = refl
+write_outs-rest (x ∷ queued) = refl
 
-  pub stepped_view : (answer : Flushed) → f' ≡ queued_after f answer → (answer ≡ Broken → ⊥)
-      → ((mark : ℕ) → answer ≡ Done mark → has_committed f.write_out ≡ true)
-      → record outs {
-        batches = write_outs_in (kept_after answer (set queued at f'));
-        broken = broken_after answer outs.broken;
-      } ≡ outs_after outs answer
-  stepped_view answer is not_broken ends =
-      ap (λ (l : List WriteOut). record outs { batches = l; broken = broken_after answer outs.broken })
-      (stepped_batches answer is not_broken ends)
+pub after_view : (outs : WriteOutsValue) (queued : List QueuedWriteOut) (answer : Flushed) → (answer ≡ Broken → ⊥)
+    → write_outs_in queued
+    ≡ cond (has_done answer) (moved (shares_syncs outs.geometry.layout) outs.batches) outs.batches
+    → record outs {
+      batches = write_outs_in (kept_after answer queued);
+      broken = broken_after answer outs.broken;
+    } ≡ outs_after outs answer
+after_view outs queued answer not_broken are =
+    ap (λ (l : List WriteOut). record outs { batches = l; broken = broken_after answer outs.broken })
+    (by answer not_broken are)
+  where
+    by : (a : Flushed) → (a ≡ Broken → ⊥)
+        → write_outs_in queued ≡ cond (has_done a) (moved (shares_syncs outs.geometry.layout) outs.batches) outs.batches
+        → write_outs_in (kept_after a queued) ≡ batches_after (shares_syncs outs.geometry.layout) a outs.batches
+    by Going sane is = is
+    by (Committed mark) sane is = is
+    by (Done mark) sane is = write_outs-rest queued ∙ ap (drop 1) is
+    by Device sane is = is
+    by Broken sane is = absurd (sane refl)
 
-  kept_all : (P : QueuedWriteOut → Type 0) (answer : Flushed) (l : List QueuedWriteOut) → AllByRecursion P l
-      → AllByRecursion P (kept_after answer l)
-  kept_all P (Done mark) [] all = tt
-  kept_all P (Done mark) (x ∷ l) all = all.1
-  kept_all P Going l all = all
-  kept_all P (Committed mark) l all = all
-  kept_all P Device l all = all
-  kept_all P Broken l all = all
+kept_all : (P : ℕ → Type 0) (answer : Flushed) (l : List QueuedWriteOut) → AllByRecursion P (rooms_in l)
+    → AllByRecursion P (rooms_in (kept_after answer l))
+kept_all P (Done mark) [] all = tt
+kept_all P (Done mark) (x ∷ l) all = all.1
+kept_all P Going l all = all
+kept_all P (Committed mark) l all = all
+kept_all P Device l all = all
+kept_all P Broken l all = all
 
-  spare_all : (slots : ℕ) (answer : Flushed) (l : List QueuedWriteOut) (spare : List ℕ)
-      → AllByRecursion (λ (x : QueuedWriteOut). slots ≤ x.room) l → AllByRecursion (λ r. slots ≤ r) spare
-      → AllByRecursion (λ r. slots ≤ r) (spare_after answer l spare)
-  spare_all slots (Done mark) [] spare rooms all = all
-  spare_all slots (Done mark) (x ∷ l) spare rooms all =
-      all-append (λ r. slots ≤ r) spare (x.room ∷ []) all (rooms.0, tt)
-  spare_all slots Going l spare rooms all = all
-  spare_all slots (Committed mark) l spare rooms all = all
-  spare_all slots Device l spare rooms all = all
-  spare_all slots Broken l spare rooms all = all
+spare_all : (slots : ℕ) (answer : Flushed) (l : List QueuedWriteOut) (spare : List ℕ)
+    → AllByRecursion (λ r. slots ≤ r) (rooms_in l) → AllByRecursion (λ r. slots ≤ r) spare
+    → AllByRecursion (λ r. slots ≤ r) (spare_after answer l spare)
+spare_all slots (Done mark) [] spare rooms all = all
+spare_all slots (Done mark) (x ∷ l) spare rooms all =
+    all-append (λ r. slots ≤ r) spare (x.room ∷ []) all (rooms.0, tt)
+spare_all slots Going l spare rooms all = all
+spare_all slots (Committed mark) l spare rooms all = all
+spare_all slots Device l spare rooms all = all
+spare_all slots Broken l spare rooms all = all
 
-  same_count : (answer : Flushed) (l : List QueuedWriteOut) (spare : List ℕ)
-      → length (kept_after answer l) + length (spare_after answer l spare) ≡ length l + length spare
-  same_count (Done mark) [] spare = refl
-  same_count (Done mark) (x ∷ l) spare = omega (arith, length-append spare (x.room ∷ []))
-  same_count Going l spare = refl
-  same_count (Committed mark) l spare = refl
-  same_count Device l spare = refl
-  same_count Broken l spare = refl
+same_count : (answer : Flushed) (l : List QueuedWriteOut) (spare : List ℕ)
+    → length (kept_after answer l) + length (spare_after answer l spare) ≡ length l + length spare
+same_count (Done mark) [] spare = refl
+same_count (Done mark) (x ∷ l) spare = omega (arith, length-append spare (x.room ∷ []))
+same_count Going l spare = refl
+same_count (Committed mark) l spare = refl
+same_count Device l spare = refl
+same_count Broken l spare = refl
 
-  -- and the room
-  pub stepped_room : (answer : Flushed) (spare spare' : List ℕ) (queued_room queued_room' spare_room spare_room' : ℕ)
-      → HasRoom outs queued queued_room spare spare_room → IsSound (outs_after outs answer) → f' ≡ queued_after f answer
-      → spare' ≡ spare_after answer (set queued at f') spare → queued_room ≤ queued_room' → spare_room ≤ spare_room'
-      → HasRoom (outs_after outs answer) (kept_after answer (set queued at f')) queued_room' spare' spare_room'
-  stepped_room answer spare spare' queued_room queued_room' spare_room spare_room' has sound after spares
-      more more_spare =
-      let own : outs.geometry.slots ≤ f.room =
-      all_at (λ (one : QueuedWriteOut). outs.geometry.slots ≤ one.room) queued f has.queued_are
-      (at, within, sym here) in
-      let rooms = all-set (λ (one : QueuedWriteOut). outs.geometry.slots ≤ one.room) queued at f' has.queued_are
-      (subst (λ (one : QueuedWriteOut). outs.geometry.slots ≤ one.room) (sym after) own) in
-      record {
-        sound = sound;
-        queued_are = kept_all (λ (one : QueuedWriteOut). outs.geometry.slots ≤ one.room) answer
-            (set queued at f') rooms;
-        spare_are = subst (AllByRecursion (λ r. outs.geometry.slots ≤ r)) (sym spares)
-            (spare_all outs.geometry.slots answer (set queued at f') spare rooms has.spare_are);
-        count = ap (λ (l : List ℕ). length (kept_after answer (set queued at f')) + length l) spares
-            ∙ same_count answer (set queued at f') spare
-            ∙ ap (λ n. n + length spare) (length-set queued at f')
-            ∙ has.count;
-        room = omega (arith, has.room, more);
-        spare_fits = omega (arith, has.spare_fits, more_spare);
-      }
+-- and the room
+pub after_room : (outs : WriteOutsValue) (queued queued' : List QueuedWriteOut) (answer : Flushed)
+    (spare spare' : List ℕ) (queued_room queued_room' spare_room spare_room' : ℕ)
+    → HasRoom outs queued queued_room spare spare_room → IsSound (outs_after outs answer)
+    → rooms_in queued' ≡ rooms_in queued
+    → spare' ≡ spare_after answer queued' spare → queued_room ≤ queued_room' → spare_room ≤ spare_room'
+    → HasRoom (outs_after outs answer) (kept_after answer queued') queued_room' spare' spare_room'
+after_room outs queued queued' answer spare spare' queued_room queued_room' spare_room spare_room' has sound same spares
+    more more_spare =
+    let rooms = subst (AllByRecursion (λ r. outs.geometry.slots ≤ r)) (sym same) has.queued_are in
+    let size : length queued' ≡ length queued = omega (
+      arith,
+      ap length same,
+      length-map queued' (λ (one : QueuedWriteOut). one.room),
+      length-map queued (λ (one : QueuedWriteOut). one.room),
+    ) in
+    record {
+      sound = sound;
+      queued_are = kept_all (λ r. outs.geometry.slots ≤ r) answer queued' rooms;
+      spare_are = subst (AllByRecursion (λ r. outs.geometry.slots ≤ r)) (sym spares)
+          (spare_all outs.geometry.slots answer queued' spare rooms has.spare_are);
+      count = ap (λ (l : List ℕ). length (kept_after answer queued') + length l) spares
+          ∙ same_count answer queued' spare
+          ∙ ap (λ n. n + length spare) size
+          ∙ has.count;
+      room = omega (arith, has.room, more);
+      spare_fits = omega (arith, has.spare_fits, more_spare);
+    }
+
+-- ---- the one at a place that makes the next step
+
+module _ (shares : Bool) (queued : List QueuedWriteOut) (place : Option ℕ) (at : ℕ) (f : QueuedWriteOut)
+    (is : place ≡ Some at) (here : f ≡ get_or queued at f)
+    (lone : IfSome place (IsLone shares (write_outs_in queued))) where
+  pub lone_there : IsLone shares (write_outs_in queued) at
+  lone_there = subst (λ (o : Option ℕ). IfSome o (IsLone shares (write_outs_in queued))) is lone
+
+  stands : (d : WriteOut) → get_or (write_outs_in queued) at d ≡ f.write_out
+  stands d = at_place queued at f (omega (arith, lone_there.within, length-write_outs queued)) here d
+
+  pub lone_mover : moving shares (write_outs_in queued) ≡ Some f.write_out
+  lone_mover = lone_there.mover f.write_out ∙ ap Some (stands f.write_out)
+
+  pub lone_own : (g : GeometryValue) → AllByRecursion (IsWriteOut g) (write_outs_in queued) → IsWriteOut g f.write_out
+  lone_own g each = all_at (IsWriteOut g) (write_outs_in queued) f.write_out each
+      (at, lone_there.within, stands f.write_out)

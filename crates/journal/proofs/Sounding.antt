@@ -11,15 +11,17 @@ use Rattle.volume_codec.specs.Recovery.{Batch}
 use Rattle.journal.specs.declared.stage.Stage.{Stage}
 use Rattle.journal.specs.declared.stage.Stage.TheVariants.{Recording, Describing, SyncingRecords, Opening}
 use Rattle.journal.specs.declared.stage.Stage.TheVariants.{Committing, Applying, SyncingHomes, Closing, Finishing}
-use Rattle.journal.specs.Stage.{is_committed}
+use Rattle.journal.specs.Stage.{is_committed, has_writes, is_ahead}
 use Rattle.journal.specs.WriteOut.{WriteOut, next_stage, has_committed, advanced_of, begun_of}
-use Rattle.journal.specs.WriteOuts.{WriteOutsValue, has_uncommitted, following, is_busy, next_batch, begun}
+use Rattle.journal.specs.WriteOuts.{WriteOutsValue, has_uncommitted, is_at, following, is_busy, next_batch, begun}
 use Rattle.journal.specs.WriteOut.{IsBatch}
-use Rattle.journal.specs.inside.Sound.{IsWriteOut, IsOlder, AreInOrder, AreInTurn, IsTurn, IsSound}
-use Rattle.journal.proofs.Alls.{all_map, all_both, all-append, all_front, all_back}
+use Rattle.journal.specs.inside.Sound.{IsWriteOut, IsOlder, AreInOrder, IsSpaced, AreSpaced}
+use Rattle.journal.specs.inside.Sound.{AreInTurn, IsTurn, IsSound}
+use Rattle.journal.specs.inside.Tied.{is_applying, is_applied, is_recorded}
+use Rattle.journal.proofs.Alls.{all_map, all_both, all-append, all_front, all_back, all_replaced}
 use Rattle.journal.proofs.Places.{descriptor_some}
 use Rattle.journal.proofs.Stages.{stage_from, next_of, next_in, next_is}
-use Rattle.journal.proofs.Batches.{committed-at, committed_parts}
+use Rattle.journal.proofs.Batches.{committed-at, at-is, committed_parts}
 use Rattle.journal.proofs.Tying.{false_true}
 
 pub some_stage : {o : Option Stage} {stage : Stage} → o ≡ Some stage → IsSome o
@@ -63,11 +65,12 @@ early_next g w stage is at early = record {
     by Closing early late = false_true (sym early)
     by Finishing early late = false_true (sym early)
 
--- after a step of a committed batch, but for the last, it is committed
+-- after a step of a committed batch, but for the last, it is committed; home blocks that were sure are
 pub record Late (w : WriteOut) : Type 0 where
   pub stage : Stage
   pub at : next_stage (advanced_of w) ≡ Some stage
   pub late : is_committed stage ≡ true
+  pub keeps : is_at is_applied w ≡ true → is_at is_applied (advanced_of w) ≡ true
 
 pub late_next : (g : GeometryValue) (w : WriteOut) (stage : Stage) → IsWriteOut g w
     → next_stage w ≡ Some stage → is_committed stage ≡ true → (stage ≡ Finishing → ⊥)
@@ -76,8 +79,21 @@ late_next g w stage is at late not_last = record {
   stage = next_in g.slots w.batch stage;
   at = next_from g w stage is at not_last;
   late = by stage late;
+  keeps = λ e. at-is is_applied (advanced_of w) (next_in g.slots w.batch stage) (next_from g w stage is at not_last)
+      ∙ sure stage (sym (at-is is_applied w stage at) ∙ e);
 }
   where
+    sure : (s : Stage) → is_applied s ≡ true → is_applied (next_in g.slots w.batch s) ≡ true
+    sure (Recording i) e = false_true e
+    sure (Describing i) e = false_true e
+    sure SyncingRecords e = false_true e
+    sure Opening e = false_true e
+    sure Committing e = false_true e
+    sure (Applying i) e = false_true e
+    sure SyncingHomes e = false_true e
+    sure Closing e = refl
+    sure Finishing e = refl
+
     by : (s : Stage) → is_committed s ≡ true → is_committed (next_in g.slots w.batch s) ≡ true
     by (Recording i) late = false_true late
     by (Describing i) late = false_true late
@@ -112,7 +128,7 @@ newest_order others w next ordered older =
       marks = is.marks;
       journals = is.journals;
       committed = is.committed;
-      waits = λ e. next.at ∙ ap Some (next.waits (sym (committed-at (advanced_of w) next.stage next.at) ∙ e));
+      waits = λ e. inl (next.at ∙ ap Some (next.waits (sym (committed-at (advanced_of w) next.stage next.at) ∙ e)));
     } in r) others older)
 
 pub newest_each : (g : GeometryValue) (others : List WriteOut) (w : WriteOut)
@@ -128,48 +144,181 @@ newest_each g others w next each =
       tt,
     )
 
--- and the oldest is older
-pub oldest_order : (w : WriteOut) (newer : List WriteOut) → Late w → AreInOrder (w ∷ newer)
-    → AreInOrder (advanced_of w ∷ newer)
-oldest_order w newer next ordered = (
-  all_map {P = IsOlder w} {Q = IsOlder (advanced_of w)} (λ x is. record {
-    marks = is.marks;
-    journals = is.journals;
-    committed = committed-at (advanced_of w) next.stage next.at ∙ next.late;
-    waits = is.waits;
-  }) newer ordered.0,
-  ordered.1,
+-- ---- one among others
+
+pub older_of : (older : List WriteOut) (w : WriteOut) (newer : List WriteOut) → AreInOrder (older ++ w ∷ newer)
+    → AllByRecursion (λ x. IsOlder x w) older
+older_of [] w newer ordered = tt
+older_of (x ∷ older) w newer ordered =
+    ((all_back (IsOlder x) older (w ∷ newer) ordered.0).0, older_of older w newer ordered.1)
+
+pub newer_of : (older : List WriteOut) (w : WriteOut) (newer : List WriteOut) → AreInOrder (older ++ w ∷ newer)
+    → AllByRecursion (IsOlder w) newer
+newer_of [] w newer ordered = ordered.0
+newer_of (x ∷ older) w newer ordered = newer_of older w newer ordered.1
+
+order_replaced : (older : List WriteOut) (w x : WriteOut) (newer : List WriteOut) → AreInOrder (older ++ w ∷ newer)
+    → AllByRecursion (λ y. IsOlder y x) older → AllByRecursion (IsOlder x) newer → AreInOrder (older ++ x ∷ newer)
+order_replaced [] w x newer ordered olds news = (news, ordered.1)
+order_replaced (y ∷ older) w x newer ordered olds news = (
+  all_replaced (IsOlder y) older w x newer (λ is. olds.0) ordered.0,
+  order_replaced older w x newer ordered.1 olds.1 news,
 )
 
-pub oldest_each : (g : GeometryValue) (w : WriteOut) (newer : List WriteOut)
-    → Late w → AllByRecursion (IsWriteOut g) (w ∷ newer)
-    → AllByRecursion (IsWriteOut g) (advanced_of w ∷ newer)
-oldest_each g w newer next each = (
-  record { batch = each.0.batch; described = each.0.described; going = some_stage next.at },
-  each.1,
+spaced_replaced : (older : List WriteOut) (w x : WriteOut) (newer : List WriteOut)
+    → (is_at is_recorded x ≡ true → is_at is_recorded w ≡ true)
+    → (is_at is_applied w ≡ true → is_at is_applied x ≡ true) → AreSpaced (older ++ w ∷ newer)
+    → AreSpaced (older ++ x ∷ newer)
+spaced_replaced [] w x newer back on spaced =
+    (all_map {P = IsSpaced w} {Q = IsSpaced x} (λ y is e. on (is e)) newer spaced.0, spaced.1)
+spaced_replaced (y ∷ older) w x newer back on spaced = (
+  all_replaced (IsSpaced y) older w x newer (λ is e. is (back e)) spaced.0,
+  spaced_replaced older w x newer back on spaced.1,
 )
+
+spaced-push : (others : List WriteOut) (w : WriteOut) → (is_at is_recorded w ≡ true → ⊥) → AreSpaced others
+    → AreSpaced (others ++ w ∷ [])
+spaced-push [] w early spaced = (tt, tt)
+spaced-push (x ∷ others) w early spaced = (
+  all-append (IsSpaced x) others (w ∷ []) spaced.0 (λ e. absurd (early e), tt),
+  spaced-push others w early spaced.1,
+)
+
+-- a committed one among others: those that are older have their home blocks sure, and it writes, or it is the oldest
+pub record IsOneOf (older : List WriteOut) (w : WriteOut) (stage : Stage) : Type 0 where
+  pub at : next_stage w ≡ Some stage
+  pub late : is_committed stage ≡ true
+  pub sure : AllByRecursion (λ x. is_at is_applied x ≡ true) older
+  pub placed : (has_writes stage ≡ true) ⊎ (older ≡ [])
+
+-- its gate isn't closed before the older ones are done
+pub none_older : (older : List WriteOut) (w : WriteOut) → next_stage w ≡ Some Closing
+    → AllByRecursion (λ x. IsOlder x w) older → older ≡ []
+none_older [] w at olds = refl
+none_older (x ∷ older) w at olds = elim (olds.0.waits (committed-at w Closing at)) [
+  | inl first ↦ (let never : ⊥ = other (sym at ∙ first) in absurd never)
+  | inr applied ↦ false_true (sym (at-is is_applying w Closing at) ∙ applied.0)
+]
+  where
+    other : Some Closing ≡ Some (Applying 0) → ⊥
+    other e = cc
+
+module _ (g : GeometryValue) (older : List WriteOut) (w : WriteOut) (newer : List WriteOut) (stage : Stage)
+    (is : IsOneOf older w stage) (next : Late w) where
+  -- those that are older are still
+  older_still : IsWriteOut g w → stage ≢ Finishing → AllByRecursion (λ x. IsOlder x w) older
+      → AllByRecursion (λ x. IsOlder x (advanced_of w)) older
+  older_still own not_last olds = elim is.placed [
+    | inr none ↦ subst (AllByRecursion (λ x. IsOlder x (advanced_of w))) (sym none) tt
+    | inl writes ↦ all_both {P = λ x. IsOlder x w} {Q = λ x. is_at is_applied x ≡ true} (λ x old sure. record {
+      marks = old.marks;
+      journals = old.journals;
+      committed = old.committed;
+      waits = λ e. inr (
+        at-is is_applying (advanced_of w) (next_in g.slots w.batch stage) (next_from g w stage own is.at not_last)
+            ∙ by stage is.at is.late writes x old,
+        sure,
+      );
+    }) older olds is.sure
+  ]
+    where
+      by : (s : Stage) → next_stage w ≡ Some s → is_committed s ≡ true → has_writes s ≡ true → (x : WriteOut)
+          → IsOlder x w → is_applying (next_in g.slots w.batch s) ≡ true
+      by (Recording i) at late writes x old = false_true late
+      by (Describing i) at late writes x old = false_true late
+      by SyncingRecords at late writes x old = false_true late
+      by Opening at late writes x old = false_true late
+      by Committing at late writes x old = false_true late
+      by (Applying i) at late writes x old = cond_both (i + 1 == length w.batch.homes) SyncingHomes (Applying (i + 1))
+          (λ t. is_applying t ≡ true) (λ e. refl) (λ e. refl)
+      by SyncingHomes at late writes x old = false_true writes
+      by Closing at late writes x old = absurd (some_list (none_older (x ∷ []) w at (old, tt)))
+        where
+          some_list : (x ∷ []) ≡ [] → ⊥
+          some_list e = cc
+      by Finishing at late writes x old = false_true writes
+
+  pub one_order : IsWriteOut g w → stage ≢ Finishing → AreInOrder (older ++ w ∷ newer)
+      → AreInOrder (older ++ advanced_of w ∷ newer)
+  one_order own not_last ordered =
+      order_replaced older w (advanced_of w) newer ordered (older_still own not_last (older_of older w newer ordered))
+      (all_map {P = IsOlder w} {Q = IsOlder (advanced_of w)} (λ x old. record {
+        marks = old.marks;
+        journals = old.journals;
+        committed = committed-at (advanced_of w) next.stage next.at ∙ next.late;
+        waits = λ e. elim (old.waits e) [ inl first ↦ inl first | inr applied ↦ inr (applied.0, next.keeps applied.1) ];
+      }) newer (newer_of older w newer ordered))
+
+  pub one_spaced : AreSpaced (older ++ w ∷ newer) → AreSpaced (older ++ advanced_of w ∷ newer)
+  one_spaced spaced = spaced_replaced older w (advanced_of w) newer
+      (λ e. at-is is_recorded w stage is.at ∙ by stage is.late) next.keeps spaced
+    where
+      by : (s : Stage) → is_committed s ≡ true → is_recorded s ≡ true
+      by (Recording i) late = false_true late
+      by (Describing i) late = false_true late
+      by SyncingRecords late = false_true late
+      by Opening late = false_true late
+      by Committing late = false_true late
+      by (Applying i) late = refl
+      by SyncingHomes late = refl
+      by Closing late = refl
+      by Finishing late = refl
+
+  pub one_each : AllByRecursion (IsWriteOut g) (older ++ w ∷ newer)
+      → AllByRecursion (IsWriteOut g) (older ++ advanced_of w ∷ newer)
+  one_each each = all_replaced (IsWriteOut g) older w (advanced_of w) newer
+      (λ own. record { batch = own.batch; described = own.described; going = some_stage next.at }) each
+
+-- the newest that goes ahead
+pub newest_spaced : (g : GeometryValue) (others : List WriteOut) (w : WriteOut) (stage : Stage) → IsWriteOut g w
+    → next_stage w ≡ Some stage → is_ahead stage ≡ true → AreSpaced (others ++ w ∷ [])
+    → AreSpaced (others ++ advanced_of w ∷ [])
+newest_spaced g others w stage own at ahead spaced = spaced_replaced others w (advanced_of w) []
+    (λ e. at-is is_recorded w stage at ∙ back stage ahead
+    (sym (at-is is_recorded (advanced_of w) (next_in g.slots w.batch stage)
+    (next_from g w stage own at (λ last. false_true (sym (ap is_ahead last) ∙ ahead)))) ∙ e))
+    (λ e. unsure stage ahead (sym (at-is is_applied w stage at) ∙ e)) spaced
+  where
+    back : (s : Stage) → is_ahead s ≡ true → is_recorded (next_in g.slots w.batch s) ≡ true → is_recorded s ≡ true
+    back (Recording i) ahead e = cond_both (i + 1 == length w.batch.homes) (Describing 0) (Recording (i + 1))
+        (λ t. is_recorded t ≡ true → false ≡ true) (λ same l. l) (λ other l. l) e
+    back (Describing i) ahead e = cond_both (i + 1 == descriptor_blocks g.slots) SyncingRecords (Describing (i + 1))
+        (λ t. is_recorded t ≡ true → false ≡ true) (λ same l. l) (λ other l. l) e
+    back SyncingRecords ahead e = false_true ahead
+    back Opening ahead e = refl
+    back Committing ahead e = refl
+    back (Applying i) ahead e = false_true ahead
+    back SyncingHomes ahead e = false_true ahead
+    back Closing ahead e = false_true ahead
+    back Finishing ahead e = false_true ahead
+
+    unsure : {A : Type 0} (s : Stage) → is_ahead s ≡ true → is_applied s ≡ true → A
+    unsure (Recording i) ahead e = false_true e
+    unsure (Describing i) ahead e = false_true e
+    unsure SyncingRecords ahead e = false_true e
+    unsure Opening ahead e = false_true e
+    unsure Committing ahead e = false_true e
+    unsure (Applying i) ahead e = false_true e
+    unsure SyncingHomes ahead e = false_true e
+    unsure Closing ahead e = false_true ahead
+    unsure Finishing ahead e = false_true ahead
 
 -- ---- whose turn it is
 
-in_turn_newest : (layout : Layout) (next journal : ℕ) (others : List WriteOut) (w x : WriteOut)
-    → w.batch.journal ≡ x.batch.journal → AreInTurn layout next journal (others ++ w ∷ [])
-    → AreInTurn layout next journal (others ++ x ∷ [])
-in_turn_newest layout next journal [] w x same turn = (sym same ∙ turn.0, turn.1)
-in_turn_newest layout next journal (y ∷ others) w x same turn =
-    (turn.0, in_turn_newest layout next (following layout journal) others w x same turn.1)
+in_turn_one : (layout : Layout) (next journal : ℕ) (older : List WriteOut) (w x : WriteOut) (newer : List WriteOut)
+    → w.batch.journal ≡ x.batch.journal → AreInTurn layout next journal (older ++ w ∷ newer)
+    → AreInTurn layout next journal (older ++ x ∷ newer)
+in_turn_one layout next journal [] w x newer same turn = (sym same ∙ turn.0, turn.1)
+in_turn_one layout next journal (y ∷ older) w x newer same turn =
+    (turn.0, in_turn_one layout next (following layout journal) older w x newer same turn.1)
 
-pub turn_newest : (layout : Layout) (next : ℕ) (others : List WriteOut) (w x : WriteOut)
-    → w.batch.journal ≡ x.batch.journal → IsTurn layout next (others ++ w ∷ [])
-    → IsTurn layout next (others ++ x ∷ [])
-turn_newest layout next [] w x same turn = turn ∙ ap (following layout) same
-turn_newest layout next (y ∷ others) w x same turn =
-    in_turn_newest layout next (following layout y.batch.journal) others w x same turn
-
-pub turn_oldest : (layout : Layout) (next : ℕ) (w x : WriteOut) (newer : List WriteOut)
-    → w.batch.journal ≡ x.batch.journal → IsTurn layout next (w ∷ newer)
-    → IsTurn layout next (x ∷ newer)
-turn_oldest layout next w x newer same turn =
+pub turn_one : (layout : Layout) (next : ℕ) (older : List WriteOut) (w x : WriteOut) (newer : List WriteOut)
+    → w.batch.journal ≡ x.batch.journal → IsTurn layout next (older ++ w ∷ newer)
+    → IsTurn layout next (older ++ x ∷ newer)
+turn_one layout next [] w x newer same turn =
     subst (λ j. AreInTurn layout next (following layout j) newer) same turn
+turn_one layout next (y ∷ older) w x newer same turn =
+    in_turn_one layout next (following layout y.batch.journal) older w x newer same turn
 
 pub turn_rest : (layout : Layout) (next : ℕ) (w : WriteOut) (newer : List WriteOut) → IsTurn layout next (w ∷ newer)
     → IsTurn layout next newer
@@ -292,5 +441,7 @@ begun_sound outs mark homes sound free is_batch below =
           {R = λ (w : WriteOut). (w.batch.mark < mark) × (has_committed w ≡ true)}
           (λ w lt is. (lt, is)) outs.batches below (each_committed outs.batches free.none))
           (turn_free outs.geometry.layout outs.next outs.batches sound.turn free.fewer));
+      spaced = λ shares. spaced-push outs.batches first
+          (λ e. false_true (sym (at-is is_recorded first (Recording 0) begins) ∙ e)) (sound.spaced shares);
       turn = turn-push outs.geometry.layout outs.next outs.batches first refl sound.turn;
     }

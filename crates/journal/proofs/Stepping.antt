@@ -21,7 +21,7 @@ use Rattle.journal.specs.Stage.{is_committed}
 use Rattle.journal.specs.Work.{Work, Sync, work_at, worked, TornFromWork}
 use Rattle.journal.specs.WriteOut.{IsBatch}
 use Rattle.journal.specs.Crash.{LeftBefore, LeftWithin}
-use Rattle.journal.specs.inside.Tied.{Progress, IsFirmFor, IsLeft, is_recording, is_applying, is_durable}
+use Rattle.journal.specs.inside.Tied.{Progress, IsFirmFor, IsLeft, is_recording, is_applying, is_applied, is_durable}
 use Rattle.journal.specs.inside.Tied.{is_open, durable_in, recorded, described, applied, IsCovered}
 use Rattle.journal.specs.inside.Tied.{IsWritten, AreWritten, is_under_way, kept_in, IsSeen}
 use Rattle.journal.proofs.Alls.{all_map, all_both, all_in, all-append, all_front, all_back, all_replaced, in_right}
@@ -29,13 +29,14 @@ use Rattle.journal.proofs.Changes.{SameBut, same_but_torn, torn-written, block-w
 use Rattle.journal.proofs.Places.{gate-below, descriptor-below, record-below}
 use Rattle.journal.proofs.Places.{gate_no_descriptor, gate_no_record, descriptor_no_record}
 use Rattle.journal.proofs.Stages.{next_of, next_in}
-use Rattle.journal.proofs.RecoveredBlocks.{recovered-without_oldest}
+use Rattle.journal.proofs.RecoveredBlocks.{covered_of, recovered-without_oldest}
 use Rattle.journal.proofs.Recovering.{HoldsBy, holds_newest}
-use Rattle.journal.proofs.Written.{IsBeside, written_more, written_kept, all_kept, beside_gate, beside_record}
-use Rattle.journal.proofs.Written.{beside_descriptor, beside_home, home_at, rising_apart}
+use Rattle.journal.proofs.Written.{IsBeside, written_more, written_kept, written_over, all_kept, beside_gate}
+use Rattle.journal.proofs.Written.{beside_record, beside_descriptor, past_home, beside_home, home_at, rising_apart}
 use Rattle.journal.proofs.Written.{length-descriptor_text, descriptor_there}
 use Rattle.journal.proofs.Tying.{false_true, IsBefore, AreOrdered, AreGoing, last_of}
-use Rattle.journal.proofs.Firm.{durable_all, first_same, super_firm, gate_firm, recovered_firm, holds_left}
+use Rattle.journal.proofs.Firm.{durable_all, durable_there, first_same, super_firm, gate_firm, recovered_firm}
+use Rattle.journal.proofs.Firm.{holds_left}
 use Rattle.journal.proofs.Leaving.{IsGateOpening, covered_front, newer_than, under_way, left_recovers}
 
 -- ---- the next stage
@@ -194,11 +195,31 @@ durable_push (q ∷ older) p =
     ∙ append_assoc (cond (is_durable p.stage) (p.batch ∷ []) []) (durable_in older)
     (cond (is_durable q.stage) (q.batch ∷ []) [])
 
--- those that follow wait with their application
-pub waiting : (p : Progress) (newer : List Progress) → AllByRecursion (IsBefore p) newer → is_under_way newer ≡ false
-    → AllByRecursion (λ (q : Progress). q.stage ≡ Applying 0) newer
-waiting p newer after none =
-    all_both {P = IsBefore p} (λ q before late. before.waits late) newer after (all_committed newer none)
+early_unapplied : (k : ℕ) (s : Stage) → is_committed s ≡ false → applied k s ≡ 0
+early_unapplied k (Recording i) early = refl
+early_unapplied k (Describing i) early = refl
+early_unapplied k SyncingRecords early = refl
+early_unapplied k Opening early = refl
+early_unapplied k Committing early = refl
+early_unapplied k (Applying i) early = false_true (sym early)
+early_unapplied k SyncingHomes early = false_true (sym early)
+early_unapplied k Closing early = false_true (sym early)
+early_unapplied k Finishing early = false_true (sym early)
+
+-- those that follow have written none of their home blocks, while those of this one aren't sure
+pub waiting : (p : Progress) (newer : List Progress) → AllByRecursion (IsBefore p) newer → is_applied p.stage ≡ false
+    → AllByRecursion (λ (q : Progress). applied (length q.batch.homes) q.stage ≡ 0) newer
+waiting p newer after unsure = all_map {P = IsBefore p}
+    {Q = λ (q : Progress). applied (length q.batch.homes) q.stage ≡ 0} none newer after
+  where
+    none : (q : Progress) → IsBefore p q → applied (length q.batch.homes) q.stage ≡ 0
+    none q before = elim (cases_Bool (is_committed q.stage)) [
+      | inr early ↦ early_unapplied (length q.batch.homes) q.stage early
+      | inl late ↦ elim (before.waits late) [
+        | inl first ↦ ap (applied (length q.batch.homes)) first
+        | inr sure ↦ absurd (both_ways (is_applied p.stage) unsure sure.1)
+      ]
+    ]
 
 -- more batches have more records
 covered_split : (front rest : List Batch) (b : ℕ) → IsCovered (front ++ rest) b → IsCovered front b ⊎ IsCovered rest b
@@ -242,7 +263,7 @@ older_than (q ∷ older) newer p ordered = (
   older_than older newer p ordered.1,
 )
 
-newer_than_it : (older newer : List Progress) (p : Progress) → AreOrdered (older ++ p ∷ newer)
+pub newer_than_it : (older newer : List Progress) (p : Progress) → AreOrdered (older ++ p ∷ newer)
     → AllByRecursion (IsBefore p) newer
 newer_than_it [] newer p ordered = ordered.0
 newer_than_it (q ∷ older) newer p ordered = newer_than_it older newer p ordered.1
@@ -263,6 +284,12 @@ own_of : (v : SuperValue) (new : ℕ → List ℕ) (older newer : List Progress)
 own_of v new [] newer p seen are = are
 own_of v new (q ∷ older) newer p seen are = own_of v new older newer p seen are.1
 
+-- what is found of an older one stays while this block is written, where the batch is at this stage
+abbrev Stays : SuperValue → (ℕ → List ℕ) → List Progress → Batch → Stage → ℕ → Progress → Type 0
+Stays v new newer batch s x q = (l : List Progress) (seen seen' : List ℕ) → SameBut x seen seen'
+    → IsWritten v new (durable_in (l ++ at batch s ∷ newer)) q seen
+    → IsWritten v new (durable_in (l ++ at batch s ∷ newer)) q seen'
+
 module _ (v : SuperValue) (new : ℕ → List ℕ) (older newer : List Progress) (batch : Batch) (s s' : Stage) where
   written_same : (seen : List ℕ) → (is_durable s ≡ true → is_durable s' ≡ true)
       → IsWritten v new (durable_in newer) (at batch s') seen → AreWritten v new seen (older ++ at batch s ∷ newer)
@@ -276,7 +303,7 @@ module _ (v : SuperValue) (new : ℕ → List ℕ) (older newer : List Progress)
 
   -- where a block is written that has no part in the others
   written_with : (x : ℕ) (seen seen' : List ℕ) → (is_durable s ≡ true → is_durable s' ≡ true) ⊎ (older ≡ [])
-      → AllByRecursion (λ (q : Progress). IsBeside v new q x) older
+      → AllByRecursion (Stays v new newer batch s' x) older
       × AllByRecursion (λ (q : Progress). IsBeside v new q x) newer
       → SameBut x seen seen' → IsWritten v new (durable_in newer) (at batch s') seen'
       → AreWritten v new seen (older ++ at batch s ∷ newer)
@@ -287,13 +314,12 @@ module _ (v : SuperValue) (new : ℕ → List ℕ) (older newer : List Progress)
       (λ rest. (own, all_kept v new newer x seen seen' rest.1 beside.1 same)) are
   written_with x seen seen' (inl durable) beside same own are = by older beside.0 are
     where
-      by : (l : List Progress) → AllByRecursion (λ (q : Progress). IsBeside v new q x) l
+      by : (l : List Progress) → AllByRecursion (Stays v new newer batch s' x) l
           → AreWritten v new seen (l ++ at batch s ∷ newer)
           → AreWritten v new seen' (l ++ at batch s' ∷ newer)
       by [] all are = (own, all_kept v new newer x seen seen' are.1 beside.1 same)
       by (q ∷ l) all are = (
-        written_more v new _ _ q seen' (covered_more l newer batch s s' durable)
-            (written_kept v new _ q x seen seen' are.0 all.0 same),
+        all.0 l seen seen' same (written_more v new _ _ q seen (covered_more l newer batch s s' durable) are.0),
         by l all.1 are.1,
       )
 
@@ -368,12 +394,13 @@ module _ (v : SuperValue) (old new : ℕ → List ℕ) where
       -- the journals of the others are apart
       others : (x : ℕ)
           → ((q : Progress) → IsBatch (geometry_of v) q.batch → q.batch.journal ≢ batch.journal → IsBeside v new q x)
-          → AllByRecursion (λ (q : Progress). IsBeside v new q x) older
+          → AllByRecursion (Stays v new newer batch s' x) older
           × AllByRecursion (λ (q : Progress). IsBeside v new q x) newer
       others x beside =
           let apart = apart_of older newer (at batch s) step.going.ordered in
           let each = step.going.each in (
-            all_both beside older
+            all_both {R = Stays v new newer batch s' x}
+                (λ q is other l seen seen' same w. written_kept v new _ q x seen seen' w (beside q is other) same) older
                 (all_front (λ (p : Progress). IsBatch (geometry_of v) p.batch) older (at batch s ∷ newer) each) apart.0,
             all_both beside newer
                 (all_back (λ (p : Progress). IsBatch (geometry_of v) p.batch) older (at batch s ∷ newer) each).1
@@ -398,7 +425,7 @@ module _ (v : SuperValue) (old new : ℕ → List ℕ) where
       write : (x n : ℕ) (bytes : List ℕ) → length bytes ≡ n → n ≤ 4096 → 4096 * x + 4096 ≤ length seen
           → ((b : ℕ) → IsFirmFor v.slots (at batch s') b → IsFirmFor v.slots (at batch s) b × (b ≢ x))
           → is_committed s ≡ is_committed s' → (is_durable s ≡ true → is_durable s' ≡ true) ⊎ (older ≡ [])
-          → AllByRecursion (λ (q : Progress). IsBeside v new q x) older
+          → AllByRecursion (Stays v new newer batch s' x) older
           × AllByRecursion (λ (q : Progress). IsBeside v new q x) newer
           → (SameBut x seen (written seen (4096 * x) bytes)
           → IsWritten v new (durable_in newer) (at batch s') (written seen (4096 * x) bytes))
@@ -562,13 +589,14 @@ module _ (v : SuperValue) (old new : ℕ → List ℕ) where
         })
         (contents_with Opening Committing refl refl) left
 
-    -- a home block, while all newer ones wait with their application
+    -- a home block, while those of older ones are sure and newer ones have written none
     apply_step : (i : ℕ) (bytes : List ℕ) → (step : IsStep (Applying i) (next_in v.slots batch (Applying i)))
-        → i < length batch.homes → older ≡ [] → AllByRecursion (λ (q : Progress). q.stage ≡ Applying 0) newer
+        → i < length batch.homes → AllByRecursion (λ (q : Progress). is_applied q.stage ≡ true) older
+        → AllByRecursion (λ (q : Progress). applied (length q.batch.homes) q.stage ≡ 0) newer
         → ((c : List ℕ) → may' c → TornFromWork (work_at (geometry_of v) batch bytes (Applying i)) may c)
         → IsTiedAt (with_stage (next_in v.slots batch (Applying i)))
         (worked seen (work_at (geometry_of v) batch bytes (Applying i))) may'
-    apply_step i bytes step lt oldest waits left =
+    apply_step i bytes step lt sure waits left =
         let s = Applying i in
         let s' = next_in v.slots batch s in
         let to = applied_to (length batch.homes) (descriptor_blocks v.slots) i in
@@ -591,10 +619,16 @@ module _ (v : SuperValue) (old new : ℕ → List ℕ) where
           record { journal = λ e. false_true e; gate = λ e. false_true e; home = λ e. f.home to.applying_is },
           λ e. f.home to.applying_is (subst (Contains batch.homes) (sym e) (Contains-get_or batch.homes i 0 lt)),
         ))
-        (sym to.committed_is) (inr oldest) (
-          subst (AllByRecursion (λ (q : Progress). IsBeside v new q x)) (sym oldest) tt,
+        (sym to.committed_is) (inl (λ e. to.durable_is)) (
+          all_both {P = λ (q : Progress). IsBatch (geometry_of v) q.batch} {R = Stays v new newer batch s' x}
+              (λ q q_is its l seen seen' same w. written_over v new _ q x seen seen' w (past_home v new q x q_is home)
+              (covered_of (durable_in (l ++ at batch s' ∷ newer)) batch x
+              (durable_there (l ++ at batch s' ∷ newer) (at batch s') (in_right l (at batch s' ∷ newer) (at batch s')
+              (inl refl)) to.durable_is) (Contains-get_or batch.homes i 0 lt)) same) older
+              (all_front (λ (p : Progress). IsBatch (geometry_of v) p.batch) older
+              (at batch s ∷ newer) step.going.each) sure,
           all_both {P = λ (q : Progress). IsBatch (geometry_of v) q.batch}
-              (λ q q_is wait. beside_home v new q x q_is home (ap (applied (length q.batch.homes)) wait)) newer
+              (λ q q_is wait. beside_home v new q x q_is home wait) newer
               (all_back (λ (p : Progress). IsBatch (geometry_of v) p.batch) older
               (at batch s ∷ newer) step.going.each).1 waits,
         )
@@ -738,7 +772,8 @@ module _ (v : SuperValue) (old new : ℕ → List ℕ) where
     IsPlaced (Describing i) = i < descriptor_blocks v.slots
     IsPlaced Committing = newer ≡ []
     IsPlaced (Applying i) =
-        (i < length batch.homes) × (older ≡ []) × AllByRecursion (λ (q : Progress). q.stage ≡ Applying 0) newer
+        (i < length batch.homes) × AllByRecursion (λ (q : Progress). is_applied q.stage ≡ true) older
+        × AllByRecursion (λ (q : Progress). applied (length q.batch.homes) q.stage ≡ 0) newer
     IsPlaced Closing = older ≡ []
     IsPlaced Finishing = ⊥
     IsPlaced s = Unit {0}
@@ -868,7 +903,7 @@ module _ (v : SuperValue) (old new : ℕ → List ℕ) where
   after_within k d Closing c other is = is
   after_within k d Finishing c other is = is
 
-  is_sync : (g : GeometryValue) (batch : Batch) (bytes : List ℕ) (s : Stage)
+  pub is_sync : (g : GeometryValue) (batch : Batch) (bytes : List ℕ) (s : Stage)
       → (work_at g batch bytes s ≡ Sync) ⊎ ((work_at g batch bytes s ≢ Sync) × (s ≢ Committing) × (s ≢ Finishing))
   is_sync g batch bytes (Recording i) = inr (λ e. cc, λ e. cc, λ e. cc)
   is_sync g batch bytes (Describing i) = inr (λ e. cc, λ e. cc, λ e. cc)

@@ -12,9 +12,9 @@ use Rattle.journal.specs.Stage.{is_committed}
 use Rattle.journal.specs.WriteOut.{WriteOut, IsBatch, next_stage, has_committed}
 use Rattle.journal.specs.WriteOuts.{has_uncommitted}
 use Rattle.journal.specs.inside.Sound.{IsWriteOut, IsOlder, AreInOrder}
-use Rattle.journal.specs.inside.Tied.{Progress, progress_of, progress_in, is_under_way}
+use Rattle.journal.specs.inside.Tied.{Progress, progress_of, progress_in, is_applying, is_applied, is_under_way}
 use Rattle.journal.proofs.Alls.{IsIn, all_map, all_in}
-use Rattle.journal.proofs.Batches.{committed-at}
+use Rattle.journal.proofs.Batches.{committed-at, at-is}
 
 pub false_true : {A : Type 0} → false ≡ true → A
 false_true e = absurd (both_ways false refl e)
@@ -30,12 +30,13 @@ stage_of w going = by (next_stage w) refl going
 -- ---- order
 
 -- The write-out of one batch is before that of another: it is committed, and the other one, if it is committed, waits
--- with its application.
+-- with its application, or is applied while the home blocks of this one are sure.
 pub record IsBefore (older newer : Progress) : Type 0 where
   pub marks : older.batch.mark < newer.batch.mark
   pub journals : older.batch.journal ≢ newer.batch.journal
   pub committed : is_committed older.stage ≡ true
-  pub waits : is_committed newer.stage ≡ true → newer.stage ≡ Applying 0
+  pub waits : is_committed newer.stage ≡ true
+      → (newer.stage ≡ Applying 0) ⊎ ((is_applying newer.stage ≡ true) × (is_applied older.stage ≡ true))
 
 abbrev pub AreOrdered : List Progress → Type 0
 AreOrdered [] = Unit {0}
@@ -54,17 +55,24 @@ pub progress-oldest : (w : WriteOut) (newer : List WriteOut) (stage : Stage) →
 progress-oldest w newer stage at =
     ap (λ (o : Option Stage). option_map_or (λ (s : Stage). at_stage w s ∷ []) o [] ++ progress_in newer) at
 
-pub progress-newest : (older : List WriteOut) (w : WriteOut) (stage : Stage) → next_stage w ≡ Some stage
-    → progress_in (older ++ w ∷ []) ≡ progress_in older ++ at_stage w stage ∷ []
-progress-newest [] w stage at = progress-oldest w [] stage at
-progress-newest (x ∷ older) w stage at =
-    ap (λ (l : List Progress). progress_of x ++ l) (progress-newest older w stage at) ∙ by (next_stage x)
+pub progress-middle : (older : List WriteOut) (w : WriteOut) (newer : List WriteOut) (stage : Stage)
+    → next_stage w ≡ Some stage
+    → progress_in (older ++ w ∷ newer) ≡ progress_in older ++ at_stage w stage ∷ progress_in newer
+progress-middle [] w newer stage at = progress-oldest w newer stage at
+progress-middle (x ∷ older) w newer stage at =
+    ap (λ (l : List Progress). progress_of x ++ l) (progress-middle older w newer stage at) ∙ by (next_stage x)
   where
     by : (o : Option Stage)
-        → option_map_or (λ (s : Stage). at_stage x s ∷ []) o [] ++ (progress_in older ++ at_stage w stage ∷ [])
-        ≡ (option_map_or (λ (s : Stage). at_stage x s ∷ []) o [] ++ progress_in older) ++ at_stage w stage ∷ []
+        → option_map_or (λ (s : Stage). at_stage x s ∷ []) o []
+        ++ (progress_in older ++ at_stage w stage ∷ progress_in newer)
+        ≡ (option_map_or (λ (s : Stage). at_stage x s ∷ []) o [] ++ progress_in older)
+        ++ at_stage w stage ∷ progress_in newer
     by None = refl
     by (Some s) = refl
+
+pub progress-newest : (older : List WriteOut) (w : WriteOut) (stage : Stage) → next_stage w ≡ Some stage
+    → progress_in (older ++ w ∷ []) ≡ progress_in older ++ at_stage w stage ∷ []
+progress-newest older w stage at = progress-middle older w [] stage at
 
 -- what each write-out has at the stage of its next step
 pub progress_all : (P : Progress → Type 0) (batches : List WriteOut)
@@ -84,7 +92,13 @@ before_of w x s t at_w at_x is = record {
   marks = is.marks;
   journals = is.journals;
   committed = sym (committed-at w s at_w) ∙ is.committed;
-  waits = λ late. same_stage (sym at_x ∙ is.waits (committed-at x t at_x ∙ late));
+  waits = λ late. elim (is.waits (committed-at x t at_x ∙ late)) [
+    | inl first ↦ inl (same_stage (sym at_x ∙ first))
+    | inr applied ↦ inr (
+      sym (at-is is_applying x t at_x) ∙ applied.0,
+      sym (at-is is_applied w s at_w) ∙ applied.1,
+    )
+  ];
 }
   where
     same_stage : {a b : Stage} → Some a ≡ Some b → a ≡ b
@@ -146,7 +160,10 @@ last_of (q ∷ newer) p ordered early (inr later) =
 pub not_finishing : (p : Progress) (newer : List Progress) → AllByRecursion (IsBefore p) newer
     → AllByRecursion (λ (q : Progress). q.stage ≢ Finishing) newer
 not_finishing p newer after = all_map {P = IsBefore p} {Q = λ (q : Progress). q.stage ≢ Finishing}
-    (λ q before e. other (sym e ∙ before.waits (ap is_committed e))) newer after
+    (λ q before e. elim (before.waits (ap is_committed e)) [
+      | inl first ↦ other (sym e ∙ first)
+      | inr applied ↦ false_true (sym (ap is_applying e) ∙ applied.0)
+    ]) newer after
   where
     other : Finishing ≡ Applying 0 → ⊥
     other e = cc

@@ -4,7 +4,7 @@ use Rattle.std.proofs.Common.{inr, Bool, true, false, List, [], ◌∷◌, ◌++
 use Rattle.std.proofs.Common.{Option, Some, None, Ok, Err, refl, sym, ap, ◌∙◌, subst, arith}
 use Rattle.std.specs.List.{AllByRecursion}
 use Rattle.std.specs.Option.{option_map_or}
-use Rattle.std.proofs.lemmas.Bool.{cases_lt}
+use Rattle.std.proofs.lemmas.Bool.{both_ways, cases_lt}
 use Rattle.device.specs.Count.{raised}
 use Rattle.device.specs.Device.{LeavesOnly, Torn, written}
 use Rattle.device.specs.Did.{Did}
@@ -32,10 +32,10 @@ use Rattle.journal.specs.WriteOuts.{has_uncommitted}
 use Rattle.journal.specs.Crash.{LeftWithin}
 use Rattle.journal.specs.Finished.{IsOutside, gate_byte, HoldsVolume, RecoversSame, finishing_calls, Finishes}
 use Rattle.journal.specs.inside.Sound.{IsWriteOut, IsOlder, AreInOrder}
-use Rattle.journal.specs.inside.Tied.{IsTied}
+use Rattle.journal.specs.inside.Tied.{is_applied, IsTied}
 use Rattle.journal.specs.inside.Finishing.{found_in, left_of, IsOnWay, IsUnderWay}
 use Rattle.journal.proofs.Alls.{all_map, all_front}
-use Rattle.journal.proofs.Batches.{committed-at}
+use Rattle.journal.proofs.Batches.{committed-at, at-is}
 use Rattle.journal.proofs.Changes.{torn-written, first-written, length-block_at}
 use Rattle.journal.proofs.Places.{gate-below, record-below}
 use Rattle.journal.proofs.Stages.{IsAt, stage_is, stage_at-is, stage_from, applying_within, early_calls, all_calls}
@@ -44,7 +44,8 @@ use Rattle.journal.proofs.Keeping.{oldest_within, oldest_after, oldest_done}
 use Rattle.journal.proofs.Leaving.{recovers_of, is_last}
 use Rattle.journal.proofs.Tying.{false_true}
 use Rattle.journal.proofs.Written.{home_at}
-use Rattle.journal.proofs.Found.{found_last, found_each, found_none, found_order, found_tied, tied_recovers}
+use Rattle.journal.proofs.Found.{applying_first, found_last, found_each, found_none, found_order, found_tied}
+use Rattle.journal.proofs.Found.{tied_recovers}
 
 -- ---- which bytes a step changes
 
@@ -242,13 +243,23 @@ module _ {D : Type 0} (disk : Ghosts D) (v : SuperValue) (newer : List Batch) (c
   older_at steps committed =
       all_map {P = IsOlder (after_steps v.slots batch (committing_steps v.slots batch))}
       {Q = IsOlder (after_steps v.slots batch steps)}
-      (λ x is. record { marks = is.marks; journals = is.journals; committed = committed; waits = is.waits })
+      (λ x is. record {
+        marks = is.marks;
+        journals = is.journals;
+        committed = committed;
+        waits = λ e. elim (is.waits e) [
+          | inl first ↦ inl first
+          | inr sure ↦ absurd (both_ways false refl (sym (at-is is_applied
+              (after_steps v.slots batch (committing_steps v.slots batch)) (Applying 0)
+              (applying_first v.slots batch each.0.batch.described.homes.some)) ∙ sure.1))
+        ];
+      })
       (found_in v.slots newer) order.0
 
   pub first_way : ((c : List ℕ) → disk.left_since start (disk.moment start) c → disk.may_leave start c)
       → IsOnWay disk v newer contents batch (committing_steps v.slots batch) start start
   first_way now =
-      let at = Rattle.journal.proofs.Found.applying_first v.slots batch each.0.batch.described.homes.some in
+      let at = applying_first v.slots batch each.0.batch.described.homes.some in
       let tied = found_tied v (disk.seen start) contents (newer ++ batch ∷ [])
       (disk.may_leave start) found.recovers found.synced in
       record {

@@ -1,6 +1,6 @@
 -- What a read finds of a batch, while other blocks are written.
 use Rattle.std.proofs.Common.{◌≡◌, ◌≢◌, ℕ, zero, suc, ◌+◌, ◌-◌, ◌*◌, ◌<◌, ◌≤◌, ◌⊎◌, inl, inr, Bool, true}
-use Rattle.std.proofs.Common.{false, List, [], ◌∷◌, ◌++◌, length, get_or, refl, sym, ap, ◌∙◌, arith}
+use Rattle.std.proofs.Common.{false, List, [], ◌∷◌, ◌++◌, length, get_or, refl, sym, ap, ◌∙◌, subst, arith}
 use Rattle.std.specs.Prelude.{MatchBool, IsTrue, Result, Ok, Err, is_ok, ◌↔◌}
 use Rattle.std.specs.Ordering.{nat_cmp}
 use Rattle.std.specs.List.{Contains}
@@ -134,31 +134,57 @@ module _ (v : SuperValue) (new : ℕ → List ℕ) where
     gate = is.gate;
   }
 
-  pub written_kept : (newer : List Batch) (p : Progress) (x : ℕ) (seen seen' : List ℕ) → IsWritten v new newer p seen
-      → IsBeside p x → SameBut x seen seen' → IsWritten v new newer p seen'
-  written_kept newer p x seen seen' is beside same = record {
+  -- a block that has no part in its journal
+  pub record IsPast (p : Progress) (x : ℕ) : Type 0 where
+    pub no_gate : x ≢ gate_block v.slots p.batch.journal
+    pub no_record : (i : ℕ) → i < length p.batch.homes → x ≢ record_block v.slots p.batch.journal i
+    pub no_descriptor : (i : ℕ) → i < descriptor_blocks v.slots → x ≢ descriptor_block v.slots p.batch.journal + i
+
+  written_by : (newer : List Batch) (p : Progress) (x : ℕ) (seen seen' : List ℕ) → IsWritten v new newer p seen
+      → IsPast p x → ((i : ℕ) → i < length p.batch.homes → i < applied (length p.batch.homes) p.stage
+      → IsCovered newer (get_or p.batch.homes i 0) ⊎ (x ≢ get_or p.batch.homes i 0))
+      → SameBut x seen seen' → IsWritten v new newer p seen'
+  written_by newer p x seen seen' is past no_home same = record {
     records = λ i within lt.
-        same.blocks (record_block v.slots p.batch.journal i) (λ e. beside.no_record i within (sym e))
+        same.blocks (record_block v.slots p.batch.journal i) (λ e. past.no_record i within (sym e))
         ∙ is.records i within lt;
     descriptor = λ i within lt.
-        same.blocks (descriptor_block v.slots p.batch.journal + i) (λ e. beside.no_descriptor i within (sym e))
+        same.blocks (descriptor_block v.slots p.batch.journal + i) (λ e. past.no_descriptor i within (sym e))
         ∙ is.descriptor i within lt;
     homes = λ i within lt. elim (is.homes i within lt) [
       | inl covered ↦ inl covered
-      | inr at ↦ inr (same.blocks (get_or p.batch.homes i 0) (λ e. beside.no_home i within lt (sym e)) ∙ at
-          ∙ sym (same.blocks (record_block v.slots p.batch.journal i) (λ e. beside.no_record i within (sym e))))
+      | inr at ↦ elim (no_home i within lt) [
+        | inl covered ↦ inl covered
+        | inr other ↦ inr (same.blocks (get_or p.batch.homes i 0) (λ e. other (sym e)) ∙ at
+            ∙ sym (same.blocks (record_block v.slots p.batch.journal i) (λ e. past.no_record i within (sym e))))
+      ]
     ];
     gate = by (is_open p.stage) is.gate;
   }
     where
       first : get_or seen' (4096 * gate_block v.slots p.batch.journal) 0
           ≡ get_or seen (4096 * gate_block v.slots p.batch.journal) 0
-      first = same.firsts (gate_block v.slots p.batch.journal) (λ e. beside.no_gate (sym e))
+      first = same.firsts (gate_block v.slots p.batch.journal) (λ e. past.no_gate (sym e))
 
       by : (b : Bool) → MatchBool b (IsOpen seen v.slots p.batch.journal) (IsOpen seen v.slots p.batch.journal → ⊥)
           → MatchBool b (IsOpen seen' v.slots p.batch.journal) (IsOpen seen' v.slots p.batch.journal → ⊥)
       by true opens = first ∙ opens
       by false shut = λ opens. shut (sym first ∙ opens)
+
+  pub written_kept : (newer : List Batch) (p : Progress) (x : ℕ) (seen seen' : List ℕ) → IsWritten v new newer p seen
+      → IsBeside p x → SameBut x seen seen' → IsWritten v new newer p seen'
+  written_kept newer p x seen seen' is beside same = written_by newer p x seen seen' is
+      (record { no_gate = beside.no_gate; no_record = beside.no_record; no_descriptor = beside.no_descriptor })
+      (λ i within lt. inr (beside.no_home i within lt)) same
+
+  -- a home block of which a newer batch has a record
+  pub written_over : (newer : List Batch) (p : Progress) (x : ℕ) (seen seen' : List ℕ) → IsWritten v new newer p seen
+      → IsPast p x → IsCovered newer x → SameBut x seen seen' → IsWritten v new newer p seen'
+  written_over newer p x seen seen' is past covered same = written_by newer p x seen seen' is past
+      (λ i within lt. elim (cases_eq x (get_or p.batch.homes i 0)) [
+        | inl e ↦ inl (subst (IsCovered newer) e covered)
+        | inr other ↦ inr other
+      ]) same
 
   pub all_kept : (progress : List Progress) (x : ℕ) (seen seen' : List ℕ) → AreWritten v new seen progress
       → AllByRecursion (λ (p : Progress). IsBeside p x) progress → SameBut x seen seen'
@@ -208,11 +234,9 @@ module _ (v : SuperValue) (new : ℕ → List ℕ) where
         absurd (omega (arith, e, h.low, descriptor-below v.layout v.slots j i lt fits));
   }
 
-  -- a home block has no part in a write-out that wrote none of its own
-  pub beside_home : (p : Progress) (x : ℕ) → IsBatch (geometry_of v) p.batch
-      → IsHome (geometry_of v) x → applied (length p.batch.homes) p.stage ≡ 0
-      → IsBeside p x
-  beside_home p x is home none = record {
+  -- a home block has no part in a journal
+  pub past_home : (p : Progress) (x : ℕ) → IsBatch (geometry_of v) p.batch → IsHome (geometry_of v) x → IsPast p x
+  past_home p x is home = record {
     no_gate = λ e. absurd (omega (arith, e, home.low, gate-below v.layout v.slots p.batch.journal is.there));
     no_record = λ l within e. absurd (omega (
       arith,
@@ -222,8 +246,20 @@ module _ (v : SuperValue) (new : ℕ → List ℕ) where
     ));
     no_descriptor = λ l within e.
         absurd (omega (arith, e, home.low, descriptor-below v.layout v.slots p.batch.journal l is.there within));
-    no_home = λ l within some e. absurd (omega (arith, some, none));
   }
+
+  -- nor in a write-out that wrote none of its own
+  pub beside_home : (p : Progress) (x : ℕ) → IsBatch (geometry_of v) p.batch
+      → IsHome (geometry_of v) x → applied (length p.batch.homes) p.stage ≡ 0
+      → IsBeside p x
+  beside_home p x is home none =
+      let past = past_home p x is home in
+      record {
+        no_gate = past.no_gate;
+        no_record = past.no_record;
+        no_descriptor = past.no_descriptor;
+        no_home = λ l within some e. absurd (omega (arith, some, none));
+      }
 
 -- ---- what a binary search finds in numbers that rise
 

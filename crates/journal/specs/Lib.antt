@@ -7,5 +7,6 @@ pub mod Recovered
 pub mod Finished
 pub mod Crash
 pub mod LedTo
+pub mod Commits
 pub mod Alone
 pub mod inside

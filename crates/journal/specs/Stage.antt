@@ -30,6 +30,29 @@ is_committed Opening = false
 is_committed Committing = false
 is_committed stage = true
 
+-- the step of this stage writes
+abbrev pub has_writes : Stage → Bool
+has_writes SyncingRecords = false
+has_writes Committing = false
+has_writes SyncingHomes = false
+has_writes Finishing = false
+has_writes stage = true
+
+-- its step is a sync that may serve other write-outs too: each but the one that commits
+abbrev pub may_share : Stage → Bool
+may_share SyncingRecords = true
+may_share SyncingHomes = true
+may_share Finishing = true
+may_share stage = false
+
+-- the batch isn't committed, and its next step isn't the sync of its records
+abbrev pub is_ahead : Stage → Bool
+is_ahead (Recording i) = true
+is_ahead (Describing i) = true
+is_ahead Opening = true
+is_ahead Committing = true
+is_ahead stage = false
+
 -- what the step of this stage of a mark's write-out answers, where its device calls succeed
 abbrev pub answer_at : ℕ → Stage → Flushed
 answer_at mark Committing = Committed mark

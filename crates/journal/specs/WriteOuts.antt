@@ -1,6 +1,6 @@
 -- The value of `WriteOuts`: the write-outs of a volume that aren't done, at most one for each journal.
-use Rattle.std.specs.Prelude.{ℕ, ◌+◌, ◌==◌, ◌||◌, if◌then◌else◌, Bool, false, not, List}
-use Rattle.std.specs.Prelude.{[], ◌∷◌, ◌++◌, length, drop, Contains, Option, Some, None}
+use Rattle.std.specs.Prelude.{ℕ, ◌+◌, ◌==◌, ◌||◌, ◌&&◌, if◌then◌else◌, Bool, false, not, List}
+use Rattle.std.specs.Prelude.{[], ◌∷◌, ◌++◌, length, drop, map, Contains, Option, Some, None}
 use Rattle.std.specs.List.{list_any}
 use Rattle.std.specs.Option.{option_map_or, option_and_then}
 use Rattle.volume_codec.specs.declared.layout.Layout.{Layout}
@@ -9,6 +9,7 @@ use Rattle.volume_codec.specs.Recovery.{Batch}
 use Rattle.journal.specs.declared.stage.Stage.{Stage}
 use Rattle.journal.specs.declared.flushed.Flushed.{Flushed}
 use Rattle.journal.specs.declared.flushed.Flushed.TheVariants.{Done, Device, Broken}
+use Rattle.journal.specs.Stage.{has_writes, may_share, is_ahead}
 use Rattle.journal.specs.Work.{Work, Nothing}
 use Rattle.journal.specs.WriteOut.{WriteOut, begun_of, advanced_of, next_stage, has_committed}
 use Rattle.journal.specs.WriteOut.{next_record, next_home, work_of, answer_of, broken_after}
@@ -31,49 +32,87 @@ none_of g = record { geometry = g; next = 0; batches = []; broken = false }
 abbrev pub has_uncommitted : List WriteOut → Bool
 has_uncommitted batches = list_any (λ w. not (has_committed w)) batches
 
--- the write-out whose step comes next: the one whose batch isn't committed, or if there is none the oldest
-abbrev pub current : List WriteOut → Option WriteOut
-current [] = None
-current (w ∷ newer) = if has_uncommitted newer then current newer else Some w
+-- ---- whose step comes next
+
+-- Where a layout has four journals, write-outs share their syncs: two syncs in a commit then serve the batch itself,
+-- the home blocks of the one before and the closed gate of the one before that.
+abbrev pub shares_syncs : Layout → Bool
+shares_syncs layout = journals_of layout == 4
+
+-- its next step is of a stage that has this
+abbrev pub is_at : (Stage → Bool) → WriteOut → Bool
+is_at has w = option_map_or has (next_stage w) false
+
+-- A step of these newer write-outs comes before one of w. Where syncs aren't shared: the newest isn't committed. Where
+-- they are: the newest isn't committed, up to the sync of its records and from there to its commit; or w has nothing to
+-- write, and a newer one has.
+abbrev pub gives_way : Bool → WriteOut → List WriteOut → Bool
+gives_way shares w newer =
+    if shares
+    then list_any (is_at is_ahead) newer || (not (is_at has_writes w) && list_any (is_at has_writes) newer)
+    else has_uncommitted newer
+
+-- The write-out whose step comes next. Where none has anything to write and syncs are shared, the step is a sync of
+-- all of them, and this is the oldest.
+abbrev pub moving : Bool → List WriteOut → Option WriteOut
+moving shares [] = None
+moving shares (w ∷ newer) = if gives_way shares w newer then moving shares newer else Some w
+
+-- those that take part in the step of an older one: each, where it is a shared sync
+abbrev pub joined : Bool → WriteOut → List WriteOut → List WriteOut
+joined shares w newer = if shares then (if is_at may_share w then map advanced_of newer else newer) else newer
 
 -- the write-outs after that step
-abbrev pub advanced : List WriteOut → List WriteOut
-advanced [] = []
-advanced (w ∷ newer) = if has_uncommitted newer then w ∷ advanced newer else advanced_of w ∷ newer
+abbrev pub moved : Bool → List WriteOut → List WriteOut
+moved shares [] = []
+moved shares (w ∷ newer) =
+    if gives_way shares w newer then w ∷ moved shares newer else advanced_of w ∷ joined shares w newer
 
--- the stage of that step
+-- The write-out whose step comes next where no sync is shared: the one whose batch isn't committed, or if there is none
+-- the oldest. Its stage is what decides what a crash leaves, whether syncs are shared or not.
+abbrev pub current : List WriteOut → Option WriteOut
+current batches = moving false batches
+
+-- the write-outs after a step of it
+abbrev pub advanced : List WriteOut → List WriteOut
+advanced batches = moved false batches
+
+-- its stage
 abbrev pub current_stage : WriteOutsValue → Option Stage
 current_stage outs = option_and_then next_stage (current outs.batches)
 
--- what that step asks of the device, where it is given these bytes as a record
+-- the write-out whose step comes next, and what that step asks of the device, where it is given these bytes as a record
+abbrev pub outs_moving : WriteOutsValue → Option WriteOut
+outs_moving outs = moving (shares_syncs outs.geometry.layout) outs.batches
+
 abbrev pub next_work : WriteOutsValue → List ℕ → Work
 next_work outs bytes =
-    if outs.broken then Nothing else option_map_or (work_of outs.geometry bytes) (current outs.batches) Nothing
+    if outs.broken then Nothing else option_map_or (work_of outs.geometry bytes) (outs_moving outs) Nothing
 
 -- what that step answers where no device call fails
 abbrev pub next_answer : WriteOutsValue → Flushed
-next_answer outs = if outs.broken then Broken else option_map_or answer_of (current outs.batches) Broken
+next_answer outs = if outs.broken then Broken else option_map_or answer_of (outs_moving outs) Broken
 
 -- the write-outs after a step that answers so; the one that is done is the oldest
-abbrev pub batches_after : Flushed → List WriteOut → List WriteOut
-batches_after Device batches = batches
-batches_after Broken batches = batches
-batches_after (Done mark) batches = drop 1 batches
-batches_after answer batches = advanced batches
+abbrev pub batches_after : Bool → Flushed → List WriteOut → List WriteOut
+batches_after shares Device batches = batches
+batches_after shares Broken batches = batches
+batches_after shares (Done mark) batches = drop 1 (moved shares batches)
+batches_after shares answer batches = moved shares batches
 
 -- the value after a step that answers so
 abbrev pub outs_after : WriteOutsValue → Flushed → WriteOutsValue
 outs_after outs answer = record outs {
-  batches = batches_after answer outs.batches;
+  batches = batches_after (shares_syncs outs.geometry.layout) answer outs.batches;
   broken = broken_after answer outs.broken;
 }
 
 -- the place of the record that the next step writes, and its home block; none where no call will be made
 abbrev pub outs_record : WriteOutsValue → Option ℕ
-outs_record outs = if outs.broken then None else option_and_then next_record (current outs.batches)
+outs_record outs = if outs.broken then None else option_and_then next_record (outs_moving outs)
 
 abbrev pub outs_home : WriteOutsValue → Option ℕ
-outs_home outs = if outs.broken then None else option_and_then next_home (current outs.batches)
+outs_home outs = if outs.broken then None else option_and_then next_home (outs_moving outs)
 
 -- Rule: busy: No further commit begins while one isn't committed yet, or while each journal is in use.
 -- no further batch may begin: one isn't committed, or there are as many as journals

@@ -1,15 +1,17 @@
 // What follows of the definitions alone.
-ghost use Rattle.std.specs.Prelude.{◌≡◌, ◌↔◌, ℕ, ◌+◌, ◌*◌, ◌<◌, ◌≤◌, false, List, [], ◌∷◌, ◌++◌, length, slice_index, Contains, Some, None, MatchBool};
+ghost use Rattle.std.specs.Prelude.{◌≡◌, ◌↔◌, ℕ, ◌+◌, ◌*◌, ◌<◌, ◌≤◌, true, false, List, [], ◌∷◌, ◌++◌, length, map, slice_index, Contains, Some, None, IsSome, MatchBool};
+ghost use Rattle.std.specs.List.{list_any};
 ghost use Rattle.device.specs.Device.{Torn, Only};
-ghost use Rattle.volume_codec.specs.Layout.{GeometryValue, IsHome, journals_of, gate_block, descriptor_block, descriptor_blocks, record_block, block_at, blocks_at};
+ghost use Rattle.volume_codec.specs.Layout.{GeometryValue, IsGeometry, IsHome, journals_of, gate_block, descriptor_block, descriptor_blocks, record_block, block_at, blocks_at};
 ghost use Rattle.volume_codec.specs.Super.{SuperValue, geometry_of};
 ghost use Rattle.volume_codec.specs.Descriptor.{descriptor_text};
 ghost use Rattle.volume_codec.specs.Recovery.{Batch, IsOpen, IsNewer, has_journal, IsVolume};
 ghost use Rattle.journal.specs.declared.stage.Stage.TheVariants.{Committing, Finishing};
-ghost use Rattle.journal.specs.Stage.{stage_at};
+ghost use Rattle.journal.specs.Stage.{stage_at, has_writes, is_ahead};
 ghost use Rattle.journal.specs.declared.flushed.Flushed.{Flushed};
 ghost use Rattle.journal.specs.WriteOut.{WriteOut, IsBatch, FlushValue, next_stage, advanced_of, has_committed, calls_in_steps};
-ghost use Rattle.journal.specs.WriteOuts.{WriteOutsValue, has_uncommitted, current, advanced, current_stage, HasBlock, outs_after};
+ghost use Rattle.journal.specs.WriteOuts.{WriteOutsValue, has_uncommitted, shares_syncs, is_at, moving, moved, current, advanced, current_stage, HasBlock, outs_after, is_busy};
+ghost use Rattle.journal.specs.Commits.{HaveCommitted};
 ghost use Rattle.journal.specs.Recovered.{RecoversBy, IsUnread};
 ghost use Rattle.journal.specs.Crash.{LeftBefore, LeftWithin};
 ghost use Rattle.journal.specs.LedTo.{HasLedTo};
@@ -36,6 +38,39 @@ pub fn whose_step_comes_next()
         × (advanced (older ++ newest ∷ []) ≡ older ++ advanced_of newest ∷ []) }
     ensures oldest { (oldest : WriteOut) (newer : List WriteOut) → has_uncommitted newer ≡ false
         → (current (oldest ∷ newer) ≡ Some oldest) × (advanced (oldest ∷ newer) ≡ advanced_of oldest ∷ newer) }
+{}
+
+/// The same where syncs are shared. The newest goes on by itself until its records are to be synced, and from there to
+/// its commit. Where it doesn't, the oldest that has something to write makes the next step alone. Where none has, all
+/// make it, by one sync.
+pub fn whose_step_comes_next_with_shared_syncs()
+    ensures ahead { (older : List WriteOut) (newest : WriteOut) → is_at is_ahead newest ≡ true
+        → (moving true (older ++ newest ∷ []) ≡ Some newest)
+        × (moved true (older ++ newest ∷ []) ≡ older ++ advanced_of newest ∷ []) }
+    ensures writer { (older : List WriteOut) (writer : WriteOut) (newer : List WriteOut)
+        → list_any (is_at has_writes) older ≡ false → is_at has_writes writer ≡ true
+        → list_any (is_at is_ahead) (writer ∷ newer) ≡ false
+        → (moving true (older ++ writer ∷ newer) ≡ Some writer)
+        × (moved true (older ++ writer ∷ newer) ≡ older ++ advanced_of writer ∷ newer) }
+    ensures all { (oldest : WriteOut) (newer : List WriteOut) → IsSome (next_stage oldest)
+        → list_any (is_at is_ahead) (oldest ∷ newer) ≡ false → list_any (is_at has_writes) (oldest ∷ newer) ≡ false
+        → (moving true (oldest ∷ newer) ≡ Some oldest)
+        × (moved true (oldest ∷ newer) ≡ map advanced_of (oldest ∷ newer)) }
+{}
+
+/// Commits that follow one another make two syncs each, where syncs are shared: the step that commits a batch is the
+/// second, and by then the home blocks of the batch before are sure, and the closed gate of the one before that.
+pub fn two_syncs_a_commit()
+    ensures { (g : GeometryValue) (outs : WriteOutsValue) (commits syncs : ℕ) → IsGeometry g
+        → shares_syncs g.layout ≡ true → HaveCommitted g outs commits syncs → has_uncommitted outs.batches ≡ false
+        → syncs ≡ 2 * commits }
+{}
+
+/// Where syncs are shared, a batch may begin as soon as the one before is committed: at most two are under way then.
+pub fn a_journal_is_free<D: Device>(device: &D)
+    ensures { (v : SuperValue) (outs : WriteOutsValue) (old new : ℕ → List ℕ)
+        → HasLedTo D.Device v outs old new device.now → shares_syncs v.layout ≡ true
+        → has_uncommitted outs.batches ≡ false → (length outs.batches ≤ 2) × (is_busy outs ≡ false) }
 {}
 
 /// A step makes no batch: each that isn't done after it was there before it.

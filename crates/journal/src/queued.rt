@@ -3,10 +3,12 @@ ghost use Rattle.std.specs.Prelude.{◌≡◌, ◌≢◌, ◌↔◌, ◌⊎◌, 
 ghost use Rattle.std.specs.Vec.{vec_capacity};
 ghost use Rattle.device.specs.Did.{Did};
 ghost use Rattle.volume_codec.specs.Layout.{GeometryValue, IsHome, descriptor_blocks};
+ghost use Rattle.journal.specs.Stage.{has_writes, is_ahead as ahead};
 ghost use Rattle.journal.specs.Work.{work_at, has_done};
 ghost use Rattle.journal.specs.WriteOut.{IsBatch, next_stage, has_committed, next_record, next_home, work_of, answer_of};
+ghost use Rattle.journal.specs.WriteOuts.{is_at};
 ghost use Rattle.journal.specs.inside.Sound.{IsFlush};
-ghost use Rattle.journal.specs.inside.Queued.{queued_of, committed_queued, queued_after};
+ghost use Rattle.journal.specs.inside.Queued.{queued_of, committed_queued, queued_advanced, queued_after};
 
 use crate::copying::apply_record;
 use crate::gate::{close_gate, open_gate};
@@ -131,6 +133,26 @@ impl<A: Allocator + Copy> Queued<A> {
         }
     }
 
+    /// Whether the next step writes.
+    pub(crate) fn writes(&self) -> bool
+        ensures { result ≡ is_at has_writes self.now.write_out }
+    {
+        match self.stage() {
+            Some(stage) => stage.writes(),
+            None => false,
+        }
+    }
+
+    /// Whether the batch isn't committed, and the sync of its records isn't what comes next.
+    pub(crate) fn is_ahead(&self) -> bool
+        ensures { result ≡ is_at ahead self.now.write_out }
+    {
+        match self.stage() {
+            Some(stage) => stage.is_ahead(),
+            None => false,
+        }
+    }
+
     /// The place of the record that the next step writes; `None` where that step is another.
     pub(crate) fn next_record(&self) -> Option<u32>
         ensures place { result ≡ next_record self.now.write_out }
@@ -205,6 +227,22 @@ impl<A: Allocator + Copy> Queued<A> {
         }
     }
 
+    /// What the next step answers where no device call fails.
+    pub(crate) fn answer(&self) -> Flushed
+        requires { IsSome (next_stage self.now.write_out) }
+        ensures { result ≡ answer_of self.now.write_out }
+    {
+        self.stage().unwrap().answer(self.mark)
+    }
+
+    /// The next step is made.
+    pub(crate) fn advance(&mut self)
+        requires { IsSome (next_stage self.old.write_out) }
+        ensures { self.new ≡ queued_advanced self.old }
+    {
+        self.steps += 1;
+    }
+
     /// The next step: what its stage asks is done. It answers what the stage does, or `Device` where a device call
     /// failed. `bytes` are the new ones of the block `next_home`, where there is one. A record that is applied is read
     /// into `buffer`. It takes no memory.
@@ -228,7 +266,7 @@ impl<A: Allocator + Copy> Queued<A> {
         let stage = self.stage().unwrap();
         match self.carry_out(geometry, device, stage, bytes, buffer) {
             Ok(()) => {
-                self.steps += 1;
+                self.advance();
                 stage.answer(self.mark)
             }
             Err(_) => Flushed::Device,

@@ -1,6 +1,6 @@
 // The stages of a write-out.
 ghost use Rattle.std.specs.Prelude.{◌≡◌};
-ghost use Rattle.journal.specs.Stage.{stage_at, is_committed as committed, answer_at};
+ghost use Rattle.journal.specs.Stage.{stage_at, is_committed as committed, has_writes, is_ahead as ahead, answer_at};
 
 use crate::Flushed;
 
@@ -40,6 +40,28 @@ impl Stage {
             | Stage::Committing => false,
             Stage::Applying(_) | Stage::SyncingHomes | Stage::Closing | Stage::Finishing => true,
         }
+    }
+
+    // Whether the step of this stage writes.
+    pub(crate) fn writes(self) -> bool
+        ensures { result ≡ has_writes self }
+    {
+        match self {
+            Stage::Recording(_)
+            | Stage::Describing(_)
+            | Stage::Opening
+            | Stage::Applying(_)
+            | Stage::Closing => true,
+            Stage::SyncingRecords | Stage::Committing | Stage::SyncingHomes | Stage::Finishing =>
+                false,
+        }
+    }
+
+    // Whether the batch isn't committed, and the sync of its records isn't what comes next.
+    pub(crate) fn is_ahead(self) -> bool
+        ensures { result ≡ ahead self }
+    {
+        !self.is_committed() && self != Stage::SyncingRecords
     }
 
     /// What the step of this stage of a mark's write-out answers, where its device calls succeed.

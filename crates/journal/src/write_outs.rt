@@ -1,6 +1,6 @@
 // The write-outs of a volume that aren't done.
 ghost use Rattle.std.specs.Prelude.{◌≡◌, ◌≢◌, ◌↔◌, ◌⊎◌, ℕ, ◌+◌, ◌*◌, ◌<◌, ◌≤◌, false, true, IsTrue, List, [], ◌++◌, length, map, Some, IfSome, IfNone, IfOk};
-ghost use Rattle.std.specs.List.{All, AllByRecursion};
+ghost use Rattle.std.specs.List.{All, AllByRecursion, list_any};
 ghost use Rattle.std.specs.Vec.{vec_len, vec_capacity};
 ghost use Rattle.device.specs.Device.{LeavesOnly};
 ghost use Rattle.device.specs.Did.{Did};
@@ -8,14 +8,16 @@ ghost use Rattle.volume_codec.specs.Layout.{IsGeometry, journals_of};
 ghost use Rattle.volume_codec.specs.Descriptor.{AreHomes};
 ghost use Rattle.volume_codec.specs.Super.{SuperValue};
 ghost use Rattle.journal.specs.Pages.{HasHome, home_of, homes_of};
+ghost use Rattle.journal.specs.Stage.{has_writes};
 ghost use Rattle.journal.specs.Work.{has_done};
 ghost use Rattle.journal.specs.WriteOut.{broken_after};
-ghost use Rattle.journal.specs.WriteOuts.{none_of, has_uncommitted, current, current_stage, outs_record, outs_home, next_work, next_answer, outs_after, is_busy, following, begun, HasBlock};
-ghost use Rattle.journal.specs.inside.Room.{IsCurrent, kept_after, spare_after};
+ghost use Rattle.journal.specs.WriteOuts.{none_of, has_uncommitted, shares_syncs as in_common, is_at, current_stage, outs_record, outs_home, next_work, next_answer, outs_after, is_busy, following, begun, HasBlock};
+ghost use Rattle.journal.specs.inside.Room.{IsCurrent, IsFirst, IsLone, IsJoint, kept_after, spare_after};
 ghost use Rattle.journal.specs.Crash.{LeftWithin};
 ghost use Rattle.journal.specs.LedTo.{HasLedTo};
 
 use crate::queued::Queued;
+use crate::sharing::{shares_syncs, step_next};
 use crate::{Flushed, Stage};
 use device::Device;
 use page_entry::FilePage;
@@ -24,7 +26,8 @@ use std::marker::Model;
 use volume_codec::{Geometry, Super};
 
 /// The write-outs of a volume that aren't done: at most one for each journal. A batch may be recorded and committed
-/// while an older one is still applied; its own application waits until the older one is done.
+/// while an older one is still applied; its own application waits until the older one is done or, where syncs are
+/// shared, until the older one's home blocks are sure.
 #[derive(Drop)]
 pub struct WriteOuts<A: Allocator + Copy> {
     geometry: Geometry,
@@ -224,16 +227,57 @@ impl<A: Allocator + Copy> WriteOuts<A> {
         false
     }
 
-    // The place of the write-out whose step comes next.
+    // The place of the write-out whose stage decides what a crash leaves: the newest, where its batch isn't committed,
+    // or else the oldest. Where no sync is shared it makes the next step.
     fn current_place(&self) -> Option<usize>
         ensures some { IfSome result (IsCurrent self.now.batches) }
+        ensures lone { IfSome result (IsLone false self.now.batches) }
         ensures none { IfNone result (self.now.batches ≡ []) }
     {
         let last = self.queued.len().checked_sub(1)?;
         Some(if self.has_uncommitted() { last } else { 0 })
     }
 
-    /// The stage of the next step; `None` where every batch is done.
+    // The place of the oldest that has something to write.
+    fn writer_place(&self) -> Option<usize>
+        ensures some { IfSome result (IsFirst (is_at has_writes) self.now.batches) }
+        ensures none { IfNone result (list_any (is_at has_writes) self.now.batches ≡ false) }
+    {
+        for place in 0..self.queued.len() {
+            if self.queued[place].writes() {
+                return Some(place);
+            }
+        }
+        None
+    }
+
+    // Where syncs are shared, the place of the write-out that makes the next step; `None` where all share a sync.
+    fn sharing_place(&self) -> Option<usize>
+        ensures lone { IfSome result (IsLone true self.now.batches) }
+        ensures joint { IfNone result (self.now.batches ≢ [] → IsJoint true self.now.batches) }
+    {
+        let last = self.queued.len().checked_sub(1)?;
+        if self.queued[last].is_ahead() {
+            return Some(last);
+        }
+        self.writer_place()
+    }
+
+    // The place of the write-out that makes the next step; `None` where all share a sync.
+    fn lone_place(&self) -> Option<usize>
+        ensures lone { IfSome result (IsLone (in_common self.now.geometry.layout) self.now.batches) }
+        ensures joint { IfNone result (self.now.batches ≢ []
+            → IsJoint (in_common self.now.geometry.layout) self.now.batches) }
+    {
+        if shares_syncs(&self.geometry) {
+            self.sharing_place()
+        } else {
+            self.current_place()
+        }
+    }
+
+    /// The stage that decides what a crash leaves: of the batch that isn't committed, or if there is none of the
+    /// oldest. It is the stage of the next step where no sync is shared. `None` where every batch is done.
     pub fn stage(&self) -> Option<Stage>
         ensures { result ≡ current_stage self.now }
     {
@@ -249,7 +293,7 @@ impl<A: Allocator + Copy> WriteOuts<A> {
         if self.broken {
             return None;
         }
-        let at = self.current_place()?;
+        let at = self.lone_place()?;
         self.queued[at].next_record()
     }
 
@@ -260,7 +304,7 @@ impl<A: Allocator + Copy> WriteOuts<A> {
         if self.broken {
             return None;
         }
-        let at = self.current_place()?;
+        let at = self.lone_place()?;
         self.queued[at].next_home()
     }
 
@@ -289,6 +333,10 @@ impl<A: Allocator + Copy> WriteOuts<A> {
     /// done. It answers what the stage does, or `Device` where a device call failed; then the write-outs are broken,
     /// and every later step answers `Broken`, makes no call and changes nothing. `bytes` are the new ones of the block
     /// `next_home`, where there is one. It takes no memory.
+    ///
+    /// In a layout of four journals write-outs share their syncs: before the records of a batch are synced, the gate
+    /// of the oldest is closed and the home blocks of the one after it are written, and the sync of the records is
+    /// that of both. So commits that follow one another make two syncs each.
     pub fn step<D: Device>(&mut self, device: &mut D, bytes: &[u8; 4096]) -> Flushed
         requires long { 4096 * self.old.geometry.blocks ≤ length (D.seen device.old) }
         requires some { self.old.batches ≢ [] }
@@ -312,9 +360,15 @@ impl<A: Allocator + Copy> WriteOuts<A> {
         if self.broken {
             return Flushed::Broken;
         }
-        let at = self.current_place().unwrap();
-        let one = &mut self.queued[at];
-        let answer = one.step(&self.geometry, device, bytes, &mut self.buffer);
+        let place = self.lone_place();
+        let answer = step_next(
+            &mut self.queued,
+            place,
+            &self.geometry,
+            device,
+            bytes,
+            &mut self.buffer,
+        );
         conclude(&mut self.queued, &mut self.spare, &mut self.broken, answer);
         answer
     }

@@ -1,27 +1,30 @@
 -- What the write-out of one mark asks of the device in a run, until it is committed and until it is done.
-use Rattle.machine.proofs.Names.{committed_parts, ℕ, suc, ◌≡◌, ◌≢◌, ◌+◌, ◌*◌, ◌<◌, ◌≤◌, ◌⊎◌, inl, inr, Bool, true}
+use Rattle.machine.proofs.Names.{ℕ, suc, ◌≡◌, ◌≢◌, ◌+◌, ◌*◌, ◌<◌, ◌≤◌, ◌⊎◌, inl, inr, Bool, true}
 use Rattle.machine.proofs.Names.{false, cond, eqb, List, [], ◌∷◌, ◌++◌, length, drop, sum_by, Option, Some, None}
 use Rattle.machine.proofs.Names.{refl, sym, ap, ◌∙◌, subst, arith, append_assoc, append-nil, length-append}
 use Rattle.machine.proofs.Names.{AllByRecursion, option_map_or, cond-true, cond-false, cases_Bool, both_ways, eq-eqb}
-use Rattle.machine.proofs.Names.{ne_eqb, sum_by-append, All-weaker, recursion_from_All, Ghosts}
+use Rattle.machine.proofs.Names.{sum_by-append, All-weaker, recursion_from_All, Ghosts}
 use Rattle.machine.proofs.Names.{File, GeometryValue, Batch, Stage, Committing, Finishing, Flushed, answer_at, Work}
 use Rattle.machine.proofs.Names.{Nothing, work_at, calls_of, WriteOut, next_stage, begun_of, advanced_of, work_of}
-use Rattle.machine.proofs.Names.{answer_of, calls_in_steps, WriteOutsValue, has_uncommitted, advanced, outs_after}
+use Rattle.machine.proofs.Names.{answer_of, calls_in_steps, WriteOutsValue, gives_way, moving, moved, outs_after}
+use Rattle.machine.proofs.Names.{is_ahead, has_writes, may_share, is_at, joined, outs_moving, Sync, ne_eqb, or_from}
+use Rattle.machine.proofs.Names.{or_left, or_right, or_parts, not, map, list_any, ◌&&◌, ◌||◌, Recording, Describing}
+use Rattle.machine.proofs.Names.{SyncingRecords, Opening, Applying, SyncingHomes, Closing}
 use Rattle.machine.proofs.Names.{next_answer, next_batch, begun, IsAt, stage_is, early_calls, all_calls}
-use Rattle.machine.proofs.Names.{current-oldest, Act, Reply, Step, State, Whole, Acts, MarkMade}
+use Rattle.machine.proofs.Names.{Act, Reply, Step, State, Whole, Acts, MarkMade}
 use Rattle.machine.proofs.Names.{with_batch, mark_homes, is_page_next, after_record}
 use Rattle.machine.proofs.Names.{reply_to, step_work, StepTaken, StepsTaken, listed_work}
 use Rattle.machine.proofs.Names.{asked_for, AskFor, IsReached, IsSound, Performed, Moved, Marked, Failed}
 use Rattle.volume_codec.specs.Layout.{descriptor_blocks}
 use Rattle.journal.specs.declared.flushed.Flushed.TheVariants as flushed
-use Rattle.journal.specs.WriteOuts.{current}
+use Rattle.machine.specs.Sums.{stepping}
 use Rattle.machine.specs.declared.act.Act.TheVariants as acts
 use Rattle.machine.specs.declared.act.Reply.TheVariants as replies
 use Rattle.machine.specs.Rules.{next_record}
 use Rattle.machine.specs.inside.Moves.{Flushed as Stepped, Resized}
 use Rattle.machine.proofs.sound.ByMark.{marked_sound}
 use Rattle.machine.proofs.sound.Waiting.{blocks}
-use Rattle.machine.proofs.durable.Uncommitted.{none_when_done}
+use Rattle.machine.proofs.sound.Sharing.{shared, AreStepped, Makes, each_stepped, none_ahead, none_have}
 use Rattle.machine.proofs.acts.All.{performed}
 use Rattle.machine.proofs.sound.Kept.{performed_sound}
 use Rattle.machine.proofs.durable.Steps.{GoesOn, step_goes, step_asks}
@@ -58,6 +61,58 @@ module _ (w : WriteOut) where
       → IsOneWork (work_of g bytes w) (work_of h [] w)
   one_work g h bytes = (at_stage g h bytes (next_stage w) (stage_is (blocks w) w.described w.steps)).1
 
+-- a sync that others share
+sync_work : (g : GeometryValue) (bytes : List ℕ) (w : WriteOut) → is_at may_share w ≡ true → work_of g bytes w ≡ Sync
+sync_work g bytes w shares = by (next_stage w) shares
+  where
+    by : (o : Option Stage) → option_map_or may_share o false ≡ true
+        → option_map_or (work_at g w.batch bytes) o Nothing ≡ Sync
+    by None e = absurd (cc)
+    by (Some (Recording i)) e = absurd (cc)
+    by (Some (Describing i)) e = absurd (cc)
+    by (Some SyncingRecords) e = refl
+    by (Some Opening) e = absurd (cc)
+    by (Some Committing) e = absurd (cc)
+    by (Some (Applying i)) e = absurd (cc)
+    by (Some SyncingHomes) e = refl
+    by (Some Closing) e = absurd (cc)
+    by (Some Finishing) e = refl
+
+-- one that shares it writes nothing
+sync_silent : (w : WriteOut) → is_at may_share w ≡ true → is_at has_writes w ≡ false
+sync_silent w shares = by (next_stage w) shares
+  where
+    by : (o : Option Stage) → option_map_or may_share o false ≡ true → option_map_or has_writes o false ≡ false
+    by None e = refl
+    by (Some (Recording i)) e = absurd (cc)
+    by (Some (Describing i)) e = absurd (cc)
+    by (Some SyncingRecords) e = refl
+    by (Some Opening) e = absurd (cc)
+    by (Some Committing) e = refl
+    by (Some (Applying i)) e = absurd (cc)
+    by (Some SyncingHomes) e = refl
+    by (Some Closing) e = absurd (cc)
+    by (Some Finishing) e = refl
+
+-- a write-out that isn't done, writes nothing and isn't ahead asks for a sync
+quiet_work : (g : GeometryValue) (w : WriteOut) → is_at is_ahead w ≡ false → is_at has_writes w ≡ false
+    → w.steps < 2 * blocks w + w.described + 6 → work_of g [] w ≡ Sync
+quiet_work g w behind silent few =
+    by (next_stage w) (stage_is (blocks w) w.described w.steps) behind silent
+  where
+    by : (o : Option Stage) → IsAt (blocks w) w.described w.steps o → option_map_or is_ahead o false ≡ false
+        → option_map_or has_writes o false ≡ false → option_map_or (work_at g w.batch []) o Nothing ≡ Sync
+    by None at behind silent = absurd (omega (arith, at, few))
+    by (Some (Recording i)) at behind silent = absurd (both_ways true behind refl)
+    by (Some (Describing i)) at behind silent = absurd (both_ways true behind refl)
+    by (Some SyncingRecords) at behind silent = refl
+    by (Some Opening) at behind silent = absurd (both_ways true behind refl)
+    by (Some Committing) at behind silent = absurd (both_ways true behind refl)
+    by (Some (Applying i)) at behind silent = absurd (both_ways true silent refl)
+    by (Some SyncingHomes) at behind silent = refl
+    by (Some Closing) at behind silent = absurd (both_ways true silent refl)
+    by (Some Finishing) at behind silent = refl
+
 -- ---- the write-out of one mark among others
 
 module _ (n : ℕ) where
@@ -68,35 +123,73 @@ module _ (n : ℕ) where
   abbrev is_of : WriteOut → Bool
   is_of w = eqb w.batch.mark n
 
-  -- whether the next step is of its write-out
-  abbrev is_next : List WriteOut → Bool
-  is_next batches = option_map_or is_of (current batches) false
+  -- whether its write-out makes the next step
+  abbrev is_next : Bool → List WriteOut → Bool
+  is_next shares batches = list_any is_of (stepping shares batches)
 
-  none_next : (batches : List WriteOut) → HasNone batches → is_next batches ≡ false
-  none_next [] none = refl
-  none_next (w ∷ newer) none = by (has_uncommitted newer) (none_next newer none.1)
+  none_any : (batches : List WriteOut) → HasNone batches → list_any is_of batches ≡ false
+  none_any [] none = refl
+  none_any (w ∷ newer) none =
+      or_from (is_of w) (list_any is_of newer) (ne_eqb w.batch.mark n none.0) (none_any newer none.1)
+
+  none_moving : (shares : Bool) (batches : List WriteOut) → HasNone batches
+      → option_map_or is_of (moving shares batches) false ≡ false
+  none_moving shares [] none = refl
+  none_moving shares (w ∷ newer) none = by (gives_way shares w newer) (none_moving shares newer none.1)
     where
-      by : (b : Bool) → is_next newer ≡ false → option_map_or is_of (cond b (current newer) (Some w)) false ≡ false
+      by : (b : Bool) → option_map_or is_of (moving shares newer) false ≡ false
+          → option_map_or is_of (cond b (moving shares newer) (Some w)) false ≡ false
       by true rest = rest
       by false rest = ne_eqb w.batch.mark n none.0
 
-  none_advanced : (batches : List WriteOut) → HasNone batches → HasNone (advanced batches)
-  none_advanced [] none = tt
-  none_advanced (w ∷ newer) none = by (has_uncommitted newer) (none_advanced newer none.1)
+  none_next : (shares : Bool) (batches : List WriteOut) → HasNone batches → is_next shares batches ≡ false
+  none_next shares [] none = refl
+  none_next shares (w ∷ newer) none = by (gives_way shares w newer) (none_next shares newer none.1)
     where
-      by : (b : Bool) → HasNone (advanced newer) → HasNone (cond b (w ∷ advanced newer) (advanced_of w ∷ newer))
-      by true rest = (none.0, rest)
-      by false rest = (none.0, none.1)
+      others : (a b : Bool) → list_any is_of (cond a (cond b newer []) []) ≡ false
+      others true true = none_any newer none.1
+      others true false = refl
+      others false b = refl
+
+      by : (b : Bool) → is_next shares newer ≡ false → list_any is_of
+          (cond b (stepping shares newer) (w ∷ cond shares (cond (is_at may_share w) newer []) [])) ≡ false
+      by true rest = rest
+      by false rest = or_from (is_of w) (list_any is_of (cond shares (cond (is_at may_share w) newer []) []))
+          (ne_eqb w.batch.mark n none.0) (others shares (is_at may_share w))
+
+  none_stepped : (P : WriteOut → Type 0) (xs ys : List WriteOut) → AreStepped P xs ys → HasNone xs → HasNone ys
+  none_stepped P [] [] are none = tt
+  none_stepped P (x ∷ xs) (y ∷ ys) are none = (one are.0, none_stepped P xs ys are.1 none.1)
+    where
+      one : ((y ≡ x) ⊎ ((y ≡ advanced_of x) × P x)) → y.batch.mark ≢ n
+      one (inl same) = λ e. none.0 (ap (λ (w : WriteOut). w.batch.mark) (sym same) ∙ e)
+      one (inr step) = λ e. none.0 (ap (λ (w : WriteOut). w.batch.mark) (sym step.0) ∙ e)
+  none_stepped P xs ys are none = absurd are
+
+  none_moved : (shares : Bool) (batches : List WriteOut) → HasNone batches → HasNone (moved shares batches)
+  none_moved shares batches none = none_stepped (Makes shares batches) batches (moved shares batches)
+      (each_stepped shares batches) none
+
+  none_rest : (batches : List WriteOut) → HasNone batches → HasNone (drop 1 batches)
+  none_rest [] none = tt
+  none_rest (w ∷ newer) none = none.1
+
+  none_mapped : (batches : List WriteOut) → HasNone batches → HasNone (map advanced_of batches)
+  none_mapped [] none = tt
+  none_mapped (w ∷ newer) none = (none.0, none_mapped newer none.1)
+
+  none_joined : (shares : Bool) (w : WriteOut) (newer : List WriteOut) → HasNone newer → HasNone (joined shares w newer)
+  none_joined shares w newer none = by shares (is_at may_share w)
+    where
+      by : (a b : Bool) → HasNone (cond a (cond b (map advanced_of newer) newer) newer)
+      by true true = none_mapped newer none
+      by true false = none
+      by false b = none
 
   none_push : (batches : List WriteOut) (w : WriteOut) → HasNone batches → w.batch.mark ≢ n
       → HasNone (batches ++ w ∷ [])
   none_push [] w none other = (other, tt)
   none_push (x ∷ newer) w none other = (none.0, none_push newer w none.1 other)
-
--- the oldest is done
-done_oldest : (w : WriteOut) (newer : List WriteOut) (mark : ℕ)
-    → option_map_or answer_of (current (w ∷ newer)) flushed.Broken ≡ flushed.Done mark → has_uncommitted newer ≡ false
-done_oldest w newer mark e = (committed_parts w newer (none_when_done (w ∷ newer) mark e)).1
 
 module _ (n slots : ℕ) (batch : Batch) (its : batch.mark ≡ n) where
   -- its write-out after so many steps
@@ -118,52 +211,124 @@ module _ (n slots : ℕ) (batch : Batch) (its : batch.mark ≡ n) where
   one_begun [] none = inl (refl, tt)
   one_begun (x ∷ newer) none = inr (none.0, one_begun newer none.1)
 
-  -- the next step is of it, or of another
-  abbrev Goes : ℕ → Option WriteOut → List WriteOut → Type 0
-  Goes m next after = ((next ≡ Some (after_steps m)) × HasOne (m + 1) after)
-      ⊎ ((option_map_or (is_of n) next false ≡ false) × HasOne m after)
+  -- it is among these
+  one_any : (m : ℕ) (batches : List WriteOut) → HasOne m batches → list_any (is_of n) batches ≡ true
+  one_any m [] one = absurd one
+  one_any m (w ∷ newer) (inl one) = or_left (is_of n w) (list_any (is_of n) newer)
+      (eq-eqb w.batch.mark n (ap (λ (x : WriteOut). x.batch.mark) one.0 ∙ its))
+  one_any m (w ∷ newer) (inr one) = or_right (is_of n w) (list_any (is_of n) newer) (one_any m newer one.1)
 
-  one_advanced : (m : ℕ) (batches : List WriteOut) → HasOne m batches → Goes m (current batches) (advanced batches)
-  one_advanced m [] one = absurd one
-  one_advanced m (w ∷ newer) one = by (has_uncommitted newer) one (λ rest. one_advanced m newer rest)
+  -- it has what none of these has
+  one_lacks : (has : WriteOut → Bool) (m : ℕ) (batches : List WriteOut) → HasOne m batches
+      → list_any has batches ≡ false → has (after_steps m) ≡ false
+  one_lacks has m [] one none = absurd one
+  one_lacks has m (w ∷ newer) (inl one) none =
+      ap has (sym one.0) ∙ (or_parts (has w) (list_any has newer) none).0
+  one_lacks has m (w ∷ newer) (inr one) none =
+      one_lacks has m newer one.1 (or_parts (has w) (list_any has newer) none).1
+
+  one_mapped : (m : ℕ) (batches : List WriteOut) → HasOne m batches → HasOne (m + 1) (map advanced_of batches)
+  one_mapped m [] one = absurd one
+  one_mapped m (w ∷ newer) (inl one) = inl (ap advanced_of one.0, none_mapped n newer one.1)
+  one_mapped m (w ∷ newer) (inr one) = inr (one.0, one_mapped m newer one.1)
+
+  -- a step of another is a sync that it shares
+  record Joins (m : ℕ) (next : Option WriteOut) (steps after : List WriteOut) : Type 0 where
+    w : WriteOut
+    mover : next ≡ Some w
+    other : w.batch.mark ≢ n
+    shares_it : is_at may_share w ≡ true
+    behind : is_at is_ahead (after_steps m) ≡ false
+    silent : is_at has_writes (after_steps m) ≡ false
+    now : list_any (is_of n) steps ≡ true
+    one : HasOne (m + 1) after
+
+  -- the next step is of it alone, or it shares it, or it is of others
+  abbrev Goes : ℕ → Option WriteOut → List WriteOut → List WriteOut → Type 0
+  Goes m next steps after =
+      ((next ≡ Some (after_steps m)) × (list_any (is_of n) steps ≡ true) × HasOne (m + 1) after)
+      ⊎ (Joins m next steps after
+      ⊎ ((option_map_or (is_of n) next false ≡ false) × (list_any (is_of n) steps ≡ false) × HasOne m after))
+
+  joins_or : (shares : Bool) (m : ℕ) (w : WriteOut) (newer : List WriteOut) → gives_way shares w newer ≡ false
+      → w.batch.mark ≢ n → HasOne m newer → (share : Bool) → is_at may_share w ≡ share
+      → Goes m (Some w) (w ∷ cond shares (cond share newer []) [])
+      (advanced_of w ∷ cond shares (cond share (map advanced_of newer) newer) newer)
+  joins_or true m w newer first other one true e =
+      let writes : list_any (is_at has_writes) newer ≡ false =
+      sym (ap (λ b. not b && list_any (is_at has_writes) newer) (sync_silent w e))
+      ∙ (or_parts (list_any (is_at is_ahead) newer)
+      (not (is_at has_writes w) && list_any (is_at has_writes) newer) first).1 in
+      inr (inl (record {
+        w = w;
+        mover = refl;
+        other = other;
+        shares_it = e;
+        behind = one_lacks (is_at is_ahead) m newer one (none_ahead w newer first);
+        silent = one_lacks (is_at has_writes) m newer one writes;
+        now = or_right (is_of n w) (list_any (is_of n) newer) (one_any m newer one);
+        one = inr (other, one_mapped m newer one);
+      }))
+  joins_or true m w newer first other one false e = inr (inr (
+    ne_eqb w.batch.mark n other,
+    or_from (is_of n w) false (ne_eqb w.batch.mark n other) refl,
+    inr (other, one),
+  ))
+  joins_or false m w newer first other one share e = inr (inr (
+    ne_eqb w.batch.mark n other,
+    or_from (is_of n w) false (ne_eqb w.batch.mark n other) refl,
+    inr (other, one),
+  ))
+
+  one_moved : (shares : Bool) (m : ℕ) (batches : List WriteOut) → HasOne m batches
+      → Goes m (moving shares batches) (stepping shares batches) (moved shares batches)
+  one_moved shares m [] one = absurd one
+  one_moved shares m (w ∷ newer) one =
+      by (gives_way shares w newer) refl one (λ rest. one_moved shares m newer rest)
     where
-      by : (b : Bool) → HasOne m (w ∷ newer) → (HasOne m newer → Goes m (current newer) (advanced newer))
-          → Goes m (cond b (current newer) (Some w)) (cond b (w ∷ advanced newer) (advanced_of w ∷ newer))
-      by true (inl one) later = inr (none_next n newer one.1, inl (one.0, none_advanced n newer one.1))
-      by true (inr one) later = elim (later one.1) [
-        | inl this ↦ inl (this.0, inr (one.0, this.1))
-        | inr other ↦ inr (other.0, inr (one.0, other.1))
+      by : (b : Bool) → gives_way shares w newer ≡ b → HasOne m (w ∷ newer)
+          → (HasOne m newer → Goes m (moving shares newer) (stepping shares newer) (moved shares newer))
+          → Goes m (cond b (moving shares newer) (Some w))
+          (cond b (stepping shares newer) (w ∷ cond shares (cond (is_at may_share w) newer []) []))
+          (cond b (w ∷ moved shares newer) (advanced_of w ∷ joined shares w newer))
+      by true e (inl one) later = inr (inr (
+        none_moving n shares newer one.1,
+        none_next n shares newer one.1,
+        inl (one.0, none_moved n shares newer one.1),
+      ))
+      by true e (inr one) later = elim (later one.1) [
+        | inl this ↦ inl (this.0, this.1, inr (one.0, this.2))
+        | inr (inl j) ↦ inr (inl (record {
+          w = j.w;
+          mover = j.mover;
+          other = j.other;
+          shares_it = j.shares_it;
+          behind = j.behind;
+          silent = j.silent;
+          now = j.now;
+          one = inr (one.0, j.one);
+        }))
+        | inr (inr other) ↦ inr (inr (other.0, other.1, inr (one.0, other.2)))
       ]
-      by false (inl one) later = inl (ap Some one.0, inl (ap advanced_of one.0, one.1))
-      by false (inr one) later = inr (ne_eqb w.batch.mark n one.0, inr (one.0, one.1))
-
-  -- the write-out that is done is it, or another
-  abbrev Ends : ℕ → Option WriteOut → List WriteOut → Type 0
-  Ends m next after = HasNone n after ⊎ ((option_map_or (is_of n) next false ≡ false) × HasOne m after)
-
-  one_done : (m : ℕ) (batches : List WriteOut) (mark : ℕ) → HasOne m batches
-      → option_map_or answer_of (current batches) flushed.Broken ≡ flushed.Done mark
-      → Ends m (current batches) (drop 1 batches)
-  one_done m [] mark one e = absurd one
-  one_done m (w ∷ newer) mark (inl one) e = inl one.1
-  one_done m (w ∷ newer) mark (inr one) e =
-      inr (
-        ap (λ (o : Option WriteOut). option_map_or (is_of n) o false)
-            (current-oldest w newer (done_oldest w newer mark e)) ∙ ne_eqb w.batch.mark n one.0,
-        one.1,
+      by false e (inl one) later = inl (
+        ap Some one.0,
+        or_left (is_of n w) (list_any (is_of n) (cond shares (cond (is_at may_share w) newer []) []))
+            (eq-eqb w.batch.mark n (ap (λ (x : WriteOut). x.batch.mark) one.0 ∙ its)),
+        inl (ap advanced_of one.0, none_joined n shares w newer one.1),
       )
+      by false e (inr one) later = joins_or shares m w newer e one.0 one.1 (is_at may_share w) refl
 
 -- ---- what was asked for so far
 
 -- what the next step answers, where no device call has failed
 whole_answer : (outs : WriteOutsValue) → GoesOn (next_answer outs)
-    → (outs.broken ≡ false) × (next_answer outs ≡ option_map_or answer_of (current outs.batches) flushed.Broken)
+    → (outs.broken ≡ false) × (next_answer outs ≡ option_map_or answer_of (outs_moving outs) flushed.Broken)
 whole_answer outs goes = elim (cases_Bool outs.broken) [
   | inl broken ↦ absurd (subst GoesOn (cond-true outs.broken flushed.Broken
-      (option_map_or answer_of (current outs.batches) flushed.Broken) broken) goes)
+      (option_map_or answer_of (outs_moving outs) flushed.Broken) broken) goes)
   | inr whole ↦ (
     whole,
-    cond-false outs.broken flushed.Broken (option_map_or answer_of (current outs.batches) flushed.Broken) whole,
+    cond-false outs.broken flushed.Broken (option_map_or answer_of (outs_moving outs) flushed.Broken) whole,
   )
 ]
 
@@ -171,99 +336,128 @@ whole_answer outs goes = elim (cases_Bool outs.broken) [
 work_now : (s : State) (act : Act) (reply : Reply) → act ≡ acts.Flush → (answer : Flushed) → reply ≡ reply_to answer
     → GoesOn answer → s.write_outs.broken ≡ false
     → step_work s act reply ≡ option_map_or (work_of s.write_outs.geometry (next_record s))
-    (current s.write_outs.batches) Nothing
+    (outs_moving s.write_outs) Nothing
 work_now s act reply act_is answer reply_is goes whole =
     (λ i. step_work s (act_is i) (reply_is i)) ∙ step_asks s answer goes
     ∙ cond-false s.write_outs.broken Nothing
-    (option_map_or (work_of s.write_outs.geometry (next_record s)) (current s.write_outs.batches) Nothing) whole
+    (option_map_or (work_of s.write_outs.geometry (next_record s)) (outs_moving s.write_outs) Nothing) whole
 
 module _ (n : ℕ) (batch : Batch) (its : batch.mark ≡ n) (g : GeometryValue) where
+  -- how many steps it has
+  abbrev all : ℕ
+  all = 2 * length batch.homes + descriptor_blocks g.slots + 6
+
+  -- so many of them asked for these works
+  abbrev HaveAsked : ℕ → List Work → Type 0
+  HaveAsked m works = (length works ≡ m) × (sum_by calls_of works ≡ calls_in_steps g batch m)
+
   -- these batches have its write-out, and its steps so far asked for these works
   record IsUnder (batches : List WriteOut) (works : List Work) : Type 0 where
     m : ℕ
     one : HasOne n g.slots batch its m batches
-    count : length works ≡ m
-    calls : sum_by calls_of works ≡ calls_in_steps g batch m
+    asked_so : m ≤ all → HaveAsked m works
 
   -- the same, or it is done
   abbrev AreTallied : List WriteOut → List Work → Type 0
   AreTallied batches works = HasNone n batches ⊎ IsUnder batches works
 
   -- what a step asks for it, where it has this work
-  abbrev asked : List WriteOut → Work → List Work
-  asked batches work = cond (is_next n batches) (listed_work work) []
+  abbrev asked : Bool → List WriteOut → Work → List Work
+  asked shares batches work = cond (is_next n shares batches) (listed_work work) []
 
-  asked_nothing : (batches : List WriteOut) (works : List Work) (work : Work) → work ≡ Nothing
-      → works ++ asked batches work ≡ works
-  asked_nothing batches works work none = ap (λ w. works ++ asked batches w) none ∙ either (is_next n batches)
+  asked_nothing : (shares : Bool) (batches : List WriteOut) (works : List Work) (work : Work) → work ≡ Nothing
+      → works ++ asked shares batches work ≡ works
+  asked_nothing shares batches works work none =
+      ap (λ w. works ++ asked shares batches w) none ∙ either (is_next n shares batches)
     where
       either : (b : Bool) → works ++ cond b (listed_work Nothing) [] ≡ works
       either true = append-nil works
       either false = append-nil works
 
-  -- a step that isn't of it
-  passed : (batches after : List WriteOut) (works : List Work) (work : Work) (m : ℕ) → is_next n batches ≡ false
-      → HasOne n g.slots batch its m after
-      → length works ≡ m → sum_by calls_of works ≡ calls_in_steps g batch m
-      → AreTallied after (works ++ asked batches work)
-  passed batches after works work m other one count calls =
-      subst (AreTallied after)
-      (sym (ap (λ more. works ++ more) (cond-false (is_next n batches) (listed_work work) [] other)
-      ∙ append-nil works)) (inr (record { m = m; one = one; count = count; calls = calls }))
-
-  -- a step of it
-  asks_work : (batches : List WriteOut) (works : List Work) (h : GeometryValue) (bytes : List ℕ)
-      → GoesOn (option_map_or answer_of (current batches) flushed.Broken) → (u : IsUnder batches works)
-      → current batches ≡ Some (after_steps n g.slots batch its u.m)
-      → (length (works ++ asked batches (option_map_or (work_of h bytes) (current batches) Nothing)) ≡ suc u.m)
-      × (sum_by calls_of (works ++ asked batches (option_map_or (work_of h bytes) (current batches) Nothing))
-      ≡ calls_in_steps g batch (suc u.m))
-  asks_work batches works h bytes goes u now =
-      let own = after_steps n g.slots batch its u.m in
-      let next : is_next n batches ≡ true =
-      ap (λ (o : Option WriteOut). option_map_or (is_of n) o false) now ∙ eq-eqb batch.mark n its in
-      let work : asked batches (option_map_or (work_of h bytes) (current batches) Nothing)
-      ≡ listed_work (work_of h bytes own) =
-      cond-true (is_next n batches) (listed_work (option_map_or (work_of h bytes) (current batches) Nothing)) [] next
-      ∙ ap (λ (o : Option WriteOut). listed_work (option_map_or (work_of h bytes) o Nothing)) now in
-      let one = one_work own h g bytes
-      (subst GoesOn (ap (λ (o : Option WriteOut). option_map_or answer_of o flushed.Broken) now) goes) in
-      subst (λ more. (length (works ++ more) ≡ suc u.m)
-      × (sum_by calls_of (works ++ more) ≡ calls_in_steps g batch (suc u.m))) (sym work) (
-        omega (arith, length-append works (listed_work (work_of h bytes own)), u.count, one.0),
-        omega (arith, sum_by-append calls_of works (listed_work (work_of h bytes own)), u.calls, one.1),
+  -- a step of it asks for one work more
+  one_more : (shares : Bool) (batches : List WriteOut) (works : List Work) (work : Work) (m : ℕ)
+      → is_next n shares batches ≡ true → IsOneWork work (work_of g [] (after_steps n g.slots batch its m))
+      → HaveAsked m works → HaveAsked (suc m) (works ++ asked shares batches work)
+  one_more shares batches works work m next one so =
+      subst (λ more. (length (works ++ more) ≡ suc m) × (sum_by calls_of (works ++ more)
+      ≡ calls_in_steps g batch (suc m)))
+      (sym (cond-true (is_next n shares batches) (listed_work work) [] next)) (
+        omega (arith, length-append works (listed_work work), so.0, one.0),
+        omega (arith, sum_by-append calls_of works (listed_work work), so.1, one.1),
       )
 
-  -- a step of it, or of another
-  advances : (batches : List WriteOut) (works : List Work) (h : GeometryValue) (bytes : List ℕ)
-      → GoesOn (option_map_or answer_of (current batches) flushed.Broken) → AreTallied batches works
-      → AreTallied (advanced batches)
-      (works ++ asked batches (option_map_or (work_of h bytes) (current batches) Nothing))
-  advances batches works h bytes goes (inl none) = inl (none_advanced n batches none)
-  advances batches works h bytes goes (inr u) = elim (one_advanced n g.slots batch its u.m batches u.one) [
-    | inl this ↦
-        (let next : u.m + 1 ≡ suc u.m = omega arith in
-        let more = asks_work batches works h bytes goes u this.0 in
-        inr (record {
-          m = suc u.m;
-          one = subst (λ k. HasOne n g.slots batch its k (advanced batches)) next this.1;
-          count = more.0;
-          calls = more.1;
-        }))
-    | inr other ↦ passed batches (advanced batches) works
-        (option_map_or (work_of h bytes) (current batches) Nothing) u.m other.0 other.1 u.count u.calls
-  ]
+  -- its own step
+  own_more : (shares : Bool) (batches : List WriteOut) (works : List Work) (h : GeometryValue) (bytes : List ℕ)
+      → GoesOn (option_map_or answer_of (moving shares batches) flushed.Broken) → (m : ℕ)
+      → moving shares batches ≡ Some (after_steps n g.slots batch its m) → is_next n shares batches ≡ true
+      → HaveAsked m works
+      → HaveAsked (suc m) (works ++ asked shares batches (option_map_or (work_of h bytes) (moving shares batches)
+      Nothing))
+  own_more shares batches works h bytes goes m mover next so =
+      let own = after_steps n g.slots batch its m in
+      let one = one_work own h g bytes
+      (subst GoesOn (ap (λ (o : Option WriteOut). option_map_or answer_of o flushed.Broken) mover) goes) in
+      one_more shares batches works (option_map_or (work_of h bytes) (moving shares batches) Nothing) m next
+      (subst (λ (o : Option WriteOut). IsOneWork (option_map_or (work_of h bytes) o Nothing) (work_of g [] own))
+      (sym mover) one) so
 
-  -- a write-out is done
-  finishes : (batches : List WriteOut) (works : List Work) (work : Work) (mark : ℕ)
-      → option_map_or answer_of (current batches) flushed.Broken ≡ flushed.Done mark → AreTallied batches works
-      → AreTallied (drop 1 batches) (works ++ asked batches work)
-  finishes [] works work mark e (inl none) = inl tt
-  finishes (w ∷ newer) works work mark e (inl none) = inl none.1
-  finishes batches works work mark e (inr u) = elim (one_done n g.slots batch its u.m batches mark u.one e) [
-    | inl none ↦ inl none
-    | inr other ↦ passed batches (drop 1 batches) works work u.m other.0 other.1 u.count u.calls
-  ]
+  -- one that it shares
+  shared_more : (shares : Bool) (batches : List WriteOut) (works : List Work) (h : GeometryValue) (bytes : List ℕ)
+      → (m : ℕ) → Joins n g.slots batch its m (moving shares batches) (stepping shares batches) (moved shares batches)
+      → m < all → HaveAsked m works
+      → HaveAsked (suc m) (works ++ asked shares batches (option_map_or (work_of h bytes) (moving shares batches)
+      Nothing))
+  shared_more shares batches works h bytes m j few so =
+      let own = after_steps n g.slots batch its m in
+      let work : option_map_or (work_of h bytes) (moving shares batches) Nothing ≡ Sync =
+      ap (λ (o : Option WriteOut). option_map_or (work_of h bytes) o Nothing) j.mover
+      ∙ sync_work h bytes j.w j.shares_it in
+      let own_is : work_of g [] own ≡ Sync = quiet_work g own j.behind j.silent few in
+      one_more shares batches works (option_map_or (work_of h bytes) (moving shares batches) Nothing) m j.now
+      (subst (λ x. IsOneWork x (work_of g [] own)) (sym work)
+      (subst (λ x. IsOneWork Sync x) (sym own_is) (refl, refl))) so
+
+  -- a step of it, or of others
+  advances : (shares : Bool) (batches : List WriteOut) (works : List Work) (h : GeometryValue) (bytes : List ℕ)
+      → GoesOn (option_map_or answer_of (moving shares batches) flushed.Broken) → AreTallied batches works
+      → AreTallied (moved shares batches)
+      (works ++ asked shares batches (option_map_or (work_of h bytes) (moving shares batches) Nothing))
+  advances shares batches works h bytes goes (inl none) = inl (none_moved n shares batches none)
+  advances shares batches works h bytes goes (inr u) =
+      let next : u.m + 1 ≡ suc u.m = omega arith in
+      elim (one_moved n g.slots batch its shares u.m batches u.one) [
+        | inl this ↦ inr (record {
+          m = suc u.m;
+          one = subst (λ k. HasOne n g.slots batch its k (moved shares batches)) next this.2;
+          asked_so = λ few. own_more shares batches works h bytes goes u.m this.0 this.1
+              (u.asked_so (omega (arith, few)));
+        })
+        | inr (inl j) ↦ inr (record {
+          m = suc u.m;
+          one = subst (λ k. HasOne n g.slots batch its k (moved shares batches)) next j.one;
+          asked_so = λ few. shared_more shares batches works h bytes u.m j (omega (arith, few))
+              (u.asked_so (omega (arith, few)));
+        })
+        | inr (inr other) ↦ inr (record {
+          m = u.m;
+          one = other.2;
+          asked_so = λ few. subst (λ more. HaveAsked u.m (works ++ more))
+              (sym (cond-false (is_next n shares batches)
+              (listed_work (option_map_or (work_of h bytes) (moving shares batches) Nothing)) [] other.1))
+              (subst (HaveAsked u.m) (sym (append-nil works)) (u.asked_so few));
+        })
+      ]
+
+  -- where the oldest is done after it
+  rest_tallied : (batches : List WriteOut) (works : List Work) → AreTallied batches works
+      → AreTallied (drop 1 batches) works
+  rest_tallied batches works (inl none) = inl (none_rest n batches none)
+  rest_tallied [] works (inr u) = absurd u.one
+  rest_tallied (w ∷ newer) works (inr u) = by u.one
+    where
+      by : HasOne n g.slots batch its u.m (w ∷ newer) → AreTallied newer works
+      by (inl one) = inl one.1
+      by (inr one) = inr (record { m = u.m; one = one.1; asked_so = u.asked_so })
 
   -- ---- one step
 
@@ -287,21 +481,25 @@ module _ (n : ℕ) (batch : Batch) (its : batch.mark ≡ n) (g : GeometryValue) 
           m = u.m;
           one = one_push n g.slots batch its u.m s.write_outs.batches
               (begun_of s.write_outs.geometry.slots (next_batch s.write_outs number (home ∷ homes))) u.one other;
-          count = u.count;
-          calls = u.calls;
+          asked_so = u.asked_so;
         }))
 
     -- a step of the write-outs that answers so
-    stepped : (a : Flushed) → GoesOn a → option_map_or answer_of (current s.write_outs.batches) flushed.Broken ≡ a
+    stepped : (a : Flushed) → GoesOn a → option_map_or answer_of (outs_moving s.write_outs) flushed.Broken ≡ a
         → IsTallied s.write_outs works
-        → IsTallied (outs_after s.write_outs a) (works ++ asked s.write_outs.batches
-        (option_map_or (work_of s.write_outs.geometry (next_record s)) (current s.write_outs.batches) Nothing))
+        → IsTallied (outs_after s.write_outs a) (works ++ asked (shared s.write_outs) s.write_outs.batches
+        (option_map_or (work_of s.write_outs.geometry (next_record s)) (outs_moving s.write_outs) Nothing))
     stepped flushed.Device goes e st = absurd goes
     stepped flushed.Broken goes e st = absurd goes
-    stepped (flushed.Done mark) goes e (inr tallied) = inr (finishes s.write_outs.batches works _ mark e tallied)
     stepped answer goes e (inl broken) = inl broken
-    stepped answer goes e (inr tallied) = inr
-        (advances s.write_outs.batches works s.write_outs.geometry (next_record s) (subst GoesOn (sym e) goes) tallied)
+    stepped (flushed.Done mark) goes e (inr tallied) =
+        let works' = works ++ asked (shared s.write_outs) s.write_outs.batches
+        (option_map_or (work_of s.write_outs.geometry (next_record s)) (outs_moving s.write_outs) Nothing) in
+        inr (rest_tallied (moved (shared s.write_outs) s.write_outs.batches) works'
+        (advances (shared s.write_outs) s.write_outs.batches works s.write_outs.geometry (next_record s)
+        (subst GoesOn (sym e) goes) tallied))
+    stepped answer goes e (inr tallied) = inr (advances (shared s.write_outs) s.write_outs.batches works
+        s.write_outs.geometry (next_record s) (subst GoesOn (sym e) goes) tallied)
 
   module _ (s : State) (disk : List ℕ) (p : ℕ) (act : Act) (reply : Reply) (new : State) (disk' : List ℕ)
       (sound : IsSound s) where
@@ -326,7 +524,8 @@ module _ (n : ℕ) (batch : Batch) (its : batch.mark ≡ n) (g : GeometryValue) 
         → IsTallied outs works → IsTallied new.write_outs (works ++ asked_for n s act reply)
     idles outs works same none st =
         subst (λ o. IsTallied o (works ++ asked_for n s act reply)) (sym same)
-        (subst (IsTallied outs) (sym (asked_nothing s.write_outs.batches works (step_work s act reply) none)) st)
+        (subst (IsTallied outs) (sym (asked_nothing (shared s.write_outs) s.write_outs.batches works
+        (step_work s act reply) none)) st)
 
     consistent_next : Performed s disk p act reply new disk' → n ≤ s.marks → (works : List Work)
         → IsTallied s.write_outs works
@@ -345,7 +544,8 @@ module _ (n : ℕ) (batch : Batch) (its : batch.mark ≡ n) (g : GeometryValue) 
         let whole = whole_answer s.write_outs goes in
         subst (λ o. IsTallied o (works ++ asked_for n s act reply))
         (sym (ap (λ (x : State). x.write_outs) by.made.done))
-        (subst (λ w. IsTallied (outs_after s.write_outs (next_answer s.write_outs)) (works ++ asked s.write_outs.batches
+        (subst (λ w. IsTallied (outs_after s.write_outs (next_answer s.write_outs)) (works ++ asked
+        (shared s.write_outs) s.write_outs.batches
         w)) (sym (work_now s act reply act_is (next_answer s.write_outs) by.answered goes whole.0))
         (stepped s works (next_answer s.write_outs) goes (sym whole.1) st))
     consistent_next (Failed act_is reply_is made) le works st = inl (ap (λ (x : State). x.write_outs.broken) made.done)
@@ -407,28 +607,34 @@ module _ (n : ℕ) (batch : Batch) (its : batch.mark ≡ n) (g : GeometryValue) 
       is_of_answer None e = absurd (subst GoesOn (sym e) goes)
       is_of_answer (Some w) e = eq-eqb w.batch.mark n (tallied w e)
 
-      ends : step.act ≡ acts.Flush → reply ≡ reply_to (next_answer last.state.write_outs)
+      ends : ((m : ℕ) → answer_of (after_steps n g.slots batch its m) ≡ answer → suc m ≤ all)
+          → step.act ≡ acts.Flush → reply ≡ reply_to (next_answer last.state.write_outs)
           → next_answer last.state.write_outs ≡ answer → IsTallied last.state.write_outs works → HasEnded
-      ends act_is reply_is is st =
+      ends few act_is reply_is is st =
           let outs = last.state.write_outs in
           let whole = whole_answer outs (subst GoesOn (sym is) goes) in
           let e = sym whole.1 ∙ is in
-          let next = is_of_answer (current outs.batches) e in
+          let next = is_of_answer (outs_moving outs) e in
           let now = work_now last.state step.act reply act_is (next_answer outs) reply_is
           (subst GoesOn (sym is) goes) whole.0 in
           elim st [
             | inl broken ↦ absurd (both_ways outs.broken whole.0 broken)
-            | inr (inl none) ↦ absurd (both_ways (is_next n outs.batches) (none_next n outs.batches none) next)
-            | inr (inr u) ↦ elim (one_advanced n g.slots batch its u.m outs.batches u.one) [
-              | inr other ↦ absurd (both_ways (is_next n outs.batches) other.0 next)
+            | inr (inl none) ↦ absurd (both_ways (option_map_or (is_of n) (outs_moving outs) false)
+                (none_moving n (shared outs) outs.batches none) next)
+            | inr (inr u) ↦ elim (one_moved n g.slots batch its (shared outs) u.m outs.batches u.one) [
+              | inr (inr other) ↦ absurd (both_ways (option_map_or (is_of n) (outs_moving outs) false) other.0 next)
+              | inr (inl j) ↦ absurd (j.other (tallied j.w
+                  (ap (λ (o : Option WriteOut). option_map_or answer_of o flushed.Broken) (sym j.mover) ∙ e)))
               | inl this ↦
-                  let more = asks_work outs.batches works outs.geometry (next_record last.state)
-                  (subst GoesOn (sym e) goes) u this.0 in (
+                  let own = ap (λ (o : Option WriteOut). option_map_or answer_of o flushed.Broken) (sym this.0) ∙ e in
+                  let bound = few u.m own in
+                  let more = own_more (shared outs) outs.batches works outs.geometry (next_record last.state)
+                  (subst GoesOn (sym e) goes) u.m this.0 this.1 (u.asked_so (omega (arith, bound))) in (
                     u.m,
-                    ap (λ (o : Option WriteOut). option_map_or answer_of o flushed.Broken) (sym this.0) ∙ e,
-                    subst (λ w. length (works ++ asked outs.batches w) ≡ suc u.m) (sym now) more.0,
-                    subst (λ w. sum_by calls_of (works ++ asked outs.batches w) ≡ calls_in_steps g batch (suc u.m))
-                        (sym now) more.1,
+                    own,
+                    subst (λ w. length (works ++ asked (shared outs) outs.batches w) ≡ suc u.m) (sym now) more.0,
+                    subst (λ w. sum_by calls_of (works ++ asked (shared outs) outs.batches w)
+                        ≡ calls_in_steps g batch (suc u.m)) (sym now) more.1,
                   )
             ]
           ]
@@ -477,8 +683,7 @@ module _ {D : Type 0} (disk : Ghosts D) (files : List File) (start old marked la
         | false ↦ λ whole. inr (inr (record {
           m = 0;
           one = one_begun number g.slots batch refl s.write_outs.batches none_before;
-          count = refl;
-          calls = refl;
+          asked_so = λ few. (refl, refl);
         }))
       ] refl
     where
@@ -494,11 +699,13 @@ module _ {D : Type 0} (disk : Ghosts D) (files : List File) (start old marked la
       new works × (length works ≡ count) × (sum_by calls_of works ≡ calls_in_steps g its_batch count)
 
   counted : (answer : Flushed) → GoesOn answer → ((w : WriteOut) → answer_of w ≡ answer → w.batch.mark ≡ number)
+      → ((m : ℕ) → answer_of (after_steps number g.slots its_batch refl m) ≡ answer
+      → suc m ≤ all number its_batch refl g)
       → ((d d' : List ℕ) → IsStep last.state d step.p new.state d' number step.act answer)
       → StepTaken disk last step (reply_to answer) new
       → (m : ℕ) × (answer_of (after_steps number g.slots its_batch refl m) ≡ answer)
       × HasAsked (reply_to answer) (suc m)
-  counted answer goes tallied is_step here =
+  counted answer goes tallied few is_step here =
       let reply = reply_to answer in
       let marks : marked.state.marks ≡ number = ap (λ (x : State). x.marks) mark.done in
       let st = subst (λ o. IsTallied number its_batch refl g o []) (sym (ap (λ (x : State). x.write_outs) mark.done))
@@ -506,7 +713,7 @@ module _ {D : Type 0} (disk : Ghosts D) (files : List File) (start old marked la
       let asked = run number its_batch refl g disk last new step reply here steps answers marked []
       (marked_sound s p number marked.state mark sound) (omega (arith, marks)) taken st in
       let flush = is_step here.answered.0 here.answered.1 here.answered.2 in
-      let end = ends number its_batch refl g disk last new step reply here answer goes tallied asked.works flush.0
+      let end = ends number its_batch refl g disk last new step reply here answer goes tallied asked.works few flush.0
       (ap reply_to (sym flush.1)) flush.1 asked.tallied in
       (end.0, end.1, (asked.works ++ asked_for number last.state step.act reply, asked.asks, end.2, end.3))
 
@@ -520,6 +727,8 @@ module _ {D : Type 0} (disk : Ghosts D) (files : List File) (start old marked la
       × (sum_by calls_of works ≡ length (mark_homes s mark.pages) + descriptor_blocks s.table.slots + 3)
   committed_count here =
       let found = counted (flushed.Committed number) tt (λ w e. (answered_at w g (flushed.Committed number) e).0)
+      (λ m e. let at = (answered_at (after_steps number g.slots its_batch refl m) g (flushed.Committed number) e).1 in
+      omega (arith, at))
       (λ d d'. (steps_alone last.state d step.p new.state d' number step.act).0) here in
       let its_steps = after_steps number g.slots its_batch refl found.0 in
       let at = (answered_at its_steps g (flushed.Committed number) found.1).1 in
@@ -535,6 +744,8 @@ module _ {D : Type 0} (disk : Ghosts D) (files : List File) (start old marked la
       × (sum_by calls_of works ≡ 3 * length (mark_homes s mark.pages) + descriptor_blocks s.table.slots + 6)
   done_count here =
       let found = counted (flushed.Done number) tt (λ w e. (answered_at w g (flushed.Done number) e).0)
+      (λ m e. let at = (answered_at (after_steps number g.slots its_batch refl m) g (flushed.Done number) e).1 in
+      omega (arith, at))
       (λ d d'. (steps_alone last.state d step.p new.state d' number step.act).1) here in
       let its_steps = after_steps number g.slots its_batch refl found.0 in
       let at = (answered_at its_steps g (flushed.Done number) found.1).1 in

@@ -36,16 +36,17 @@ pub use Rattle.journal.proofs.Public.{done_committed, early_calls, newest_of, ol
 pub use Rattle.journal.proofs.Public.{stage_committed, stage_is, consistent_after, consistent_begun, consistent_failed}
 pub use Rattle.journal.proofs.Public.{consistent_first, consistent_left, consistent_other, consistent_within}
 pub use Rattle.journal.specs.Crash.{LeftBefore, LeftWithin}
-pub use Rattle.journal.specs.Stage.{answer_at, is_committed}
+pub use Rattle.journal.specs.Stage.{answer_at, has_writes, is_ahead, is_committed, may_share}
 pub use Rattle.journal.specs.LedTo.{MayBegin}
 pub use Rattle.journal.specs.Pages.{HasHome, home_of, homes_of}
 pub use Rattle.journal.specs.Work.{CopyBlock, HasFailed, Nothing, Sync, TornByWork, TornFromWork, Work, WriteAt}
 pub use Rattle.journal.specs.Work.{calls_of, has_done, work_at, worked}
 pub use Rattle.journal.specs.WriteOut.{WriteOut, advanced_of, answer_of, begun_of, broken_after, calls_in_steps}
 pub use Rattle.journal.specs.WriteOut.{has_committed, next_home, next_record, next_stage, record_at, work_of}
-pub use Rattle.journal.specs.WriteOuts.{HasBlock, WriteOutsValue, advanced, batches_after, begun, current_stage}
-pub use Rattle.journal.specs.WriteOuts.{has_uncommitted, is_busy, next_answer, next_batch, next_work, none_of}
-pub use Rattle.journal.specs.WriteOuts.{outs_after, outs_home, outs_record}
+pub use Rattle.journal.specs.WriteOuts.{HasBlock, WriteOutsValue, batches_after, begun, current_stage, gives_way}
+pub use Rattle.journal.specs.WriteOuts.{has_uncommitted, is_at, is_busy, joined, moved, moving, next_answer}
+pub use Rattle.journal.specs.WriteOuts.{next_batch, next_work, none_of, outs_after, outs_home, outs_moving, outs_record}
+pub use Rattle.journal.specs.WriteOuts.{shares_syncs}
 pub use Rattle.journal.specs.declared.flushed.Flushed.{Flushed}
 pub use Rattle.journal.specs.declared.flushed.Flushed.TheVariants.{Broken, Committed, Device, Done, Going}
 pub use Rattle.journal.specs.declared.stage.Stage.{Stage}

@@ -4,6 +4,7 @@ pub mod Groups
 pub mod Admitted
 pub mod Frames
 pub mod Ended
+pub mod Sharing
 pub mod Waiting
 pub mod Homes
 pub mod ByMark

@@ -1,5 +1,6 @@
--- What a crash within a run leaves, by the write-out whose step comes next: the old files, those at the last
--- acknowledged mark, until its gate is written; the new ones, those at its mark, once that is committed.
+-- What a crash within a run leaves, by the write-out of the batch that isn't committed, or if there is none by the
+-- oldest: the old files, those at the last acknowledged mark, until its gate is written; the new ones, those at its
+-- mark, once that is committed. Where no sync is shared its step comes next.
 use Rattle.std.specs.Prelude.{ℕ, ◌≡◌, ◌⊎◌, List, Option, Some, None, MatchBool, Contains}
 use Rattle.std.specs.Option.{option_map_or}
 use Rattle.volume_codec.specs.Files.{File}
@@ -47,7 +48,7 @@ abbrev pub StopsWithin : List File → List Event → ℕ → Option Stage → L
 StopsWithin files history mark (Some Opening) c = IsOld files history mark c ⊎ IsNew files history mark c
 StopsWithin files history mark stage c = StopsBefore files history mark stage c
 
--- the mark of the write-out whose step comes next
+-- the mark of that write-out
 abbrev pub mark_of_next : WriteOutsValue → ℕ
 mark_of_next outs = option_map_or (λ w. w.batch.mark) (current outs.batches) 0
 

@@ -1,10 +1,12 @@
 -- How many device calls the steps of a run make in all, and how many of these fail; and what they ask of the device for
 -- one write-out.
-use Rattle.std.specs.Prelude.{ℕ, ◌≡◌, ◌+◌, ◌==◌, if◌then◌else◌, false, List, [], ◌∷◌, ◌++◌}
-use Rattle.std.specs.Option.{option_map_or}
+use Rattle.std.specs.Prelude.{ℕ, ◌≡◌, ◌+◌, ◌==◌, if◌then◌else◌, Bool, List, [], ◌∷◌, ◌++◌}
+use Rattle.std.specs.List.{list_any}
 use Rattle.device.specs.declared.device.Device.{Ghosts}
 use Rattle.journal.specs.Work.{Work, Nothing}
-use Rattle.journal.specs.WriteOuts.{current}
+use Rattle.journal.specs.Stage.{may_share}
+use Rattle.journal.specs.WriteOut.{WriteOut}
+use Rattle.journal.specs.WriteOuts.{WriteOutsValue, shares_syncs, is_at, gives_way}
 use Rattle.machine.specs.declared.act.Act.{Act}
 use Rattle.machine.specs.declared.act.Reply.{Reply}
 use Rattle.machine.specs.declared.act.Step.{Step}
@@ -39,11 +41,23 @@ abbrev pub listed_work : Work → List Work
 listed_work Nothing = []
 listed_work work = work ∷ []
 
--- what a step asks of the device for the write-out of this mark: its work, where the step is one of that write-out
+-- the write-outs that make the next step: one, or where it is a shared sync that one and all newer ones
+abbrev pub stepping : Bool → List WriteOut → List WriteOut
+stepping shares [] = []
+stepping shares (w ∷ newer) =
+    if gives_way shares w newer then stepping shares newer
+    else w ∷ (if shares then (if is_at may_share w then newer else []) else [])
+
+-- the write-out of this mark is one of them
+abbrev pub takes_part : ℕ → WriteOutsValue → Bool
+takes_part mark outs =
+    list_any (λ w. w.batch.mark == mark) (stepping (shares_syncs outs.geometry.layout) outs.batches)
+
+-- what a step asks of the device for the write-out of this mark: its work, where the step is one of that write-out; a
+-- shared sync is one of each that shares it
 abbrev pub asked_for : ℕ → State → Act → Reply → List Work
 asked_for mark s act reply =
-    if option_map_or (λ w. w.batch.mark == mark) (current s.write_outs.batches) false
-    then listed_work (step_work s act reply) else []
+    if takes_part mark s.write_outs then listed_work (step_work s act reply) else []
 
 -- these steps, answered so, ask this of the device for the write-out of a mark, in this order
 abbrev pub AskFor : {D : Type 0} → Ghosts D → ℕ → Whole D → List Step → List Reply → Whole D → List Work → Type 0

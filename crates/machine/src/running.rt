@@ -75,10 +75,10 @@ impl<D: Device, A: Allocator + Copy> Machine<D, A> {
             → FaultsAreServed steps replies }
     {}
 
-    /// After a run, by the write-out whose step comes next: until the step that writes its gate begins, a
-    /// crash leaves what recovers to the files after a durable prefix of the history without its mark; until the mark
-    /// is committed, to these or to those with it; and from then on to those with it. (Of a crash within a step `enter`
-    /// says so.)
+    /// After a run, by the write-out of the mark that isn't committed, or if there is none by the oldest: until the
+    /// step that writes its gate begins, a crash leaves what recovers to the files after a durable prefix of the
+    /// history without its mark; until the mark is committed, to these or to those with it; and from then on to those
+    /// with it. (Of a crash within a step `enter` says so.)
     pub fn commits_at_once(&self)
         ensures { (files : List File) (start : Whole D) (steps : List Step) (replies : List Reply) (c : List ℕ)
             → IsReached D.Device files start steps replies self.now → D.may_leave self.now.device c

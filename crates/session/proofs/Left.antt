@@ -1,7 +1,7 @@
 -- How many steps the write-outs have left at most: each step of theirs that is made leaves fewer, and no step beside
 -- them adds one. So a request that makes them comes to an end.
 use Rattle.std.proofs.Common.{◌≡◌, ◌≢◌, inl, inr, ◌<◌, ◌≤◌, ℕ, suc, ◌+◌, ◌-◌, Bool, true, false, if◌then◌else◌}
-use Rattle.std.proofs.Common.{List, [], ◌∷◌, length, drop, Option, Some, None, refl, sym, ◌∙◌, ap, subst, arith}
+use Rattle.std.proofs.Common.{List, [], ◌∷◌, length, drop, map, Option, Some, None, refl, sym, ◌∙◌, ap, subst, arith}
 use Rattle.std.proofs.lemmas.Bool.{false≢true}
 use Rattle.std.proofs.lemmas.Option.{slice_get_within}
 use Rattle.std.specs.Option.{option_map_or}
@@ -12,7 +12,9 @@ use Rattle.journal.specs.declared.flushed.Flushed.TheVariants as flushed
 use Rattle.journal.specs.declared.stage.Stage.{Stage}
 use Rattle.journal.specs.Stage.{stages, stage_at, answer_at}
 use Rattle.journal.specs.WriteOut.{WriteOut, advanced_of, next_stage, answer_of}
-use Rattle.journal.specs.WriteOuts.{WriteOutsValue, has_uncommitted, current, advanced, batches_after, next_answer}
+use Rattle.journal.specs.Stage.{may_share}
+use Rattle.journal.specs.WriteOuts.{WriteOutsValue, shares_syncs, is_at, gives_way, moving, joined, moved, outs_moving}
+use Rattle.journal.specs.WriteOuts.{batches_after, next_answer}
 use Rattle.machine.specs.declared.act.Act.{Act}
 use Rattle.machine.specs.declared.act.Act.TheVariants as acts
 use Rattle.machine.specs.declared.act.Reply.{Reply}
@@ -52,48 +54,89 @@ one_fewer w some = go (next_stage w) refl
     go None is = absurd (some (ap (λ o. option_map_or (answer_at w.batch.mark) o flushed.Broken) is))
     go (Some stage) is = omega (arith, staged (length w.batch.homes) w.described w.steps stage is)
 
-advanced_fewer : (batches : List WriteOut) → option_map_or answer_of (current batches) flushed.Broken ≢ flushed.Broken
-    → all_left (advanced batches) < all_left batches
-advanced_fewer [] some = absurd (some refl)
-advanced_fewer (w ∷ newer) some = go (has_uncommitted newer) some (advanced_fewer newer)
+-- one more step of each leaves no more
+mapped_no_more : (batches : List WriteOut) → all_left (map advanced_of batches) ≤ all_left batches
+mapped_no_more [] = omega arith
+mapped_no_more (w ∷ newer) = omega (
+  arith,
+  mapped_no_more newer,
+  later (length (stages (length w.batch.homes) w.described)) w.steps,
+)
   where
-    go : (b : Bool) → option_map_or answer_of (if b then current newer else Some w) flushed.Broken ≢ flushed.Broken
-        → (option_map_or answer_of (current newer) flushed.Broken ≢ flushed.Broken
-        → all_left (advanced newer) < all_left newer)
-        → all_left (if b then w ∷ advanced newer else advanced_of w ∷ newer) < all_left (w ∷ newer)
-    go true some more = omega (arith, more some)
-    go false some more = omega (arith, one_fewer w some)
+    later : (a b : ℕ) → suc (a - (b + 1)) ≤ suc (a - b)
+    later a b = omega arith
 
-dropped_fewer : (batches : List WriteOut) → batches ≢ [] → all_left (drop 1 batches) < all_left batches
-dropped_fewer [] some = absurd (some refl)
-dropped_fewer (w ∷ newer) some = omega arith
+joined_no_more : (shares : Bool) (w : WriteOut) (newer : List WriteOut)
+    → all_left (joined shares w newer) ≤ all_left newer
+joined_no_more shares w newer = go shares (is_at may_share w)
+  where
+    go : (a b : Bool)
+        → all_left (if a then (if b then map advanced_of newer else newer) else newer) ≤ all_left newer
+    go true true = mapped_no_more newer
+    go true false = omega arith
+    go false b = omega arith
 
--- the current write-out answers, where the machine isn't broken
-answered_current : (outs : WriteOutsValue) (answer : Flushed) → next_answer outs ≡ answer → answer ≢ flushed.Broken
-    → option_map_or answer_of (current outs.batches) flushed.Broken ≢ flushed.Broken
-answered_current outs answer is some = go outs.broken is
+moved_fewer : (shares : Bool) (batches : List WriteOut)
+    → option_map_or answer_of (moving shares batches) flushed.Broken ≢ flushed.Broken
+    → all_left (moved shares batches) < all_left batches
+moved_fewer shares [] some = absurd (some refl)
+moved_fewer shares (w ∷ newer) some = go (gives_way shares w newer) some (moved_fewer shares newer)
   where
     go : (b : Bool)
-        → (if b then flushed.Broken else option_map_or answer_of (current outs.batches) flushed.Broken) ≡ answer
-        → option_map_or answer_of (current outs.batches) flushed.Broken ≢ flushed.Broken
+        → option_map_or answer_of (if b then moving shares newer else Some w) flushed.Broken ≢ flushed.Broken
+        → (option_map_or answer_of (moving shares newer) flushed.Broken ≢ flushed.Broken
+        → all_left (moved shares newer) < all_left newer)
+        → all_left (if b then w ∷ moved shares newer else advanced_of w ∷ joined shares w newer) < all_left (w ∷ newer)
+    go true some more = omega (arith, more some)
+    go false some more = omega (arith, one_fewer w some, joined_no_more shares w newer)
+
+dropped_no_more : (batches : List WriteOut) → all_left (drop 1 batches) ≤ all_left batches
+dropped_no_more [] = omega arith
+dropped_no_more (w ∷ newer) = omega arith
+
+-- the write-out whose step comes next answers, where the machine isn't broken
+answered_moving : (outs : WriteOutsValue) (answer : Flushed) → next_answer outs ≡ answer → answer ≢ flushed.Broken
+    → option_map_or answer_of (outs_moving outs) flushed.Broken ≢ flushed.Broken
+answered_moving outs answer is some = go outs.broken is
+  where
+    go : (b : Bool)
+        → (if b then flushed.Broken else option_map_or answer_of (outs_moving outs) flushed.Broken) ≡ answer
+        → option_map_or answer_of (outs_moving outs) flushed.Broken ≢ flushed.Broken
     go true is none = some (sym is)
     go false is none = some (sym is ∙ none)
 
 module _ (s : State) (d : List ℕ) (p : ℕ) (new : State) (d' : List ℕ) where
   made_left : (answer : Flushed) → FlushMade s d p answer new d'
-      → left_of new ≡ all_left (batches_after answer s.write_outs.batches)
-  made_left answer made = ap left_of made.done ∙ ap (λ a. all_left (batches_after a s.write_outs.batches)) made.answered
+      → left_of new ≡ all_left (batches_after (shares_syncs s.write_outs.geometry.layout) answer s.write_outs.batches)
+  made_left answer made = ap left_of made.done
+      ∙ ap (λ a. all_left (batches_after (shares_syncs s.write_outs.geometry.layout) a s.write_outs.batches))
+      made.answered
+
+  -- where it answers so, they have fewer left, also with one that is done
+  made_fewer : (answer : Flushed) → next_answer s.write_outs ≡ answer → answer ≢ flushed.Broken
+      → all_left (moved (shares_syncs s.write_outs.geometry.layout) s.write_outs.batches) < left_of s
+  made_fewer answer answered some = moved_fewer (shares_syncs s.write_outs.geometry.layout) s.write_outs.batches
+      (answered_moving s.write_outs answer answered some)
 
   -- a step of the write-outs that was made
   pub flush_fewer : (reply : Reply) → Acts s d p acts.Flush reply new d' → reports_flushed reply ≡ true
       → left_of new < left_of s
-  flush_fewer replies.Going made is = subst (λ n. n < left_of s) (sym (made_left flushed.Going made))
-      (advanced_fewer s.write_outs.batches (answered_current s.write_outs flushed.Going made.answered (λ e. cc)))
-  flush_fewer (replies.Committed number) made is =
-      subst (λ n. n < left_of s) (sym (made_left (flushed.Committed number) made)) (advanced_fewer s.write_outs.batches
-      (answered_current s.write_outs (flushed.Committed number) made.answered (λ e. cc)))
-  flush_fewer (replies.Done number) made is = subst (λ n. n < left_of s) (sym (made_left (flushed.Done number) made))
-      (dropped_fewer s.write_outs.batches made.some)
+  flush_fewer replies.Going made is = omega (
+    arith,
+    made_left flushed.Going made,
+    made_fewer flushed.Going made.answered (λ e. cc),
+  )
+  flush_fewer (replies.Committed number) made is = omega (
+    arith,
+    made_left (flushed.Committed number) made,
+    made_fewer (flushed.Committed number) made.answered (λ e. cc),
+  )
+  flush_fewer (replies.Done number) made is = omega (
+    arith,
+    made_left (flushed.Done number) made,
+    made_fewer (flushed.Done number) made.answered (λ e. cc),
+    dropped_no_more (moved (shares_syncs s.write_outs.geometry.layout) s.write_outs.batches),
+  )
   flush_fewer reply made is = absurd (false≢true is)
 
   same_left : new ≡ s → left_of new ≤ left_of s

@@ -4,7 +4,7 @@ use Rattle.journal.specs.declared.flushed.Flushed.{Flushed}
 use Rattle.volume_codec.specs.Recovery.{Batch}
 use Rattle.volume_codec.specs.Layout.{GeometryValue}
 use Rattle.journal.specs.WriteOut.{WriteOut, FlushValue, after_steps, committing_steps, begun_of, flush_of}
-use Rattle.journal.specs.WriteOut.{write_out_after}
+use Rattle.journal.specs.WriteOut.{advanced_of, write_out_after}
 
 pub record QueuedWriteOut : Type 0 where
   pub write_out : WriteOut
@@ -25,6 +25,10 @@ committed_queued slots batch room = record { write_out = committed_in slots batc
 -- the same of a write-out by itself
 abbrev pub committed_of : GeometryValue → Batch → ℕ → FlushValue
 committed_of g batch room = record (flush_of g batch room) { write_out = committed_in g.slots batch }
+
+-- after one more step
+abbrev pub queued_advanced : QueuedWriteOut → QueuedWriteOut
+queued_advanced queued = record queued { write_out = advanced_of queued.write_out }
 
 -- after a step that answers so
 abbrev pub queued_after : QueuedWriteOut → Flushed → QueuedWriteOut

@@ -1,12 +1,13 @@
 -- What holds of every value of `WriteOuts`.
-use Rattle.std.specs.Prelude.{ℕ, ◌≡◌, ◌≢◌, ◌<◌, ◌≤◌, true, List, [], ◌∷◌, length, Some, IsSome}
+use Rattle.std.specs.Prelude.{ℕ, ◌≡◌, ◌≢◌, ◌<◌, ◌≤◌, ◌⊎◌, true, List, [], ◌∷◌, length, Some, IsSome}
 use Rattle.std.specs.List.{AllByRecursion}
 use Rattle.volume_codec.specs.declared.layout.Layout.{Layout}
 use Rattle.volume_codec.specs.Layout.{GeometryValue, IsGeometry, journals_of, descriptor_blocks}
 use Rattle.journal.specs.declared.stage.Stage.TheVariants.{Applying}
 use Rattle.journal.specs.WriteOut.{WriteOut, next_stage, has_committed}
 use Rattle.journal.specs.WriteOut.{IsBatch}
-use Rattle.journal.specs.WriteOuts.{WriteOutsValue, following}
+use Rattle.journal.specs.WriteOuts.{WriteOutsValue, shares_syncs, is_at, following}
+use Rattle.journal.specs.inside.Tied.{is_applying, is_applied, is_recorded}
 
 -- what holds of every write-out, in a volume of this geometry
 pub record IsFlush (g : GeometryValue) (w : WriteOut) : Type 0 where
@@ -20,17 +21,28 @@ pub record IsWriteOut (g : GeometryValue) (w : WriteOut) : Type 0 where
   pub described : w.described ≡ descriptor_blocks g.slots
   pub going : IsSome (next_stage w)
 
--- one write-out is older than another: its batch is committed, and the newer one waits with its application
+-- One write-out is older than another: its batch is committed, and the newer one, if it is committed, waits with its
+-- application, or is applied while the older one's home blocks are sure.
 pub record IsOlder (older newer : WriteOut) : Type 0 where
   pub marks : older.batch.mark < newer.batch.mark
   pub journals : older.batch.journal ≢ newer.batch.journal
   pub committed : has_committed older ≡ true
-  pub waits : has_committed newer ≡ true → next_stage newer ≡ Some (Applying 0)
+  pub waits : has_committed newer ≡ true
+      → (next_stage newer ≡ Some (Applying 0)) ⊎ ((is_at is_applying newer ≡ true) × (is_at is_applied older ≡ true))
 
 -- each is older than all that follow
 abbrev pub AreInOrder : List WriteOut → Type 0
 AreInOrder [] = Unit {0}
 AreInOrder (w ∷ newer) = AllByRecursion (IsOlder w) newer × AreInOrder newer
+
+-- the home blocks of one are sure once the records of a newer one are
+abbrev pub IsSpaced : WriteOut → WriteOut → Type 0
+IsSpaced older newer = is_at is_recorded newer ≡ true → is_at is_applied older ≡ true
+
+-- each pair of them, as is so where syncs are shared
+abbrev pub AreSpaced : List WriteOut → Type 0
+AreSpaced [] = Unit {0}
+AreSpaced (w ∷ newer) = AllByRecursion (IsSpaced w) newer × AreSpaced newer
 
 -- these batches have the journals in turn, from this one on, and the next batch has the one after them
 abbrev pub AreInTurn : Layout → ℕ → ℕ → List WriteOut → Type 0
@@ -49,4 +61,5 @@ pub record IsSound (outs : WriteOutsValue) : Type 0 where
   pub few : length outs.batches ≤ journals_of outs.geometry.layout
   pub each : AllByRecursion (IsWriteOut outs.geometry) outs.batches
   pub ordered : AreInOrder outs.batches
+  pub spaced : shares_syncs outs.geometry.layout ≡ true → AreSpaced outs.batches
   pub turn : IsTurn outs.geometry.layout outs.next outs.batches

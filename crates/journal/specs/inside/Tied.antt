@@ -49,6 +49,21 @@ is_applying (Applying i) = true
 is_applying SyncingHomes = true
 is_applying stage = false
 
+-- ---- what is sure at a stage
+
+-- records and descriptor
+abbrev pub is_recorded : Stage → Bool
+is_recorded (Recording i) = false
+is_recorded (Describing i) = false
+is_recorded SyncingRecords = false
+is_recorded stage = true
+
+-- all home blocks, while the gate may be open
+abbrev pub is_applied : Stage → Bool
+is_applied Closing = true
+is_applied Finishing = true
+is_applied stage = false
+
 -- the block is one of the descriptor or a record slot of this journal
 abbrev pub IsInJournal : ℕ → ℕ → ℕ → Type 0
 IsInJournal slots j b =

@@ -4,12 +4,12 @@ use Rattle.machine.proofs.Names.{length, take, Option, Some, None, sym, ap, ◌�
 use Rattle.machine.proofs.Names.{option_map_or, take_all, append-nil, zeros}
 use Rattle.machine.proofs.Names.{padded, zeros-nil, Stage, Committing, Finishing, answer_at, Broken}
 use Rattle.machine.proofs.Names.{WriteOut, next_stage, answer_of}
-use Rattle.machine.proofs.Names.{has_uncommitted, next_answer, is_in_memory, State, length_of}
+use Rattle.machine.proofs.Names.{gives_way, moving, outs_moving, next_answer, is_in_memory, State, length_of}
 use Rattle.machine.proofs.Names.{IsInFile, IsSound, next_page, bytes_at_mark, HasSmallMark}
-use Rattle.journal.specs.WriteOuts.{current}
 use Rattle.machine.proofs.Names.{is_page_next, cond-true, cond-false, cut_at_end, lengths_text}
 use Rattle.machine.specs.Rules.{next_record}
 use Rattle.machine.proofs.sound.Frames.{held_in_memory}
+use Rattle.machine.proofs.sound.Sharing.{shared}
 use Rattle.machine.proofs.sound.Records.{next_recorded, size_at_mark}
 
 -- a page whose record is to be written is frozen, in memory, and one of a file
@@ -60,23 +60,23 @@ small-answer_of : (w : WriteOut) (stage : Option Stage) → w.batch.mark < 2 ^ 3
 small-answer_of w None small = tt
 small-answer_of w (Some stage) small = small-answer_at w.batch.mark stage small
 
-small-current : (batches : List WriteOut) → All (λ w. w.batch.mark < 2 ^ 32) batches
-    → HasSmallMark (option_map_or answer_of (current batches) Broken)
-small-current [] all = tt
-small-current (w ∷ newer) all =
-    by (has_uncommitted newer) (small-current newer (λ k d within. all (suc k) d (omega (arith, within))))
+small-moving : (shares : Bool) (batches : List WriteOut) → All (λ w. w.batch.mark < 2 ^ 32) batches
+    → HasSmallMark (option_map_or answer_of (moving shares batches) Broken)
+small-moving shares [] all = tt
+small-moving shares (w ∷ newer) all =
+    by (gives_way shares w newer) (small-moving shares newer (λ k d within. all (suc k) d (omega (arith, within))))
   where
-    by : (b : Bool) → HasSmallMark (option_map_or answer_of (current newer) Broken)
-        → HasSmallMark (option_map_or answer_of (cond b (current newer) (Some w)) Broken)
+    by : (b : Bool) → HasSmallMark (option_map_or answer_of (moving shares newer) Broken)
+        → HasSmallMark (option_map_or answer_of (cond b (moving shares newer) (Some w)) Broken)
     by true later = later
     by false later = small-answer_of w (next_stage w) (all 0 w (omega arith))
 
 pub small-next_answer : (s : State) → IsSound s → HasSmallMark (next_answer s.write_outs)
 small-next_answer s sound =
-    by s.write_outs.broken (small-current s.write_outs.batches
+    by s.write_outs.broken (small-moving (shared s.write_outs) s.write_outs.batches
     (λ k d within. omega (arith, (sound.write_outs.marked k d within).1, sound.write_outs.few_marks)))
   where
-    by : (b : Bool) → HasSmallMark (option_map_or answer_of (current s.write_outs.batches) Broken)
-        → HasSmallMark (cond b Broken (option_map_or answer_of (current s.write_outs.batches) Broken))
+    by : (b : Bool) → HasSmallMark (option_map_or answer_of (outs_moving s.write_outs) Broken)
+        → HasSmallMark (cond b Broken (option_map_or answer_of (outs_moving s.write_outs) Broken))
     by true small = tt
     by false small = small

@@ -8,24 +8,24 @@ use Rattle.machine.proofs.Names.{Contains-push, Contains-get_or, All-contains, F
 use Rattle.machine.proofs.Names.{IsBefore, before_each, AreRising, Stage}
 use Rattle.machine.proofs.Names.{Committing, Applying, Committed, Broken, answer_at, WriteOut, next_stage}
 use Rattle.machine.proofs.Names.{has_committed, advanced_of, next_record, next_home, answer_of, broken_after}
-use Rattle.machine.proofs.Names.{WriteOutsValue, has_uncommitted, advanced, outs_home, next_answer}
-use Rattle.machine.proofs.Names.{outs_after, current_stage, batches_after, AreInOrder, after_committing}
-use Rattle.machine.proofs.Names.{newest_of, current-newest, advanced-newest, committed-at, current_committed}
-use Rattle.machine.proofs.Names.{older_committed, batch_before, consistent_within, consistent_after, consistent_failed}
+use Rattle.machine.proofs.Names.{WriteOutsValue, has_uncommitted, moving, moved, outs_moving, outs_home, next_answer}
+use Rattle.machine.proofs.Names.{outs_after, current_stage, batches_after, AreOlderCommitted, after_committing}
+use Rattle.machine.proofs.Names.{committed-at, batch_before, consistent_within, consistent_after, consistent_failed}
 use Rattle.machine.proofs.Names.{consistent_other, State, length_of, home_of}
 use Rattle.machine.proofs.Names.{cut_at_end, IsSound, IsPrepared, next_page}
 use Rattle.machine.proofs.Names.{bytes_with, bytes_at_mark, work_asked, after_record, after_failure, File, journals_of}
 use Rattle.machine.proofs.Names.{AreHomes, Batch, SuperValue, geometry_of, Flushed, Sync, worked, TornFromWork}
 use Rattle.machine.proofs.Names.{LeftWithin, IsConsistent, Checkpoint, Lock, not_running, Event, Mark, Acknowledge}
 use Rattle.machine.proofs.Names.{reason_against, Observed, change_in, IsLost, IsWaiting, IsWritten}
-use Rattle.journal.specs.WriteOuts.{current}
+use Rattle.machine.proofs.sound.Sharing.{shared, moving_there}
+use Rattle.machine.proofs.sound.Waiting.{newest_step}
 use Rattle.machine.specs.declared.act.Act.TheVariants as acts
 use Rattle.machine.specs.Rules.{next_record as record_asked}
 use Rattle.journal.specs.declared.flushed.Flushed.TheVariants as flushed
 use Rattle.page_entry.specs.declared.refusal.Refusal.TheVariants as refusals
 use Rattle.machine.proofs.durable.Lists.{only_one, some_same, none_some, contains_none}
 use Rattle.machine.proofs.durable.Pages.{bytes_with-freed}
-use Rattle.machine.proofs.durable.Uncommitted.{current_there, none_uncommitted, uncommitted_before, waits_after}
+use Rattle.machine.proofs.durable.Uncommitted.{none_uncommitted, uncommitted_before, waits_after}
 use Rattle.machine.proofs.durable.Histories.{calm_of, quiet_nothing, quiet_acknowledge, IsFresh}
 use Rattle.machine.proofs.durable.Histories.{written_same, written_new, AreFrozenRecords, SameFiles}
 use Rattle.machine.proofs.durable.Histories.{record_as, acknowledge_same, acknowledge_no_mark, marks_more}
@@ -69,9 +69,9 @@ size_of_record s sound =
 -- ---- the record that is asked for
 
 -- the place of the record whose home block comes next
-home_record : (batches : List WriteOut) (home : ℕ) → option_and_then next_home (current batches) ≡ Some home
-    → (i : ℕ) × (option_and_then next_record (current batches) ≡ Some i)
-home_record batches home e = by (current batches) e
+home_record : (next : Option WriteOut) (home : ℕ) → option_and_then next_home next ≡ Some home
+    → (i : ℕ) × (option_and_then next_record next ≡ Some i)
+home_record next home e = by next e
   where
     mapped : (f : ℕ → ℕ) (o : Option ℕ) → option_map f o ≡ Some home → (i : ℕ) × (o ≡ Some i)
     mapped f None e = absurd (none_some home e)
@@ -92,10 +92,10 @@ record_is_new s new sound whole fits lengths frozen home e = elim (cases_Bool (i
       page_record s page ∙ sym (frozen 0 (record { file = 0; page = 0 }) next.some)
       ∙ ap new (some_same (home_of s.table (next_page s)) home (sym next.home ∙ e)))
   | inr other ↦
-      (let at = home_record s.write_outs.batches home (sym
-      (cond-false s.write_outs.broken None (option_and_then next_home (current s.write_outs.batches)) whole) ∙ e) in
+      (let at = home_record (outs_moving s.write_outs) home (sym
+      (cond-false s.write_outs.broken None (option_and_then next_home (outs_moving s.write_outs)) whole) ∙ e) in
       let c = coming s sound whole at.0 at.1 in
-      let there = current_there s.write_outs.batches c.w c.current_is in
+      let there = moving_there (shared s.write_outs) s.write_outs.batches c.w c.moving_is in
       let source = All-contains (IsSource s.table s.hardware.memory) c.w.batch.homes c.home
       (All-contains (λ (w : WriteOut). All (IsSource s.table s.hardware.memory) w.batch.homes) s.write_outs.batches c.w
       sound.write_outs.sources there) c.among in
@@ -125,46 +125,37 @@ committing w (Some Committing) number e = (refl, committed_same w.batch.mark num
     committed_same m n e = cc
 committing w o number e = cc
 
-pub record IsCommitting (batches : List WriteOut) (number : ℕ) : Type 0 where
+pub record IsCommitting (shares : Bool) (batches : List WriteOut) (number : ℕ) : Type 0 where
   pub w : WriteOut
   pub there : Contains batches w
   pub mark : w.batch.mark ≡ number
-  pub none : has_uncommitted (advanced batches) ≡ false
+  pub none : has_uncommitted (moved shares batches) ≡ false
 
-pub commits : (batches : List WriteOut) (number : ℕ) → AreInOrder batches
+pub commits : (shares : Bool) (batches : List WriteOut) (number : ℕ) → AreOlderCommitted batches
     → ((w : WriteOut) → Contains batches w → 0 < length w.batch.homes)
-    → option_map_or answer_of (current batches) Broken ≡ Committed number → IsCommitting batches number
-commits batches number ordered some e = by (current batches) refl e
+    → option_map_or answer_of (moving shares batches) Broken ≡ Committed number → IsCommitting shares batches number
+commits shares batches number older some e = by (moving shares batches) refl e
   where
-    by : (o : Option WriteOut) → current batches ≡ o → option_map_or answer_of o Broken ≡ Committed number
-        → IsCommitting batches number
+    by : (o : Option WriteOut) → moving shares batches ≡ o → option_map_or answer_of o Broken ≡ Committed number
+        → IsCommitting shares batches number
     by None is e = cc
     by (Some w) is e =
         let stage = committing w (next_stage w) number e in
-        elim (cases_Bool (has_uncommitted batches)) [
-          | inr none ↦ absurd
-              (both_ways (has_committed w) (committed-at w Committing stage.0) (current_committed batches w none is))
-          | inl has ↦
-              (let n = newest_of batches ordered has in
-              let same : w ≡ n.newest =
-              some_same w n.newest (sym is ∙ ap current n.are ∙ current-newest n.others n.newest n.uncommitted) in
-              let there : Contains batches w = subst (λ (l : List WriteOut). Contains l w) (sym n.are)
-              (subst (Contains (n.others ++ n.newest ∷ [])) (sym same) (Contains-push n.others n.newest)) in
-              let late : has_committed (advanced_of w) ≡ true = committed-at (advanced_of w) (Applying 0)
-              (after_committing (length w.batch.homes) w.described w.steps stage.0 (some w there)) in
-              let found : IsCommitting batches number = record {
-                w = w;
-                there = there;
-                mark = stage.1;
-                none = ap has_uncommitted (ap advanced n.are ∙ advanced-newest n.others n.newest n.uncommitted)
-                    ∙ list_any-append (λ (x : WriteOut). not (has_committed x)) n.others (advanced_of n.newest ∷ [])
-                    ∙ or_from (has_uncommitted n.others) (has_uncommitted (advanced_of n.newest ∷ []))
-                    (older_committed n.others n.newest n.older)
-                    (or_from (not (has_committed (advanced_of n.newest))) false
-                    (not_from_true (has_committed (advanced_of n.newest))
-                    (subst (λ (x : WriteOut). has_committed (advanced_of x) ≡ true) same late)) refl);
-              } in found)
-        ]
+        let there = moving_there shares batches w is in
+        let newest = newest_step shares batches w older is (committed-at w Committing stage.0) in
+        let late : has_committed (advanced_of w) ≡ true = committed-at (advanced_of w) (Applying 0)
+        (after_committing (length w.batch.homes) w.described w.steps stage.0 (some w there)) in
+        record {
+          w = w;
+          there = there;
+          mark = stage.1;
+          none = ap has_uncommitted newest.after
+              ∙ list_any-append (λ (x : WriteOut). not (has_committed x)) newest.older (advanced_of w ∷ [])
+              ∙ or_from (has_uncommitted newest.older) (has_uncommitted (advanced_of w ∷ []))
+              newest.late
+              (or_from (not (has_committed (advanced_of w))) false
+              (not_from_true (has_committed (advanced_of w)) late) refl);
+        }
 
 -- ---- what the state is after a step
 
@@ -222,12 +213,12 @@ module _ (s : State) (outs : WriteOutsValue) where
   stepped_records false new sound are = are
 
 -- each batch after a step was there before it
-marks_after : (answer : Flushed) (batches : List WriteOut) (prefix : List Event)
+marks_after : (shares : Bool) (answer : Flushed) (batches : List WriteOut) (prefix : List Event)
     → All (λ (y : WriteOut). Contains prefix (Mark y.batch.mark)) batches
-    → All (λ (y : WriteOut). Contains prefix (Mark y.batch.mark)) (batches_after answer batches)
-marks_after answer batches prefix all k d lt =
-    let w = get_or (batches_after answer batches) k d in
-    let was = batch_before answer batches w (Contains-get_or (batches_after answer batches) k d lt) in
+    → All (λ (y : WriteOut). Contains prefix (Mark y.batch.mark)) (batches_after shares answer batches)
+marks_after shares answer batches prefix all k d lt =
+    let w = get_or (batches_after shares answer batches) k d in
+    let was = batch_before shares answer batches w (Contains-get_or (batches_after shares answer batches) k d lt) in
     subst (λ (b : Batch). Contains prefix (Mark b.mark)) was.2
     (All-contains (λ (y : WriteOut). Contains prefix (Mark y.batch.mark)) batches was.0 all was.1)
 
@@ -307,7 +298,7 @@ module _ (files : List File) (observed : Observed) (s : State) (seen : List ℕ)
         (sym (same_files s outs records).table) is
 
     marks_now : All (λ (y : WriteOut). Contains w.marked (Mark y.batch.mark)) outs.batches
-    marks_now = marks_after (next_answer s.write_outs) s.write_outs.batches w.marked w.marks
+    marks_now = marks_after (shared s.write_outs) (next_answer s.write_outs) s.write_outs.batches w.marked w.marks
 
     still_whole : (answer : Flushed) → (answer ≡ flushed.Device → ⊥) → broken_after answer s.write_outs.broken ≡ false
     still_whole flushed.Device other = absurd (other refl)
@@ -319,15 +310,17 @@ module _ (files : List File) (observed : Observed) (s : State) (seen : List ℕ)
 
     fresh_still : IsFresh after_it w.before
     fresh_still y there early has =
-        let was = uncommitted_before (next_answer s.write_outs) s.write_outs.batches y there early in
+        let was = uncommitted_before (shared s.write_outs) (next_answer s.write_outs) s.write_outs.batches y there
+        early in
         w.fresh was.before was.there was.early
         (subst (λ (b : Batch). Contains w.before (Mark b.mark)) (sym was.batch) has)
 
     -- what waited still does, or is committed now
     waits_now : (n : ℕ) → IsWaiting s.write_outs.batches n
         → IsWaiting outs.batches n ⊎ (next_answer s.write_outs ≡ flushed.Committed n)
-    waits_now n wait = waits_after s.write_outs.batches (next_answer s.write_outs) (sym (cond-false s.write_outs.broken
-        flushed.Broken (option_map_or answer_of (current s.write_outs.batches) flushed.Broken) flush_whole)) n wait
+    waits_now n wait = waits_after (shared s.write_outs) s.write_outs.batches (next_answer s.write_outs) (sym
+        (cond-false s.write_outs.broken
+        flushed.Broken (option_map_or answer_of (outs_moving s.write_outs) flushed.Broken) flush_whole)) n wait
 
     -- the batch isn't committed by it, or was before
     pub flush_goes_on : (next_answer s.write_outs ≡ flushed.Device → ⊥)
@@ -354,14 +347,15 @@ module _ (files : List File) (observed : Observed) (s : State) (seen : List ℕ)
         (record observed { history = observed.history ++ Acknowledge number ∷ [] }) after_it
         (worked seen (work_asked s)) may'
     flush_commits number is =
-        let answer : option_map_or answer_of (current s.write_outs.batches) flushed.Broken ≡ flushed.Committed number =
+        let answer : option_map_or answer_of (outs_moving s.write_outs) flushed.Broken ≡ flushed.Committed number =
         sym (cond-false s.write_outs.broken flushed.Broken
-        (option_map_or answer_of (current s.write_outs.batches) flushed.Broken) flush_whole) ∙ is in
-        let at = commits s.write_outs.batches number consistent.sound.ordered
+        (option_map_or answer_of (outs_moving s.write_outs) flushed.Broken) flush_whole) ∙ is in
+        let at = commits (shared s.write_outs) s.write_outs.batches number sound.write_outs.older
         (λ y there. (All-contains (λ (y : WriteOut). AreHomes (geometry_of s.table) y.batch.homes)
         s.write_outs.batches y sound.write_outs.homes there).some) answer in
         let none : has_uncommitted outs.batches ≡ false =
-        ap (λ (a : Flushed). has_uncommitted (batches_after a s.write_outs.batches)) is ∙ at.none in
+        ap (λ (a : Flushed). has_uncommitted (batches_after (shared s.write_outs) a s.write_outs.batches)) is
+        ∙ at.none in
         let in_new : Contains w.marked (Mark number) = subst (λ n. Contains w.marked (Mark n)) at.mark (All-contains
         (λ (y : WriteOut). Contains w.marked (Mark y.batch.mark)) s.write_outs.batches at.w w.marks at.there) in
         record {

@@ -1,16 +1,18 @@
 -- Batches that aren't committed: a step makes none of one that is.
-use Rattle.machine.proofs.Names.{◌≡◌, ◌≤◌, ◌+◌, ◌⊎◌, ℕ, zero, suc, true, false, not, List, [], ◌∷◌, Option, Some, None}
-use Rattle.machine.proofs.Names.{inl, inr, refl, sym, ap, ◌∙◌, subst, arith, map, Contains, AllByRecursion}
-use Rattle.machine.proofs.Names.{option_map_or, cond-true, cond-false, cases_Bool, both_ways, or_from, not_from_true}
+use Rattle.machine.proofs.Names.{◌≡◌, ◌≤◌, ◌+◌, ◌⊎◌, ℕ, zero, suc, Bool, true, false, List, [], ◌∷◌, Option, Some, None}
+use Rattle.machine.proofs.Names.{inl, inr, refl, sym, ap, ◌∙◌, subst, arith, map, drop, Contains, AllByRecursion}
+use Rattle.machine.proofs.Names.{option_map_or, cond-true, cond-false, cases_Bool, both_ways}
 use Rattle.machine.proofs.Names.{false_from_ne_true, Contains-append_right, Batch, Flushed, Going, Committed, Done}
 use Rattle.machine.proofs.Names.{Device, Broken, Stage, Recording, Describing, SyncingRecords, Opening, Committing}
-use Rattle.machine.proofs.Names.{is_committed, answer_at, WriteOut, begun_of, next_stage, has_committed, advanced_of}
-use Rattle.machine.proofs.Names.{answer_of, has_uncommitted, advanced, batches_after, HasBlock, IsOlder, AreInOrder}
-use Rattle.machine.proofs.Names.{IsAt, stage_is, committed_parts, done_committed, IsWaiting, FilePage, State, home_of}
+use Rattle.machine.proofs.Names.{Finishing, is_ahead, is_at, is_committed, answer_at, WriteOut, begun_of, next_stage}
+use Rattle.machine.proofs.Names.{has_committed, advanced_of, moving, moved}
+use Rattle.machine.proofs.Names.{answer_of, has_uncommitted, batches_after, HasBlock, IsOlder, AreInOrder}
+use Rattle.machine.proofs.Names.{IsAt, stage_is, committed_parts, IsWaiting, FilePage, State, home_of}
 use Rattle.machine.proofs.Names.{IsSound, waiting_homes, file_homes}
 use Rattle.journal.specs.WriteOuts.{current}
+use Rattle.machine.proofs.sound.Sharing.{AreStepped, Makes, each_stepped, moving_there, ending}
 use Rattle.machine.proofs.sound.Waiting.{waiting-none, blocks, committed_steps, committed_still}
-use Rattle.machine.proofs.durable.Lists.{first_or, some_same, none_some, nothing_mapped}
+use Rattle.machine.proofs.durable.Lists.{first_or, some_same, none_some, nothing_mapped, contains_drop}
 use Rattle.machine.proofs.sound.Ended.{frozen_has_block}
 
 -- one that isn't committed after a step wasn't before it
@@ -43,42 +45,43 @@ later x newer w was = record {
   early = was.early;
 }
 
-advanced_before : (batches : List WriteOut) (w : WriteOut) → Contains (advanced batches) w → has_committed w ≡ false
-    → WasUncommitted batches w
-advanced_before [] w there early = absurd (omega (arith, there.1))
-advanced_before (x ∷ newer) w there early = elim (cases_Bool (has_uncommitted newer)) [
-  | inl some ↦ elim (first_or x (advanced newer) w (subst (λ (l : List WriteOut). Contains l w)
-      (cond-true (has_uncommitted newer) (x ∷ advanced newer) (advanced_of x ∷ newer) some) there)) [
-        | inl e ↦ record {
-          before = x;
-          there = (0, omega arith, refl);
-          batch = ap (λ (y : WriteOut). y.batch) e;
-          early = ap has_committed e ∙ early;
-        }
-        | inr rest ↦ later x newer w (advanced_before newer w rest early)
-      ]
-  | inr none ↦ elim (first_or (advanced_of x) newer w (subst (λ (l : List WriteOut). Contains l w)
-      (cond-false (has_uncommitted newer) (x ∷ advanced newer) (advanced_of x ∷ newer) none) there)) [
-        | inl e ↦ record {
-          before = x;
-          there = (0, omega arith, refl);
-          batch = ap (λ (y : WriteOut). y.batch) e;
-          early = still_uncommitted x (ap has_committed e ∙ early);
-        }
-        | inr rest ↦
-            record { before = w; there = Contains-append_right (x ∷ []) newer w rest; batch = refl; early = early }
-      ]
+stepped_before : (P : WriteOut → Type 0) (xs ys : List WriteOut) → AreStepped P xs ys → (w : WriteOut) → Contains ys w
+    → has_committed w ≡ false → WasUncommitted xs w
+stepped_before P [] [] are w there early = absurd (omega (arith, there.1))
+stepped_before P (x ∷ xs) (y ∷ ys) are w there early = elim (first_or y ys w there) [
+  | inl e ↦ record {
+    before = x;
+    there = (0, omega arith, refl);
+    batch = (one are.0).0 ∙ ap (λ (z : WriteOut). z.batch) e;
+    early = (one are.0).1 (ap has_committed e ∙ early);
+  }
+  | inr rest ↦ later x xs w (stepped_before P xs ys are.1 w rest early)
 ]
+  where
+    one : ((y ≡ x) ⊎ ((y ≡ advanced_of x) × P x))
+        → (x.batch ≡ y.batch) × (has_committed y ≡ false → has_committed x ≡ false)
+    one (inl same) = (ap (λ (z : WriteOut). z.batch) (sym same), λ still. ap has_committed (sym same) ∙ still)
+    one (inr step) = (
+      ap (λ (z : WriteOut). z.batch) (sym step.0),
+      λ still. still_uncommitted x (ap has_committed (sym step.0) ∙ still),
+    )
+stepped_before P xs ys are w there early = absurd are
 
-pub uncommitted_before : (answer : Flushed) (batches : List WriteOut) (w : WriteOut)
-    → Contains (batches_after answer batches) w → has_committed w ≡ false → WasUncommitted batches w
-uncommitted_before Going batches w there early = advanced_before batches w there early
-uncommitted_before (Committed mark) batches w there early = advanced_before batches w there early
-uncommitted_before (Done mark) [] w there early = absurd (omega (arith, there.1))
-uncommitted_before (Done mark) (x ∷ newer) w there early =
-    record { before = w; there = Contains-append_right (x ∷ []) newer w there; batch = refl; early = early }
-uncommitted_before Device batches w there early = record { before = w; there = there; batch = refl; early = early }
-uncommitted_before Broken batches w there early = record { before = w; there = there; batch = refl; early = early }
+moved_before : (shares : Bool) (batches : List WriteOut) (w : WriteOut) → Contains (moved shares batches) w
+    → has_committed w ≡ false → WasUncommitted batches w
+moved_before shares batches = stepped_before (Makes shares batches) batches (moved shares batches)
+    (each_stepped shares batches)
+
+pub uncommitted_before : (shares : Bool) (answer : Flushed) (batches : List WriteOut) (w : WriteOut)
+    → Contains (batches_after shares answer batches) w → has_committed w ≡ false → WasUncommitted batches w
+uncommitted_before shares Going batches w there early = moved_before shares batches w there early
+uncommitted_before shares (Committed mark) batches w there early = moved_before shares batches w there early
+uncommitted_before shares (Done mark) batches w there early =
+    moved_before shares batches w (contains_drop 1 (moved shares batches) w there) early
+uncommitted_before shares Device batches w there early =
+    record { before = w; there = there; batch = refl; early = early }
+uncommitted_before shares Broken batches w there early =
+    record { before = w; there = there; batch = refl; early = early }
 
 -- ---- a batch that waits
 
@@ -113,97 +116,96 @@ older_waits x newer n wait = record {
   mark = wait.mark;
 }
 
--- after a step a batch still waits, or the step answered that it is committed
-waits_on : (batches : List WriteOut) (n : ℕ) → IsWaiting batches n
-    → IsWaiting (advanced batches) n ⊎ (option_map_or answer_of (current batches) Broken ≡ Committed n)
-waits_on [] n wait = absurd (omega (arith, wait.there.1))
-waits_on (x ∷ newer) n wait = elim (cases_Bool (has_uncommitted newer)) [
-  | inl some ↦
-      (let after : advanced (x ∷ newer)
-      ≡ x ∷ advanced newer = cond-true (has_uncommitted newer) (x ∷ advanced newer) (advanced_of x ∷ newer) some in
-      let now : current (x ∷ newer) ≡ current newer = cond-true (has_uncommitted newer) (current newer) (Some x) some in
-      elim (first_or x newer wait.w wait.there) [
-        | inl e ↦ inl (subst (λ (l : List WriteOut). IsWaiting l n) (sym after) (first_waits e))
-        | inr rest ↦
-            elim (waits_on newer n (record { w = wait.w; there = rest; early = wait.early; mark = wait.mark })) [
-              | inl still ↦
-                  inl (subst (λ (l : List WriteOut). IsWaiting l n) (sym after)
-                  (older_waits x (advanced newer) n still))
-              | inr e ↦ inr (ap (λ (o : Option WriteOut). option_map_or answer_of o Broken) now ∙ e)
-            ]
-      ])
-  | inr none ↦
-      (let after : advanced (x ∷ newer) ≡ advanced_of x
-      ∷ newer = cond-false (has_uncommitted newer) (x ∷ advanced newer) (advanced_of x ∷ newer) none in
-      let now : current (x ∷ newer) ≡ Some x = cond-false (has_uncommitted newer) (current newer) (Some x) none in
-      elim (first_or x newer wait.w wait.there) [
-        | inl e ↦ elim (own_step x (ap has_committed e ∙ wait.early)) [
-          | inl early ↦ inl (subst (λ (l : List WriteOut). IsWaiting l n) (sym after) (record {
-            w = advanced_of x;
-            there = (0, omega arith, refl);
-            early = early;
-            mark = ap (λ (y : WriteOut). y.batch.mark) e ∙ wait.mark;
-          }))
-          | inr answer ↦ inr (ap (λ (o : Option WriteOut). option_map_or answer_of o Broken) now ∙ answer
-              ∙ ap Committed (ap (λ (y : WriteOut). y.batch.mark) e ∙ wait.mark))
-        ]
-        | inr rest ↦ inl (subst (λ (l : List WriteOut). IsWaiting l n) (sym after) (older_waits (advanced_of x) newer n
-            (record { w = wait.w; there = rest; early = wait.early; mark = wait.mark })))
-      ])
+-- one that isn't ahead isn't committed by its next step
+not_committing : (x : WriteOut) (n : ℕ) → is_at is_ahead x ≡ false → answer_of x ≡ Committed n → ⊥
+not_committing x n behind e = by (next_stage x) behind e
+  where
+    by : (o : Option Stage) → option_map_or is_ahead o false ≡ false
+        → option_map_or (answer_at x.batch.mark) o Broken ≡ Committed n → ⊥
+    by None behind e = absurd (cc)
+    by (Some Committing) behind e = both_ways true behind refl
+    by (Some Finishing) behind e = absurd (cc)
+    by (Some stage) behind e = absurd (cc)
+
+-- after steps a batch still waits, or one answered that it is committed
+waits_stepped : (P : WriteOut → Type 0) (xs ys : List WriteOut) → AreStepped P xs ys → (n : ℕ) → IsWaiting xs n
+    → IsWaiting ys n ⊎ ((x : WriteOut) × P x × (answer_of x ≡ Committed n))
+waits_stepped P [] [] are n wait = absurd (omega (arith, wait.there.1))
+waits_stepped P (x ∷ xs) (y ∷ ys) are n wait = elim (first_or x xs wait.w wait.there) [
+  | inl e ↦ first are.0 (ap has_committed e ∙ wait.early) (ap (λ (z : WriteOut). z.batch.mark) e ∙ wait.mark)
+  | inr rest ↦ elim (waits_stepped P xs ys are.1 n
+      (record { w = wait.w; there = rest; early = wait.early; mark = wait.mark })) [
+        | inl still ↦ inl (older_waits y ys n still)
+        | inr answered ↦ inr answered
+      ]
 ]
   where
-    first_waits : x ≡ wait.w → IsWaiting (x ∷ advanced newer) n
-    first_waits e = record {
-      w = x;
-      there = (0, omega arith, refl);
-      early = ap has_committed e ∙ wait.early;
-      mark = ap (λ (y : WriteOut). y.batch.mark) e ∙ wait.mark;
-    }
+    here : has_committed y ≡ false → y.batch.mark ≡ n → IsWaiting (y ∷ ys) n
+    here early mark = record { w = y; there = (0, omega arith, refl); early = early; mark = mark }
 
--- a step that ends a write-out comes where none waits
-pub none_when_done : (batches : List WriteOut) (mark : ℕ) → option_map_or answer_of (current batches) Broken ≡ Done mark
-    → has_uncommitted batches ≡ false
-none_when_done [] mark e = refl
-none_when_done (x ∷ newer) mark e = elim (cases_Bool (has_uncommitted newer)) [
-  | inl some ↦
-      (let now : current (x ∷ newer)
-      ≡ current newer = cond-true (has_uncommitted newer) (current newer) (Some x) some in
-      absurd (both_ways (has_uncommitted newer) (none_when_done newer mark
-      (sym (ap (λ (o : Option WriteOut). option_map_or answer_of o Broken) now) ∙ e)) some))
-  | inr none ↦
-      (let now : current (x ∷ newer) ≡ Some x = cond-false (has_uncommitted newer) (current newer) (Some x) none in
-      or_from (not (has_committed x)) (has_uncommitted newer) (not_from_true (has_committed x)
-      (done_committed x mark (sym (ap (λ (o : Option WriteOut). option_map_or answer_of o Broken) now) ∙ e))) none)
-]
+    first : ((y ≡ x) ⊎ ((y ≡ advanced_of x) × P x)) → has_committed x ≡ false → x.batch.mark ≡ n
+        → IsWaiting (y ∷ ys) n ⊎ ((x : WriteOut) × P x × (answer_of x ≡ Committed n))
+    first (inl same) early mark = inl (here (ap has_committed same ∙ early) (ap (λ (z : WriteOut). z.batch.mark) same
+        ∙ mark))
+    first (inr step) early mark = elim (own_step x early) [
+      | inl still ↦ inl (here (ap has_committed step.0 ∙ still) (ap (λ (z : WriteOut). z.batch.mark) step.0 ∙ mark))
+      | inr answer ↦ inr (x, step.1, answer ∙ ap Committed mark)
+    ]
+waits_stepped P xs ys are n wait = absurd are
 
-pub waits_after : (batches : List WriteOut) (answer : Flushed)
-    → option_map_or answer_of (current batches) Broken ≡ answer → (n : ℕ) → IsWaiting batches n
-    → IsWaiting (batches_after answer batches) n ⊎ (answer ≡ Committed n)
-waits_after batches answer is n wait = by answer is
+waits_on : (shares : Bool) (batches : List WriteOut) (n : ℕ) → IsWaiting batches n
+    → IsWaiting (moved shares batches) n
+    ⊎ (option_map_or answer_of (moving shares batches) Broken ≡ Committed n)
+waits_on shares batches n wait = elim (waits_stepped (Makes shares batches) batches (moved shares batches)
+    (each_stepped shares batches) n wait) [
+      | inl still ↦ inl still
+      | inr answered ↦ inr (by answered.0 answered.1 answered.2)
+    ]
   where
-    on : (a : Flushed) → option_map_or answer_of (current batches) Broken ≡ a
-        → IsWaiting (advanced batches) n ⊎ (a ≡ Committed n)
-    on a is = elim (waits_on batches n wait) [ inl still ↦ inl still | inr e ↦ inr (sym is ∙ e) ]
+    by : (x : WriteOut) → Makes shares batches x → answer_of x ≡ Committed n
+        → option_map_or answer_of (moving shares batches) Broken ≡ Committed n
+    by x (inl mover) e = ap (λ (o : Option WriteOut). option_map_or answer_of o Broken) mover ∙ e
+    by x (inr behind) e = absurd (not_committing x n behind e)
 
-    by : (a : Flushed) → option_map_or answer_of (current batches) Broken ≡ a
-        → IsWaiting (batches_after a batches) n ⊎ (a ≡ Committed n)
+-- of those that go on where the oldest is done, a batch still waits that did
+waits_ended : (shares : Bool) (batches : List WriteOut) (mark n : ℕ)
+    → option_map_or answer_of (moving shares batches) Broken ≡ Done mark → IsWaiting batches n
+    → IsWaiting (drop 1 (moved shares batches)) n
+waits_ended shares batches mark n e wait =
+    let is = ending shares batches mark e in
+    let late : has_committed is.oldest ≡ true =
+    ap (λ (o : Option Stage). option_map_or is_committed o true) is.stage in
+    elim (first_or is.oldest is.newer wait.w (subst (λ (l : List WriteOut). Contains l wait.w) is.are wait.there)) [
+      | inl same ↦ absurd (both_ways (has_committed wait.w) wait.early (sym (ap has_committed same) ∙ late))
+      | inr rest ↦ elim (waits_stepped (λ x. is_at is_ahead x ≡ false) is.newer (drop 1 (moved shares batches))
+          is.stepped n (record { w = wait.w; there = rest; early = wait.early; mark = wait.mark })) [
+            | inl still ↦ still
+            | inr answered ↦ absurd (not_committing answered.0 n answered.1 answered.2)
+          ]
+    ]
+
+pub waits_after : (shares : Bool) (batches : List WriteOut) (answer : Flushed)
+    → option_map_or answer_of (moving shares batches) Broken ≡ answer → (n : ℕ) → IsWaiting batches n
+    → IsWaiting (batches_after shares answer batches) n ⊎ (answer ≡ Committed n)
+waits_after shares batches answer is n wait = by answer is
+  where
+    on : (a : Flushed) → option_map_or answer_of (moving shares batches) Broken ≡ a
+        → IsWaiting (moved shares batches) n ⊎ (a ≡ Committed n)
+    on a is = elim (waits_on shares batches n wait) [ inl still ↦ inl still | inr e ↦ inr (sym is ∙ e) ]
+
+    by : (a : Flushed) → option_map_or answer_of (moving shares batches) Broken ≡ a
+        → IsWaiting (batches_after shares a batches) n ⊎ (a ≡ Committed n)
     by Going is = on Going is
     by (Committed mark) is = on (Committed mark) is
-    by (Done mark) is = absurd (none_uncommitted batches wait.w (none_when_done batches mark is) wait.there wait.early)
+    by (Done mark) is = inl (waits_ended shares batches mark n is wait)
     by Device is = inl wait
     by Broken is = inl wait
 
--- ---- the one whose step comes next
+-- ---- the one whose stage decides what a crash leaves
 
 -- is one of them
 pub current_there : (batches : List WriteOut) (y : WriteOut) → current batches ≡ Some y → Contains batches y
-current_there [] y is = absurd (none_some y is)
-current_there (x ∷ newer) y is = elim (cases_Bool (has_uncommitted newer)) [
-  | inl some ↦ Contains-append_right (x ∷ []) newer y
-      (current_there newer y (sym (cond-true (has_uncommitted newer) (current newer) (Some x) some) ∙ is))
-  | inr none ↦
-      (0, omega arith, some_same x y (sym (cond-false (has_uncommitted newer) (current newer) (Some x) none) ∙ is))
-]
+current_there batches y is = moving_there false batches y is
 
 -- and is the one that waits
 

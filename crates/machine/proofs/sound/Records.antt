@@ -7,11 +7,12 @@ use Rattle.machine.proofs.Names.{frame_at, copy_at, page_of, bytes_of, HasNoCopy
 use Rattle.machine.proofs.Names.{is_of_page, same_page, same_page-true, list_any-no_page, is_in_memory, State, home_of}
 use Rattle.machine.proofs.Names.{next_page, bytes_with, bytes_at_mark, IsMemory, IsSound}
 use Rattle.journal.specs.WriteOut.{next_record as record_of}
-use Rattle.journal.specs.WriteOuts.{current}
+use Rattle.machine.proofs.Names.{outs_moving}
 use Rattle.machine.proofs.sound.Lists.{AreOnce, held_frame, once_frames, once_copies}
 use Rattle.machine.proofs.Names.{◌+◌, drop, drop_more, leb, option_map_or, false≢true, Contains, Contains-get_or}
-use Rattle.machine.proofs.Names.{WriteOut, advanced}
+use Rattle.machine.proofs.Names.{WriteOut}
 use Rattle.machine.proofs.Names.{first_file_home, file_homes, is_page_next}
+use Rattle.machine.proofs.sound.Sharing.{shared, outs_moved}
 use Rattle.machine.proofs.sound.Waiting.{waits_of, waiting, recorded}
 use Rattle.machine.proofs.sound.Frames.{held_in_memory}
 
@@ -28,16 +29,16 @@ pub record IsComing (s : State) : Type 0 where
   pub home : ℕ
   pub is : outs_home s.write_outs ≡ Some home
   pub w : WriteOut
-  pub current_is : current s.write_outs.batches ≡ Some w
+  pub moving_is : outs_moving s.write_outs ≡ Some w
   pub among : Contains w.batch.homes home
   pub rest : List ℕ
   pub waits : waiting s.write_outs.batches ≡ home ∷ rest
-  pub after : waiting (advanced s.write_outs.batches) ≡ rest
+  pub after : waiting (outs_moved s.write_outs) ≡ rest
 
 pub coming : (s : State) → IsSound s → s.write_outs.broken ≡ false → (i : ℕ)
-    → option_and_then record_of (current s.write_outs.batches) ≡ Some i → IsComing s
+    → option_and_then record_of (outs_moving s.write_outs) ≡ Some i → IsComing s
 coming s sound whole i is =
-    let made = recorded s.write_outs.batches i sound.write_outs.older is in
+    let made = recorded (shared s.write_outs) s.write_outs.batches i sound.write_outs.older is in
     let w = made.w in
     let few : w.steps < length w.batch.homes = omega (arith, made.steps, made.within) in
     let its_record : record_of w ≡ Some i = sym (ap (option_and_then record_of) made.is) ∙ is in
@@ -47,11 +48,11 @@ coming s sound whole i is =
     ap (λ n. get_or w.batch.homes n 0) (sym made.steps) in
     record {
       home = get_or w.batch.homes w.steps 0;
-      is = cond-false s.write_outs.broken None (option_and_then next_home (current s.write_outs.batches)) whole
+      is = cond-false s.write_outs.broken None (option_and_then next_home (outs_moving s.write_outs)) whole
           ∙ ap (option_and_then next_home) made.is
           ∙ ap (option_map (slice_index w.batch.homes)) its_record ∙ ap (λ n. Some n) at;
       w = w;
-      current_is = made.is;
+      moving_is = made.is;
       among = Contains-get_or w.batch.homes w.steps 0 few;
       rest = drop (w.steps + 1) w.batch.homes;
       waits = made.before ∙ left;
@@ -70,30 +71,30 @@ no_home (Some w) none = ap (option_map (slice_index w.batch.homes)) none
 
 -- no page's record comes where none does
 pub no_page_next : (s : State) → s.write_outs.broken ≡ false
-    → option_and_then record_of (current s.write_outs.batches) ≡ None → is_page_next s ≡ false
+    → option_and_then record_of (outs_moving s.write_outs) ≡ None → is_page_next s ≡ false
 no_page_next s whole none =
     ap (λ (o : Option ℕ). option_map_or (leb (first_file_home s.table.layout s.table.slots)) o false)
-    (cond-false s.write_outs.broken None (option_and_then next_home (current s.write_outs.batches)) whole
-    ∙ no_home (current s.write_outs.batches) none)
+    (cond-false s.write_outs.broken None (option_and_then next_home (outs_moving s.write_outs)) whole
+    ∙ no_home (outs_moving s.write_outs) none)
 
 -- a page comes next only where a record does, of a machine that isn't broken
 pub record IsPageNext (s : State) : Type 0 where
   pub whole : s.write_outs.broken ≡ false
   pub place : ℕ
-  pub record_is : option_and_then record_of (current s.write_outs.batches) ≡ Some place
+  pub record_is : option_and_then record_of (outs_moving s.write_outs) ≡ Some place
 
 pub page_comes : (s : State) → is_page_next s ≡ true → IsPageNext s
 page_comes s page = by s.write_outs.broken refl page
   where
     some : (whole : s.write_outs.broken ≡ false) (o : Option ℕ)
-        → option_and_then record_of (current s.write_outs.batches) ≡ o → IsPageNext s
+        → option_and_then record_of (outs_moving s.write_outs) ≡ o → IsPageNext s
     some whole None none = absurd (false≢true (sym (no_page_next s whole none) ∙ page))
     some whole (Some i) is = record { whole = whole; place = i; record_is = is }
 
     by : (b : Bool) → s.write_outs.broken ≡ b → option_map_or (leb (first_file_home s.table.layout s.table.slots))
-        (cond b None (option_and_then next_home (current s.write_outs.batches))) false ≡ true → IsPageNext s
+        (cond b None (option_and_then next_home (outs_moving s.write_outs))) false ≡ true → IsPageNext s
     by true broken e = absurd (false≢true e)
-    by false whole e = some whole (option_and_then record_of (current s.write_outs.batches)) refl
+    by false whole e = some whole (option_and_then record_of (outs_moving s.write_outs)) refl
 
 pub next_recorded : (s : State) → IsSound s → is_page_next s ≡ true → IsRecorded s
 next_recorded s sound page =

@@ -4,40 +4,44 @@ use Rattle.machine.proofs.Names.{map, drop, get_or, Option, Some, None, refl, ap
 use Rattle.machine.proofs.Names.{option_map_or, option_and_then, or_parts, or_from, eqb-false, ne_eqb, cond-false}
 use Rattle.machine.proofs.Names.{both_ways, false_from_ne_true, length-drop, FilePage, FramesState, Frame}
 use Rattle.machine.proofs.Names.{without_copies, journals_of, geometry_of, AreHomes, Batch, Flushed, WriteOut}
-use Rattle.machine.proofs.Names.{has_committed, next_record, answer_of, WriteOutsValue, has_uncommitted, advanced}
-use Rattle.machine.proofs.Names.{batches_after, is_busy, done_committed, committed_parts, CheckpointState, is_of_page}
+use Rattle.machine.proofs.Names.{next_record, answer_of, WriteOutsValue, has_uncommitted, Stage, record_at}
+use Rattle.machine.proofs.Names.{batches_after, is_busy, committed_parts, moving, CheckpointState, is_of_page}
 use Rattle.machine.proofs.Names.{freed_copy, without_copy_of, Hardware, State, home_of, IsMemory}
 use Rattle.machine.proofs.Names.{AreOlderCommitted, AreSpacesSound, AreWriteOutsSound, IsSound}
 use Rattle.journal.specs.declared.flushed.Flushed.TheVariants as flushed
-use Rattle.journal.specs.WriteOuts.{current}
 use Rattle.machine.proofs.sound.Lists.{once_frames, once_copies, memory_from, AreOnce-fewer, AreOnce-none}
 use Rattle.machine.proofs.sound.Groups.{prepared_moved, spaces_stay}
 use Rattle.machine.proofs.sound.Sources.{source_stays}
 use Rattle.machine.proofs.Names.{IsSource, file_homes, count_by, is_none}
-use Rattle.machine.proofs.sound.Waiting.{waiting, length-advanced, committed-advanced}
-use Rattle.machine.proofs.sound.Waiting.{current_uncommitted, all_after, committed_no_record}
+use Rattle.machine.proofs.sound.Sharing.{shared, outs_moved, AreStepped, Makes, each_stepped, stepped_rest}
+use Rattle.machine.proofs.sound.Sharing.{length-stepped, ending}
+use Rattle.machine.proofs.sound.Waiting.{waiting, committed-stepped, all_after}
 
 -- ---- what a step leaves of processors and write-outs
 
-pub none_after : (answer : Flushed) → batches_after answer [] ≡ []
-none_after flushed.Device = refl
-none_after flushed.Broken = refl
-none_after (flushed.Done mark) = refl
-none_after answer = refl
+pub none_after : (shares : Bool) (answer : Flushed) → batches_after shares answer [] ≡ []
+none_after shares flushed.Device = refl
+none_after shares flushed.Broken = refl
+none_after shares (flushed.Done mark) = refl
+none_after shares answer = refl
 
 module _ (s : State) (sound : IsSound s) where
   -- the write-outs, where frames keep their pages
   pub stepped_write_outs : (answer : Flushed) (broken : Bool) (hardware : Hardware) (checkpoint : CheckpointState)
       → hardware.memory.frames ≡ s.hardware.memory.frames
-      → AreOlderCommitted (batches_after answer s.write_outs.batches)
-      → length (batches_after answer s.write_outs.batches) ≤ length s.write_outs.batches
+      → AreOlderCommitted (batches_after (shared s.write_outs) answer s.write_outs.batches)
+      → length (batches_after (shared s.write_outs) answer s.write_outs.batches) ≤ length s.write_outs.batches
       → (s.resized ≡ true → broken ≡ false)
       → map (home_of s.table) checkpoint.frozen ≡ cond broken
-      [] (file_homes s.table (waiting (batches_after answer s.write_outs.batches)))
+      [] (file_homes s.table (waiting (batches_after (shared s.write_outs) answer s.write_outs.batches)))
       → AreWriteOutsSound (record s {
         hardware = hardware;
         checkpoint = checkpoint;
-        write_outs = record s.write_outs { batches = batches_after answer s.write_outs.batches; broken = broken };
+        write_outs = record s.write_outs {
+          batches = batches_after
+              (shared s.write_outs) answer s.write_outs.batches;
+          broken = broken;
+        };
       })
   stepped_write_outs answer broken hardware checkpoint same older few unset frozen =
       let is = sound.write_outs in
@@ -51,13 +55,19 @@ module _ (s : State) (sound : IsSound s) where
         geometry = is.geometry;
         few_batches = omega (arith, few, is.few_batches);
         older = older;
-        homes = all_after (λ (b : Batch). AreHomes (geometry_of s.table) b.homes) answer batches is.homes;
-        sources = all_after (λ (b : Batch). All source b.homes) answer batches still;
-        marked = all_after (λ (b : Batch). (0 < b.mark) × (b.mark ≤ s.marks)) answer batches is.marked;
+        homes = all_after (λ (b : Batch). AreHomes (geometry_of s.table) b.homes)
+            (shared s.write_outs) answer batches is.homes;
+        sources = all_after (λ (b : Batch). All source b.homes) (shared s.write_outs) answer batches still;
+        marked = all_after (λ (b : Batch). (0 < b.mark) × (b.mark ≤ s.marks))
+            (shared s.write_outs) answer batches is.marked;
         few_marks = is.few_marks;
         quiescent =
-            λ set.
-            (ap (batches_after answer) (is.quiescent set).0 ∙ none_after answer, unset set, (is.quiescent set).2);
+            λ set. (
+              ap (batches_after (shared s.write_outs) answer) (is.quiescent set).0
+                  ∙ none_after (shared s.write_outs) answer,
+              unset set,
+              (is.quiescent set).2,
+            );
         frozen = frozen;
       }
 
@@ -88,46 +98,41 @@ module _ (s : State) (sound : IsSound s) where
 
 -- ---- whose step it is
 
--- a step that ends a write-out is one where each batch is committed
-pub done_none : (batches : List WriteOut) (mark : ℕ)
-    → option_map_or answer_of (current batches) flushed.Broken ≡ flushed.Done mark → has_uncommitted batches ≡ false
-done_none batches mark e = by (current batches) refl e
-  where
-    by : (o : Option WriteOut) → current batches ≡ o → option_map_or answer_of o flushed.Broken ≡ flushed.Done mark
-        → has_uncommitted batches ≡ false
-    by None is e = absurd (cc)
-    by (Some w) is e = false_from_ne_true (has_uncommitted batches)
-        (λ has. both_ways (has_committed w) (current_uncommitted batches w has is) (done_committed w mark e))
-
--- then no record is written
-pub none_recorded : (batches : List WriteOut) → has_uncommitted batches ≡ false
-    → option_and_then next_record (current batches) ≡ None
-none_recorded [] none = refl
-none_recorded (w ∷ newer) none =
-    let parts = committed_parts w newer none in
-    ap (λ (o : Option WriteOut). option_and_then next_record o)
-    (cond-false (has_uncommitted newer) (current newer) (Some w) parts.1) ∙ committed_no_record w parts.0
+-- where one ends, no record is written
+pub none_recorded : (shares : Bool) (batches : List WriteOut) (mark : ℕ)
+    → option_map_or answer_of (moving shares batches) flushed.Broken ≡ flushed.Done mark
+    → option_and_then next_record (moving shares batches) ≡ None
+none_recorded shares batches mark e =
+    let ends = ending shares batches mark e in
+    ap (λ (o : Option WriteOut). option_and_then next_record o) ends.is
+    ∙ ap (λ (o : Option Stage). option_and_then record_at o) ends.stage
 
 -- write-outs that may take a batch may still after a step
-pub free-advanced : (outs : WriteOutsValue) → is_busy outs ≡ false
-    → is_busy (record outs { batches = advanced outs.batches }) ≡ false
-free-advanced outs free =
+pub free-moved : (outs : WriteOutsValue) → is_busy outs ≡ false
+    → is_busy (record outs { batches = outs_moved outs }) ≡ false
+free-moved outs free =
     let parts = or_parts (has_uncommitted outs.batches)
     (eqb (length outs.batches) (journals_of outs.geometry.layout)) free in
-    or_from (has_uncommitted (advanced outs.batches)) (eqb (length (advanced outs.batches))
-    (journals_of outs.geometry.layout)) (committed-advanced outs.batches parts.0)
-    (ap (λ n. eqb n (journals_of outs.geometry.layout)) (length-advanced outs.batches) ∙ parts.1)
+    let steps = each_stepped (shared outs) outs.batches in
+    or_from (has_uncommitted (outs_moved outs)) (eqb (length (outs_moved outs)) (journals_of outs.geometry.layout))
+    (committed-stepped (Makes (shared outs) outs.batches) outs.batches (outs_moved outs) steps parts.0)
+    (ap (λ n. eqb n (journals_of outs.geometry.layout))
+    (length-stepped (Makes (shared outs) outs.batches) outs.batches (outs_moved outs) steps) ∙ parts.1)
 
 pub free-done : (outs : WriteOutsValue) → length outs.batches ≤ journals_of outs.geometry.layout → is_busy outs ≡ false
-    → is_busy (record outs { batches = drop 1 outs.batches }) ≡ false
+    → is_busy (record outs { batches = drop 1 (outs_moved outs) }) ≡ false
 free-done outs few free =
-    let parts = or_parts (has_uncommitted outs.batches)
-    (eqb (length outs.batches) (journals_of outs.geometry.layout)) free in
-    let other = eqb-false (length outs.batches) (journals_of outs.geometry.layout) parts.1 in
-    or_from (has_uncommitted (drop 1 outs.batches))
-    (eqb (length (drop 1 outs.batches)) (journals_of outs.geometry.layout)) (rest outs.batches parts.0)
-    (ne_eqb (length (drop 1 outs.batches)) (journals_of outs.geometry.layout) (smaller (length outs.batches)
-    (journals_of outs.geometry.layout) (length (drop 1 outs.batches)) (length-drop 1 outs.batches) few other))
+    let journals : ℕ = journals_of outs.geometry.layout in
+    let parts = or_parts (has_uncommitted outs.batches) (eqb (length outs.batches) journals) free in
+    let other = eqb-false (length outs.batches) journals parts.1 in
+    let steps = each_stepped (shared outs) outs.batches in
+    let same = length-stepped (Makes (shared outs) outs.batches) outs.batches (outs_moved outs) steps in
+    or_from (has_uncommitted (drop 1 (outs_moved outs))) (eqb (length (drop 1 (outs_moved outs))) journals)
+    (rest (outs_moved outs)
+    (committed-stepped (Makes (shared outs) outs.batches) outs.batches (outs_moved outs) steps parts.0))
+    (ne_eqb (length (drop 1 (outs_moved outs))) journals (smaller (length outs.batches)
+    journals (length (drop 1 (outs_moved outs)))
+    (length-drop 1 (outs_moved outs) ∙ ap (λ n. n - 1) same) few other))
   where
     rest : (batches : List WriteOut) → has_uncommitted batches ≡ false → has_uncommitted (drop 1 batches) ≡ false
     rest [] none = refl

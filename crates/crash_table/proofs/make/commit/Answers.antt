@@ -11,4 +11,4 @@ returns-then-is_committed g c =
 
 pub loop-preserved : goal.loop-preserved
 loop-preserved g c = goes_on g.D.Device c.args.machine.now c.loop.machine c.enter-reply.new.self _ c.enter-reply.result
-    c.loop.invariant c.enter-reply.ensures.longer (c.is_going.ensures.0 c.if-not-is_going.false)
+    c.loop.invariant c.enter-reply.ensures.longer (c.is_going.ensures c.if-not-is_going.false)

@@ -1,4 +1,4 @@
-use Rattle.std.proofs.Common.{◌≡◌, ◌+◌, false, length}
+use Rattle.std.proofs.Common.{◌≡◌, ◌+◌, false}
 use Rattle.journal.specs.WriteOut.{after_steps, committing_steps}
 use Rattle.journal.specs.inside.Finishing.{IsUnderWay}
 use Rattle.journal.proofs.finishing.make_steps.Given as goal

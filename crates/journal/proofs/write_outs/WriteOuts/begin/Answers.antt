@@ -1,5 +1,5 @@
-use Rattle.std.proofs.Common.{◌≡◌, ◌<◌, ◌≤◌, ◌+◌, Bool, true, false, List, [], ◌∷◌, ◌++◌, length, map, ap, ◌∙◌, sym}
-use Rattle.std.proofs.Common.{ℕ, subst, arith, refl}
+use Rattle.std.proofs.Common.{◌≡◌, ◌<◌, ◌≤◌, Bool, true, false, List, [], ◌∷◌, ◌++◌, length, map, ap}
+use Rattle.std.proofs.Common.{◌∙◌, sym, ℕ, subst, arith, refl}
 use Rattle.std.specs.Prelude.{is_ok, IsOk}
 use Rattle.std.specs.Vec.{vec_capacity}
 use Rattle.std.specs.List.{AllByRecursion}
@@ -7,7 +7,6 @@ use Rattle.std.proofs.lemmas.Bool.{cond-true}
 use Rattle.std.proofs.lemmas.List.{length-append, length-map}
 use Rattle.volume_codec.specs.Descriptor.{AreHomes}
 use Rattle.page_entry.specs.declared.numbers.FilePage.{FilePage}
-use Rattle.volume_codec.specs.Layout.{first_home}
 use Rattle.volume_codec.specs.Super.{SuperValue}
 use Rattle.journal.specs.Pages.{home_of, homes_of}
 use Rattle.journal.specs.inside.Queued.{queued_of}

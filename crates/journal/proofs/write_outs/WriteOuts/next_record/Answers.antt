@@ -1,22 +1,24 @@
-use Rattle.std.proofs.Common.{◌<◌, Some, None, length, ap, ◌∙◌, sym, subst, arith}
-use Rattle.std.specs.Option.{option_and_then}
-use Rattle.std.proofs.lemmas.Bool.{cond-false}
-use Rattle.journal.specs.WriteOut.{next_record}
-use Rattle.journal.specs.WriteOuts.{current, outs_record}
-use Rattle.journal.specs.inside.Room.{write_outs_in, IsCurrent}
-use Rattle.journal.proofs.Rooms.{at_place, length-write_outs}
+use Rattle.std.proofs.Common.{◌≡◌, [], Some, ap, ◌∙◌, sym, subst}
+use Rattle.journal.specs.WriteOuts.{WriteOutsValue, shares_syncs, outs_record}
+use Rattle.journal.specs.inside.Room.{outs_of, IsLone, IsJoint}
+use Rattle.journal.proofs.Rooms.{lone_mover}
+use Rattle.journal.proofs.Joined.{record_of, record_none}
 use Rattle.journal.proofs.write_outs.WriteOuts.next_record.Goals as goal
 
 pub returns : goal.returns
 returns g c =
-    let queued = c.self.inside.queued.items in
-    let f = c.index.result.now in
-    let is : IsCurrent (write_outs_in queued) c.in_ok-at.at =
-    subst (λ o. IsCurrent o.batches c.in_ok-at.at) (sym c.self.view_is) c.in_ok-at.ensures.some in
-    let lt : c.in_ok-at.at < length queued = omega (arith, is.within, length-write_outs queued) in
+    let outs = outs_of c.self.inside.geometry c.self.inside.next c.self.inside.queued.items c.self.inside.broken in
     c.next_record.ensures.place
-    ∙ sym (ap (option_and_then next_record)
-    (is.current f.write_out ∙ ap Some (at_place queued c.in_ok-at.at f lt c.index.ensures f.write_out)))
-    ∙ sym (cond-false c.self.inside.broken None
-    (option_and_then next_record (current (write_outs_in queued))) c.if-self.false)
+    ∙ sym (record_of outs c.index.result.now.write_out c.if-self.false
+    (lone_mover (shares_syncs outs.geometry.layout) c.self.inside.queued.items (Some c.in_ok-at.at) c.in_ok-at.at
+    c.index.result.now (λ i. Some c.in_ok-at.at) c.index.ensures
+    (subst (λ (o : WriteOutsValue). IsLone (shares_syncs o.geometry.layout) o.batches c.in_ok-at.at)
+    (sym c.self.view_is) c.in_ok-at.ensures.lone)))
+    ∙ ap outs_record c.self.view_is
+
+pub returns-in_err-at : goal.returns-in_err-at
+returns-in_err-at g c =
+    let outs = outs_of c.self.inside.geometry c.self.inside.next c.self.inside.queued.items c.self.inside.broken in
+    c.from_residual.ensures ∙ sym (record_none outs (subst (λ (o : WriteOutsValue). (o.batches ≡ [] → ⊥)
+    → IsJoint (shares_syncs o.geometry.layout) o.batches) (sym c.self.view_is) c.in_err-at.ensures.joint))
     ∙ ap outs_record c.self.view_is
