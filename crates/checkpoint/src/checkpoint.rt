@@ -26,7 +26,8 @@ use std::marker::Model;
 /// Which pages are dirty beyond what entries of page tables say, and which are frozen until their records are written.
 #[derive(Drop)]
 pub struct Checkpoint<A: Allocator + Copy = Global> {
-    // For each frame, whether since the last mark a dirty entry of it was taken away, or a growth of its file touched it.
+    // For each frame, whether since the last mark a dirty entry of it was taken away, or a growth of its file touched
+    // it.
     notes: Vec<bool, A>,
     // The pages that the last mark gathered, in the order of their home blocks.
     pages: Vec<FilePage, A>,

@@ -1,5 +1,6 @@
 //! A list of numbers in chunks: a number is put in or taken out at a place by moving the numbers of one chunk, and one
-//! number of each later chunk. All memory is taken when the list is made, so that no later call can fail for want of it.
+//! number of each later chunk. All memory is taken when the list is made, so that no later call can fail for want of
+//! it.
 #![tactic(auto)]
 
 ghost use Rattle.std.specs.Prelude.{◌≡◌, ◌==◌, ◌<◌, ◌≤◌, [], length, IfOk, slice_index_or};

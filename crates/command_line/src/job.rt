@@ -47,8 +47,8 @@ pub enum Job<'a, A: Allocator + Copy> {
         trace: &'a str,
         trust: bool,
     },
-    /// Print what a crash within each device call of a script leaves, also of a volume that is marked as suspect where it
-    /// is trusted.
+    /// Print what a crash within each device call of a script leaves, also of a volume that is marked as suspect where
+    /// it is trusted.
     Crashes {
         disk: &'a str,
         script: &'a str,

@@ -23,10 +23,10 @@ use volume_files::{Plan, SyncNote};
 /// something is wrong, one line to `err`.
 ///
 /// The status is 0; 1 where a script or a trace is refused, a trace that is run again is answered otherwise, or a
-/// volume that is checked needs opening; 2 where the words aren't of the forms that the help shows; and 3 where a volume
-/// or a machine is refused, a step is answered that the device failed, a thread waited for others in vain, a file can't
-/// be made, opened or read, `out` can't be written, or memory is refused. Where the status is 1 or 2, no file was
-/// changed.
+/// volume that is checked needs opening; 2 where the words aren't of the forms that the help shows; and 3 where a
+/// volume or a machine is refused, a step is answered that the device failed, a thread waited for others in vain, a
+/// file can't be made, opened or read, `out` can't be written, or memory is refused. Where the status is 1 or 2, no
+/// file was changed.
 ///
 /// For the command `threads` it holds if the call returns, since its threads wait for one another.
 pub fn perform<R, A, S, O, E>(rt: &R, alloc: A, words: &[S], out: &mut O, err: &mut E) -> u8

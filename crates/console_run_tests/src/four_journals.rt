@@ -46,8 +46,8 @@ const REPLIES: [&str; 7] = [
     "nothing\n",
 ];
 
-// The descriptor of each journal has its newest mark and one record, for block 26, and the record its byte: journal 0 was
-// used for marks 1 and 5. The gates are closed, and block 26 has the byte of mark 5.
+// The descriptor of each journal has its newest mark and one record, for block 26, and the record its byte: journal 0
+// was used for marks 1 and 5. The gates are closed, and block 26 has the byte of mark 5.
 const AFTER: [(usize, u8); 17] = [
     (8199, 5),
     (8203, 1),

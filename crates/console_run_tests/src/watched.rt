@@ -84,7 +84,8 @@ fn has_found<R: Host>(rt: &R, watcher: &Watcher, changes: &[(usize, u8)]) -> boo
     }
 }
 
-// The line of an acknowledgement comes before the next step: the gate is open then, and the home block has its old bytes.
+// The line of an acknowledgement comes before the next step: the gate is open then, and the home block has its old
+// bytes.
 #[test]
 fn an_acknowledgement_comes_before_the_next_step(rt: HostRuntime) {
     assert!(rt; makes_volume(&rt, "watched.img"));

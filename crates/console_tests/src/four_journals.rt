@@ -30,8 +30,8 @@ fn a_volume_has_four_journals(rt: HostRuntime) {
     assert!(rt; removes(&rt, &["four.img"]));
 }
 
-// Journal 1 has mark 5, with the lengths 4,097 and 4,096 and with 65 in the first page of `a`. Journal 2 has mark 6, with
-// 66 there and 67 in `b`. Both are open.
+// Journal 1 has mark 5, with the lengths 4,097 and 4,096 and with 65 in the first page of `a`. Journal 2 has mark 6,
+// with 66 there and 67 in `b`. Both are open.
 const TWO_OPEN: [(usize, u8); 16] = [
     (28_672, 0xA7),
     (32_775, 5),
@@ -186,8 +186,9 @@ const LONG: &str =
 const LONG_JOURNALS: &str =
     "journal 0: gate 00 closed\njournal 1: gate a7 open, mark 1, 1 blocks: a:0\njournal 2: gate 00 closed\njournal 3: gate 00 closed\nopening makes 13 device calls\n";
 
-// With 1,021 slots a descriptor has two blocks. Journal 1 has its gate in block 1,025, its descriptor in blocks 1,026 and
-// 1,027 and its first record in block 1,028; it is opened with 65 for block 4,098. Then the descriptor's last byte isn't 0.
+// With 1,021 slots a descriptor has two blocks. Journal 1 has its gate in block 1,025, its descriptor in blocks 1,026
+// and 1,027 and its first record in block 1,028; it is opened with 65 for block 4,098. Then the descriptor's last byte
+// isn't 0.
 #[test]
 fn a_descriptor_has_two_blocks(rt: HostRuntime) {
     let make = "format|--layout|4|long.img|1021|a=1";

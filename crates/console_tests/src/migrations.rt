@@ -6,8 +6,8 @@ use program_trials::{
 };
 use std::fs;
 
-// What of the image of the volume of layout 4 is other where `a` can't grow: it has 29 blocks, `a` has a capacity of 5,000
-// bytes and two blocks, and `b` is in block 28. The first byte of `a` is 65.
+// What of the image of the volume of layout 4 is other where `a` can't grow: it has 29 blocks, `a` has a capacity of
+// 5,000 bytes and two blocks, and `b` is in block 28. The first byte of `a` is 65.
 const OF_OLDEST: [(usize, u8); 6] = [
     (19, 29),
     (70, 0x13),
@@ -63,8 +63,8 @@ fn layout_2_becomes_4(rt: HostRuntime) {
     assert!(rt; removes(&rt, &["two_old.img", "of_two.img"]));
 }
 
-// Journal 1 of a volume of layout 3 is open: mark 3 has the lengths 4,097 and 4,096 in the record for block 13, and 67 in
-// the one for block 14, the first of `a`.
+// Journal 1 of a volume of layout 3 is open: mark 3 has the lengths 4,097 and 4,096 in the record for block 13, and 67
+// in the one for block 14, the first of `a`.
 const OPEN_OF_THREE: [(usize, u8); 9] = [
     (28_672, 0xA7),
     (32_775, 3),
@@ -83,8 +83,8 @@ const OF_THREE: [(usize, u8); 3] = [(102_406, 0x10), (102_407, 1), (106_496, 67)
 const DUMP_OF_THREE: &str =
     "a 4097\n000000000000 43 00 00 00 00 00 00 00 00 00 00 00 00 00 00 00\nb 4096\n";
 
-// One of layout 3 becomes one of layout 4, with its lengths and capacities. That becomes one of layout 4 with more slots,
-// but none of layout 3.
+// One of layout 3 becomes one of layout 4, with its lengths and capacities. That becomes one of layout 4 with more
+// slots, but none of layout 3.
 #[test]
 fn layout_3_becomes_4_and_4_stays(rt: HostRuntime) {
     let make = "format|--layout|3|three.img|4|a=5000/12288|b=4096";

@@ -5,7 +5,8 @@ use program_trials::{
 use std::alloc::{AllocError, Global};
 use std::fs;
 
-// An image of the volume of layout 2 with the same files and as many slots, and with these bytes at these offsets changed.
+// An image of the volume of layout 2 with the same files and as many slots, and with these bytes at these offsets
+// changed.
 pub fn image_of_two(alloc: Global, changes: &[(usize, u8)]) -> Result<Vec<u8>, AllocError> {
     let mut image = vec![in alloc; 0; 65_536]?;
     put(&mut image, 0, b"FAMSYNC2");
@@ -44,7 +45,8 @@ fn writes_image_of_two<R: Host>(rt: &R, path: &str, changes: &[(usize, u8)]) -> 
     }
 }
 
-// A volume of layout 2 is made and printed, with what open journals have, the newer one over the older. A run opens it first.
+// A volume of layout 2 is made and printed, with what open journals have, the newer one over the older. A run opens it
+// first.
 #[test]
 fn a_volume_has_two_journals(rt: HostRuntime) {
     let make = "format|--layout|2|two.img|4|a=5000|b=4096";
@@ -227,8 +229,8 @@ fn is_refused<R: Host>(rt: &R, image: &[u8], cause: &str) -> bool {
         && holds(rt, "images.img", image)
 }
 
-// Images that are volumes, and their dumps, which leave the files as they are: a closed gate over any descriptor, an open
-// journal, whose records stand for their home blocks, and a file whose last bytes aren't zero.
+// Images that are volumes, and their dumps, which leave the files as they are: a closed gate over any descriptor, an
+// open journal, whose records stand for their home blocks, and a file whose last bytes aren't zero.
 #[test]
 fn images_are_dumped(rt: HostRuntime) {
     let closed = [(8199, 1), (8203, 9), (8211, 1)];

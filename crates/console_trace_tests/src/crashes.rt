@@ -64,7 +64,8 @@ fn each_crash_leaves_a_mark(rt: HostRuntime) {
 
 const SHAPE_OF_FOUR: &str = r#"{"cpus":1,"tlb":8,"frames":3,"copies":0,"steps":["#;
 
-// The same with the four journals of layout 4, with 4 record slots: opening reads four gates, and the lengths in block 25.
+// The same with the four journals of layout 4, with 4 record slots: opening reads four gates, and the lengths in block
+// 25.
 const OPENING_OF_FOUR: &str = "    1 read  super                     4096   mark 0 x1
     2 sync                               0   mark 0 x1
     3 read  gate 0                       1   mark 0 x1

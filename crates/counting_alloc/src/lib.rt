@@ -86,8 +86,8 @@ impl<B: Allocator> CountingAllocator<B> {
         self.counts.asked.load(Ordering::SeqCst)
     }
 
-    /// The bytes of the blocks that were passed on to the inner allocator, less those of the blocks that were given back.
-    /// A block that the inner allocator refused stays counted.
+    /// The bytes of the blocks that were passed on to the inner allocator, less those of the blocks that were given
+    /// back. A block that the inner allocator refused stays counted.
     pub fn held(&self) -> u64 {
         self.counts.held.load(Ordering::SeqCst)
     }

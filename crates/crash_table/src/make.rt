@@ -89,8 +89,8 @@ fn not_opened<D: Device + Drop, A: Allocator + Copy>(
 }
 
 // The most steps that come up to the one that commits a write-out of a volume: a record for each slot, the blocks of
-// the descriptor, a sync, the gate, and a sync; and where write-outs share that first sync, before it the home blocks of
-// the write-out before, and the gate of the one before that.
+// the descriptor, a sync, the gate, and a sync; and where write-outs share that first sync, before it the home blocks
+// of the write-out before, and the gate of the one before that.
 fn most_flushes(geometry: Geometry) -> u64 {
     2 * u64::from(geometry.slots()) + u64::from(geometry.descriptor_blocks()) + 4
 }

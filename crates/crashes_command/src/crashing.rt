@@ -56,8 +56,8 @@ where
     }
 }
 
-// Prints what the crashes of a run of these steps leave of a volume of these bytes. Where the run doesn't begin, it says
-// why.
+// Prints what the crashes of a run of these steps leave of a volume of these bytes. Where the run doesn't begin, it
+// says why.
 fn print_crashes<'a, A: Allocator + Copy, W: io::Write>(
     alloc: A,
     script: &'a str,

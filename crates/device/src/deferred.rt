@@ -79,8 +79,8 @@ impl<A: Allocator + Copy> Model for DeferredDisk<A> {
 }
 
 impl<A: Allocator + Copy> DeferredDisk<A> {
-    /// A disk of this many blocks, none of which is known. What they hold only the host knows. It takes memory for all of
-    /// them.
+    /// A disk of this many blocks, none of which is known. What they hold only the host knows. It takes memory for all
+    /// of them.
     pub fn new(alloc: A, blocks: u32) -> Result<Self, AllocError>
         ghost content: { List ℕ }
         requires { length content ≡ 4096 * blocks }
@@ -119,7 +119,8 @@ impl<A: Allocator + Copy> DeferredDisk<A> {
     }
 
     /// Whether a block is known. Of one that isn't, a device that is where this disk was before its oldest waiting call
-    /// gives what this disk has there: so a host may read it of such a device, also where that call was tried and failed.
+    /// gives what this disk has there: so a host may read it of such a device, also where that call was tried and
+    /// failed.
     pub fn is_known(&self, block: u32) -> bool
         ensures known { result ≡ get_or self.now.known block false }
         ensures there { 4096 * block + 4096 ≤ length (seen_of (as_recorded self.now)) → result ≡ false
@@ -159,8 +160,8 @@ impl<A: Allocator + Copy> DeferredDisk<A> {
         self.log.len()
     }
 
-    /// How many writes and syncs were recorded in all, those that were carried out and those that wait. A count that has
-    /// come to 2^64-1 stays there.
+    /// How many writes and syncs were recorded in all, those that were carried out and those that wait. A count that
+    /// has come to 2^64-1 stays there.
     pub fn recorded(&self) -> u64
         ensures { result ≡ recorded_calls self.now }
     {

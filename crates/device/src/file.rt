@@ -10,11 +10,13 @@ use std::io;
 use std::marker::Model;
 
 /// A disk over a file: each of its calls makes one call of the file, with the same arguments, and passes its error on
-/// as a [`DeviceFault`]. A sync is one of the file's data: its length stays, and was synced as the disk was made. It is as honest as its file, which has to keep the length that it had when the disk was made.
+/// as a [`DeviceFault`]. A sync is one of the file's data: its length stays, and was synced as the disk was made. It is
+/// as honest as its file, which has to keep the length that it had when the disk was made.
 ///
-/// No contract can say what a real file gives, or what it keeps, so a real file isn't known to be honest. What is proved
-/// of devices is proved of every honest [`Device`], and so of this disk over every honest file; the step from there to
-/// a real file, that the system and the disk under it keep the rules of [`BlockFile`], is an argument outside the logic.
+/// No contract can say what a real file gives, or what it keeps, so a real file isn't known to be honest. What is
+/// proved of devices is proved of every honest [`Device`], and so of this disk over every honest file; the step from
+/// there to a real file, that the system and the disk under it keep the rules of [`BlockFile`], is an argument outside
+/// the logic.
 #[derive(Drop)]
 pub struct FileDisk<F: BlockFile> {
     file: F,

@@ -8,7 +8,7 @@ use Rattle.volume_codec.specs.Super.{SuperValue, first_home_of, block_count}
 abbrev pub home_of : SuperValue → FilePage → ℕ
 home_of table owner = first_home_of table owner.file + owner.page
 
--- the page is one of a file of the table
+-- the file of a page is one of the table, and its home block one of the volume
 pub record HasHome (table : SuperValue) (owner : FilePage) : Type 0 where
   pub file : owner.file < length table.files
   pub within : home_of table owner < block_count table

@@ -19,8 +19,8 @@ ghost use Rattle.journal.specs.Alone.{HasLedAlone};
 
 use device::Device;
 
-/// Which steps the stages are, of a write-out of k blocks whose descriptor has d blocks: step k + d + 3 commits the batch,
-/// step 2k + d + 6 is the last one, and all steps together make 3k + d + 6 device calls.
+/// Which steps the stages are, of a write-out of k blocks whose descriptor has d blocks: step k + d + 3 commits the
+/// batch, step 2k + d + 6 is the last one, and all steps together make 3k + d + 6 device calls.
 pub fn steps_of_a_write_out()
     ensures commits { (k d : ℕ) → stage_at k d (k + d + 2) ≡ Some Committing }
     ensures finishes { (k d : ℕ) → stage_at k d (2 * k + d + 5) ≡ Some Finishing }

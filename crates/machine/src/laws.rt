@@ -69,8 +69,8 @@ pub fn steps_after_steps<D: Device>(device: &D)
         → StepsTaken D.Device old (steps ++ later) (replies ++ replied) new }
 {}
 
-/// Of steps over any device, honest or not: a fault that is served is served, so that the access of its page by the same
-/// processor answers, if it follows at once.
+/// Of steps over any device, honest or not: a fault that is served is served, so that the access of its page by the
+/// same processor answers, if it follows at once.
 pub fn faults_are_served<D: Device>(device: &D)
     ensures { (old new : Whole D) (steps : List Step) (replies : List Reply)
         → StepsTaken D.Device old steps replies new → FaultsAreServed steps replies }
@@ -86,10 +86,10 @@ pub fn calls_of_steps<D: Device>(device: &D)
 {}
 
 /// The count of each write-out of a run. After a mark that writes k home blocks, in a volume whose descriptors have d
-/// blocks, the steps up to the one that answers that the mark is committed make k + d + 3 device calls for its write-out,
-/// one each; those up to the one that answers that it is done make 3k + d + 6, in 2k + d + 6 steps of it. Whatever other
-/// steps stand between them, also another write-out's. A sync that write-outs share counts for each of them, so that the
-/// counts are the same in all layouts.
+/// blocks, the steps up to the one that answers that the mark is committed make k + d + 3 device calls for its
+/// write-out, one each; those up to the one that answers that it is done make 3k + d + 6, in 2k + d + 6 steps of it.
+/// Whatever other steps stand between them, also another write-out's. A sync that write-outs share counts for each of
+/// them, so that the counts are the same in all layouts.
 pub fn counts_of_a_write_out<D: Device>(device: &D)
     ensures committed { (files : List File) (start old marked last new : Whole D) (earlier steps : List Step)
         (replied replies : List Reply) (p number : ℕ) (mark : MarkMade old.state p number marked.state) (step : Step)

@@ -138,8 +138,8 @@ impl<D: Device, A: Allocator + Copy> Machine<D, A> {
     }
 
     /// Of every machine, whatever was done with it: a cached entry that may still be used agrees with the page table,
-    /// and each entry of the tables maps a frame that holds its page, writable only where its mapping allows it and
-    /// the page isn't held. The processor that holds the lock initiates and no other does, and none is interrupted while
+    /// and each entry of the tables maps a frame that holds its page, writable only where its mapping allows it and the
+    /// page isn't held. The processor that holds the lock initiates and no other does, and none is interrupted while
     /// the lock is free (`phases`).
     pub fn is_coherent(&self)
         ensures coheres { Coheres self.now.state.hardware.spaces self.now.state.hardware.shootdown }

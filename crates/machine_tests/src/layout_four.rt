@@ -1,5 +1,5 @@
-// Machines over the file `a` of 8,192 bytes in layout 4 with 1,100 slots: 4,416 blocks. A journal has 1,103, two of them
-// for its descriptor; block 4,413 holds the lengths, and the two after it are those of `a`.
+// Machines over the file `a` of 8,192 bytes in layout 4 with 1,100 slots: 4,416 blocks. A journal has 1,103, two of
+// them for its descriptor; block 4,413 holds the lengths, and the two after it are those of `a`.
 use device::{Device, MemDisk};
 use machine::{Act, FewBytes, Machine, MsyncFlags, Reply, Shape, Step};
 use mappings::Rights;

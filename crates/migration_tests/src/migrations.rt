@@ -54,7 +54,8 @@ fn used<R: Abort + AllocGlobal>(rt: &R, len: u64) -> Disk {
     MemDisk::from_bytes(rt.alloc(), bytes).expect(rt, "memory")
 }
 
-// Puts bytes into both files, `a` from block `a` on and `b` in block `b`, and bytes past their ends where they have room.
+// Puts bytes into both files, `a` from block `a` on and `b` in block `b`, and bytes past their ends where they have
+// room.
 fn put_files(image: &mut [u8], a: usize, b: usize) {
     if a < 100 && b < 100 {
         put(image, 4096 * a, b"first");
@@ -295,8 +296,8 @@ fn each_call_of_the_new_disk_fails(rt: HostRuntime) {
     assert!(rt; new_fails(&rt, 10) == (Ok(()), true));
 }
 
-// What a migration answers where the call of this number of the old disk fails, how many calls were made of the new one,
-// and whether the old one opens to the same files.
+// What a migration answers where the call of this number of the old disk fails, how many calls were made of the new
+// one, and whether the old one opens to the same files.
 fn old_fails<R: Abort + AllocGlobal>(rt: &R, n: u64) -> (Result<(), Refusal>, u64, bool) {
     let mut new = used(rt, MIGRATED);
     let Ok(mut old) = open(rt.alloc(), FailingDisk::new(disk_of(rt, &image_two()), n)) else {
@@ -353,7 +354,8 @@ fn it_can_be_made_again_after_a_crash_at_each_call(rt: HostRuntime) {
     }
 }
 
-// Whether the request for memory of this number was refused; then no call was made of either disk, and again it succeeds.
+// Whether the request for memory of this number was refused; then no call was made of either disk, and again it
+// succeeds.
 fn is_refused<R: Abort + AllocGlobal>(rt: &R, alloc: &CountingAllocator<Global>, n: u64) -> bool {
     let mut new = used(rt, MIGRATED);
     let Ok(mut old) = open(alloc, disk_of(rt, &image_two())) else {

@@ -1,5 +1,5 @@
-//! The processors' side of a machine, crate by crate: page entries, TLBs, frames, page tables, mappings, spaces, and what
-//! is queued for a processor. Accesses, shootdowns, checkpoints and faults are in the runs as text.
+//! The processors' side of a machine, crate by crate: page entries, TLBs, frames, page tables, mappings, spaces, and
+//! what is queued for a processor. Accesses, shootdowns, checkpoints and faults are in the runs as text.
 #![tactic(auto)]
 
 #[cfg(test)]

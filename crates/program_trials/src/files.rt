@@ -99,10 +99,10 @@ pub fn holds_image<R: Host>(rt: &R, path: &str, changes: &[(usize, u8)]) -> bool
     }
 }
 
-/// An image of the volume in layout 4 of the files `a` of 5,000 bytes, which may grow to 12,288, and `b` of 4,096, with 4
-/// record slots in each journal and with these bytes at these offsets changed. It has 30 blocks. The journals begin in
-/// blocks 1, 7, 13 and 19, each with its gate, one block of its descriptor, and its records. The lengths are in block 25,
-/// `a` is in blocks 26 to 28, and `b` in block 29.
+/// An image of the volume in layout 4 of the files `a` of 5,000 bytes, which may grow to 12,288, and `b` of 4,096, with
+/// 4 record slots in each journal and with these bytes at these offsets changed. It has 30 blocks. The journals begin
+/// in blocks 1, 7, 13 and 19, each with its gate, one block of its descriptor, and its records. The lengths are in
+/// block 25, `a` is in blocks 26 to 28, and `b` in block 29.
 pub fn image_of_four(alloc: Global, changes: &[(usize, u8)]) -> Result<Vec<u8>, AllocError> {
     let mut image = vec![in alloc; 0; 122_880]?;
     put(&mut image, 0, b"FAMSYNC4");

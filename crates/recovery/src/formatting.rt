@@ -151,7 +151,8 @@ pub(crate) fn lay_out<D: Device, A: Allocator + Copy>(
     close_gates(device, &geometry)
 }
 
-/// Finishes a volume that was laid out: what was written is synced, and then the table is written to block 0 and synced.
+/// Finishes a volume that was laid out: what was written is synced, and then the table is written to block 0 and
+/// synced.
 pub(crate) fn finish<D: Device, A: Allocator + Copy>(
     device: &mut D,
     table: &Super<A>,

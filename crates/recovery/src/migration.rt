@@ -40,8 +40,8 @@ fn specs_of<D: Device, A: Allocator + Copy>(volume: &Volume<D, A>) -> [FileSpec<
     specs
 }
 
-/// The number of blocks of the volume that `migrate` makes of this one in the layout of this number, with so many record
-/// slots for each journal. `BadShape` where there is none. Takes no memory.
+/// The number of blocks of the volume that `migrate` makes of this one in the layout of this number, with so many
+/// record slots for each journal. `BadShape` where there is none. Takes no memory.
 pub fn migrated_blocks<D: Device, A: Allocator + Copy>(
     volume: &Volume<D, A>,
     layout: u64,
@@ -161,15 +161,15 @@ fn copy_files<D: Device, E: Device, A: Allocator + Copy>(
 
 /// Makes, on another device, a volume in the layout of this number with the files of this one, the same names, lengths,
 /// capacities and bytes, and with so many record slots for each journal. `BadShape`, before any memory is taken and any
-/// device call is made, where no volume has them (so a file that is shorter than its capacity goes to no layout without a
-/// lengths block), or the other device is shorter than its blocks. `OutOfMemory` before any device call.
-/// `Device` where a call of one of the two devices failed.
+/// device call is made, where no volume has them (so a file that is shorter than its capacity goes to no layout without
+/// a lengths block), or the other device is shorter than its blocks. `OutOfMemory` before any device call. `Device`
+/// where a call of one of the two devices failed.
 ///
-/// The volume isn't written at any moment, whatever the other device is and whatever is answered. What lies past the new
-/// volume stays. The new volume is laid out as `format_as` does it, then the files are copied, 32,768 bytes at a time
-/// and each up to its length, and both are synced before the super block is written and synced. A crash meanwhile
-/// leaves block 0 of the other device as it was, or any bytes in it and all the rest of the volume filled: the
-/// lengths, the files' bytes with zeros past them, and closed gates.
+/// The volume isn't written at any moment, whatever the other device is and whatever is answered. What lies past the
+/// new volume stays. The new volume is laid out as `format_as` does it, then the files are copied, 32,768 bytes at a
+/// time and each up to its length, and both are synced before the super block is written and synced. A crash meanwhile
+/// leaves block 0 of the other device as it was, or any bytes in it and all the rest of the volume filled: the lengths,
+/// the files' bytes with zeros past them, and closed gates.
 pub fn migrate<D: Device, E: Device, A: Allocator + Copy>(
     alloc: A,
     old: &mut Volume<D, A>,

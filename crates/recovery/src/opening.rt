@@ -141,8 +141,9 @@ fn add_journal<A: Allocator + Copy>(
     Ok(())
 }
 
-/// Reads the descriptor of a journal if its gate is open, into a buffer of as many blocks, and adds the journal to those
-/// found before it, the newest first. `Damaged` where the descriptor breaks the grammar, or one of them has its mark.
+/// Reads the descriptor of a journal if its gate is open, into a buffer of as many blocks, and adds the journal to
+/// those found before it, the newest first. `Damaged` where the descriptor breaks the grammar, or one of them has its
+/// mark.
 fn read_if_open<D: Device, A: Allocator + Copy>(
     alloc: A,
     device: &mut D,

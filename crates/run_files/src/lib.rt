@@ -1,4 +1,5 @@
-//! What the lines of a file of runs say of disks, and what an opening of such a disk gives, call by call and byte by byte.
+//! What the lines of a file of runs say of disks, and what an opening of such a disk gives, call by call and byte by
+//! byte.
 #![tactic(auto)]
 
 mod choice;

@@ -1,5 +1,5 @@
-// What is asked of volumes by calls that no run as text makes: how many blocks they have, what isn't formatted, and what
-// a volume tells of its files.
+// What is asked of volumes by calls that no run as text makes: how many blocks they have, what isn't formatted, and
+// what a volume tells of its files.
 ghost use Rattle.std.specs.Prelude.{◌≡◌, length};
 
 use device::{Device, MemDisk};
@@ -206,8 +206,8 @@ fn a_disk_is_formatted_in_layout_3(rt: HostRuntime) {
     assert!(rt; is_formatted_three(&rt, &image_three()));
 }
 
-// What an opening of an image answers: the lengths of the two files and the device calls, or why it is refused, and that
-// the image is as it was.
+// What an opening of an image answers: the lengths of the two files and the device calls, or why it is refused, and
+// that the image is as it was.
 fn lengths_of<R: Abort + AllocGlobal>(rt: &R, image: &[u8]) -> Result<(u64, u64, u64), Refusal> {
     match open(rt.alloc(), disk_of(rt, image)) {
         Ok(volume) => match volume.lengths() {
@@ -243,8 +243,8 @@ fn a_volume_in_layout_3_tells_its_files(rt: HostRuntime) {
     assert!(rt; lengths_of(&rt, &changed(53_254, &[0x30, 0])) == Ok((12_288, 4096, 5)));
 }
 
-// One byte that makes an image of layout 3 a damaged one: the table's, those of a table's rules that layout 3 has alone,
-// and those of the lengths block, which is block 13.
+// One byte that makes an image of layout 3 a damaged one: the table's, those of a table's rules that layout 3 has
+// alone, and those of the lengths block, which is block 13.
 #[test]
 fn images_of_layout_3_are_refused(rt: HostRuntime) {
     for (at, byte) in [
@@ -280,8 +280,8 @@ fn images_of_layout_3_are_refused(rt: HostRuntime) {
     assert!(rt; lengths_of(&rt, &changed(7, b"5")) == Err(Refusal::NotAVolume));
 }
 
-// Opens a journal, counted from 0: its gate, and a descriptor of this mark and of one home block, this one. Its record is
-// the lengths block with this byte in place of the second last of the length of `a`.
+// Opens a journal, counted from 0: its gate, and a descriptor of this mark and of one home block, this one. Its record
+// is the lengths block with this byte in place of the second last of the length of `a`.
 fn put_batch(image: &mut [u8], journal: usize, mark: u8, home: u8, byte: u8) {
     if journal > 1 {
         return;

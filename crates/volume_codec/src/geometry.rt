@@ -1,6 +1,6 @@
-// Where a volume has its parts: block 0 is the super block, then come the journals, each a gate block, the blocks of its
-// descriptor and its record slots, and then the home blocks. A block is 4,096 bytes. No other place spells a block's
-// number.
+// Where a volume has its parts: block 0 is the super block, then come the journals, each a gate block, the blocks of
+// its descriptor and its record slots, and then the home blocks. A block is 4,096 bytes. No other place spells a
+// block's number.
 ghost use Rattle.std.specs.Prelude.{◌≡◌, ◌<◌, ◌≤◌, ◌+◌, ◌^◌};
 ghost use Rattle.volume_codec.specs.Layout.{IsGeometry, journals_of, descriptor_blocks as blocks_of, journal_blocks as in_journal, gate_block as gate, descriptor_block as descriptor, record_block as record_slot, first_home as home, first_file_home as file_home, max_frames as frames};
 

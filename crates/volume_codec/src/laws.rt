@@ -9,9 +9,10 @@ ghost use Rattle.volume_codec.specs.Descriptor.{DescriptorValue, RiseWithin, IsD
 ghost use Rattle.volume_codec.specs.Lengths.{IsLengths, HasLengths, lengths_in};
 ghost use Rattle.volume_codec.specs.Recovery.{Batch, AreOpen, recovered_block, blocks_from, contents_in, files_in, Recovers, RecoversTo, IsVolume};
 
-/// A block says at most one table, blocks say at most one descriptor in a volume of one geometry, and a block says at most
-/// one list of lengths in a volume with one table; bytes have at most one list of open batches, and recover to at most one table, contents
-/// and list of files. So reading a block that was written gives back the value that was written.
+/// A block says at most one table, blocks say at most one descriptor in a volume of one geometry, and a block says at
+/// most one list of lengths in a volume with one table; bytes have at most one list of open batches, and recover to at
+/// most one table, contents and list of files. So reading a block that was written gives back the value that was
+/// written.
 pub fn one_reading()
     ensures tables { (v w : SuperValue) (block : List ℕ) → IsSuper v block → IsSuper w block → v ≡ w }
     ensures descriptors { (g : GeometryValue) (d e : DescriptorValue) (block : List ℕ) → IsGeometry g
@@ -28,12 +29,12 @@ pub fn one_reading()
 {}
 
 /// Where the layouts have their parts. With J slots, up to 1,020, a descriptor has one block: journal 0 has its gate in
-/// block 1, its descriptor in block 2 and record i in block 3 + i, and journal 1 of layouts 2 and 3 has its gate in block
-/// 3 + J, its descriptor in block 4 + J and record i in block 5 + J + i. Home blocks follow from 3 + J in layout 1 and from
-/// 5 + 2J in layouts 2 and 3; in layout 3 block 5 + 2J holds the lengths, and the home blocks of files follow from 6 + 2J.
-/// In general a descriptor has room for 16 bytes and 4 for each slot, in D blocks, and journal j has its gate in block
-/// 1 + j (1 + D + J). In layout 4 the lengths lie in block 1 + 4 (1 + D + J), and the home blocks of files follow. In every
-/// volume the parts of its journals lie before the home blocks, and apart.
+/// block 1, its descriptor in block 2 and record i in block 3 + i, and journal 1 of layouts 2 and 3 has its gate in
+/// block 3 + J, its descriptor in block 4 + J and record i in block 5 + J + i. Home blocks follow from 3 + J in layout
+/// 1 and from 5 + 2J in layouts 2 and 3; in layout 3 block 5 + 2J holds the lengths, and the home blocks of files
+/// follow from 6 + 2J. In general a descriptor has room for 16 bytes and 4 for each slot, in D blocks, and journal j
+/// has its gate in block 1 + j (1 + D + J). In layout 4 the lengths lie in block 1 + 4 (1 + D + J), and the home blocks
+/// of files follow. In every volume the parts of its journals lie before the home blocks, and apart.
 pub fn parts_of_layouts()
     ensures one_block { (slots : ℕ) → slots ≤ 1020 → descriptor_blocks slots ≡ 1 }
     ensures room { (slots : ℕ) → 16 + 4 * slots ≤ 4096 * descriptor_blocks slots }

@@ -97,8 +97,8 @@ impl Layout {
         }
     }
 
-    /// The greatest number of record slots that its journals may have: as many as a descriptor of one block has room for,
-    /// and 65,535 in layout 4.
+    /// The greatest number of record slots that its journals may have: as many as a descriptor of one block has room
+    /// for, and 65,535 in layout 4.
     pub fn max_slots(self) -> u32
         ensures value { result ≡ most_slots self }
         ensures small { result ≤ 65535 }

@@ -29,6 +29,8 @@ where
 
 // What is migrated, and where to.
 fn plan_of<'a>(asked: &Migration<'a>) -> MigrationPlan<'a>
+    ensures old { result.old ≡ asked.now.old }
+    ensures new { result.new ≡ asked.now.new }
     ensures layout { result.layout ≡ asked.now.layout }
     ensures slots { result.slots ≡ asked.now.slots }
 {

@@ -31,8 +31,8 @@ impl<'a> Plan<'a, '_> {
 }
 
 /// Makes or replaces the file at a path by the volume of a plan, and says how many blocks it has. The volume is made in
-/// another file beside it, `.new`, which takes its name once all of it is on the disk: where this fails before or is cut
-/// off, the old file is as it was.
+/// another file beside it, `.new`, which takes its name once all of it is on the disk: where this fails before or is
+/// cut off, the old file is as it was.
 pub fn format<'a, R, A>(
     rt: &R,
     alloc: A,
@@ -180,8 +180,8 @@ where
     }
 }
 
-/// A disk over a new file of so many blocks, all zeros, which is to replace an old one, if there is one. `path` names it
-/// in a failure.
+/// A disk over a new file of so many blocks, all zeros, which is to replace an old one, if there is one. `path` names
+/// it in a failure.
 pub fn ready<'a, R, A>(
     rt: &R,
     alloc: A,
