@@ -1,4 +1,9 @@
 // Which part of a volume a device call touches.
+ghost use Rattle.std.specs.Prelude.{◌/◌, ◌<◌, ◌≤◌};
+ghost use Rattle.volume_codec.specs.Layout.{first_home};
+ghost use Rattle.volume_codec.specs.Super.{block_count};
+ghost use Rattle.crash_table.specs.Parts.{IsPartOf};
+
 use page_entry::PAGE;
 use std::alloc::Allocator;
 use volume_codec::Super;
@@ -26,7 +31,9 @@ pub struct Places<A: Allocator + Copy> {
 
 impl<A: Allocator + Copy> Places<A> {
     /// The part that has a byte.
-    pub fn part_of(&self, at: u64) -> Part {
+    pub fn part_of(&self, at: u64) -> Part
+        ensures { IsPartOf self.now.table (at / 4096) result }
+    {
         let block = at / PAGE;
         if block >= u64::from(self.table.block_count()) {
             return Part::Outside;
@@ -34,7 +41,11 @@ impl<A: Allocator + Copy> Places<A> {
         self.part_of_block(block as u32)
     }
 
-    fn part_of_block(&self, block: u32) -> Part {
+    // The part that a block of the volume is.
+    fn part_of_block(&self, block: u32) -> Part
+        requires { block < block_count self.now.table }
+        ensures { IsPartOf self.now.table block result }
+    {
         let geometry = self.table.geometry();
         if block == 0 {
             return Part::Super;
@@ -58,7 +69,12 @@ impl<A: Allocator + Copy> Places<A> {
         self.home_of(block)
     }
 
-    fn home_of(&self, block: u32) -> Part {
+    // The page of a file whose home block this is, or a home block of no file.
+    fn home_of(&self, block: u32) -> Part
+        requires low { first_home self.now.table.layout self.now.table.slots ≤ block }
+        requires high { block < block_count self.now.table }
+        ensures { IsPartOf self.now.table block result }
+    {
         for file in 0..self.table.file_count() {
             let first = self.table.first_home(file);
             if block >= first && block - first < self.table.pages(file) {
