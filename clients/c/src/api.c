@@ -40,7 +40,7 @@ int leave(famsync *handle, int code)
 {
     if (handle->ended != FAMSYNC_OK)
         handle->told = true;
-    if (atomic_fetch_sub(&handle->callers, 1) == 1 && handle->left && handle->threaded)
+    if (atomic_fetch_sub(&handle->callers, 1) == 1 && handle->left && handle->threaded && !handle->pausing)
         pthread_cond_signal(&handle->work);
     pthread_mutex_unlock(&handle->turn);
     return code;
@@ -66,6 +66,7 @@ static int count_blocks(famsync *handle)
     said = (uint64_t)head[16] << 24 | (uint64_t)head[17] << 16 | (uint64_t)head[18] << 8 | head[19];
     if (memcmp(head, "FAMSYNC", 7) != 0 || said == 0)
         said = 1;
+    handle->shares_syncs = head[7] == '4';
     handle->blocks = (uint32_t)(said < blocks ? said : blocks);
     return FAMSYNC_OK;
 }
@@ -154,6 +155,16 @@ static void drop(famsync *handle)
     errno = error;
 }
 
+/* Its clock is the one that no one sets. */
+static void begin_condition(pthread_cond_t *condition)
+{
+    pthread_condattr_t attributes;
+    pthread_condattr_init(&attributes);
+    pthread_condattr_setclock(&attributes, CLOCK_MONOTONIC);
+    pthread_cond_init(condition, &attributes);
+    pthread_condattr_destroy(&attributes);
+}
+
 static famsync *new_handle(void)
 {
     famsync *handle = calloc(1, sizeof *handle);
@@ -161,8 +172,8 @@ static famsync *new_handle(void)
         return NULL;
     pthread_mutex_init(&handle->turn, NULL);
     pthread_mutex_init(&handle->queue, NULL);
-    pthread_cond_init(&handle->answered, NULL);
-    pthread_cond_init(&handle->work, NULL);
+    begin_condition(&handle->answered);
+    begin_condition(&handle->work);
     atomic_flag_clear(&handle->closing);
     handle->owner = getpid();
     handle->volume.file = -1;

@@ -1,6 +1,12 @@
 /* What a commit writes after its acknowledgement: its pages to their places, while nobody calls. */
 #include "inside.h"
 
+#include <errno.h>
+#include <time.h>
+
+/* How long the thread waits for another commit, in nanoseconds. */
+#define PAUSE 10000000l
+
 /* Neighbours are one system call where they are gathered together, so nothing is written before the steps ask for a
    sync. Between two steps the thread gives way: a call waits for one of them, which copies a page; or where they ask
    for a sync, for the writes of one commit and for that sync, as it waits for a commit, which has two. */
@@ -18,16 +24,46 @@ int write_out(famsync *handle, bool gives_way)
     return code != FAMSYNC_OK ? code : answer_of(handle, answer);
 }
 
+static bool has_work(const famsync *handle)
+{
+    return handle->left && handle->ended == FAMSYNC_OK && atomic_load(&handle->callers) == 0;
+}
+
+static struct timespec end_of_pause(void)
+{
+    struct timespec end;
+    clock_gettime(CLOCK_MONOTONIC, &end);
+    end.tv_nsec += PAUSE;
+    if (end.tv_nsec >= 1000000000l) {
+        end.tv_nsec -= 1000000000l;
+        end.tv_sec++;
+    }
+    return end;
+}
+
+/* What is left of a commit shares its syncs with the next one, if that comes soon: so the thread waits for it. Whether
+   one came, or nothing is to be done any more. */
+static bool another_comes(famsync *handle)
+{
+    uint64_t before = atomic_load(&handle->acknowledged);
+    struct timespec end = end_of_pause();
+    handle->pausing = true;
+    while (!handle->stopping && pthread_cond_timedwait(&handle->work, &handle->turn, &end) != ETIMEDOUT)
+        continue;
+    handle->pausing = false;
+    return handle->stopping || !has_work(handle) || atomic_load(&handle->acknowledged) != before;
+}
+
 /* The thread. An error of it is told by the next call, as the session is over then. */
 static void *work(void *argument)
 {
     famsync *handle = argument;
     pthread_mutex_lock(&handle->turn);
     while (!handle->stopping) {
-        if (handle->left && handle->ended == FAMSYNC_OK && atomic_load(&handle->callers) == 0)
-            (void)write_out(handle, true);
-        else
+        if (!has_work(handle))
             pthread_cond_wait(&handle->work, &handle->turn);
+        else if (!handle->shares_syncs || !another_comes(handle))
+            (void)write_out(handle, true);
         /* whoever came meanwhile goes first */
         pthread_mutex_unlock(&handle->turn);
         pthread_mutex_lock(&handle->turn);

@@ -5,10 +5,12 @@
 #include <errno.h>
 
 /* Where the commit before was begun to be written home, its writes wait for a sync of their own: that of another commit
-   would part them. */
+   would part them, unless it is made for both. */
 static int end_write_out(famsync *handle)
 {
-    return famsync_core_waiting(handle->core, &handle->core.at) > 0 ? write_out(handle, false) : FAMSYNC_OK;
+    if (handle->shares_syncs || famsync_core_waiting(handle->core, &handle->core.at) <= 0)
+        return FAMSYNC_OK;
+    return write_out(handle, false);
 }
 
 /* Makes a commit in the core, and what it records; it is acknowledged once all that was made. */

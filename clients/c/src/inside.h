@@ -111,7 +111,9 @@ struct famsync {
     pthread_t thread;
     pthread_cond_t work;
     bool threaded, stopping;
-    bool left;             /* something is left to be written of a commit */
+    bool pausing;      /* it waits for another commit, and is not to be woken by calls */
+    bool shares_syncs; /* what is left of a commit shares its syncs with the next one: the volume has four journals */
+    bool left;         /* something is left to be written of a commit */
     famsync *next, **link; /* among the handles of this process */
 };
 

@@ -112,7 +112,7 @@ module _ (g : GeometryValue) (next : ℕ) (shared : shares_syncs g.layout ≡ tr
   newest_even mark w Finishing early ahead = false_true ahead
 
   -- of one that is committed
-  one_writes : (mark : ℕ) (w : WriteOut) (s : Stage) → is_committed s ≡ true → has_writes s ≡ true
+  pub one_writes : (mark : ℕ) (w : WriteOut) (s : Stage) → is_committed s ≡ true → has_writes s ≡ true
       → (syncs_by (work_at g w.batch [] s) ≡ 0) × (commits_by (answer_at mark s) ≡ 0)
       × (is_between s ≡ false) × (is_between (next_in g.slots w.batch s) ≡ false) × (s ≡ Finishing → ⊥)
   one_writes mark w (Recording i) late writes = false_true late
@@ -133,7 +133,7 @@ module _ (g : GeometryValue) (next : ℕ) (shared : shares_syncs g.layout ≡ tr
   one_writes mark w Finishing late writes = false_true writes
 
   -- of all
-  shared_adds : (mark : ℕ) (w : WriteOut) (s : Stage) → may_share s ≡ true
+  pub shared_adds : (mark : ℕ) (w : WriteOut) (s : Stage) → may_share s ≡ true
       → (syncs_by (work_at g w.batch [] s) ≡ 1) × (commits_by (answer_at mark s) ≡ 0)
   shared_adds mark w (Recording i) e = false_true e
   shared_adds mark w (Describing i) e = false_true e
@@ -241,10 +241,10 @@ module _ (g : GeometryValue) (next : ℕ) (shared : shares_syncs g.layout ≡ tr
 -- ---- over a run
 
 pub record IsCounted (g : GeometryValue) (outs : WriteOutsValue) (commits syncs : ℕ) : Type 0 where
-  geometry : outs.geometry ≡ g
-  whole : outs.broken ≡ false
-  sound : IsSound outs
-  count : syncs ≡ 2 * commits + owed outs.batches
+  pub geometry : outs.geometry ≡ g
+  pub whole : outs.broken ≡ false
+  pub sound : IsSound outs
+  pub count : syncs ≡ 2 * commits + owed outs.batches
 
 none_between : (batches : List WriteOut) → AllByRecursion (λ x. has_committed x ≡ true) batches
     → list_any (is_at is_between) batches ≡ false

@@ -18,6 +18,7 @@ pub mod Answering
 pub mod Keeping
 pub mod KeptConsistent
 pub mod Counting
+pub mod Ending
 pub mod Found
 pub mod UnderWay
 pub mod Rooms

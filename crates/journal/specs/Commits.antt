@@ -1,5 +1,5 @@
--- Commits that follow one another at once, and how many syncs they make.
-use Rattle.std.specs.Prelude.{ℕ, ◌≡◌, ◌+◌, true, List, []}
+-- Commits that follow one another at once, what is left of them, and how many syncs they make.
+use Rattle.std.specs.Prelude.{ℕ, ◌≡◌, ◌≢◌, ◌+◌, true, List, []}
 use Rattle.volume_codec.specs.Layout.{GeometryValue}
 use Rattle.journal.specs.declared.flushed.Flushed.{Flushed}
 use Rattle.journal.specs.declared.flushed.Flushed.TheVariants.{Committed}
@@ -26,3 +26,9 @@ pub data HaveCommitted (g : GeometryValue) : WriteOutsValue → ℕ → ℕ → 
       → HaveCommitted g outs commits syncs
       → HaveCommitted g (outs_after outs (next_answer outs)) (commits + commits_by (next_answer outs))
       (syncs + syncs_by (next_work outs []))
+
+-- Write-outs after further steps and so many syncs of these: no device call fails, and no batch begins.
+pub data HaveGoneOn (outs : WriteOutsValue) : WriteOutsValue → ℕ → Type 0 where
+  NotYet : HaveGoneOn outs outs 0
+  OneMore : (mid : WriteOutsValue) (syncs : ℕ) → mid.batches ≢ [] → HaveGoneOn outs mid syncs
+      → HaveGoneOn outs (outs_after mid (next_answer mid)) (syncs + syncs_by (next_work mid []))

@@ -11,7 +11,7 @@ ghost use Rattle.journal.specs.Stage.{stage_at, has_writes, is_ahead};
 ghost use Rattle.journal.specs.declared.flushed.Flushed.{Flushed};
 ghost use Rattle.journal.specs.WriteOut.{WriteOut, IsBatch, FlushValue, next_stage, advanced_of, has_committed, calls_in_steps};
 ghost use Rattle.journal.specs.WriteOuts.{WriteOutsValue, has_uncommitted, shares_syncs, is_at, moving, moved, current, advanced, current_stage, HasBlock, outs_after, is_busy};
-ghost use Rattle.journal.specs.Commits.{HaveCommitted};
+ghost use Rattle.journal.specs.Commits.{HaveCommitted, HaveGoneOn};
 ghost use Rattle.journal.specs.Recovered.{RecoversBy, IsUnread};
 ghost use Rattle.journal.specs.Crash.{LeftBefore, LeftWithin};
 ghost use Rattle.journal.specs.LedTo.{HasLedTo};
@@ -64,6 +64,13 @@ pub fn two_syncs_a_commit()
     ensures { (g : GeometryValue) (outs : WriteOutsValue) (commits syncs : ℕ) → IsGeometry g
         → shares_syncs g.layout ≡ true → HaveCommitted g outs commits syncs → has_uncommitted outs.batches ≡ false
         → syncs ≡ 2 * commits }
+{}
+
+/// Once no batch follows, what is left of such commits makes two syncs more at most, up to the end of the last one.
+pub fn two_more_syncs_at_the_end()
+    ensures { (g : GeometryValue) (outs ended : WriteOutsValue) (commits syncs more : ℕ) → IsGeometry g
+        → shares_syncs g.layout ≡ true → HaveCommitted g outs commits syncs → has_uncommitted outs.batches ≡ false
+        → HaveGoneOn outs ended more → more ≤ 2 }
 {}
 
 /// Where syncs are shared, a batch may begin as soon as the one before is committed: at most two are under way then.
