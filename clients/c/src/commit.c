@@ -4,11 +4,13 @@
 
 #include <errno.h>
 
-/* Where the commit before was begun to be written home, its writes wait for a sync of their own: that of another commit
-   would part them. */
+/* Where the commit before was begun to be written home, its writes wait for a sync: for one of their own, where that of
+   another commit would part them; or else for the first one of this commit, which serves them, too. */
 static int end_write_out(famsync *handle)
 {
-    return famsync_core_waiting(handle->core, &handle->core.at) > 0 ? write_out(handle, false) : FAMSYNC_OK;
+    if (handle->shares_syncs || famsync_core_waiting(handle->core, &handle->core.at) == 0)
+        return FAMSYNC_OK;
+    return write_out(handle, false);
 }
 
 /* Makes a commit in the core, and what it records; it is acknowledged once all that was made. */

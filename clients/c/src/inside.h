@@ -93,6 +93,7 @@ struct famsync {
     unsigned frames;
     uint32_t blocks;       /* of the volume */
     uint32_t head;         /* the first of them that is a file's */
+    bool shares_syncs;     /* it has four journals: the syncs of a commit serve those before, too */
     uint64_t next_address; /* the first that no mapping has */
     struct mapping *mappings;
     struct gathered gathered;

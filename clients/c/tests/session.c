@@ -1,7 +1,7 @@
 /*
  * A session for tests that cut it off or make a call of it fail. Of the file `a` the first ten pages have one number in
- * each, the same in all, that is raised by one and committed, round by round; `b` has the last number as its length that
- * four divides. Between two of these a commit comes right after another, and a length waits for those before.
+ * each, the same in all, that is raised by one and committed, round by round; `b` has the last number as its length
+ * that four divides. Between two of these a commit comes right after another, and a length waits for those before.
  *
  *   session VOLUME make [FILES [LAYOUT]]      makes a volume; of layout 3 where that isn't said
  *   session VOLUME work ROUNDS [foreground|few]

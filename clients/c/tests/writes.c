@@ -14,6 +14,7 @@
 #define MOST_RANGES 1024
 
 static atomic_uint writes, syncs;
+static _Thread_local unsigned own_syncs;
 
 ssize_t pwritev(int file, const struct iovec *range, int count, off_t offset)
 {
@@ -24,6 +25,7 @@ ssize_t pwritev(int file, const struct iovec *range, int count, off_t offset)
 int fdatasync(int file)
 {
     atomic_fetch_add(&syncs, 1);
+    own_syncs++;
     return (int)syscall(SYS_fdatasync, file);
 }
 
@@ -147,7 +149,9 @@ static void commit(struct shape shape, enum way way, uint64_t number)
     }
     if (shape.resizes)
         WANT_CODE(famsync_setlength(handle, "b", 9000 - number), FAMSYNC_OK);
+    own_syncs = 0;
     WANT_CODE(famsync_msync(handle, NULL), FAMSYNC_OK);
+    WANT(own_syncs == 2 || (own_syncs > 2 && !shares(shape))); /* whatever the library's thread has begun before */
 }
 
 static void want_counts(struct shape shape, unsigned commits, bool holds)
