@@ -107,9 +107,10 @@ unsigned famsync_frames(const famsync *handle);
 
 /* Sets the length of a file, as ftruncate does: up to its capacity, in a volume of layout 3 or 4; else FAMSYNC_EINVAL.
    Bytes past a new end are gone, and what a file grows by is zeros. Like a store it is durable after the next
-   famsync_msync that is acknowledged, and else gone with the session. The pages that a file grows by count as stored
-   to, and so does the one in which it ended: FAMSYNC_NOFRAME where they and those that were stored to don't go into one
-   commit; then grow it less at a time, with an msync in between. Nothing is changed where it is refused.
+   famsync_msync that is acknowledged, and else gone with the session. What was committed is written to its place in the
+   volume before. The pages that a file grows by count as stored to, and so does the one in which it ended:
+   FAMSYNC_NOFRAME where they and those that were stored to don't go into one commit; then grow it less at a time, with
+   an msync in between. Nothing is changed where it is refused.
 
    Plain memory has the length with which it was opened, and so FAMSYNC_BUSY is answered as long as plain memory of this
    file is open. A mapping stays as it is: its pages past the file's end answer FAMSYNC_BUSADRERR, and can be used once
@@ -133,8 +134,8 @@ int famsync_store(famsync *handle, uint64_t address, const void *bytes, size_t c
    is over: each later call answers FAMSYNC_BROKEN. Where that was a sync, the volume is marked as suspect, as the
    program does it. errno says how, and is ENOMEM where memory was refused: then the disk isn't to blame.
 
-   What a commit writes after its acknowledgement is written by a thread of the library's own while nobody calls, or by
-   the next commit; with `foreground` there is no such thread. */
+   What a commit writes after its acknowledgement is written by a thread of the library's own while nobody calls, in
+   layout 4 once no commit has come for 10 ms, or by the next commit; with `foreground` there is no such thread. */
 int famsync_msync(famsync *handle, uint64_t *mark);
 
 /* The number of the last commit that was acknowledged, 0 where none was. */

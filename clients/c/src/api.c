@@ -54,9 +54,9 @@ unsigned number_of(const famsync *handle, const char *name)
     return file;
 }
 
-/* How many blocks the core is to know of: those that the super block says, or as many as the file has. One that doesn't
-   begin as a volume is judged by its first block alone. */
-static int count_blocks(famsync *handle)
+/* What the super block says: how many blocks the core is to know of, which are no more than the file has; and of its
+   layout, whether commits share their syncs. A file that doesn't begin as a volume is judged by its first block. */
+static int read_super(famsync *handle)
 {
     uint64_t blocks = handle->volume.bytes / PAGE, said;
     const unsigned char *head = handle->read;
@@ -109,7 +109,7 @@ static int open_core(famsync *handle, const struct famsync_options *options)
     }
     if (code == FAMSYNC_OK)
         code = read_files(handle);
-    /* Between two syncs no more is written than two journals have, or one where there are no four, before the files. */
+    /* Between two syncs no more is written than two journals have, or one where there aren't four, before the files. */
     if (code == FAMSYNC_OK)
         code = begin_gathering(&handle->gathered, handle->head);
     return code == FAMSYNC_OK ? drain(handle) : code;
@@ -122,7 +122,7 @@ static int open_session(famsync *handle, const char *path, const struct famsync_
     if (code != FAMSYNC_OK)
         return code;
     handle->read = malloc((size_t)MOST_READ * PAGE);
-    code = handle->read ? count_blocks(handle) : FAMSYNC_NOMEMORY;
+    code = handle->read ? read_super(handle) : FAMSYNC_NOMEMORY;
     if (code == FAMSYNC_OK)
         code = open_core(handle, options);
     if (code == FAMSYNC_OK && !options->foreground)

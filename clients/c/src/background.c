@@ -9,7 +9,7 @@
 
 /* Neighbours are one system call where they are gathered together, so nothing is written before the steps ask for a
    sync. Between two steps the thread gives way: a call waits for one of them, which copies a page; or where they ask
-   for a sync, for the writes of one commit and for that sync, as it waits for a commit, which has two. */
+   for a sync, for the pages of one commit and for that sync, as it waits for a commit, which has two. */
 int write_out(famsync *handle, bool gives_way)
 {
     int32_t answer;

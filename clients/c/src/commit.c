@@ -4,8 +4,8 @@
 
 #include <errno.h>
 
-/* Where the commit before was begun to be written home, its writes wait for a sync of their own: that of another commit
-   would part them, unless it is made for both. */
+/* Where the commit before was begun to be written home, its writes wait for a sync: for one of their own, where that of
+   another commit would part them; or else for the first one of this commit, which serves them, too. */
 static int end_write_out(famsync *handle)
 {
     if (handle->shares_syncs || famsync_core_waiting(handle->core, &handle->core.at) <= 0)

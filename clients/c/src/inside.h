@@ -93,6 +93,7 @@ struct famsync {
     unsigned frames;
     uint32_t blocks;       /* of the volume */
     uint32_t head;         /* the first of them that is a file's */
+    bool shares_syncs;     /* it has four journals: the syncs of a commit serve those before, too */
     uint64_t next_address; /* the first that no mapping has */
     struct mapping *mappings;
     struct gathered gathered;
@@ -111,9 +112,8 @@ struct famsync {
     pthread_t thread;
     pthread_cond_t work;
     bool threaded, stopping;
-    bool pausing;      /* it waits for another commit, and is not to be woken by calls */
-    bool shares_syncs; /* what is left of a commit shares its syncs with the next one: the volume has four journals */
-    bool left;         /* something is left to be written of a commit */
+    bool pausing;          /* it waits for another commit, and is not to be woken by calls */
+    bool left;             /* something is left to be written of a commit */
     famsync *next, **link; /* among the handles of this process */
 };
 

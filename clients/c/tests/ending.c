@@ -4,15 +4,6 @@
 
 #include <stdatomic.h>
 
-/* Whether the gate of the first journal is open: a commit isn't written to its place yet. */
-static bool gate_is_open(void)
-{
-    unsigned char gate = 0;
-    int file = open(volume, O_RDONLY | O_CLOEXEC);
-    WANT(file >= 0 && pread(file, &gate, 1, 4096) == 1 && close(file) == 0);
-    return gate == 0xA7;
-}
-
 static uint64_t mapped(famsync *handle, const char *file)
 {
     uint64_t address;
@@ -31,7 +22,7 @@ static void in_the_background(void)
             WANT_CODE(famsync_store(handle, address + round * 512, &round, 8, NULL), FAMSYNC_OK);
             WANT_CODE(famsync_msync(handle, &mark), FAMSYNC_OK);
             WANT(mark == round);
-            for (; gate_is_open(); waited++) {
+            for (; open_gates(layout, 16) > 0; waited++) {
                 WANT(waited < 20000);
                 usleep(1000);
             }
@@ -40,20 +31,20 @@ static void in_the_background(void)
     }
 }
 
-static void in_the_foreground(void)
+static void in_the_foreground(unsigned layout)
 {
     uint64_t value = 0;
-    make_volume(16, "a=65536");
+    make_volume_of(layout, 16, "a=65536");
     famsync *handle = opened_with((struct famsync_options){.foreground = 1});
     uint64_t address = mapped(handle, "a");
     for (uint64_t round = 1; round <= 5; round++) {
         WANT_CODE(famsync_store(handle, address + round * 4096, &round, 8, NULL), FAMSYNC_OK);
         WANT_CODE(famsync_msync(handle, NULL), FAMSYNC_OK);
         usleep(2000);
-        WANT(gate_is_open());
+        WANT(open_gates(layout, 16) == gates_left(layout, (unsigned)round));
     }
     WANT_CODE(famsync_close(handle), FAMSYNC_OK);
-    WANT(!gate_is_open());
+    WANT(open_gates(layout, 16) == 0);
     handle = opened();
     address = mapped(handle, "a");
     for (uint64_t round = 1; round <= 5; round++) {
@@ -63,27 +54,12 @@ static void in_the_foreground(void)
     WANT_CODE(famsync_close(handle), FAMSYNC_OK);
 }
 
-/* How many gates are open. */
-static unsigned open_gates(unsigned layout, unsigned slots)
-{
-    unsigned count = 0;
-    int file = open(volume, O_RDONLY | O_CLOEXEC);
-    for (unsigned journal = 0; journal < journals_of(layout); journal++) {
-        unsigned char gate = 0;
-        WANT(pread(file, &gate, 1, (off_t)gate_block(slots, journal) * 4096) == 1);
-        count += gate == 0xA7;
-    }
-    WANT(close(file) == 0);
-    return count;
-}
-
-/* A session that is cut off after its commits, of which each journal has one: the next one carries them out, in each
-   layout and from any journal on. */
+/* A session that is cut off after its commits: the next one carries out what is left of them, in each layout and from
+   any journal on. */
 static void cut_off(void)
 {
     for (unsigned layout = 1; layout <= LAYOUTS; layout++)
-        for (uint64_t rounds = 1; rounds <= 5; rounds++) {
-            unsigned journals = journals_of(layout);
+        for (uint64_t rounds = 1; rounds <= 9; rounds++) {
             int status;
             make_volume_of(layout, 16, "a=65536");
             pid_t child = fork();
@@ -98,7 +74,7 @@ static void cut_off(void)
                 kill(getpid(), SIGKILL);
             }
             WANT(waitpid(child, &status, 0) == child && WIFSIGNALED(status));
-            WANT(open_gates(layout, 16) == (rounds < journals ? rounds : journals));
+            WANT(open_gates(layout, 16) == gates_left(layout, (unsigned)rounds));
             famsync *handle = opened();
             WANT(open_gates(layout, 16) == 0);
             uint64_t address = mapped(handle, "a"), value;
@@ -140,7 +116,7 @@ static void large_commits(void)
         kill(getpid(), SIGKILL);
     }
     WANT(waitpid(child, &status, 0) == child && WIFSIGNALED(status));
-    WANT(open_gates(4, LARGE + 1) == 3);
+    WANT(open_gates(4, LARGE + 1) == gates_left(4, 3));
     famsync *handle = opened();
     WANT(open_gates(4, LARGE + 1) == 0);
     WANT(famsync_frames(handle) == LARGE && famsync_file_length(handle, 1) == 4997);
@@ -289,7 +265,8 @@ static void two_volumes(void)
 int main(void)
 {
     in_the_background();
-    in_the_foreground();
+    for (unsigned layout = 1; layout <= LAYOUTS; layout++)
+        in_the_foreground(layout);
     cut_off();
     large_commits();
     forked();

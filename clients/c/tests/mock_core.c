@@ -42,11 +42,15 @@ struct file {
     struct page *page;
 };
 
-/* A journal, and how far its commit is written home. */
+/* What a write-out does next, in order; some are as many steps as it has blocks, or its descriptor. */
+enum stage { RECORDING, DESCRIBING, SYNCING_RECORDS, OPENING, COMMITTING, APPLYING, SYNCING_HOMES, CLOSING, FINISHING };
+
+/* A journal, and the write-out of the commit in it: its stage, and how many steps of that were made. */
 struct journal {
     uint32_t gate; /* its block; the descriptor's are the next, and then come the records */
-    bool open;
+    bool open;     /* as the volume is opened */
     uint64_t mark;
+    enum stage stage;
     uint32_t count, made;
     uint32_t *home;   /* room for as many as the journal has slots */
     uint8_t **record; /* the same */
@@ -67,7 +71,8 @@ struct core {
     uint32_t slots, head, files;
     struct file file[MOST_FILES];
     struct journal journal[MOST_JOURNALS];
-    unsigned next; /* the journal of the next commit */
+    unsigned next;      /* the journal of the next commit */
+    unsigned under_way; /* how many write-outs aren't done: those of the journals before it */
     struct mapping *mapping;
     size_t mappings;
     uint32_t frames, resident, turn;
@@ -587,33 +592,142 @@ static void drop_records(struct journal *journal)
     journal->open = false;
 }
 
-/* A step of the oldest commit that is being written home. */
-static bool step(struct core *core, struct journal *journal)
+/* Write-outs: which comes next, as crates/journal/specs/WriteOuts.antt has it. */
+
+/* The write-out of this number, counted from the oldest. */
+static struct journal *write_out_of(struct core *core, unsigned number)
 {
-    static const uint8_t closed[1];
-    bool made;
-    if (journal->made < journal->count)
-        made = put(core, journal->home[journal->made], journal->record[journal->made], PAGE);
-    else if (journal->made == journal->count + 1)
-        made = put(core, journal->gate, closed, 1);
-    else
-        made = sync_disk(core);
-    if (made && journal->made++ == journal->count + 2)
+    return &core->journal[(core->next + journals(core) - core->under_way + number) % journals(core)];
+}
+
+static bool shares_syncs(const struct core *core)
+{
+    return journals(core) == 4;
+}
+
+static bool is_committed(const struct journal *journal)
+{
+    return journal->stage >= APPLYING;
+}
+
+/* It isn't committed, and its next step isn't the sync of its records. */
+static bool is_ahead(const struct journal *journal)
+{
+    return journal->stage <= COMMITTING && journal->stage != SYNCING_RECORDS;
+}
+
+static bool has_writes(const struct journal *journal)
+{
+    return journal->stage != SYNCING_RECORDS && journal->stage != COMMITTING && journal->stage != SYNCING_HOMES &&
+           journal->stage != FINISHING;
+}
+
+/* The write-out that makes the next step alone; a null pointer where each makes it, by one sync. There is one. */
+static struct journal *next_alone(struct core *core)
+{
+    struct journal *newest = write_out_of(core, core->under_way - 1);
+    if (!shares_syncs(core))
+        return is_committed(newest) ? write_out_of(core, 0) : newest;
+    if (is_ahead(newest))
+        return newest;
+    for (unsigned i = 0; i < core->under_way; i++)
+        if (has_writes(write_out_of(core, i)))
+            return write_out_of(core, i);
+    return NULL;
+}
+
+/* How many steps its stage has. */
+static uint32_t steps_of(const struct core *core, const struct journal *journal)
+{
+    if (journal->stage == RECORDING || journal->stage == APPLYING)
+        return journal->count;
+    return journal->stage == DESCRIBING ? descriptor_blocks(core) : 1;
+}
+
+/* A step was made; the oldest write-out leaves where it is done. */
+static void advance(struct core *core, struct journal *journal)
+{
+    if (++journal->made < steps_of(core, journal))
+        return;
+    journal->made = 0;
+    if (journal->stage++ == FINISHING) {
         drop_records(journal);
-    return made;
+        core->under_way--;
+    }
+}
+
+/* The number at this offset of a journal's descriptor, where it has one of four bytes. */
+static uint64_t to_describe(const struct journal *journal, uint32_t offset)
+{
+    if (offset < 16)
+        return offset == 4 ? journal->mark : offset == 8 ? journal->count : 0;
+    return (offset - 16) / 4 < journal->count ? journal->home[(offset - 16) / 4] : 0;
+}
+
+static bool describe(struct core *core, const struct journal *journal)
+{
+    uint8_t text[PAGE];
+    for (uint32_t at = 0; at < PAGE; at += 4)
+        put_number(text + at, 4, to_describe(journal, journal->made * PAGE + at));
+    return put(core, descriptor_block(journal) + journal->made, text, PAGE);
+}
+
+/* The call that its next step makes. */
+static bool make_call(struct core *core, const struct journal *journal)
+{
+    static const uint8_t open_gate[1] = {GATE_OPEN}, closed[1];
+    switch (journal->stage) {
+    case RECORDING:
+        return put(core, record_block(core, journal, journal->made), journal->record[journal->made], PAGE);
+    case DESCRIBING:
+        return describe(core, journal);
+    case OPENING:
+        return put(core, journal->gate, open_gate, 1);
+    case APPLYING:
+        return put(core, journal->home[journal->made], journal->record[journal->made], PAGE);
+    case CLOSING:
+        return put(core, journal->gate, closed, 1);
+    default:
+        return sync_disk(core);
+    }
+}
+
+/* A step of the write-outs, of which there are some. */
+static bool step(struct core *core)
+{
+    struct journal *alone = next_alone(core);
+    unsigned under_way = core->under_way;
+    if (!make_call(core, alone ? alone : write_out_of(core, 0)))
+        return false;
+    if (alone)
+        advance(core, alone);
+    for (unsigned i = under_way; !alone && i > 0; i--) /* the oldest at last: it may leave */
+        advance(core, write_out_of(core, i - 1));
+    return true;
+}
+
+/* Steps until none is under way. */
+static bool write_all_out(struct core *core)
+{
+    while (core->under_way > 0)
+        if (!step(core))
+            return false;
+    return true;
 }
 
 int32_t famsync_core_write_out(famsync_core handle, uint32_t most, uint8_t **at)
 {
     struct core *core = core_of(handle);
-    struct journal *journal;
     *at = handle.at;
     if (!core->open || core->broken)
         return core->open ? FAMSYNC_CORE_BROKEN : FAMSYNC_CORE_ORDER;
-    for (; (journal = oldest_open(core)) && most > 0; most--)
-        if (!step(core, journal))
+    for (; most > 0; most--) {
+        if (core->under_way == 0)
+            return FAMSYNC_CORE_NONE;
+        if (!step(core))
             return broken(core);
-    return journal ? FAMSYNC_CORE_OK : FAMSYNC_CORE_NONE;
+    }
+    return FAMSYNC_CORE_OK;
 }
 
 static bool add_record(struct journal *journal, uint32_t home, const uint8_t *bytes)
@@ -644,36 +758,6 @@ static bool collect(struct core *core, struct journal *journal)
     return all;
 }
 
-/* The number at this offset of a journal's descriptor, where it has one of four bytes. */
-static uint64_t to_describe(const struct journal *journal, uint32_t offset)
-{
-    if (offset < 16)
-        return offset == 4 ? journal->mark : offset == 8 ? journal->count : 0;
-    return (offset - 16) / 4 < journal->count ? journal->home[(offset - 16) / 4] : 0;
-}
-
-static bool write_descriptor(struct core *core, const struct journal *journal)
-{
-    for (uint32_t block = 0; block < descriptor_blocks(core); block++) {
-        uint8_t text[PAGE];
-        for (uint32_t at = 0; at < PAGE; at += 4)
-            put_number(text + at, 4, to_describe(journal, block * PAGE + at));
-        if (!put(core, descriptor_block(journal) + block, text, PAGE))
-            return false;
-    }
-    return true;
-}
-
-static bool write_journal(struct core *core, const struct journal *journal)
-{
-    static const uint8_t open_gate[1] = {GATE_OPEN};
-    for (uint32_t i = 0; i < journal->count; i++)
-        if (!put(core, record_block(core, journal, i), journal->record[i], PAGE))
-            return false;
-    return write_descriptor(core, journal) && sync_disk(core) && put(core, journal->gate, open_gate, 1) &&
-           sync_disk(core);
-}
-
 static void clean(struct core *core)
 {
     for (uint32_t i = 0; i < core->files; i++)
@@ -689,8 +773,8 @@ int32_t famsync_core_commit(famsync_core handle, uint32_t *mark, uint8_t **at)
     *at = handle.at;
     if (!core->open || core->broken)
         return core->open ? FAMSYNC_CORE_BROKEN : FAMSYNC_CORE_ORDER;
-    while (journal->open)
-        if (!step(core, oldest_open(core)))
+    while (core->under_way == journals(core))
+        if (!step(core))
             return broken(core);
     if (!collect(core, journal)) {
         drop_records(journal);
@@ -702,14 +786,14 @@ int32_t famsync_core_commit(famsync_core handle, uint32_t *mark, uint8_t **at)
         return FAMSYNC_CORE_OK;
     }
     journal->mark = core->mark;
+    journal->stage = RECORDING;
     journal->made = 0;
-    if (!write_journal(core, journal)) {
-        drop_records(journal);
-        return broken(core);
-    }
-    journal->open = true;
     core->next = (core->next + 1) % journals(core);
+    core->under_way++;
     clean(core);
+    while (!is_committed(journal))
+        if (!step(core))
+            return broken(core);
     return FAMSYNC_CORE_OK;
 }
 
@@ -755,30 +839,52 @@ static void drop_page(struct core *core, struct page *page)
     core->resident--;
 }
 
-/* Takes a clean page out of memory, if there is one, in turn; what is left of commits is written before. Where that
-   can't be recorded, nobody is told but by the next commit. */
-static bool make_room(struct core *core)
+/* Whether a block belongs to a write-out that isn't done. */
+static bool is_under_way(struct core *core, uint32_t block)
 {
-    struct journal *journal;
-    while (!core->broken && (journal = oldest_open(core)))
-        if (!step(core, journal)) {
-            core->broken = true;
-            return false;
-        }
-    for (uint32_t tries = 0; tries < 2 * core->blocks; tries++) {
-        uint32_t block = core->turn++ % core->blocks;
-        for (uint32_t i = 0; i < core->files; i++) {
-            struct file *file = &core->file[i];
-            if (block < file->home || block - file->home >= file->pages)
-                continue;
-            struct page *page = &file->page[block - file->home];
-            if (page->bytes && !page->dirty) {
-                drop_page(core, page);
+    for (unsigned number = 0; number < core->under_way; number++) {
+        const struct journal *journal = write_out_of(core, number);
+        for (uint32_t i = 0; i < journal->count; i++)
+            if (journal->home[i] == block)
                 return true;
-            }
+    }
+    return false;
+}
+
+/* The page of this block, if it is a file's. */
+static struct page *page_of(struct core *core, uint32_t block)
+{
+    for (uint32_t i = 0; i < core->files; i++) {
+        struct file *file = &core->file[i];
+        if (block >= file->home && block - file->home < file->pages)
+            return &file->page[block - file->home];
+    }
+    return NULL;
+}
+
+/* Takes a page out of memory that is clean and in no write-out, if there is one, in turn. */
+static bool take_out_next(struct core *core)
+{
+    for (uint32_t tries = 0; tries < core->blocks; tries++) {
+        uint32_t block = core->turn++ % core->blocks;
+        struct page *page = page_of(core, block);
+        if (page && page->bytes && !page->dirty && !is_under_way(core, block)) {
+            drop_page(core, page);
+            return true;
         }
     }
     return false;
+}
+
+/* Makes room for a page, if that can be done: where there is none before, once the write-outs are done. Where they
+   can't be recorded, nobody is told but by the next commit. */
+static bool make_room(struct core *core)
+{
+    if (take_out_next(core))
+        return true;
+    if (!core->broken && !write_all_out(core))
+        core->broken = true;
+    return !core->broken && take_out_next(core);
 }
 
 static int add_page(struct core *core, struct page *page)
@@ -927,11 +1033,17 @@ int32_t famsync_core_set_length(famsync_core handle, uint32_t number, uint64_t l
         return FAMSYNC_CORE_NOFILE;
     if (!has_lengths(core) || length > file->capacity)
         return FAMSYNC_CORE_EINVAL;
+    if (length == file->length)
+        return FAMSYNC_CORE_OK;
+    if (core->broken)
+        return FAMSYNC_CORE_BROKEN;
+    if (!write_all_out(core))
+        return broken(core);
     if (length > file->length)
         code = grow(core, file, length);
     else
         shrink(core, file, length);
-    if (code == FAMSYNC_CORE_OK && length != file->length) {
+    if (code == FAMSYNC_CORE_OK) {
         file->length = length;
         core->resized = true;
     }

@@ -1,6 +1,7 @@
 /*
  * A session for tests that cut it off or make a call of it fail. Of the file `a` the first ten pages have one number in
- * each, the same in all, that is raised by one and committed, round by round; `b` has the number as its length.
+ * each, the same in all, that is raised by one and committed, round by round; `b` has the last number as its length
+ * that four divides. Between two of these a commit comes right after another, and a length waits for those before.
  *
  *   session VOLUME make [FILES [LAYOUT]]      makes a volume; of layout 3 where that isn't said
  *   session VOLUME work ROUNDS [foreground|few]
@@ -49,7 +50,8 @@ static int one_round(famsync *handle, famsync_memory *memory, uint64_t address, 
         memcpy((unsigned char *)famsync_memory_at(memory) + page * 4096 + 4000, &number, 8);
         failed |= tell("store", famsync_store(handle, address + (page + 1) * 4096 + 4000, &number, 8, NULL));
     }
-    failed |= tell("setlength", famsync_setlength(handle, "b", number));
+    if (number % 4 == 0)
+        failed |= tell("setlength", famsync_setlength(handle, "b", number));
     failed |= tell("msync", failed ? FAMSYNC_OK : famsync_msync(handle, &mark));
     if (!failed)
         printf("%llu\n", (unsigned long long)number);

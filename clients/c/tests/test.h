@@ -84,6 +84,12 @@ static inline unsigned journals_of(unsigned layout)
     return layout == 1 ? 1 : layout == 4 ? 4 : 2;
 }
 
+/* Whether commits share their syncs. */
+static inline bool shares_syncs(unsigned layout)
+{
+    return journals_of(layout) == 4;
+}
+
 /* How many blocks the descriptor of a journal with so many slots has, and which block the gate of a journal is. */
 static inline uint32_t descriptor_blocks(unsigned slots)
 {
@@ -161,6 +167,28 @@ static inline void make_volume_of(unsigned layout, unsigned slots, const char *f
 static inline void make_volume(unsigned slots, const char *files)
 {
     make_volume_of(1, slots, files);
+}
+
+/* How many gates of a volume with so many slots are open. */
+static inline unsigned open_gates(unsigned layout, unsigned slots)
+{
+    unsigned count = 0;
+    int file = open(volume, O_RDONLY | O_CLOEXEC);
+    for (unsigned journal = 0; journal < journals_of(layout); journal++) {
+        unsigned char gate = 0;
+        WANT(pread(file, &gate, 1, (off_t)gate_block(slots, journal) * 4096) == 1);
+        count += gate == 0xA7;
+    }
+    WANT(close(file) == 0);
+    return count;
+}
+
+/* How many gates are open after so many commits in a row, in the foreground: one in each journal; where commits share
+   their syncs, the gate of the one before the last isn't closed yet, and those before it are. */
+static inline unsigned gates_left(unsigned layout, unsigned commits)
+{
+    unsigned most = shares_syncs(layout) ? 2 : journals_of(layout);
+    return commits < most ? commits : most;
 }
 
 static inline famsync *opened_with(struct famsync_options options)

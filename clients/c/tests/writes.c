@@ -1,6 +1,7 @@
 /* How many calls of the system a commit is, counted to the end of its write-out: four writes and one more for each
    further run of neighbouring pages, and four syncs; whoever calls meanwhile, and however many pages it has, as long as
-   a run is no longer than one call can write. */
+   a run is no longer than one call can write. In layout 4 commits share their syncs: where one comes right after
+   another, it makes two, and the last one of all two more. */
 #include "test.h"
 
 #include <stdatomic.h>
@@ -8,11 +9,12 @@
 #include <sys/uio.h>
 
 #define SLOTS 1020
-#define COMMITS 3
+#define COMMITS 9
 /* How many ranges of memory one call writes at most. */
 #define MOST_RANGES 1024
 
 static atomic_uint writes, syncs;
+static _Thread_local unsigned own_syncs;
 
 ssize_t pwritev(int file, const struct iovec *range, int count, off_t offset)
 {
@@ -23,16 +25,19 @@ ssize_t pwritev(int file, const struct iovec *range, int count, off_t offset)
 int fdatasync(int file)
 {
     atomic_fetch_add(&syncs, 1);
+    own_syncs++;
     return (int)syscall(SYS_fdatasync, file);
 }
 
-/* A commit: of so many pages, of which every such one of the file is one. */
+/* A commit: of so many pages, of which every such one of the file is one; and where it resizes, of the length of
+   another file, which isn't set before what was committed is written home. */
 struct shape {
     unsigned layout, pages, apart;
+    bool resizes;
 };
 
 /* More pages than the other layouts have in a commit: the descriptor has two blocks, and each run takes two calls. */
-static const struct shape LARGE = {4, 1500, 1};
+static const struct shape LARGE = {4, 1500, 1, false};
 
 enum way { BY_POINTER, BY_CALL };
 
@@ -45,13 +50,14 @@ static atomic_bool stopped;
    page. */
 static unsigned homes_of(struct shape shape)
 {
-    return shape.pages + has_lengths(shape.layout);
+    return shape.pages + shape.resizes;
 }
 
-/* The slots of its volume. */
+/* The slots of its volume: where a file has a length of its own, one is kept for these. */
 static unsigned slots_for(struct shape shape)
 {
-    return homes_of(shape) > SLOTS ? homes_of(shape) : SLOTS;
+    unsigned wanted = shape.pages + has_lengths(shape.layout);
+    return wanted > SLOTS ? wanted : SLOTS;
 }
 
 /* How many calls write a gate and this: runs of so many blocks. Where the core has each block by itself, a call writes
@@ -81,12 +87,30 @@ static bool were_made(struct count count)
     return count.least <= writes && writes <= count.most;
 }
 
-/* So many commits were written, and home. */
+/* So many commits were written, and home. What shares a sync doesn't share a write: no journal lies before a file's
+   block that is written with it and has a record in each slot. */
 static bool were_written(struct shape shape, unsigned commits)
 {
     struct count first = writes_to_commit(shape), then = writes_home(shape);
-    return were_made((struct count){commits * (first.least + then.least), commits * (first.most + then.most)}) &&
-           syncs == 4 * commits;
+    return were_made((struct count){commits * (first.least + then.least), commits * (first.most + then.most)});
+}
+
+/* Whether a commit can come while the one before isn't written home yet, and its syncs serve that, too. */
+static bool shares(struct shape shape)
+{
+    return shares_syncs(shape.layout) && !shape.resizes;
+}
+
+/* How many syncs so many commits make to the end, in a row. */
+static unsigned syncs_in_a_row(struct shape shape, unsigned commits)
+{
+    return shares(shape) ? 2 * commits + 2 : 4 * commits;
+}
+
+/* As many, where each may come right after the one before or later. */
+static bool were_synced(struct shape shape, unsigned commits)
+{
+    return syncs_in_a_row(shape, commits) <= syncs && syncs <= 4 * commits;
 }
 
 static void make_file(struct shape shape)
@@ -123,27 +147,91 @@ static void commit(struct shape shape, enum way way, uint64_t number)
         else
             WANT_CODE(famsync_store(handle, address + at, &number, sizeof number, NULL), FAMSYNC_OK);
     }
-    if (has_lengths(shape.layout))
+    if (shape.resizes)
         WANT_CODE(famsync_setlength(handle, "b", 9000 - number), FAMSYNC_OK);
+    own_syncs = 0;
     WANT_CODE(famsync_msync(handle, NULL), FAMSYNC_OK);
+    WANT(own_syncs == 2 || (own_syncs > 2 && !shares(shape))); /* whatever the library's thread has begun before */
+}
+
+static void want_counts(struct shape shape, unsigned commits, bool holds)
+{
+    if (holds && were_written(shape, commits))
+        return;
+    fprintf(stderr, "writes: %u pages, every %u%s, layout %u: %u writes and %u syncs of %u commits\n", shape.pages,
+            shape.apart, shape.resizes ? ", and lengths" : "", shape.layout, writes, syncs, commits);
+    exit(1);
 }
 
 /* Every second commit comes right after the one before, and the others later, when that may be written home. */
-static void count_commits(struct shape shape, enum way way, struct famsync_options options)
+static void count_commits(struct shape shape, enum way way)
 {
     make_file(shape);
-    begin(options, way);
+    begin((struct famsync_options){0}, way);
     for (uint64_t number = 1; number <= COMMITS; number++) {
         commit(shape, way, number);
         if (number % 2 == 0)
             usleep(20000);
     }
     end(way);
-    if (!were_written(shape, COMMITS)) {
-        fprintf(stderr, "writes: %u pages, every %u, layout %u: %u writes and %u syncs of %d commits\n", shape.pages,
-                shape.apart, shape.layout, writes, syncs, COMMITS);
-        exit(1);
+    want_counts(shape, COMMITS, were_synced(shape, COMMITS));
+}
+
+/* Each commit is written home by the library's thread, before the next one. */
+static void count_by_themselves(struct shape shape)
+{
+    make_file(shape);
+    begin((struct famsync_options){0}, BY_POINTER);
+    for (unsigned number = 1; number <= COMMITS; number++) {
+        commit(shape, BY_POINTER, number);
+        for (unsigned waited = 0; atomic_load(&syncs) < 4 * number; waited++) {
+            WANT(waited < 20000);
+            usleep(1000);
+        }
+        WANT(open_gates(shape.layout, slots_for(shape)) == 0);
     }
+    end(BY_POINTER);
+    want_counts(shape, COMMITS, syncs == 4 * COMMITS);
+}
+
+/* The commit of this number makes two syncs of its own; and two more before where that before has to be written home
+   first: when its journal has another commit, or a length is to be set. */
+static unsigned syncs_to_commit(struct shape shape, unsigned number)
+{
+    unsigned others = shape.resizes ? 1 : journals_of(shape.layout);
+    return shares(shape) || number <= others ? 2 : 4;
+}
+
+/* Which commit's bytes are in the files' blocks when the one of this number is acknowledged. */
+static uint64_t is_home(struct shape shape, uint64_t number)
+{
+    uint64_t later = shares(shape) || shape.resizes ? 1 : journals_of(shape.layout);
+    return number > later ? number - later : 0;
+}
+
+/* What the first page of the file has on the disk. */
+static uint64_t at_home(struct shape shape)
+{
+    uint64_t number = 0;
+    off_t home = first_home(shape.layout, slots_for(shape)) + has_lengths(shape.layout);
+    int file = open(volume, O_RDONLY | O_CLOEXEC);
+    WANT(file >= 0 && pread(file, &number, sizeof number, home * 4096) == sizeof number && close(file) == 0);
+    return number;
+}
+
+/* Commits in a row, with no thread of the library's own. */
+static void count_in_a_row(struct shape shape, enum way way)
+{
+    unsigned before = 0;
+    make_file(shape);
+    begin((struct famsync_options){.foreground = 1}, way);
+    for (unsigned number = 1; number <= COMMITS; number++) {
+        commit(shape, way, number);
+        WANT(syncs - before == syncs_to_commit(shape, number) && at_home(shape) == is_home(shape, number));
+        before = syncs;
+    }
+    end(way);
+    want_counts(shape, COMMITS, syncs == syncs_in_a_row(shape, COMMITS));
 }
 
 static void *others_load(void *argument)
@@ -172,53 +260,63 @@ static void beside_others(struct shape shape)
     atomic_store(&stopped, true);
     pthread_join(loader, NULL);
     end(BY_POINTER);
-    WANT(were_written(shape, COMMITS));
+    want_counts(shape, COMMITS, were_synced(shape, COMMITS));
 }
 
-/* What an ended process left of its commit is what is to be written home and two syncs, after the sync with which each
-   opening begins; also in a session that has fewer frames. */
-static void after_an_end(struct shape shape)
+/* What an ended process left of its commits is what is to be written home and two syncs for each whose gate is open,
+   after the sync with which each opening begins; also in a session that has fewer frames. */
+static void after_an_end(struct shape shape, unsigned commits)
 {
     int status;
+    unsigned left = gates_left(shape.layout, commits);
     make_file(shape);
     pid_t child = fork();
     WANT(child >= 0);
     if (child == 0) {
         begin((struct famsync_options){.foreground = 1}, BY_POINTER);
-        commit(shape, BY_POINTER, 1);
-        _exit(were_made(writes_to_commit(shape)) && syncs == 2 ? 0 : 1);
+        for (unsigned number = 1; number <= commits; number++)
+            commit(shape, BY_POINTER, number);
+        _exit(open_gates(shape.layout, slots_for(shape)) == left ? 0 : 1);
     }
     WANT(waitpid(child, &status, 0) == child && WIFEXITED(status) && WEXITSTATUS(status) == 0);
     atomic_store(&writes, 0);
     atomic_store(&syncs, 0);
     handle = opened_with((struct famsync_options){.frames = 1});
-    WANT(were_made(writes_home(shape)) && syncs == 3);
+    WANT(were_made((struct count){left * writes_home(shape).least, left * writes_home(shape).most}));
+    WANT(syncs == 1 + 2 * left && at_home(shape) == commits);
     WANT_CODE(famsync_close(handle), FAMSYNC_OK);
+}
+
+/* A commit of one page, of as many as there can be, of pages apart, and of the first two with a length. */
+static void count_in_layout(unsigned layout)
+{
+    unsigned most = SLOTS - has_lengths(layout);
+    struct shape shapes[] = {{layout, 1, 1, false},
+                             {layout, most, 1, false},
+                             {layout, 300, 2, false},
+                             {layout, 1, 1, true},
+                             {layout, most, 1, true}};
+    for (unsigned i = 0; i < (has_lengths(layout) ? 5 : 3); i++) {
+        count_commits(shapes[i], i % 2 == 0 ? BY_POINTER : BY_CALL);
+        count_in_a_row(shapes[i], BY_POINTER);
+        count_in_a_row(shapes[i], BY_CALL);
+    }
+    count_by_themselves(shapes[0]);
+    beside_others(shapes[1]);
+    for (unsigned commits = 1; commits <= 5; commits += 2)
+        after_an_end(shapes[1], commits);
+    if (has_lengths(layout))
+        after_an_end(shapes[4], 1);
 }
 
 int main(void)
 {
-    for (int foreground = 0; foreground <= 1; foreground++) {
-        struct famsync_options options = {.foreground = foreground};
-        for (unsigned layout = 1; layout <= LAYOUTS; layout++) {
-            unsigned most = SLOTS - has_lengths(layout);
-            count_commits((struct shape){layout, most, 1}, BY_POINTER, options);
-            count_commits((struct shape){layout, 1, 1}, BY_POINTER, options);
-        }
-        count_commits((struct shape){1, SLOTS, 1}, BY_CALL, options);
-        count_commits((struct shape){1, 300, 2}, BY_POINTER, options);
-        count_commits((struct shape){2, 300, 2}, BY_CALL, options);
-        count_commits((struct shape){4, 300, 2}, BY_CALL, options);
-        count_commits(LARGE, BY_POINTER, options);
-        count_commits(LARGE, BY_CALL, options);
-    }
-    for (unsigned layout = 1; layout <= LAYOUTS; layout++) {
-        struct shape shape = {layout, SLOTS - has_lengths(layout), 1};
-        beside_others(shape);
-        after_an_end(shape);
-    }
+    for (unsigned layout = 1; layout <= LAYOUTS; layout++)
+        count_in_layout(layout);
+    count_commits(LARGE, BY_POINTER);
+    count_in_a_row(LARGE, BY_CALL);
     beside_others(LARGE);
-    after_an_end(LARGE);
+    after_an_end(LARGE, 3);
     printf("clients/c: writes: as it should be\n");
     return 0;
 }
