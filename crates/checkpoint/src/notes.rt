@@ -147,8 +147,7 @@ fn list_in_order<A: Allocator + Copy>(
     }
 }
 
-// Where fewer than one in so many of the frames in use are noted, to sort their pages costs less than to go over all
-// frames in use.
+// Where fewer than one in so many of the frames in use are noted, their pages are sorted.
 const SHARE: usize = 8;
 
 /// Lists the pages of the frames in use that are noted, in the order of their home blocks. There is room for a page of
