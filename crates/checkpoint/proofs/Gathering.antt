@@ -1,30 +1,28 @@
--- The pages of the frames that are noted, found frame by frame and then sorted.
+-- The pages of the frames that are noted: found by the frames' numbers and then sorted, or found in the order of all
+-- frames in use.
 use Rattle.std.proofs.Common.{ℕ, zero, suc, ◌≡◌, ◌<◌, ◌≤◌, ◌+◌, Bool, true, false, cond, List}
 use Rattle.std.proofs.Common.{[], ◌∷◌, ◌++◌, length, get_or, drop, Contains, Option, sum_by}
-use Rattle.std.proofs.Common.{Some, None, refl, sym, ap, subst, ◌∙◌, inl, inr, ⊎_elim, arith}
+use Rattle.std.proofs.Common.{Some, None, IsSome, refl, sym, ap, subst, ◌∙◌, inl, inr, ⊎_elim, arith}
 use Rattle.std.specs.List.Sorted.{IsPermutation, IsSorted}
 use Rattle.std.specs.Option.{option_to_list}
 use Rattle.std.specs.Ordering.{is_lt}
 use Rattle.std.proofs.lemmas.Bool.{cond-true, cases_lt, cases_eq}
 use Rattle.std.proofs.lemmas.Bool.Decides.{nat_tests}
-use Rattle.std.proofs.lemmas.List.{drop_all}
+use Rattle.std.proofs.lemmas.List.{append-nil, drop_all, get_or_default, get_or_past}
 use Rattle.std.proofs.lemmas.List.Elements.{Contains-append_left, Contains-append_right, Contains-append_cases}
+use Rattle.std.proofs.lemmas.List.Elements.{Contains-get_or}
 use Rattle.std.proofs.lemmas.List.Sorted.{Contains-permutation, IsPermutation-sym, sum_by-IsPermutation}
 use Rattle.std.proofs.lemmas.List.Sums.{sum_by-cons, sum_by-append}
 use Rattle.page_entry.specs.declared.numbers.FilePage.{FilePage}
-use Rattle.frames.specs.Frames.{FramesState, frame_at, AreFrames, IsBefore, page_of}
+use Rattle.frames.specs.Frames.{FramesState, Frame, frame_at, AreFrames, AreInOrder, IsBefore, HasPageBefore, page_of}
 use Rattle.spaces.specs.Spaces.{Spaces}
 use Rattle.checkpoint.specs.Checkpoint.{CheckpointState, Holds, AreRising, Gathers, same_page}
-use Rattle.checkpoint.specs.inside.Notes.{AreNoted, AreNotedPages, IsAnyPage, noted_in, noted_page}
+use Rattle.checkpoint.specs.inside.Notes.{AreNoted, AreNotedPages, IsAnyPage, noted_in, noted_page, noted_at}
+use Rattle.checkpoint.specs.inside.Notes.{noted_by_number}
 use Rattle.checkpoint.proofs.Lists.{Contains-head, Contains-tail}
 use Rattle.checkpoint.proofs.BackingLaws.{Holds-within}
 use Rattle.checkpoint.proofs.PagesInUse.{same_page-true, same_page-refl}
 use Rattle.checkpoint.proofs.Searches.{order_of}
-
--- the pages of the frames below a number that are noted, by their frames
-abbrev pub noted_below : FramesState → List Bool → ℕ → List FilePage
-noted_below memory notes zero = []
-noted_below memory notes (suc n) = noted_below memory notes n ++ option_to_list (noted_page memory notes n)
 
 -- a frame that is noted gives its page
 noted_page-from : (memory : FramesState) (notes : List Bool) (frame : ℕ) (owner : FilePage)
@@ -57,25 +55,27 @@ only-there (Some page) owner e =
     let same : page ≡ owner = cc in subst (λ p. Contains (page ∷ []) p) same (Contains-head page [])
 
 -- each of the pages is that of a noted frame, and each noted frame has its page among them
-noted_below-from : (memory : FramesState) (notes : List Bool) (n : ℕ) (owner : FilePage)
-    → Contains (noted_below memory notes n) owner
-    → (frame : ℕ) × (frame < n) × (noted_page memory notes frame ≡ Some owner)
-noted_below-from memory notes zero owner (k, within, is) = absurd (omega arith)
-noted_below-from memory notes (suc n) owner there =
+noted_at-from : (memory : FramesState) (notes : List Bool) (at : ℕ → ℕ) (n : ℕ) (owner : FilePage)
+    → Contains (noted_at memory notes at n) owner
+    → (place : ℕ) × (place < n) × (noted_page memory notes (at place) ≡ Some owner)
+noted_at-from memory notes at zero owner (k, within, is) = absurd (omega arith)
+noted_at-from memory notes at (suc n) owner there =
     ⊎_elim
-    (λ before. let h = noted_below-from memory notes n owner before in (h.0, omega (arith, h.1), h.2))
-    (λ here. (n, omega arith, only (noted_page memory notes n) owner here))
-    (Contains-append_cases (noted_below memory notes n) (option_to_list (noted_page memory notes n)) owner there)
+    (λ before. let h = noted_at-from memory notes at n owner before in (h.0, omega (arith, h.1), h.2))
+    (λ here. (n, omega arith, only (noted_page memory notes (at n)) owner here))
+    (Contains-append_cases (noted_at memory notes at n) (option_to_list (noted_page memory notes (at n))) owner there)
 
-noted_below-there : (memory : FramesState) (notes : List Bool) (n frame : ℕ) (owner : FilePage)
-    → frame < n → noted_page memory notes frame ≡ Some owner → Contains (noted_below memory notes n) owner
-noted_below-there memory notes zero frame owner within gives = absurd (omega arith)
-noted_below-there memory notes (suc n) frame owner within gives =
-    elim (cases_eq frame n) [
-      | inl same ↦ Contains-append_right (noted_below memory notes n) (option_to_list (noted_page memory notes n)) owner
-          (only-there (noted_page memory notes n) owner (ap (noted_page memory notes) (sym same) ∙ gives))
-      | inr other ↦ Contains-append_left (noted_below memory notes n) (option_to_list (noted_page memory notes n)) owner
-          (noted_below-there memory notes n frame owner (omega (arith, other)) gives)
+noted_at-there : (memory : FramesState) (notes : List Bool) (at : ℕ → ℕ) (n place : ℕ) (owner : FilePage)
+    → place < n → noted_page memory notes (at place) ≡ Some owner → Contains (noted_at memory notes at n) owner
+noted_at-there memory notes at zero place owner within gives = absurd (omega arith)
+noted_at-there memory notes at (suc n) place owner within gives =
+    let last = option_to_list (noted_page memory notes (at n)) in
+    elim (cases_eq place n) [
+      | inl same ↦ Contains-append_right (noted_at memory notes at n) last owner
+          (only-there (noted_page memory notes (at n)) owner
+          (ap (λ k. noted_page memory notes (at k)) (sym same) ∙ gives))
+      | inr other ↦ Contains-append_left (noted_at memory notes at n) last owner
+          (noted_at-there memory notes at n place owner (omega (arith, other)) gives)
     ]
 
 -- how often a page is in a list
@@ -111,28 +111,28 @@ times-none owner (page ∷ pages) none =
 
 -- a page is in one frame alone, so that none is there twice
 times-once : (memory : FramesState) (notes : List Bool) → AreFrames memory → (n : ℕ) (owner : FilePage)
-    → times owner (noted_below memory notes n) ≤ 1
+    → times owner (noted_at memory notes (λ k. k) n) ≤ 1
 times-once memory notes are zero owner = omega arith
 times-once memory notes are (suc n) owner =
     elim (noted_page memory notes n)
-    as (λ o. noted_page memory notes n ≡ o → times owner (noted_below memory notes n ++ option_to_list o) ≤ 1) [
+    as (λ o. noted_page memory notes n ≡ o → times owner (noted_at memory notes (λ k. k) n ++ option_to_list o) ≤ 1) [
       | None ↦ λ _.
-          omega (arith, times-append owner (noted_below memory notes n) [], times-once memory notes are n owner)
+          omega (arith, times-append owner (noted_at memory notes (λ k. k) n) [], times-once memory notes are n owner)
       | Some page ↦ λ is. one page is (times-once memory notes are n owner)
     ] refl
   where
-    one : (page : FilePage) → noted_page memory notes n ≡ Some page → times owner (noted_below memory notes n) ≤ 1
-        → times owner (noted_below memory notes n ++ page ∷ []) ≤ 1
+    one : (page : FilePage) → noted_page memory notes n ≡ Some page → times owner (noted_at memory notes (λ k. k) n) ≤ 1
+        → times owner (noted_at memory notes (λ k. k) n ++ page ∷ []) ≤ 1
     one page is before =
-        let both = times-append owner (noted_below memory notes n) (page ∷ []) in
+        let both = times-append owner (noted_at memory notes (λ k. k) n) (page ∷ []) in
         let last = times-cons owner page [] in
         elim (same_page owner page)
-        as (λ b. same_page owner page ≡ b → times owner (noted_below memory notes n ++ page ∷ []) ≤ 1) [
+        as (λ b. same_page owner page ≡ b → times owner (noted_at memory notes (λ k. k) n ++ page ∷ []) ≤ 1) [
           | true ↦ λ same.
               let holds : Holds memory n owner =
               (noted_page-from memory notes n page is).1 ∙ ap (λ p. Some p) (sym (same_page-true owner page same)) in
-              let none = times-none owner (noted_below memory notes n) (λ there.
-              let h = noted_below-from memory notes n owner there in
+              let none = times-none owner (noted_at memory notes (λ k. k) n) (λ there.
+              let h = noted_at-from memory notes (λ k. k) n owner there in
               let same_frame = are.one_frame h.0 n owner (noted_page-from memory notes h.0 owner h.2).1 holds in
               omega (arith, h.1, same_frame)) in
               omega (arith, both, last, none, ap weight same)
@@ -174,7 +174,7 @@ rising_sorted (a ∷ b ∷ pages) sorted once = (
 
 -- the pages of the frames that are noted, once sorted, are exactly those
 pub AreNotedPages-sorted : (memory : FramesState) (notes : List Bool) (found pages : List FilePage)
-    → AreFrames memory → found ≡ noted_below memory notes (length memory.frames)
+    → AreFrames memory → found ≡ noted_by_number memory notes
     → IsPermutation found pages → IsSorted order_of pages
     → AreNotedPages memory notes pages
 AreNotedPages-sorted memory notes found pages are listed moved sorted =
@@ -187,15 +187,86 @@ AreNotedPages-sorted memory notes found pages are listed moved sorted =
       ));
       noted = λ owner. (
         λ there.
-            let h = noted_below-from memory notes all owner (subst (λ ps. Contains ps owner) listed
+            let h = noted_at-from memory notes (λ k. k) all owner (subst (λ ps. Contains ps owner) listed
             (Contains-permutation pages found owner (IsPermutation-sym found pages moved) there)) in
             let from = noted_page-from memory notes h.0 owner h.2 in
             (h.0, from.1, from.0),
         λ h. Contains-permutation found pages owner moved (subst (λ ps. Contains ps owner) (sym listed)
-            (noted_below-there memory notes all h.0 owner (Holds-within memory h.0 owner h.1)
+            (noted_at-there memory notes (λ k. k) all h.0 owner (Holds-within memory h.0 owner h.1)
             (noted_page-holds memory notes h.0 owner h.2 h.1))),
       );
     }
+
+-- rising pages, with one more that comes after each
+rising_last : (pages : List FilePage) (page : FilePage) → AreRising pages
+    → ((a : FilePage) → Contains pages a → IsBefore a page) → AreRising (pages ++ page ∷ [])
+rising_last [] page rising before = tt
+rising_last (a ∷ []) page rising before = (before a (Contains-head a []), tt)
+rising_last (a ∷ b ∷ pages) page rising before = (
+  rising.0,
+  rising_last (b ∷ pages) page rising.1 (λ c there. before c (Contains-tail a (b ∷ pages) c there)),
+)
+
+-- of frames whose pages rise, those that are noted have rising pages
+rising_at : (memory : FramesState) (notes : List Bool) (at : ℕ → ℕ) (n : ℕ)
+    → ((i j : ℕ) → i < j → j < n → HasPageBefore memory (at i) (at j)) → AreRising (noted_at memory notes at n)
+rising_at memory notes at zero before = tt
+rising_at memory notes at (suc n) before =
+    let earlier = rising_at memory notes at n (λ i j less within. before i j less (omega (arith, within))) in
+    elim (noted_page memory notes (at n))
+    as (λ o. noted_page memory notes (at n) ≡ o → AreRising (noted_at memory notes at n ++ option_to_list o)) [
+      | None ↦ λ _. subst AreRising (sym (append-nil (noted_at memory notes at n))) earlier
+      | Some page ↦ λ is. rising_last (noted_at memory notes at n) page earlier (λ a there.
+          let h = noted_at-from memory notes at n a there in
+          before h.0 n h.1 (omega arith) a page (noted_page-from memory notes (at h.0) a h.2).1
+          (noted_page-from memory notes (at n) page is).1)
+    ] refl
+
+-- the frame at a place of the order
+abbrev pub in_turn : List ℕ → ℕ → ℕ
+in_turn order place = get_or order place 0
+
+-- it is one of all frames
+pub in_turn-within : (memory : FramesState) (order : List ℕ) (place : ℕ) → AreInOrder memory order
+    → place < length order → in_turn order place < length memory.frames
+in_turn-within memory order place in_order within =
+    let frame = in_turn order place in
+    let used = (in_order.used frame).0 (Contains-get_or order place 0 within) in
+    elim (cases_lt frame (length memory.frames)) [
+      | inl before ↦ before
+      | inr past ↦ absurd (let none = get_or_past memory.frames frame None past in cc)
+    ]
+
+-- a frame that has a page is in use
+in_use-Holds : (memory : FramesState) (frame : ℕ) (owner : FilePage) → Holds memory frame owner
+    → IsSome (frame_at memory frame)
+in_use-Holds memory frame owner holds = used (frame_at memory frame) holds
+  where
+    used : (f : Option Frame) → page_of f ≡ Some owner → IsSome f
+    used None e = cc
+    used (Some f) e = refl
+
+-- the pages of the frames that are noted, taken in the order of all frames in use, are exactly those
+pub AreNotedPages-in_order : (memory : FramesState) (notes : List Bool) (order : List ℕ) (pages : List FilePage)
+    → AreInOrder memory order → pages ≡ noted_at memory notes (in_turn order) (length order)
+    → AreNotedPages memory notes pages
+AreNotedPages-in_order memory notes order pages in_order listed = record {
+  rising = subst AreRising (sym listed) (rising_at memory notes (in_turn order) (length order)
+      (λ i j less within. in_order.rising i j 0 less within));
+  noted = λ owner. (
+    λ there.
+        let h = noted_at-from memory notes (in_turn order) (length order) owner
+        (subst (λ ps. Contains ps owner) listed there) in
+        let from = noted_page-from memory notes (in_turn order h.0) owner h.2 in
+        (in_turn order h.0, from.1, from.0),
+    λ h.
+        let there = (in_order.used h.0).1 (in_use-Holds memory h.0 owner h.1) in
+        subst (λ ps. Contains ps owner) (sym listed)
+        (noted_at-there memory notes (in_turn order) (length order) there.0 owner there.1
+        (ap (noted_page memory notes) (get_or_default order there.0 0 h.0 there.1 ∙ there.2)
+        ∙ noted_page-holds memory notes h.0 owner h.2 h.1)),
+  );
+}
 
 -- where dirty entries are noted, and the pages of what is noted are listed, the dirty pages are gathered
 pub Gathers-noted : (spaces : Spaces) (memory : FramesState) (old new : CheckpointState)

@@ -8,7 +8,6 @@ use Rattle.std.specs.FinMap as maps
 use Rattle.page_entry.specs.Entry.{Mapped, is_dirty}
 use Rattle.spaces.specs.Spaces.{Spaces, AddressSpace, has_space, entry_at}
 use Rattle.spaces.proofs.SpacesLaws.{space_at-missing, get-empty_entries}
-use Rattle.spaces.proofs.ListedLaws.{Contains-pcids}
 use Rattle.checkpoint.specs.Checkpoint.{HasDirtyEntry, IsInSpace}
 use Rattle.checkpoint.specs.inside.Notes.{AreNoted, IsAnyPage}
 

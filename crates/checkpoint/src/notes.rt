@@ -4,9 +4,10 @@ ghost use Rattle.std.specs.List.{list_any};
 ghost use Rattle.std.specs.Vec.{vec_capacity};
 ghost use Rattle.page_entry.specs.Entry.{frame_of};
 ghost use Rattle.spaces.specs.Spaces.{has_space};
+ghost use Rattle.frames.specs.Frames.{AreFrames};
 ghost use Rattle.checkpoint.specs.Checkpoint.{HasDirtyEntry, IsInRange, IsInSpace, IsMappingOf};
 ghost use Rattle.checkpoint.specs.Backing.{HasNotes};
-ghost use Rattle.checkpoint.specs.inside.Notes.{AreNoted, IsAnyPage, AreNotedPages, noted_page};
+ghost use Rattle.checkpoint.specs.inside.Notes.{AreNoted, IsAnyPage, AreNotedPages, noted_page, noted_by_number};
 
 use frames::Frames;
 use mappings::PageRange;
@@ -106,10 +107,28 @@ fn noted_page<A: Allocator + Copy>(
     }
 }
 
-/// Lists the pages of the frames in use that are noted, in the order of their home blocks. There is room for a page of
-/// each frame, so that no memory is taken. It goes over the notes, and sorts what they name: a commit of few pages
-/// costs little, however many frames are in use.
-pub(crate) fn list_noted<A: Allocator + Copy>(
+// Lists the pages of the frames that are noted, by the frames' numbers.
+fn list_by_number<A: Allocator + Copy>(
+    pages: &mut Vec<FilePage, A>,
+    notes: &[bool],
+    frames: &Frames<A>,
+)
+    requires sized { length notes.now ≡ length frames.now.frames }
+    requires room { length notes.now ≤ vec_capacity pages.old }
+    ensures listed { pages.new.items ≡ noted_by_number frames.now notes.now }
+    ensures capacity { vec_capacity pages.new ≡ vec_capacity pages.old }
+    ensures are { AreFrames frames.now }
+{
+    pages.clear();
+    for frame in 0..frames.count() {
+        if let Some(page) = noted_page(notes, frames, frame) {
+            pages.push_reserved(page);
+        }
+    }
+}
+
+// Lists the pages of the frames that are noted, as they come in the order of all frames in use.
+fn list_in_order<A: Allocator + Copy>(
     pages: &mut Vec<FilePage, A>,
     notes: &[bool],
     frames: &Frames<A>,
@@ -120,10 +139,35 @@ pub(crate) fn list_noted<A: Allocator + Copy>(
     ensures capacity { vec_capacity pages.new ≡ vec_capacity pages.old }
 {
     pages.clear();
-    for frame in 0..frames.count() {
-        if let Some(page) = noted_page(notes, frames, frame) {
+    let order = frames.in_order();
+    for place in 0..order.len() {
+        if let Some(page) = noted_page(notes, frames, order.get(place)) {
             pages.push_reserved(page);
         }
     }
-    pages.sort_unstable();
+}
+
+// Where fewer than one in so many of the frames in use are noted, their pages are sorted.
+const SHARE: usize = 8;
+
+/// Lists the pages of the frames in use that are noted, in the order of their home blocks. There is room for a page of
+/// each frame, so that no memory is taken. Few pages are sorted, so that a commit of few costs little, however many
+/// frames are in use; many are taken as they come in the order of all frames in use, so that a page costs as much among
+/// many as among few.
+pub(crate) fn list_noted<A: Allocator + Copy>(
+    pages: &mut Vec<FilePage, A>,
+    notes: &[bool],
+    frames: &Frames<A>,
+)
+    requires sized { length notes.now ≡ length frames.now.frames }
+    requires room { length notes.now ≤ vec_capacity pages.old }
+    ensures listed { AreNotedPages frames.now notes.now pages.new.items }
+    ensures capacity { vec_capacity pages.new ≡ vec_capacity pages.old }
+{
+    list_by_number(pages, notes, frames);
+    if pages.len() < frames.in_order().len() / SHARE {
+        pages.sort_unstable();
+    } else {
+        list_in_order(pages, notes, frames);
+    }
 }

@@ -1,6 +1,7 @@
 -- How notes are taken, and what is gathered of them.
-use Rattle.std.specs.Prelude.{ℕ, ◌≡◌, ◌⊎◌, ◌↔◌, ◌≤◌, Bool, true, false, List, [], ◌∷◌}
+use Rattle.std.specs.Prelude.{ℕ, zero, suc, ◌≡◌, ◌⊎◌, ◌↔◌, ◌≤◌, Bool, true, false, List, [], ◌∷◌, ◌++◌}
 use Rattle.std.specs.Prelude.{length, Option, None, slice_index_or, Contains, if◌then◌else◌}
+use Rattle.std.specs.Option.{option_to_list}
 use Rattle.page_entry.specs.declared.numbers.FilePage.{FilePage}
 use Rattle.frames.specs.Frames.{FramesState, frame_at, page_of}
 use Rattle.spaces.specs.Spaces.{Spaces}
@@ -23,6 +24,15 @@ IsAnyPage pcid page = Unit {0}
 -- the page in a frame, if it is noted
 abbrev pub noted_page : FramesState → List Bool → ℕ → Option FilePage
 noted_page memory notes frame = if noted_in notes frame then page_of (frame_at memory frame) else None
+
+-- the pages of those frames that are noted, of the frames at the first so many places
+abbrev pub noted_at : FramesState → List Bool → (ℕ → ℕ) → ℕ → List FilePage
+noted_at memory notes at zero = []
+noted_at memory notes at (suc n) = noted_at memory notes at n ++ option_to_list (noted_page memory notes (at n))
+
+-- of all frames, by their numbers
+abbrev pub noted_by_number : FramesState → List Bool → List FilePage
+noted_by_number memory notes = noted_at memory notes (λ frame. frame) (length memory.frames)
 
 -- exactly the pages of the frames that are noted, in the order of home blocks
 pub record AreNotedPages (memory : FramesState) (notes : List Bool) (pages : List FilePage) : Type 0 where

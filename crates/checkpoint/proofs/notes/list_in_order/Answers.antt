@@ -1,0 +1,25 @@
+use Rattle.std.proofs.Common.{◌≡◌, ◌<◌, length, ap, ◌∙◌, arith}
+use Rattle.checkpoint.specs.inside.Notes.{noted_at}
+use Rattle.checkpoint.proofs.Gathering.{in_turn, in_turn-within, AreNotedPages-in_order}
+use Rattle.checkpoint.proofs.notes.list_in_order.Goals as goal
+
+pub noted_page-requires : goal.noted_page-requires
+noted_page-requires g c =
+    let order = c.in_order-order.result.now.items in
+    let within : c.loop-place.place < length order =
+    omega (arith, c.loop-place-test.true, c.len-place-end.ensures.count, c.loop-place.auto.place-end) in
+    omega (
+      arith,
+      in_turn-within c.args.frames.now order c.loop-place.place c.in_order-order.ensures.order within,
+      c.get.ensures,
+      c.requires.sized,
+    )
+
+pub returns-clause-listed : goal.returns-clause-listed
+returns-clause-listed g c =
+    let order = c.in_order-order.result.now.items in
+    let all : c.loop-place.place ≡ length order =
+    omega (arith, c.loop-place-test.false, c.len-place-end.ensures.count, c.loop-place.auto.place-end) in
+    AreNotedPages-in_order c.args.frames.now c.args.notes.now order c.loop-place.pages.items
+    c.in_order-order.ensures.order
+    (c.loop-place.invariant.listed ∙ ap (noted_at c.args.frames.now c.args.notes.now (in_turn order)) all)
