@@ -12,8 +12,8 @@
  *           prints writes, bytes, syncs, reads and protections of so many commits up to their acknowledgement, by the
  *           thread that commits; and the first three in all. With counted.c before it
  *   peers counted-row LAYOUT SLOTS PAGES APART COMMITS WAY
- *           prints the same of so many commits in a row, by any thread; and the first three of these, of the two before
- *           them, and of what is left after the last until the store is closed. With counted.c before it
+ *           prints the same of so many commits in a row; and the first three in all, of these, of the two before them,
+ *           and of what is left after the last until the store is closed. With counted.c before it
  *
  * ways.c and by_hand.c have the ways. Stores are made in the folder from which it is called.
  */
@@ -254,7 +254,7 @@ static void count_row(const struct way *way, int commits)
     make_commits(way, 1, BEFORE);
     before = counts_now();
     make_commits(way, BEFORE + 1, commits);
-    add(sums, before.all, counts_now().all);
+    add(sums, before.own, counts_now().own);
     way->end();
     add(whole, begun.all, counts_now().all);
     check_volume(way->volume, BEFORE + commits);
