@@ -20,6 +20,7 @@
 
 enum { CLOSED, STORED, OPENED };
 
+#define SLOTS 1020
 #define MOST_AHEAD 32
 #define GATE ((off_t)PAGE)
 #define DESCRIPTOR ((off_t)PAGE * 2)
@@ -55,6 +56,7 @@ static unsigned char *memory_of(size_t bytes)
 static void begin(struct volume *volume)
 {
     size_t bytes = bytes_of_file();
+    must(volumes.layout == 1 && volumes.slots == SLOTS, "by hand there is no other volume");
     make_volume_file(volume->path);
     volume->file = open(volume->path, O_RDWR);
     must(volume->file >= 0, volume->path);

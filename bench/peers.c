@@ -1,12 +1,19 @@
 /*
  * Commits of several ways to make pages durable, for bench/peers. Each commit stores to PAGES pages, of which every
- * APART-th of a file is one.
+ * APART-th of a file is one. Volumes are of a layout, and have so many slots in a journal.
  *
- *   peers turns PAGES APART TURNS WAY ..    the ways take turns, a commit each; prints for each the microseconds of its
- *                                           commit in the middle
- *   peers counted PAGES APART COMMITS WAY   prints writes, bytes, syncs, reads and protections of so many commits up to
- *                                           their acknowledgement, by the thread that commits; and the first three in
- *                                           all. With counted.c before it
+ *   peers turns LAYOUT SLOTS PAGES APART TURNS WAY ..
+ *           the ways take turns, a commit each, and what comes after its acknowledgement is waited for; prints for each
+ *           the microseconds of its commit in the middle
+ *   peers rows LAYOUT SLOTS PAGES APART TURNS COMMITS WAY ..
+ *           the ways take turns, a row of commits each, of which each comes right after the one before; prints for each
+ *           the microseconds of a commit of its row in the middle
+ *   peers counted LAYOUT SLOTS PAGES APART COMMITS WAY
+ *           prints writes, bytes, syncs, reads and protections of so many commits up to their acknowledgement, by the
+ *           thread that commits; and the first three in all. With counted.c before it
+ *   peers counted-row LAYOUT SLOTS PAGES APART COMMITS WAY
+ *           prints the same of so many commits in a row; and the first three in all, of these, of the two before them,
+ *           and of what is left after the last until the store is closed. With counted.c before it
  *
  * ways.c and by_hand.c have the ways. Stores are made in the folder from which it is called.
  */
@@ -16,11 +23,15 @@
 #include "test.h"
 
 #include <dlfcn.h>
+#include <sys/syscall.h>
 #include <time.h>
 
 #define MOST_WAYS 16
+/* How many commits come before those that are timed or counted. */
+#define BEFORE 2
 
 struct pages pages;
+struct volumes volumes;
 
 void must(bool holds, const char *what)
 {
@@ -41,7 +52,28 @@ void make_volume_file(const char *path)
     strcpy(folder, ".");
     snprintf(volume, sizeof volume, "%s", path);
     snprintf(files, sizeof files, "a=%zu", bytes_of_file());
-    make_volume_of(1, SLOTS, files);
+    make_volume_of(volumes.layout, volumes.slots, files);
+}
+
+static bool has_open_gate(int file)
+{
+    for (unsigned journal = 0; journal < journals_of(volumes.layout); journal++) {
+        off_t at = (off_t)gate_block(volumes.slots, journal) * PAGE;
+        unsigned char gate;
+        must(syscall(SYS_pread64, file, &gate, 1, at) == 1, "a gate");
+        if (gate == 0xa7)
+            return true;
+    }
+    return false;
+}
+
+void wait_until_home(const char *path)
+{
+    int file = open(path, O_RDONLY);
+    must(file >= 0, path);
+    while (has_open_gate(file))
+        usleep(200);
+    must(syscall(SYS_fdatasync, file) == 0 && close(file) == 0, "settling");
 }
 
 static const struct way *way_of(const char *name)
@@ -69,33 +101,52 @@ static int compare(const void *left, const void *right)
     return (one > other) - (one < other);
 }
 
-static double commit_of(const struct way *way, int number)
+/* Makes commits with numbers from this one up, each right after the one before. */
+static void make_commits(const struct way *way, int number, int commits)
+{
+    for (int i = 0; i < commits; i++)
+        way->commit(number + i);
+}
+
+/* What such commits take, up to the acknowledgement of the last; then what is left of them is waited for. */
+static double time_of(const struct way *way, int number, int commits)
 {
     double began = now(), ended;
-    way->commit(number);
+    make_commits(way, number, commits);
     ended = now();
     if (way->settle)
         way->settle();
     return ended - began;
 }
 
-/* The ways begin with another one each turn, so that none always comes behind the same one. Two commits of each come
-   before, and aren't counted. */
-static void take_turns(int turns, int count, char **names)
+/* A turn of a way: a commit; or a row, where each commit but the first ones also does what those before it left. */
+static double turn_of(const struct way *way, int turn, int row)
 {
+    int number = 1 + turn * (BEFORE + row);
+    if (row == 0)
+        return time_of(way, 1 + turn, 1);
+    make_commits(way, number, BEFORE);
+    return time_of(way, number + BEFORE, row) / row;
+}
+
+/* The ways begin with another one each turn, so that none always comes behind the same one. In each row, or where there
+   are none before all turns, come some commits of each that aren't counted. */
+static void take_turns(int turns, int row, int count, char **names)
+{
+    int before = row == 0 ? BEFORE : 0;
     double *times = calloc((size_t)turns * (size_t)count, sizeof *times);
     const struct way *chosen[MOST_WAYS];
-    must(times && turns > 0 && count <= MOST_WAYS, "turns");
+    must(times && turns > 0 && row >= 0 && count <= MOST_WAYS, "turns");
     for (int i = 0; i < count; i++) {
         chosen[i] = way_of(names[i]);
         chosen[i]->begin();
     }
-    for (int turn = -2; turn < turns; turn++)
+    for (int turn = 0; turn < before + turns; turn++)
         for (int i = 0; i < count; i++) {
-            int which = (i + turn + 2) % count;
-            double time = commit_of(chosen[which], turn + 3);
-            if (turn >= 0)
-                times[which * turns + turn] = time;
+            int which = (i + turn) % count;
+            double time = turn_of(chosen[which], turn, row);
+            if (turn >= before)
+                times[which * turns + turn - before] = time;
         }
     for (int i = 0; i < count; i++) {
         chosen[i]->end();
@@ -107,13 +158,36 @@ static void take_turns(int turns, int count, char **names)
 
 static void (*ask)(long of_thread[COUNTS], long of_all[COUNTS]);
 
+/* What was counted up to a moment, of this thread and of all. */
+struct counts {
+    long own[COUNTS], all[COUNTS];
+};
+
+static struct counts counts_now(void)
+{
+    struct counts counts;
+    ask(counts.own, counts.all);
+    return counts;
+}
+
+/* Adds what was counted between two moments. */
+static void add(long sums[COUNTS], const long before[COUNTS], const long after[COUNTS])
+{
+    for (int i = 0; i < COUNTS; i++)
+        sums[i] += after[i] - before[i];
+}
+
+static void print_counts(const long sums[COUNTS], const long whole[COUNTS])
+{
+    printf("%ld %ld %ld %ld %ld ", sums[WRITES], sums[BYTES], sums[SYNCS], sums[READS], sums[PROTECTIONS]);
+    printf("%ld %ld %ld\n", whole[WRITES], whole[BYTES], whole[SYNCS]);
+}
+
 /* The last sync of a commit comes after its gate is closed, by which a way may settle: it is waited for. */
 static void wait_for_syncs(long before)
 {
-    long own[COUNTS], all[COUNTS];
     for (int tries = 0; tries < 5000; tries++) {
-        ask(own, all);
-        if (all[SYNCS] - before >= 4)
+        if (counts_now().all[SYNCS] - before >= 4)
             return;
         usleep(1000);
     }
@@ -123,19 +197,21 @@ static void wait_for_syncs(long before)
 /* Makes a commit, and adds to the counts of this thread up to its acknowledgement, and to those of all. */
 static void count_commit(const struct way *way, int number, long sums[COUNTS], long whole[COUNTS])
 {
-    long own[COUNTS], all[COUNTS], own_after[COUNTS], all_after[COUNTS];
-    ask(own, all);
+    struct counts before = counts_now();
     way->commit(number);
-    ask(own_after, all_after);
-    for (int i = 0; i < COUNTS; i++)
-        sums[i] += own_after[i] - own[i];
+    add(sums, before.own, counts_now().own);
     if (way->settle) {
         way->settle();
-        wait_for_syncs(all[SYNCS]);
+        wait_for_syncs(before.all[SYNCS]);
     }
-    ask(own_after, all_after);
-    for (int i = 0; i < COUNTS; i++)
-        whole[i] += all_after[i] - all[i];
+    add(whole, before.all, counts_now().all);
+}
+
+static void begin_counting(const struct way *way)
+{
+    *(void **)&ask = dlsym(RTLD_DEFAULT, "counted_now");
+    must(ask != NULL, "counted.c isn't before it");
+    way->begin();
 }
 
 /* A way whose store is a volume has left the last number in each page. */
@@ -143,6 +219,8 @@ static void check_volume(const char *path, int number)
 {
     famsync *handle;
     uint64_t address;
+    if (!path)
+        return;
     WANT_CODE(famsync_open(path, NULL, &handle), FAMSYNC_OK);
     WANT_CODE(famsync_map(handle, "a", 0, 0, FAMSYNC_READ, &address), FAMSYNC_OK);
     for (int i = 0; i < pages.count; i++) {
@@ -154,35 +232,59 @@ static void check_volume(const char *path, int number)
     WANT_CODE(famsync_close(handle), FAMSYNC_OK);
 }
 
-/* Two commits come before those that are counted. */
 static void count_commits(const struct way *way, int commits)
 {
-    long sums[COUNTS], whole[COUNTS];
-    *(void **)&ask = dlsym(RTLD_DEFAULT, "counted_now");
-    must(ask != NULL, "counted.c isn't before it");
-    way->begin();
-    for (int number = 1; number <= commits + 2; number++) {
-        if (number <= 3) {
-            memset(sums, 0, sizeof sums);
-            memset(whole, 0, sizeof whole);
-        }
+    long sums[COUNTS] = {0}, whole[COUNTS] = {0}, uncounted[COUNTS] = {0};
+    begin_counting(way);
+    for (int number = 1; number <= BEFORE; number++)
+        count_commit(way, number, uncounted, uncounted);
+    for (int number = BEFORE + 1; number <= BEFORE + commits; number++)
         count_commit(way, number, sums, whole);
-    }
     way->end();
-    if (way->volume)
-        check_volume(way->volume, commits + 2);
-    printf("%ld %ld %ld %ld %ld ", sums[WRITES], sums[BYTES], sums[SYNCS], sums[READS], sums[PROTECTIONS]);
-    printf("%ld %ld %ld\n", whole[WRITES], whole[BYTES], whole[SYNCS]);
+    check_volume(way->volume, BEFORE + commits);
+    print_counts(sums, whole);
+}
+
+static void count_row(const struct way *way, int commits)
+{
+    long sums[COUNTS] = {0}, whole[COUNTS] = {0};
+    struct counts begun, before;
+    begin_counting(way);
+    begun = counts_now();
+    make_commits(way, 1, BEFORE);
+    before = counts_now();
+    make_commits(way, BEFORE + 1, commits);
+    add(sums, before.own, counts_now().own);
+    way->end();
+    add(whole, begun.all, counts_now().all);
+    check_volume(way->volume, BEFORE + commits);
+    print_counts(sums, whole);
+}
+
+/* The layout and the slots of volumes, and the pages of a commit. */
+static void take_shapes(char **words)
+{
+    int layout = atoi(words[0]), slots = atoi(words[1]);
+    must(layout >= 1 && layout <= (int)LAYOUTS && slots > 0, "LAYOUT and SLOTS");
+    volumes = (struct volumes){(unsigned)layout, (unsigned)slots};
+    pages = (struct pages){atoi(words[2]), atoi(words[3])};
+    must(pages.count > 0 && pages.count + has_lengths(volumes.layout) <= slots && pages.apart > 0, "PAGES and APART");
 }
 
 int main(int count, char **words)
 {
-    must(count >= 6, "usage: peers turns|counted PAGES APART TURNS WAY ..");
-    pages = (struct pages){atoi(words[2]), atoi(words[3])};
-    must(pages.count > 0 && pages.count <= SLOTS && pages.apart > 0, "PAGES and APART");
+    static const char usage[] = "usage: peers turns|rows|counted|counted-row LAYOUT SLOTS PAGES APART COUNT ..";
+    must(count >= 8, usage);
+    take_shapes(words + 2);
     if (strcmp(words[1], "turns") == 0)
-        take_turns(atoi(words[4]), count - 5, words + 5);
+        take_turns(atoi(words[6]), 0, count - 7, words + 7);
+    else if (strcmp(words[1], "rows") == 0 && atoi(words[7]) > 0)
+        take_turns(atoi(words[6]), atoi(words[7]), count - 8, words + 8);
+    else if (strcmp(words[1], "counted") == 0)
+        count_commits(way_of(words[7]), atoi(words[6]));
+    else if (strcmp(words[1], "counted-row") == 0)
+        count_row(way_of(words[7]), atoi(words[6]));
     else
-        count_commits(way_of(words[5]), atoi(words[4]));
+        must(false, usage);
     return 0;
 }

@@ -7,7 +7,6 @@
 #include <stddef.h>
 
 #define PAGE 4096
-#define SLOTS 1020 /* of each volume: the most pages of a commit */
 
 struct way {
     const char *name;
@@ -25,11 +24,21 @@ struct pages {
 
 extern struct pages pages;
 
+/* The volumes: of this layout, with so many slots in a journal. */
+struct volumes {
+    unsigned layout, slots;
+};
+
+extern struct volumes volumes;
+
 void must(bool holds, const char *what);
 
 /* Makes a volume of one file, `a`, with all pages. */
 void make_volume_file(const char *path);
 size_t bytes_of_file(void);
+
+/* Waits until all commits of a volume are written home: its gates are closed then. By calls that nobody counts. */
+void wait_until_home(const char *path);
 
 /* ways.c, by_hand.c: the ways that there are, up to one without a name. */
 extern const struct way ways[], ways_by_hand[];

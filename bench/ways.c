@@ -16,7 +16,6 @@
 #include <stdio.h>
 #include <string.h>
 #include <sys/mman.h>
-#include <sys/syscall.h>
 #include <unistd.h>
 #ifdef HAVE_SQLITE
 #include <sqlite3.h>
@@ -41,17 +40,6 @@ static void begin(struct session *session)
     struct famsync_options options = {.foreground = session == &alone};
     make_volume_file(session->path);
     must(famsync_open(session->path, &options, &session->handle) == FAMSYNC_OK, "famsync_open");
-}
-
-/* Waits until a commit's pages are written home: the gate is closed then. By calls that nobody counts. */
-static void settle(const struct session *session)
-{
-    unsigned char gate = 0;
-    int file = open(session->path, O_RDONLY);
-    must(file >= 0, session->path);
-    while (syscall(SYS_pread64, file, &gate, 1, PAGE) == 1 && gate == 0xa7)
-        usleep(200);
-    must(syscall(SYS_fdatasync, file) == 0 && close(file) == 0, "settling");
 }
 
 static void end(struct session *session)
@@ -90,7 +78,7 @@ static void commit_plain(int number)
 
 static void settle_plain(void)
 {
-    settle(&plain);
+    wait_until_home(plain.path);
 }
 
 static void end_plain(void)
@@ -133,7 +121,7 @@ static void commit_called(int number)
 
 static void settle_called(void)
 {
-    settle(&called);
+    wait_until_home(called.path);
 }
 
 static void end_called(void)
@@ -258,8 +246,9 @@ static void commit_lmdb(int number)
 
 static void begin_lmdb(void)
 {
+    size_t room = (64 << 20) + 8 * bytes_of_file(); /* of addresses: the file becomes as long as it has to */
     MDB_txn *transaction;
-    must(mdb_env_create(&environment) == 0 && mdb_env_set_mapsize(environment, 64 << 20) == 0, "mdb_env");
+    must(mdb_env_create(&environment) == 0 && mdb_env_set_mapsize(environment, room) == 0, "mdb_env");
     must(mdb_env_open(environment, "lmdb", MDB_NOSUBDIR, 0666) == 0, "mdb_env_open");
     must(mdb_txn_begin(environment, NULL, 0, &transaction) == 0, "mdb_txn_begin");
     must(mdb_dbi_open(transaction, NULL, MDB_INTEGERKEY, &table) == 0, "mdb_dbi_open");
