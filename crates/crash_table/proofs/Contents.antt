@@ -12,7 +12,7 @@ use Rattle.std.specs.Option.{option_map}
 use Rattle.crash_table.specs.declared.call.Call.{Call}
 use Rattle.crash_table.specs.declared.call.CallKind.{CallKind}
 use Rattle.crash_table.specs.declared.call.CallKind.TheVariants.{Read, Write, Sync}
-use Rattle.crash_table.specs.Calls.{DeviceCall, call_of, calls_of}
+use Rattle.crash_table.specs.Calls.{DeviceCall, call_of, device_calls_of}
 use Rattle.crash_table.specs.declared.row.Found.{Found}
 use Rattle.crash_table.specs.Rows.{newest_of}
 use Rattle.crash_table.specs.Choices.{Content, with_block, with_blocks, begun_write, begun_as, call_begun}
@@ -73,7 +73,7 @@ contains_more {X} old new y x is has =
 
 -- the call of an index
 pub call_at : {A : Type 0} (kept : List (Call A)) (calls : List DeviceCall) (i : ℕ) (found : Option (Call A))
-    → calls_of kept ≡ calls → slice_get kept i ≡ found
+    → device_calls_of kept ≡ calls → slice_get kept i ≡ found
     → slice_get calls i ≡ option_map (λ (c : Call A). call_of c) found
 call_at {A} kept calls i found is there =
     sym (ap (λ (l : List DeviceCall). slice_get l i) is) ∙ slice_get-map (λ (c : Call A). call_of c) kept i
@@ -81,12 +81,12 @@ call_at {A} kept calls i found is there =
 
 -- the call that was read at an index, and that there is none past the last
 pub call_read : {A : Type 0} (kept : List (Call A)) (calls : List DeviceCall) (i : ℕ) (call : Call A)
-    → calls_of kept ≡ calls
+    → device_calls_of kept ≡ calls
     → i < length kept → call ≡ get_or kept i call → slice_get calls i ≡ Some (call_of call)
 call_read kept calls i call is below at =
     call_at kept calls i (Some call) is (slice_get_read kept (length kept) i call refl below at)
 
-pub call_past : {A : Type 0} (kept : List (Call A)) (calls : List DeviceCall) (i : ℕ) → calls_of kept ≡ calls
+pub call_past : {A : Type 0} (kept : List (Call A)) (calls : List DeviceCall) (i : ℕ) → device_calls_of kept ≡ calls
     → length kept ≤ i
     → slice_get calls i ≡ None
 call_past kept calls i is past = call_at kept calls i None is (slice_get_past kept i past)

@@ -20,8 +20,8 @@ pub record DeviceCall : Type 0 where
 abbrev pub call_of : {A : Type 0} → Call A → DeviceCall
 call_of call = record { kind = call.kind; at = call.at; len = call.len; written = call.written.items }
 
-abbrev pub calls_of : {A : Type 0} → List (Call A) → List DeviceCall
-calls_of calls = map (λ call. call_of call) calls
+abbrev pub device_calls_of : {A : Type 0} → List (Call A) → List DeviceCall
+device_calls_of calls = map (λ call. call_of call) calls
 
 -- the calls of a disk, each as it is listed
 abbrev pub read_call : ℕ → ℕ → DeviceCall

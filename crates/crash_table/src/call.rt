@@ -1,7 +1,7 @@
 // Which device calls a run makes.
 ghost use Rattle.std.specs.Prelude.{◌≡◌, ◌↔◌, ℕ, ◌+◌, ◌-◌, ◌^◌, ◌<◌, ◌≤◌, false, List, length, slice_range, OnOk, IfOk, IfErr, IsOk, IsErr, true};
 ghost use Rattle.device.specs.Device.{written, Torn, TornFrom, Only, LeavesOnly};
-ghost use Rattle.crash_table.specs.Calls.{ListsCall, read_call, write_call, sync_call, call_of, calls_of, listing};
+ghost use Rattle.crash_table.specs.Calls.{ListsCall, read_call, write_call, sync_call, call_of, device_calls_of, listing};
 
 use device::{Device, DeviceFault};
 use std::alloc::{AllocError, Allocator};
@@ -34,7 +34,7 @@ pub struct Listing<D: Device, A: Allocator + Copy> {
 }
 
 impl<D: Device, A: Allocator + Copy> Model for Listing<D, A> {
-    ghost use Rattle.crash_table.specs.Calls.{ListedDisk, calls_of};
+    ghost use Rattle.crash_table.specs.Calls.{ListedDisk, device_calls_of};
     ghost use Rattle.crash_table.specs.inside.Codes.{listed_code};
 
     ghost Value = { ListedDisk D };
@@ -43,7 +43,7 @@ impl<D: Device, A: Allocator + Copy> Model for Listing<D, A> {
 
     ghost view = { λ disk. record {
       inner = disk.inner;
-      calls = calls_of disk.calls.items;
+      calls = device_calls_of disk.calls.items;
       refused = disk.refused;
     } };
 }
@@ -68,7 +68,7 @@ impl<D: Device + Drop, A: Allocator + Copy> Listing<D, A> {
 
     /// The calls in order, unless memory was refused for one.
     pub fn into_calls(self) -> Result<Vec<Call<A>, A>, AllocError>
-        ensures { IfOk result (λ calls. (self.refused ≡ false) × (calls_of calls.items ≡ self.calls)) }
+        ensures { IfOk result (λ calls. (self.refused ≡ false) × (device_calls_of calls.items ≡ self.calls)) }
     {
         let Listing {
             inner: _,

@@ -7,7 +7,7 @@ ghost use Rattle.volume_codec.specs.Recovery.{RecoversTo};
 ghost use Rattle.machine.specs.declared.act.Reply.TheVariants.{Marked};
 ghost use Rattle.engine.specs.Engine.{HasStarted};
 ghost use Rattle.machine.specs.declared.act.Shape.{Shape};
-ghost use Rattle.crash_table.specs.Calls.{ListedDisk, AreMade, AreCallsOf, calls_of, listing_memory};
+ghost use Rattle.crash_table.specs.Calls.{ListedDisk, AreMade, AreCallsOf, device_calls_of, listing_memory};
 ghost use Rattle.crash_table.specs.Trials.{HasItsCalls, Leaves};
 ghost use Rattle.crash_table.specs.inside.Kept.{IsKept, AreKept};
 
@@ -46,7 +46,7 @@ struct FirstRun<A: Allocator + Copy> {
 }
 
 impl<'a, A: Allocator + Copy> Model for Trial<'a, A> {
-    ghost use Rattle.crash_table.specs.Calls.{AreCallsOf, calls_of};
+    ghost use Rattle.crash_table.specs.Calls.{AreCallsOf, device_calls_of};
     ghost use Rattle.crash_table.specs.Trials.{TrialValue};
     ghost use Rattle.crash_table.specs.inside.Kept.{HasKept};
 
@@ -56,11 +56,11 @@ impl<'a, A: Allocator + Copy> Model for Trial<'a, A> {
       image = t.plan.image.now;
       shape = t.plan.shape;
       steps = t.plan.steps.now;
-      calls = calls_of t.listed.calls.items;
+      calls = device_calls_of t.listed.calls.items;
     } };
 
     ghost invariant = { λ t. HasKept t.plan.image.now t.plan.shape t.plan.steps.now t.listed.replies.items
-        t.marks.items × AreCallsOf t.plan.image.now t.plan.shape t.plan.steps.now (calls_of t.listed.calls.items) };
+        t.marks.items × AreCallsOf t.plan.image.now t.plan.shape t.plan.steps.now (device_calls_of t.listed.calls.items) };
 }
 
 // A copy of a disk that holds these bytes.
@@ -99,7 +99,7 @@ impl<'a, A: Allocator + Copy> Trial<'a, A> {
 
     /// The device calls of the run, in order. The first ones open the volume.
     pub fn calls(&self) -> &[Call<A>]
-        ensures calls { calls_of result.now ≡ self.now.calls }
+        ensures calls { device_calls_of result.now ≡ self.now.calls }
         ensures run { HasItsCalls self.now }
     {
         &self.listed.calls
@@ -212,7 +212,7 @@ impl<'a, A: Allocator + Copy> Trial<'a, A> {
 fn list<A: Allocator + Copy>(alloc: A, plan: &Plan<'_>) -> Result<FirstRun<A>, CrashFault>
     ensures files { IfOk result (λ listed. (files : List File) × RecoversTo plan.now.image.now files) }
     ensures calls { IfOk result (λ listed.
-        AreCallsOf plan.now.image.now plan.now.shape plan.now.steps.now (calls_of listed.calls.items)) }
+        AreCallsOf plan.now.image.now plan.now.shape plan.now.steps.now (device_calls_of listed.calls.items)) }
 {
     let copy = copy_of(alloc, plan.image)?;
     let disk = Listing::new(alloc, copy);
@@ -230,7 +230,7 @@ fn list_steps<A: Allocator + Copy>(
     steps: &[Step],
 ) -> Result<FirstRun<A>, CrashFault>
     ensures { (before : ListedDisk Recorded) (shape : Shape) → HasStarted listing_memory before shape machine
-        → IfOk result (λ listed. AreMade before shape steps.now (calls_of listed.calls.items)) }
+        → IfOk result (λ listed. AreMade before shape steps.now (device_calls_of listed.calls.items)) }
 {
     let opening = machine.device().count();
     let mut replies = Vec::new(alloc);

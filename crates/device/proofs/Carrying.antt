@@ -5,7 +5,7 @@ use Rattle.std.proofs.lemmas.List.{take-append-drop}
 use Rattle.std.specs.Prelude.{slice_get}
 use Rattle.device.specs.Carrying.{CarriedOut}
 use Rattle.device.specs.Deferred.{Deferred, as_recorded, made_before, oldest}
-use Rattle.device.specs.Deferred.{work_of, with_waiting, carried_moment, IsBehind}
+use Rattle.device.specs.Deferred.{done_by, with_waiting, carried_moment, IsBehind}
 use Rattle.device.specs.Device.{written, Torn, LeavesOnly}
 use Rattle.device.specs.Did.{Did}
 use Rattle.device.specs.Memory.{DiskChange, content_after, MayBeLeft, left_since_of}
@@ -63,14 +63,14 @@ torn_from_twice Sync lists more was c torn = was c torn
 torn_from_twice Nothing lists more was c torn = was c torn
 
 -- nothing torn
-by_none : (call : Option DiskChange) (old new : List ℕ) → new ≡ old → TornByWork (work_of call) old new
+by_none : (call : Option DiskChange) (old new : List ℕ) → new ≡ old → TornByWork (done_by call) old new
 by_none None old new same = same
 by_none (Some (write at bytes)) old new same =
     subst (λ (l : List ℕ). Torn at (length bytes) old l) (sym same) (torn_none at (length bytes) old)
 by_none (Some sync) old new same = same
 
 from_none : (call : Option DiskChange) (lists : List ℕ → Type 0) (c : List ℕ) → lists c
-    → TornFromWork (work_of call) lists c
+    → TornFromWork (done_by call) lists c
 from_none None lists c left = left
 from_none (Some (write at bytes)) lists c left = torn_from_none at (length bytes) left
 from_none (Some sync) lists c left = left
@@ -84,13 +84,13 @@ written_over old mid at bytes torn = λ i. torn.before i ++ bytes ++ torn.after 
 -- left since the oldest of `all`.
 pub since_oldest : (disk : Deferred) (waiting : ℕ) (c : List ℕ) → waiting ≤ disk.waiting → waiting ≤ length disk.changes
     → AreWithin (length disk.first) disk.changes
-    → TornFromWork (work_of (made_before waiting disk.changes)) (MayBeLeft disk.first (drop waiting disk.changes)) c
+    → TornFromWork (done_by (made_before waiting disk.changes)) (MayBeLeft disk.first (drop waiting disk.changes)) c
     → left_since_of (as_recorded disk) (carried_moment disk) c
 since_oldest disk zero c le few within left = (0, omega arith, omega arith, left)
 since_oldest disk (suc k) c le few within left = by_call (slice_get disk.changes k) refl left
   where
     by_call : (call : Option DiskChange) → slice_get disk.changes k ≡ call
-        → TornFromWork (work_of call) (MayBeLeft disk.first (drop (suc k) disk.changes)) c
+        → TornFromWork (done_by call) (MayBeLeft disk.first (drop (suc k) disk.changes)) c
         → left_since_of (as_recorded disk) (carried_moment disk) c
     by_call None got now = (suc k, few, omega (arith, le, few), now)
     by_call (Some sync) got now = (suc k, few, omega (arith, le, few), now)
@@ -122,32 +122,32 @@ module _ {D : Type 0} (device : Ghosts D) (old : D) (disk : Deferred) (few : dis
   module _ (mid : D) (k : ℕ) (so_far : CarriedOut device old disk true mid (suc k)) where
     -- what the call that is made now may leave
     leaves_now : (call : Option DiskChange) (done : Bool) (new : D) → slice_get disk.changes k ≡ call
-        → Did device mid (work_of call) done new → IsBehind device.is_honest device.seen device.may_leave old disk
+        → Did device mid (done_by call) done new → IsBehind device.is_honest device.seen device.may_leave old disk
         → LeavesOnly device.moment device.left_since old new (left_since_of (as_recorded disk) (carried_moment disk))
     leaves_now call done new got did behind =
         let now = so_far.behind behind in
         leaves_then (so_far.time behind) (leaves_weaker did.time (λ c torn.
-        let work = work_of (slice_get disk.changes k) in
+        let work = done_by (slice_get disk.changes k) in
         let here : TornFromWork work (device.may_leave mid) c =
-        subst (λ o. TornFromWork (work_of o) (device.may_leave mid) c) (sym got) torn in
+        subst (λ o. TornFromWork (done_by o) (device.may_leave mid) c) (sym got) torn in
         since_oldest disk (suc k) c so_far.fewer (omega (arith, few, so_far.fewer)) within
         (torn_from_twice work (MayBeLeft disk.first (drop (suc k) disk.changes))
         (device.may_leave mid) now.left c here)))
 
     -- a call more that fails
     pub carried_failed : (change : DiskChange) (new : D) → slice_get disk.changes k ≡ Some change
-        → Did device mid (work_of (Some change)) false new → CarriedOut device old disk false new (suc k)
+        → Did device mid (done_by (Some change)) false new → CarriedOut device old disk false new (suc k)
     carried_failed change new got did = record {
       fewer = so_far.fewer;
       behind = λ behind.
           let now = so_far.behind behind in
-          let same = subst (λ o. Did device mid (work_of o) false new) (sym got) did in
+          let same = subst (λ o. Did device mid (done_by o) false new) (sym got) did in
           record {
             honest = did.honest.1 now.honest;
-            seen_torn = torn_by_twice (work_of (slice_get disk.changes k))
+            seen_torn = torn_by_twice (done_by (slice_get disk.changes k))
                 (content_after disk.first (drop (suc k) disk.changes)) (device.seen mid) (device.seen new) now.seen_torn
                 (failed_seen same now.honest refl);
-            left = λ c left. torn_from_twice (work_of (slice_get disk.changes k))
+            left = λ c left. torn_from_twice (done_by (slice_get disk.changes k))
                 (MayBeLeft disk.first (drop (suc k) disk.changes)) (device.may_leave mid) now.left c (same.left c left);
           };
       time = leaves_now (Some change) false new got did;
@@ -157,7 +157,7 @@ module _ {D : Type 0} (device : Ghosts D) (old : D) (disk : Deferred) (few : dis
       faults = did.faults ∙ ap Rattle.device.specs.Count.raised so_far.faults;
     }
       where
-        failed_count : (change : DiskChange) → Did device mid (work_of (Some change)) false new
+        failed_count : (change : DiskChange) → Did device mid (done_by (Some change)) false new
             → device.calls_made mid + suc k ≡ device.calls_made old + disk.waiting + 0
             → device.calls_made old + disk.waiting < 2 ^ 64
             → device.calls_made new + suc k ≡ device.calls_made old + disk.waiting + 1
@@ -167,7 +167,7 @@ module _ {D : Type 0} (device : Ghosts D) (old : D) (disk : Deferred) (few : dis
 
     -- a call more that is made
     pub carried_more : (change : DiskChange) (new : D) → slice_get disk.changes k ≡ Some change
-        → Did device mid (work_of (Some change)) true new → CarriedOut device old disk true new k
+        → Did device mid (done_by (Some change)) true new → CarriedOut device old disk true new k
     carried_more change new got did = record {
       fewer = omega (arith, so_far.fewer);
       behind = λ behind. made change got did (so_far.behind behind);
@@ -178,7 +178,7 @@ module _ {D : Type 0} (device : Ghosts D) (old : D) (disk : Deferred) (few : dis
       faults = did.faults ∙ so_far.faults;
     }
       where
-        done_count : (change : DiskChange) → Did device mid (work_of (Some change)) true new
+        done_count : (change : DiskChange) → Did device mid (done_by (Some change)) true new
             → device.calls_made mid + suc k ≡ device.calls_made old + disk.waiting + 0
             → device.calls_made old + disk.waiting < 2 ^ 64
             → device.calls_made new + k ≡ device.calls_made old + disk.waiting + 0
@@ -205,22 +205,22 @@ module _ {D : Type 0} (device : Ghosts D) (old : D) (disk : Deferred) (few : dis
             }
 
         made : (change : DiskChange) → slice_get disk.changes k ≡ Some change
-            → Did device mid (work_of (Some change)) true new
+            → Did device mid (done_by (Some change)) true new
             → IsBehind device.is_honest device.seen device.may_leave mid (with_waiting disk (suc k))
             → IsBehind device.is_honest device.seen device.may_leave new (with_waiting disk k)
         made (write at bytes) got did now =
             let content = content_after disk.first done in
             let torn : Torn at (length bytes) content (device.seen mid) =
-            subst (λ o. TornByWork (work_of o) content (device.seen mid)) got now.seen_torn in
+            subst (λ o. TornByWork (done_by o) content (device.seen mid)) got now.seen_torn in
             exact (write at bytes) got (did.honest.1 now.honest)
             (done_seen did now.honest refl ∙ written_over content (device.seen mid) at bytes torn)
             (λ c left. any_torn disk.first done at bytes (fits_before disk.first disk.changes k at bytes within got) c
             (torn_from_twice (WriteAt at bytes) (MayBeLeft disk.first done) (device.may_leave mid) (λ d was. subst (λ o.
-            TornFromWork (work_of o) (MayBeLeft disk.first done) d) got (now.left d was)) c (did.left c left)))
+            TornFromWork (done_by o) (MayBeLeft disk.first done) d) got (now.left d was)) c (did.left c left)))
         made sync got did now =
             let content = content_after disk.first done in
             let same : device.seen mid ≡ content =
-            subst (λ o. TornByWork (work_of o) content (device.seen mid)) got now.seen_torn in
+            subst (λ o. TornByWork (done_by o) content (device.seen mid)) got now.seen_torn in
             exact sync got (did.honest.1 now.honest) (done_seen did now.honest refl ∙ same)
             (λ c left. let is = did.durable now.honest refl refl c left ∙ same in record {
               same_length = ap length is;
@@ -229,7 +229,7 @@ module _ {D : Type 0} (device : Ghosts D) (old : D) (disk : Deferred) (few : dis
 
   -- the oldest call of what waits now is made
   pub carried_step : (mid : D) (now : Deferred) (new : D) → now ≡ with_waiting disk now.waiting → 0 < now.waiting
-      → CarriedOut device old disk true mid now.waiting → Did device mid (work_of (oldest now)) true new
+      → CarriedOut device old disk true mid now.waiting → Did device mid (done_by (oldest now)) true new
       → CarriedOut device old disk true new (now.waiting - 1)
   carried_step mid now new same some so_far did =
       let k = now.waiting - 1 in
@@ -237,11 +237,11 @@ module _ {D : Type 0} (device : Ghosts D) (old : D) (disk : Deferred) (few : dis
       let got = got_below disk.changes k (omega (arith, one, few, so_far.fewer)) in
       let is : oldest now ≡ Some got.0 = ap oldest same ∙ ap (λ n. made_before n disk.changes) one ∙ got.1 in
       carried_more mid k (subst (CarriedOut device old disk true mid) one so_far) got.0 new got.1
-      (subst (λ o. Did device mid (work_of o) true new) is did)
+      (subst (λ o. Did device mid (done_by o) true new) is did)
 
   -- or it fails
   pub carried_stop : (mid : D) (now : Deferred) (new : D) → now ≡ with_waiting disk now.waiting → 0 < now.waiting
-      → CarriedOut device old disk true mid now.waiting → Did device mid (work_of (oldest now)) false new
+      → CarriedOut device old disk true mid now.waiting → Did device mid (done_by (oldest now)) false new
       → CarriedOut device old disk false new now.waiting
   carried_stop mid now new same some so_far did =
       let k = now.waiting - 1 in
@@ -250,4 +250,4 @@ module _ {D : Type 0} (device : Ghosts D) (old : D) (disk : Deferred) (few : dis
       let is : oldest now ≡ Some got.0 = ap oldest same ∙ ap (λ n. made_before n disk.changes) one ∙ got.1 in
       subst (CarriedOut device old disk false new) (sym one)
       (carried_failed mid k (subst (CarriedOut device old disk true mid) one so_far) got.0 new got.1
-      (subst (λ o. Did device mid (work_of o) false new) is did))
+      (subst (λ o. Did device mid (done_by o) false new) is did))

@@ -15,7 +15,7 @@ use Rattle.device.specs.Memory as memory
 use Rattle.device.specs.Memory.{DiskChange, content_after, moment_of, left_since_of}
 use Rattle.device.specs.Memory.DiskChange.{write, sync}
 use Rattle.device.specs.Deferred.{Deferred, as_recorded, after_write, after_sync, after_refusal, reaches}
-use Rattle.device.specs.Deferred.{one_reaches, block_of, made_before, work_of, first_unknown, with_known}
+use Rattle.device.specs.Deferred.{one_reaches, block_of, made_before, done_by, first_unknown, with_known}
 use Rattle.device.specs.Deferred.{first_block, end_block, lacked_by_read, lacked_by_write, or_else}
 use Rattle.device.specs.Work.{TornByWork}
 use Rattle.device.specs.declared.log.Logged.{Logged}
@@ -665,12 +665,12 @@ known_got flags (write from new ∷ changes) zero at bytes known got = λ i le l
 -- What the oldest waiting call left in part is in blocks that are known.
 torn_elsewhere : (flags : List Bool) (changes waiting : List DiskChange) (old new : List ℕ) (i : ℕ)
     → waiting ≡ take (length waiting) changes → AreKnown flags waiting → get_or flags (i / 4096) false ≡ false
-    → TornByWork (work_of (made_before (length waiting) changes)) old new → get_or new i 0 ≡ get_or old i 0
+    → TornByWork (done_by (made_before (length waiting) changes)) old new → get_or new i 0 ≡ get_or old i 0
 torn_elsewhere flags changes [] old new i waits known unknown torn = ap (λ (l : List ℕ). get_or l i 0) torn
 torn_elsewhere flags changes (newest ∷ waiting) old new i waits known unknown torn =
     by_call (slice_get changes (length waiting)) refl torn
   where
-    by_call : (call : Option DiskChange) → slice_get changes (length waiting) ≡ call → TornByWork (work_of call) old new
+    by_call : (call : Option DiskChange) → slice_get changes (length waiting) ≡ call → TornByWork (done_by call) old new
         → get_or new i 0 ≡ get_or old i 0
     by_call None got same = ap (λ (l : List ℕ). get_or l i 0) same
     by_call (Some sync) got same = ap (λ (l : List ℕ). get_or l i 0) same
@@ -692,7 +692,7 @@ pub unknown_there : (first : List ℕ) (changes : List DiskChange) (supplied : L
     (flags : List Bool) (waiting : List DiskChange) (len block : ℕ) (seen : List ℕ)
     → IsKept first changes supplied bytes flags waiting len → 4096 * block + 4096 ≤ length first
     → get_or flags block false ≡ false
-    → length seen ≡ length first → TornByWork (work_of (made_before (length waiting) changes))
+    → length seen ≡ length first → TornByWork (done_by (made_before (length waiting) changes))
     (content_after first (drop (length waiting) changes)) seen
     → block_of seen block ≡ block_of (content_after first changes) block
 unknown_there first changes supplied bytes flags waiting len block seen kept fits unknown long torn =

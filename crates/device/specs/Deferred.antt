@@ -171,10 +171,10 @@ abbrev pub waits_behind : ℕ → Deferred → Option DiskChange
 waits_behind others disk = made_before (disk.waiting - others) disk.changes
 
 -- what it asks of a device
-abbrev pub work_of : Option DiskChange → Work
-work_of None = Nothing
-work_of (Some (write at bytes)) = WriteAt at bytes
-work_of (Some sync) = Sync
+abbrev pub done_by : Option DiskChange → Work
+done_by None = Nothing
+done_by (Some (write at bytes)) = WriteAt at bytes
+done_by (Some sync) = Sync
 
 -- How many writes and syncs were recorded. A count that has come to 2^64-1 stays there.
 abbrev pub recorded_calls : Deferred → ℕ
@@ -189,6 +189,6 @@ carried_moment disk = moment_of (as_recorded disk) - disk.waiting
 pub record IsBehind {D : Type 0} (is_honest : D → Type 0) (seen : D → List ℕ) (may_leave : D → List ℕ → Type 0)
     (device : D) (disk : Deferred) : Type 0 where
   pub honest : is_honest device
-  pub seen_torn : TornByWork (work_of (oldest disk)) (seen_of (carried_out disk)) (seen device)
+  pub seen_torn : TornByWork (done_by (oldest disk)) (seen_of (carried_out disk)) (seen device)
   pub left : (c : List ℕ) → may_leave device c
-      → TornFromWork (work_of (oldest disk)) (may_leave_of (carried_out disk)) c
+      → TornFromWork (done_by (oldest disk)) (may_leave_of (carried_out disk)) c

@@ -5,7 +5,7 @@ ghost use Rattle.device.specs.Device.{written};
 ghost use Rattle.device.specs.Did.{Did};
 ghost use Rattle.device.specs.Memory.{seen_of};
 ghost use Rattle.device.specs.Memory.DiskChange.{write, sync};
-ghost use Rattle.device.specs.Deferred.{deferred, as_recorded, carried_out, block_of, with_known, first_block, end_block, lacked_by_read, lacked_by_write, IsSuppliedWell, after_read, after_write, after_sync, after_refusal, after_supply, after_forget, reaches, one_reaches, with_waiting, oldest, waits_behind, work_of, recorded_calls};
+ghost use Rattle.device.specs.Deferred.{deferred, as_recorded, carried_out, block_of, with_known, first_block, end_block, lacked_by_read, lacked_by_write, IsSuppliedWell, after_read, after_write, after_sync, after_refusal, after_supply, after_forget, reaches, one_reaches, with_waiting, oldest, waits_behind, done_by, recorded_calls};
 ghost use Rattle.device.specs.Work.{TornByWork};
 ghost use Rattle.device.specs.Lent.{change_lent};
 ghost use Rattle.device.specs.inside.Logged.{change_of, changes_of};
@@ -125,7 +125,7 @@ impl<A: Allocator + Copy> DeferredDisk<A> {
         ensures known { result ≡ get_or self.now.known block false }
         ensures there { 4096 * block + 4096 ≤ length (seen_of (as_recorded self.now)) → result ≡ false
             → (bytes : List ℕ) → length bytes ≡ length (seen_of (as_recorded self.now))
-            → TornByWork (work_of (oldest self.now)) (seen_of (carried_out self.now)) bytes
+            → TornByWork (done_by (oldest self.now)) (seen_of (carried_out self.now)) bytes
             → block_of bytes block ≡ block_of (seen_of (as_recorded self.now)) block }
     {
         self.blocks.is_known(block as usize)
@@ -211,7 +211,7 @@ impl<A: Allocator + Copy> DeferredDisk<A> {
     fn carry_one<D: Device>(&mut self, device: &mut D) -> Result<(), DeviceFault>
         requires some { 0 < self.old.waiting }
         requires size { length (D.seen device.old) ≡ length (seen_of (as_recorded self.old)) }
-        ensures did { Did D.Device device.old (work_of (oldest self.old)) (is_ok result) device.new }
+        ensures did { Did D.Device device.old (done_by (oldest self.old)) (is_ok result) device.new }
         ensures ok { OnOk result (self.new ≡ with_waiting self.old (self.old.waiting - 1)) }
         ensures err { OnErr result (self.new ≡ self.old) }
     {
@@ -428,7 +428,7 @@ fn make_first<A: Allocator + Copy, D: Device>(
     device: &mut D,
 ) -> Result<(), DeviceFault>
     requires { AreWithin (length (D.seen device.old)) (changes_of log.now.items) }
-    ensures { Did D.Device device.old (work_of (option_map change_of (slice_get log.now.items 0)))
+    ensures { Did D.Device device.old (done_by (option_map change_of (slice_get log.now.items 0)))
         (is_ok result) device.new }
 {
     match log.front() {
@@ -443,7 +443,7 @@ fn make_call<A: Allocator + Copy, D: Device>(
     device: &mut D,
 ) -> Result<(), DeviceFault>
     requires { AreWithin (length (D.seen device.old)) (change_of call.now ∷ []) }
-    ensures { Did D.Device device.old (work_of (Some (change_of call.now))) (is_ok result) device.new }
+    ensures { Did D.Device device.old (done_by (Some (change_of call.now))) (is_ok result) device.new }
 {
     match call {
         Logged::Write(at, bytes) => write_at(device, *at, bytes),

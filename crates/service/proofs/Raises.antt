@@ -12,12 +12,12 @@ use Rattle.service.specs.declared.raising.Raise.{Raise}
 use Rattle.machine.specs.Unmarked.{unmarked_by}
 use Rattle.service.specs.Marks.{has_unmarked, HasReached, acknowledged_with, marks_of}
 use Rattle.service.specs.Marks.{last_acknowledged, Words, LeavesCommitted, RaisesCommitted, HasRaised}
-use Rattle.service.specs.inside.Raising.{raise_by, Reaches, RaisesSo}
+use Rattle.service.specs.inside.Raising.{raise_by, RaisesUpTo, RaisesSo}
 use Rattle.service.specs.inside.Rising.{seen_words}
 
 -- what a raise reaches
 pub reached : (unmarked : Bool) (reply : Reply) (stalled committed : ℕ)
-    → Reaches (raise_by unmarked reply) stalled committed
+    → RaisesUpTo (raise_by unmarked reply) stalled committed
     → HasReached unmarked reply stalled committed
 reached true (replies.Marked number) stalled committed so = (so, λ none. absurd (false≢true (sym none)))
 reached false (replies.Marked number) stalled committed so = (so.0, λ none. so.1)

@@ -5,7 +5,7 @@ ghost use Rattle.machine.specs.declared.act.Reply.{Reply};
 ghost use Rattle.service.specs.Gathering.{words_of};
 ghost use Rattle.service.specs.Serving.{HasCalled};
 ghost use Rattle.service.specs.declared.raising.Raise.{Raise};
-ghost use Rattle.service.specs.inside.Raising.{Reaches, RaisesSo};
+ghost use Rattle.service.specs.inside.Raising.{RaisesUpTo, RaisesSo};
 ghost use Rattle.service.specs.inside.Rising.{HasRisen, seen_words};
 
 use crate::Origin;
@@ -211,7 +211,7 @@ fn raise_horizon<R: Wait>(rt: &R, horizon: &Horizon, seen: &mut Seen, raise: Rai
     ensures nothing { raise ≡ Raise.Nothing → seen.new ≡ seen.old }
     ensures exact { RaisesSo raise seen.old seen.new }
     ensures risen { HasRisen seen.old seen.new }
-    ensures reached { Reaches raise seen.new.stalled seen.new.committed }
+    ensures reached { RaisesUpTo raise seen.new.stalled seen.new.committed }
 {
     match raise {
         Raise::Nothing => {}

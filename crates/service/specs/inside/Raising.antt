@@ -13,10 +13,10 @@ raise_by unmarked (replies.Committed number) = raises.Committed number
 raise_by unmarked reply = raises.Nothing
 
 -- the horizon has reached this
-abbrev pub Reaches : Raise → ℕ → ℕ → Type 0
-Reaches raises.Nothing stalled committed = ⊤
-Reaches (raises.Stalled number) stalled committed = number ≤ stalled
-Reaches (raises.Committed number) stalled committed = (number ≤ stalled) × (number ≤ committed)
+abbrev pub RaisesUpTo : Raise → ℕ → ℕ → Type 0
+RaisesUpTo raises.Nothing stalled committed = ⊤
+RaisesUpTo (raises.Stalled number) stalled committed = number ≤ stalled
+RaisesUpTo (raises.Committed number) stalled committed = (number ≤ stalled) × (number ≤ committed)
 
 -- this raise was made, and nothing else: each word that it names became the greater of itself and the number
 abbrev pub RaisesSo : Raise → SeenState → SeenState → Type 0

@@ -1,7 +1,7 @@
 use Rattle.std.proofs.Common.{IfOk, ap, subst, ◌∙◌}
 use Rattle.device.specs.Memory.{Recorded, seen_of}
 use Rattle.volume_codec.specs.Recovery.{RecoversTo}
-use Rattle.crash_table.specs.Calls.{ListedDisk, AreMade, calls_of, listing}
+use Rattle.crash_table.specs.Calls.{ListedDisk, AreMade, device_calls_of, listing}
 use Rattle.crash_table.proofs.Marks.{begun, if_ok_always}
 use Rattle.crash_table.proofs.trial.list.Goals as goal
 
@@ -14,5 +14,5 @@ returns-in-Ok-clause-files g c =
 pub returns-in-Ok-clause-calls : goal.returns-in-Ok-clause-calls
 returns-in-Ok-clause-calls g c =
     let P : ListedDisk Recorded → Type 0 = λ disk. IfOk c.list_steps.result
-    (λ listed. AreMade disk c.args.plan.now.shape c.args.plan.now.steps.now (calls_of listed.calls.items)) in
+    (λ listed. AreMade disk c.args.plan.now.shape c.args.plan.now.steps.now (device_calls_of listed.calls.items)) in
     subst P (c.new-disk.ensures ∙ ap listing c.in_ok-copy.ensures) (c.list_steps.ensures _ _ c.in-Ok.ensures.started)

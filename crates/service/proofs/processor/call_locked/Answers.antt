@@ -2,7 +2,7 @@ use Rattle.std.proofs.Common.{subst}
 use Rattle.service.specs.Marks.{has_unmarked}
 use Rattle.service.specs.declared.raising.Raise.{Raise}
 use Rattle.service.specs.Marks.{last_acknowledged}
-use Rattle.service.specs.inside.Raising.{Reaches, RaisesSo}
+use Rattle.service.specs.inside.Raising.{RaisesUpTo, RaisesSo}
 use Rattle.service.proofs.Raises.{reached, raised, to_acknowledged}
 use Rattle.service.proofs.processor.call_locked.Goals as goal
 
@@ -10,7 +10,7 @@ pub returns-clause-called : goal.returns-clause-called
 returns-clause-called g c = λ answered.
     let seen = c.raise_horizon.new.seen in
     let old = c.args.seen.now in
-    let P : Raise → Type 0 = λ r. Reaches r seen.stalled seen.committed in
+    let P : Raise → Type 0 = λ r. RaisesUpTo r seen.stalled seen.committed in
     let Q : Raise → Type 0 = λ r. RaisesSo r old seen in record {
       before = c.in-Some.locked;
       after = c.call-reply.new.self;

@@ -3,7 +3,7 @@ use Rattle.device.specs.Device.{Only}
 use Rattle.device.specs.Failing.{Failing, failing}
 use Rattle.device.specs.Memory.{Recorded, new_disk, seen_of, may_leave_of, after_stop}
 use Rattle.volume_codec.specs.Recovery.{RecoversTo}
-use Rattle.crash_table.specs.Calls.{calls_of}
+use Rattle.crash_table.specs.Calls.{device_calls_of}
 use Rattle.crash_table.specs.Crashes.{HasEnded, IsUpTo}
 use Rattle.crash_table.specs.Disks.{failing_memory}
 use Rattle.crash_table.specs.Trials.{TrialValue, Leaves}
@@ -25,7 +25,7 @@ returns g c =
     let disk_is : c.new-disk.result ≡ failing (new_disk image) fails =
     c.new-disk.ensures ∙ ap (λ (d : Recorded). failing d fails) c.in_ok-copy_of.ensures in
     let none : inner.faults ≡ 0 = omega (arith, c.faults.ensures, c.if-faults-gt0.false) in
-    let calls = length (calls_of inside.listed.calls.items) in
+    let calls = length (device_calls_of inside.listed.calls.items) in
     let count : length c.args.self.now.calls ≡ calls = sym (ap (λ (t : TrialValue). length t.calls) c.self.view_is) in
     let up : IsUpTo calls fails steps replies after = record {
       failed = λ some le.

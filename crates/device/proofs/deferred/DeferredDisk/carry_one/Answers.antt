@@ -1,5 +1,5 @@
 use Rattle.std.proofs.Common.{sym, ◌∙◌, ap, length, subst, true, false}
-use Rattle.device.specs.Deferred.{Deferred, as_recorded, oldest, work_of}
+use Rattle.device.specs.Deferred.{Deferred, as_recorded, oldest, done_by}
 use Rattle.device.specs.Did.{Did}
 use Rattle.device.specs.Memory.{seen_of}
 use Rattle.device.specs.inside.Logged.{changes_of}
@@ -17,10 +17,10 @@ pub returns-in-Ok-clause-did : goal.returns-in-Ok-clause-did
 returns-in-Ok-clause-did g c =
     let is = ap oldest (sym c.self.view_is)
     ∙ front_is_oldest c.self.inside.log.items c.self.inside.past.changes c.self.invariant.0.waits in
-    subst (λ o. Did g.D.Device c.args.device.now (work_of o) true c.make_first.new.device) (sym is) c.in-Ok.ensures
+    subst (λ o. Did g.D.Device c.args.device.now (done_by o) true c.make_first.new.device) (sym is) c.in-Ok.ensures
 
 pub returns-in-Err-clause-did : goal.returns-in-Err-clause-did
 returns-in-Err-clause-did g c =
     let is = ap oldest (sym c.self.view_is)
     ∙ front_is_oldest c.self.inside.log.items c.self.inside.past.changes c.self.invariant.0.waits in
-    subst (λ o. Did g.D.Device c.args.device.now (work_of o) false c.make_first.new.device) (sym is) c.in-Err.ensures
+    subst (λ o. Did g.D.Device c.args.device.now (done_by o) false c.make_first.new.device) (sym is) c.in-Err.ensures

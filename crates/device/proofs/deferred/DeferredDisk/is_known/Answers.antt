@@ -1,5 +1,5 @@
 use Rattle.std.proofs.Common.{◌≡◌, ◌≤◌, ◌+◌, ◌*◌, length, drop, arith, sym, ◌∙◌, ap, subst}
-use Rattle.device.specs.Deferred.{Deferred, as_recorded, carried_out, oldest, made_before, work_of, block_of}
+use Rattle.device.specs.Deferred.{Deferred, as_recorded, carried_out, oldest, made_before, done_by, block_of}
 use Rattle.device.specs.Memory.{seen_of, content_after}
 use Rattle.device.specs.Work.{TornByWork}
 use Rattle.device.specs.inside.Logged.{changes_of}
@@ -18,9 +18,9 @@ returns-clause-there g c = λ fits none bytes long torn.
     let room = subst (λ (d : Deferred). 4096 * block + 4096 ≤ length (seen_of (as_recorded d)))
     (sym c.self.view_is) fits in
     let same = subst (λ (d : Deferred). length bytes ≡ length (seen_of (as_recorded d))) (sym c.self.view_is) long in
-    let before = subst (λ (d : Deferred). TornByWork (work_of (oldest d)) (seen_of (carried_out d)) bytes)
+    let before = subst (λ (d : Deferred). TornByWork (done_by (oldest d)) (seen_of (carried_out d)) bytes)
     (sym c.self.view_is) torn in
-    let counted = subst (λ n. TornByWork (work_of (made_before n changes)) (content_after first (drop n changes)) bytes)
+    let counted = subst (λ n. TornByWork (done_by (made_before n changes)) (content_after first (drop n changes)) bytes)
     (sym (length-changes_of disk.log.items)) before in
     unknown_there first changes disk.past.supplied disk.blocks.bytes disk.blocks.flags
     (changes_of disk.log.items) disk.len block bytes c.self.invariant.0 (omega (arith, room, whole))
