@@ -29,7 +29,7 @@ pub struct Frames<A: Allocator + Copy = Global> {
     frames: Pages<A>,
     // The frames in use, in the order of their pages. There is room for each frame.
     order: ChunkedList<A>,
-    guesses: Guesses,
+    guesses: Guesses<A>,
     copies: Pages<A>,
 }
 
@@ -53,7 +53,7 @@ impl<A: Allocator + Copy> Frames<A> {
         Ok(Frames {
             frames: Pages::new(alloc, frames)?,
             order: ChunkedList::new(alloc, frames)?,
-            guesses: Guesses::new(),
+            guesses: Guesses::new(alloc, frames)?,
             copies: Pages::new(alloc, copies)?,
         })
     }

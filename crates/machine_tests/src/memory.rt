@@ -272,7 +272,7 @@ fn is_refused_to_boot(rt: &impl Abort, alloc: &Counting, disk: Disk, n: u64) -> 
     (true, disk)
 }
 
-// A volume is opened, and a machine booted over it, by 28 requests for memory. Each of them is refused once.
+// A volume is opened, and a machine booted over it, by 29 requests for memory. Each of them is refused once.
 #[test]
 fn a_refused_boot_can_be_made_at_once(rt: HostRuntime) {
     let alloc = Counting::new(rt.alloc());
@@ -280,7 +280,7 @@ fn a_refused_boot_can_be_made_at_once(rt: HostRuntime) {
     for n in 1..99 {
         let (refused, same) = is_refused_to_boot(&rt, &alloc, disk, n);
         disk = same;
-        assert!(rt; refused == (n <= 28), "request {n}");
+        assert!(rt; refused == (n <= 29), "request {n}");
     }
 }
 
