@@ -9,7 +9,8 @@
 #include <sys/uio.h>
 
 #define SLOTS 1020
-#define COMMITS 9
+/* More than there are journals. */
+#define COMMITS 6
 /* How many ranges of memory one call writes at most. */
 #define MOST_RANGES 1024
 
@@ -298,8 +299,7 @@ static void count_in_layout(unsigned layout)
                              {layout, most, 1, true}};
     for (unsigned i = 0; i < (has_lengths(layout) ? 5 : 3); i++) {
         count_commits(shapes[i], i % 2 == 0 ? BY_POINTER : BY_CALL);
-        count_in_a_row(shapes[i], BY_POINTER);
-        count_in_a_row(shapes[i], BY_CALL);
+        count_in_a_row(shapes[i], i % 2 == 0 ? BY_CALL : BY_POINTER);
     }
     count_by_themselves(shapes[0]);
     beside_others(shapes[1]);
