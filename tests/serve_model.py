@@ -205,8 +205,8 @@ class Model:
         self.resized = False
         self.kept = [bytes(memory) for memory in self.memory]
         self.stored = set()
-        # pages of the last commits, one for each journal, whose write-outs may still be under way
-        self.last = collections.deque(maxlen=journals)
+        # pages of the last commits, whose write-outs may still be under way: of two, or of one where there is one journal
+        self.last = collections.deque(maxlen=min(journals, 2))
         self.marks = 0
         self.spaces = {}
         self.current = [0] * cpus
