@@ -4,26 +4,27 @@
 
 #include <errno.h>
 
-/* Where the commit before was begun to be written home, its writes wait for a sync: for one of their own, where that of
-   another commit would part them; or else for the first one of this commit, which serves them, too. */
+/* Where the commit before was begun to be written home, its writes wait for a sync: they get one of their own. */
 static int end_write_out(famsync *handle)
 {
-    if (handle->shares_syncs || famsync_core_waiting(handle->core, &handle->core.at) <= 0)
-        return FAMSYNC_OK;
-    return write_out(handle, false);
+    return famsync_core_waiting(handle->core, &handle->core.at) > 0 ? write_out(handle, false) : FAMSYNC_OK;
 }
 
-/* Makes a commit in the core, and what it records; it is acknowledged once all that was made. */
+/* Makes a commit in the core, and what it records; it is acknowledged once all that was made. The sync of a commit
+   would part the writes of the one before, and so these come first; or where syncs are shared it serves them, too, but
+   for a commit that has nothing to write. */
 static int commit(famsync *handle, uint64_t *mark)
 {
     uint32_t number = 0;
-    int code = end_write_out(handle), drained;
+    int code = handle->shares_syncs ? FAMSYNC_OK : end_write_out(handle), drained;
     if (code != FAMSYNC_OK)
         return code;
     code = answer_of(handle, famsync_core_commit(handle->core, &number, &handle->core.at));
     drained = drain(handle);
     if (drained != FAMSYNC_OK)
         return drained;
+    if (code == FAMSYNC_OK)
+        code = end_write_out(handle);
     if (code != FAMSYNC_OK)
         return code;
     int64_t acknowledged = famsync_core_acknowledged(handle->core, &handle->core.at);

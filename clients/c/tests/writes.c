@@ -246,7 +246,7 @@ static void *others_load(void *argument)
     return NULL;
 }
 
-/* Calls of another thread, which come at any moment of a write-out. */
+/* Calls of another thread, which come at any moment of a write-out; and commits for which nothing was stored. */
 static void beside_others(struct shape shape)
 {
     pthread_t loader;
@@ -256,7 +256,10 @@ static void beside_others(struct shape shape)
     WANT(pthread_create(&loader, NULL, others_load, NULL) == 0);
     for (uint64_t number = 1; number <= COMMITS; number++) {
         commit(shape, BY_POINTER, number);
-        usleep(10000);
+        usleep(200 * (unsigned)number);
+        WANT_CODE(famsync_msync(handle, NULL), FAMSYNC_OK);
+        if (number % 2 == 0)
+            usleep(10000);
     }
     atomic_store(&stopped, true);
     pthread_join(loader, NULL);
