@@ -15,6 +15,7 @@ pub mod Sounding
 pub mod Moving
 pub mod OneAnswer
 pub mod Answering
+pub mod Acknowledging
 pub mod Keeping
 pub mod KeptConsistent
 pub mod Counting

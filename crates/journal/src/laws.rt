@@ -9,7 +9,8 @@ ghost use Rattle.volume_codec.specs.Recovery.{Batch, IsOpen, IsNewer, has_journa
 ghost use Rattle.journal.specs.declared.stage.Stage.TheVariants.{Committing, Finishing};
 ghost use Rattle.journal.specs.Stage.{stage_at, has_writes, is_ahead};
 ghost use Rattle.journal.specs.declared.flushed.Flushed.{Flushed};
-ghost use Rattle.journal.specs.WriteOut.{WriteOut, IsBatch, FlushValue, next_stage, advanced_of, has_committed, calls_in_steps};
+ghost use Rattle.journal.specs.declared.flushed.Flushed.TheVariants.{Committed};
+ghost use Rattle.journal.specs.WriteOut.{WriteOut, IsBatch, FlushValue, next_stage, advanced_of, has_committed, answer_of, calls_in_steps};
 ghost use Rattle.journal.specs.WriteOuts.{WriteOutsValue, has_uncommitted, shares_syncs, is_at, moving, moved, current, advanced, current_stage, HasBlock, outs_after, is_busy};
 ghost use Rattle.journal.specs.Commits.{HaveCommitted, HaveGoneOn};
 ghost use Rattle.journal.specs.Recovered.{RecoversBy, IsUnread};
@@ -27,6 +28,12 @@ pub fn steps_of_a_write_out()
     ensures ends { (k d n : ℕ) → (stage_at k d n ≡ None) ↔ (2 * k + d + 6 ≤ n) }
     ensures calls { (g : GeometryValue) (batch : Batch) → let k = length batch.homes in
         let d = descriptor_blocks g.slots in calls_in_steps g batch (2 * k + d + 6) ≡ 3 * k + d + 6 }
+{}
+
+/// A step answers that a batch is committed where it isn't before the step and is after it, and nowhere else.
+pub fn a_step_answers_what_it_commits()
+    ensures { (w : WriteOut) (mark : ℕ) → (answer_of w ≡ Committed mark)
+        ↔ ((mark ≡ w.batch.mark) × (has_committed w ≡ false) × (has_committed (advanced_of w) ≡ true)) }
 {}
 
 /// Whose step comes next: the newest one's, where its batch isn't committed, and only that one changes by it; where all
