@@ -10,8 +10,7 @@ use Rattle.volume_codec.specs.Layout.{block_at, first_file_home}
 use Rattle.volume_codec.specs.Super.{pages_of, total_pages, names_in}
 use Rattle.volume_codec.specs.Lengths.{lengths_in}
 use Rattle.volume_codec.specs.Recovery.{files_from}
-use Rattle.volume_codec.proofs.Blocks.{length-block_at}
-use Rattle.volume_codec.proofs.Recovered.{length-file}
+use Rattle.volume_codec.proofs.Public.{length-block_at, length-file}
 use Rattle.recovery.specs.Volume.{VolumeState, IsWellFormed, files_of, bytes_of}
 use Rattle.std.specs.Io.KnownBytes.{Appends}
 use Rattle.file_rows.specs.Rows.{rows_text, row_count, file_listing, files_listing}

@@ -1,3 +1,4 @@
-pub mod Appending
-pub mod Files
+mod Appending
+mod Files
 mod Pages
+pub mod Public

@@ -52,7 +52,8 @@ fn write_files<D: Device + Drop, A: Allocator + Copy, F: Form, W: io::Write>(
     out: &mut W,
 ) -> Result<(), ListFault>
     ensures { D.is_honest volume.old.device → OnOk result (Appends (W.contents out.old) (W.contents out.new)
-        (files_listing (F.head_text form.now) (F.row_text form.now) (files_of volume.old.table (D.seen volume.old.device)))) }
+        (files_listing (F.head_text form.now) (F.row_text form.now)
+        (files_of volume.old.table (D.seen volume.old.device)))) }
 {
     for file in 0..volume.file_count() {
         write_file(volume, file, form, out)?;
@@ -135,7 +136,8 @@ fn show_row<F: Form, W: io::Write>(
     form: &F,
     out: &mut W,
 ) -> Result<(), ListFault>
-    ensures { OnOk result (Appends (W.contents out.old) (W.contents out.new) (shown (F.row_text form.now) at bytes.now)) }
+    ensures { OnOk result (Appends (W.contents out.old) (W.contents out.new)
+        (shown (F.row_text form.now) at bytes.now)) }
 {
     if is_blank(bytes) {
         Ok(())

@@ -31,8 +31,8 @@ loop-file-preserved g c =
           let below : i < length old.table.files = search rules in
           let f = some_at files i (omega (arith, below, as_many_files old (g.D.Device.seen old.device) are)) in
           let at = ap (λ fs. slice_get fs i) (files_read g.D.Device old mid before.0 honest) ∙ f.1 in
-          file_more (g.F.Form.head_text form) (g.F.Form.row_text form) (contents c.args.out.now) (contents c.loop-file.out)
-          (contents c.write_file.new.out) files i f.0 f.1 (before.1 honest)
+          file_more (g.F.Form.head_text form) (g.F.Form.row_text form) (contents c.args.out.now)
+          (contents c.loop-file.out) (contents c.write_file.new.out) files i f.0 f.1 (before.1 honest)
           (c.in_ok-write_file.ensures.printed (before.0.honest.1 honest) f.0 at),
     )
 

@@ -24,7 +24,8 @@ loop-page-preserved g c =
           let is = c.in_default.ensures.page (before.0.honest.1 honest)
           ∙ ap (λ files. part_of (bytes_of files file) page) (files_read g.D.Device old mid before.0 honest) in
           page_more (g.F.Form.row_text c.args.form.now) (contents c.args.out.now) (contents c.loop-page.out)
-          (contents c.write_rows.new.out) bytes page c.args.bytes c.read_page.new.part long below size is (before.1 honest) c.in_ok-write_rows.ensures,
+          (contents c.write_rows.new.out) bytes page c.args.bytes c.read_page.new.part long below size is
+          (before.1 honest) c.in_ok-write_rows.ensures,
     )
 
 pub returns : goal.returns

@@ -3,7 +3,7 @@ use Rattle.std.specs.Io.KnownBytes.{Appends}
 use Rattle.volume_codec.specs.Super.{pages_of}
 use Rattle.inspection.specs.Text.{file_name, file_size, capacity_text}
 use Rattle.std.proofs.lemmas.Result.{on_ok_weaker}
-use Rattle.file_rows.proofs.Appending.{appends_both}
+use Rattle.file_rows.proofs.Public.{appends_both}
 use Rattle.inspection.proofs.text.write_file_text.Goals as goal
 
 pub returns : goal.returns

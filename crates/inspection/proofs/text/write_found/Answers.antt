@@ -2,7 +2,7 @@ use Rattle.std.proofs.Common.{rules, ◌++◌, length}
 use Rattle.std.specs.Io.KnownBytes.{Appends}
 use Rattle.inspection.specs.Text.{volume_line, file_lines, journal_lines, calls_line}
 use Rattle.std.proofs.lemmas.Result.{on_ok_weaker}
-use Rattle.file_rows.proofs.Appending.{appends_both}
+use Rattle.file_rows.proofs.Public.{appends_both}
 use Rattle.inspection.proofs.text.write_found.Goals as goal
 
 pub returns : goal.returns

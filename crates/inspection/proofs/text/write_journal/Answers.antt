@@ -1,7 +1,7 @@
 use Rattle.std.proofs.Common.{◌++◌}
 use Rattle.inspection.specs.Text.{journal_name, gate_text, state_text}
 use Rattle.std.proofs.lemmas.Result.{on_ok_weaker}
-use Rattle.file_rows.proofs.Appending.{appends_both}
+use Rattle.file_rows.proofs.Public.{appends_both}
 use Rattle.inspection.proofs.text.write_journal.Goals as goal
 
 pub returns : goal.returns

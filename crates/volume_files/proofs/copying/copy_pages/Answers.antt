@@ -3,7 +3,7 @@ use Rattle.std.proofs.lemmas.List.{take_all}
 use Rattle.std.specs.Io.KnownBytes.{Appends}
 use Rattle.recovery.specs.Volume.{files_of, bytes_of}
 use Rattle.file_rows.specs.Reading.{part_of}
-use Rattle.file_rows.proofs.Files.{length_of_file, files_read, volume_read_then}
+use Rattle.file_rows.proofs.Public.{length_of_file, files_read, volume_read_then}
 use Rattle.volume_files.proofs.Copied.{copied_more}
 use Rattle.volume_files.proofs.copying.copy_pages.Goals as goal
 
