@@ -76,3 +76,9 @@ pub blocks_of_range : (bytes : List ℕ) (x b n count : ℕ) → x ≡ b → n �
 blocks_of_range bytes x b n count same size =
     let part : 4096 * x + n - 4096 * x ≡ 4096 * count = omega (arith, size) in
     ap (λ k. take k (drop (4096 * x) bytes)) part ∙ ap (λ k. take (4096 * count) (drop (4096 * k) bytes)) same
+
+-- blocks that were read, where the first of them and their number are these
+pub read_where : (bytes seen : List ℕ) (block count first n : ℕ) → bytes ≡ blocks_at seen block count → block ≡ first
+    → count ≡ n → bytes ≡ blocks_at seen first n
+read_where bytes seen block count first n read at many =
+    read ∙ ap (λ b. blocks_at seen b count) at ∙ ap (blocks_at seen first) many

@@ -601,3 +601,11 @@ calls_of (j ∷ js) = by j.descriptor (calls_of js)
         let put_sum = sum_put (λ (batch : Batch). 2 * length batch.homes + 4)
         (record { journal = j.number; mark = d.mark; homes = d.homes }) (batches_of js) in
         omega (arith, rest, put_sum)
+
+-- what is said of the journals from a place on, where that is the place after this one
+pub shares_after : {Z : Type 0} (d : Option DescriptorValue) (js rest : List (Journal Z)) (i p : ℕ) (found is : Bool)
+    → rest ≡ drop (p + 1) js → p ≡ i → found ≡ shares_mark d rest → found ≡ is
+    → shares_mark d (drop (i + 1) js) ≡ is
+shares_after d js rest i p found is cut at says it =
+    let after = cut ∙ ap (λ k. drop (k + 1) js) at in
+    sym (ap (shares_mark d) after) ∙ sym says ∙ it

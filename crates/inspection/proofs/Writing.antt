@@ -1,26 +1,16 @@
 -- What is written to an output, one thing after the other.
 use Rattle.std.proofs.Common.{◌≡◌, ℕ, suc, add-one, ◌+◌, ◌<◌, List, [], ◌∷◌, ◌++◌, length, take, get_or, map}
-use Rattle.std.proofs.Common.{slice_index, Option, Some, None, Result, Ok, Err, OnOk, sym, ◌∙◌, ap, subst, append_assoc}
+use Rattle.std.proofs.Common.{slice_index, Option, sym, ◌∙◌, ap, subst}
 use Rattle.std.specs.List.{flat_map}
 use Rattle.std.specs.Io.KnownBytes.{Appends}
 use Rattle.std.proofs.lemmas.List.{take_more, flat_map_more, map_push, map_more}
 use Rattle.volume_codec.specs.Super.{SuperValue}
+use Rattle.file_rows.proofs.Public.{appends_both}
 use Rattle.serde_json.specs.Data.{Data}
 use Rattle.serde_json.specs.View.{view}
 use Rattle.serde_json.specs.declared.value.Value.{Value}
 use Rattle.inspection.specs.Text.{file_line, file_lines}
 use Rattle.inspection.specs.Json.{file_data, files_data}
-
-pub appends_both : (a b c : Option (List ℕ)) (xs ys : List ℕ) → Appends a b xs → Appends b c ys → Appends a c (xs ++ ys)
-appends_both None b c xs ys first second = tt
-appends_both (Some old) None c xs ys first second = absurd first
-appends_both (Some old) (Some mid) None xs ys first second = absurd second
-appends_both (Some old) (Some mid) (Some new) xs ys first second =
-    second ∙ ap (λ front. front ++ ys) first ∙ append_assoc old xs ys
-
-pub ok_map : {T E P Q : Type 0} (result : Result T E) → (P → Q) → OnOk result P → OnOk result Q
-ok_map (Ok x) f p = f p
-ok_map (Err e) f p = tt
 
 -- one file more
 pub file_more : (old mid new : Option (List ℕ)) (v : SuperValue) (lengths : List ℕ) (i n : ℕ)

@@ -1,4 +1,3 @@
 -- What ties private code to the definitions that public clauses name.
 pub mod Health
 pub mod Order
-pub mod Pages

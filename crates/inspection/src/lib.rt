@@ -16,6 +16,6 @@ mod text;
 pub use found::{Found, Journal, inspect};
 pub use health::{Health, examine};
 pub use json::{damage_value, found_value, health_value};
-pub use lines::{LineFault, write_file_lines, write_line};
+pub use lines::{write_file_lines, write_line};
 pub use place::{HomePage, pages_have_places, place_of};
 pub use text::write_found;

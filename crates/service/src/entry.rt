@@ -1,9 +1,10 @@
 // One entry of a trace, and whether it is progress.
 ghost use Rattle.std.specs.Prelude.{◌≡◌, ◌<◌, ◌+◌, if◌then◌else◌};
-ghost use Rattle.service.specs.Trace.{is_progress, may_be_seen, has_done};
+ghost use Rattle.service.specs.Trace.{is_progress, may_be_seen};
 
+use crate::said::said_by;
 use machine::{Act, Reply, Step};
-use page_entry::{ProcessorNumber, Refusal};
+use page_entry::ProcessorNumber;
 
 /// A step that was made, and what it was answered.
 #[derive(Clone, Copy, Debug, PartialEq, Eq)]
@@ -35,7 +36,7 @@ pub(crate) fn step_of(p: ProcessorNumber, act: &Act) -> Step
 fn is_progress(act: &Act, reply: &Reply) -> bool
     ensures { result ≡ is_progress act.now reply.now }
 {
-    may_be_seen(act) && has_done(reply)
+    may_be_seen(act) && said_by(reply).has_done
 }
 
 // Whether an act may change what another processor sees.
@@ -61,40 +62,6 @@ fn may_be_seen(act: &Act) -> bool
         | Act::Change
         | Act::Resume
         | Act::Flush => true,
-    }
-}
-
-// Whether a reply says that something was done, or that a device call failed.
-fn has_done(reply: &Reply) -> bool
-    ensures { result ≡ has_done reply.now }
-{
-    match reply {
-        Reply::Refused(refusal) => matches!(refusal, Refusal::Device),
-        Reply::Nothing => false,
-        Reply::Bytes(_)
-        | Reply::Stored
-        | Reply::Filled
-        | Reply::Evicted
-        | Reply::Switched
-        | Reply::Idled
-        | Reply::Woken
-        | Reply::Fixed
-        | Reply::Space(_)
-        | Reply::Destroyed
-        | Reply::Mapped
-        | Reply::Begun
-        | Reply::Fine
-        | Reply::Unmapped
-        | Reply::Protected
-        | Reply::Resized
-        | Reply::Reclaimed
-        | Reply::Kept
-        | Reply::Marked(_)
-        | Reply::Acked
-        | Reply::Resumed
-        | Reply::Going
-        | Reply::Committed(_)
-        | Reply::Done(_) => true,
     }
 }
 

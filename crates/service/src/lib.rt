@@ -10,6 +10,7 @@ mod gathering;
 mod locked;
 mod processor;
 mod raising;
+mod said;
 mod service;
 mod shared;
 mod starting;

@@ -4,6 +4,7 @@ ghost use Rattle.service.specs.Marks.{has_unmarked};
 ghost use Rattle.service.specs.inside.Raising.{raise_by};
 
 use crate::Entry;
+use crate::said::{Mark, said_by};
 use machine::Reply;
 
 // Nothing, the number of the last mark, or both numbers, to that of a mark that is acknowledged.
@@ -33,38 +34,15 @@ pub(crate) fn has_unmarked(trace: &[Entry]) -> bool
 pub(crate) fn raise_by(before: &[Entry], reply: &Reply) -> Raise
     ensures { result ≡ raise_by (has_unmarked before.now) reply.now }
 {
-    match reply {
-        Reply::Marked(mark) => {
+    match said_by(reply).mark {
+        Mark::Nothing => Raise::Nothing,
+        Mark::Made(mark) => {
             if has_unmarked(before) {
-                Raise::Stalled(u64::from(*mark))
+                Raise::Stalled(mark)
             } else {
-                Raise::Committed(u64::from(*mark))
+                Raise::Committed(mark)
             }
         }
-        Reply::Committed(mark) => Raise::Committed(u64::from(*mark)),
-        Reply::Bytes(_)
-        | Reply::Stored
-        | Reply::Filled
-        | Reply::Evicted
-        | Reply::Switched
-        | Reply::Idled
-        | Reply::Woken
-        | Reply::Fixed
-        | Reply::Space(_)
-        | Reply::Destroyed
-        | Reply::Mapped
-        | Reply::Begun
-        | Reply::Fine
-        | Reply::Unmapped
-        | Reply::Protected
-        | Reply::Resized
-        | Reply::Reclaimed
-        | Reply::Kept
-        | Reply::Acked
-        | Reply::Resumed
-        | Reply::Going
-        | Reply::Done(_)
-        | Reply::Nothing
-        | Reply::Refused(_) => Raise::Nothing,
+        Mark::Committed(mark) => Raise::Committed(mark),
     }
 }

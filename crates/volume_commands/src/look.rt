@@ -7,7 +7,7 @@ use crate::print::print_value;
 use command_line::Look;
 use device::{Device, OverlayDisk};
 use inspection::{
-    Found, Health, LineFault, damage_value, examine, found_value, health_value, inspect,
+    Found, Health, damage_value, examine, found_value, health_value, inspect,
     write_file_lines, write_found,
 };
 use page_entry::Refusal;
@@ -16,8 +16,8 @@ use std::fs::File;
 use std::io;
 use std::rt::Files;
 use volume_files::{
-    Access, FileFailure, Refused, SyncNote, not_opened, not_opened_on_copy, open_disk, place,
-    refused_to_open, unreadable,
+    Access, FileFailure, Refused, SyncNote, not_listed, not_opened, not_opened_on_copy, open_disk, place,
+    refused_to_open,
 };
 
 /// Prints what the bytes of a volume say. `note` gets what is to be said of a sync that failed.
@@ -208,16 +208,8 @@ where
 {
     match write_file_lines(global, alloc, OverlayDisk::new(alloc, disk), out) {
         Ok(Ok(())) => Ok(()),
-        Ok(Err(fault)) => Err(fault_of(path, fault)),
+        Ok(Err(fault)) => Err(not_listed(path, fault)),
         Err((refusal, mut copy)) => Err(not_opened_on_copy(alloc, path, refusal, &mut copy)),
     }
 }
 
-// Why the files of the volume at a path weren't printed.
-fn fault_of(path: &str, fault: LineFault) -> FileFailure<'_> {
-    match fault {
-        LineFault::Unreadable(refusal) => unreadable(path, refusal),
-        LineFault::Output(fault) => FileFailure::Output(fault),
-        LineFault::Memory(fault) => FileFailure::Memory(fault),
-    }
-}

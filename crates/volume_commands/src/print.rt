@@ -1,5 +1,6 @@
 // What is printed of a command that is done, as text or as JSON.
-use inspection::{LineFault, write_line};
+use file_rows::ListFault;
+use inspection::write_line;
 use serde_json::{Value, json};
 use std::alloc::{AllocError, Global};
 use std::io;
@@ -44,7 +45,7 @@ pub fn print_value<'a, W: io::Write>(
 ) -> Result<(), FileFailure<'a>> {
     match write_line(global, value, out) {
         Ok(()) => Ok(()),
-        Err(LineFault::Output(fault)) => Err(FileFailure::Output(fault)),
+        Err(ListFault::Output(fault)) => Err(FileFailure::Output(fault)),
         Err(_) => Err(FileFailure::Memory(AllocError)),
     }
 }

@@ -2,8 +2,8 @@
 use Rattle.std.proofs.Common.{◌≡◌, ℕ, ◌+◌, ◌*◌, List, ◌++◌, take, Option, sym, ◌∙◌, ap, subst, arith}
 use Rattle.std.proofs.Math.Seq.{take-add}
 use Rattle.std.specs.Io.KnownBytes.{Appends}
-use Rattle.volume_files.specs.inside.Pages.{part_of}
-use Rattle.volume_files.proofs.Appending.{appends_both}
+use Rattle.file_rows.specs.Reading.{part_of}
+use Rattle.file_rows.proofs.Public.{appends_both}
 
 -- one page more
 pub copied_more : (old mid new : Option (List ℕ)) (bytes : List ℕ) (p : ℕ) (part : List ℕ) → part ≡ part_of bytes p

@@ -1,5 +1,2 @@
-mod Appending
 mod Copied
 mod DumpRows
-mod Dumped
-mod Pages

@@ -1,9 +1,9 @@
 -- The text of a dump: of each file its name and length, and its rows of 16 bytes that aren't all zeros.
-use Rattle.std.specs.Prelude.{ℕ, zero, suc, ◌+◌, ◌-◌, ◌*◌, ◌^◌, ◌/◌, ◌%◌, ◌==◌}
-use Rattle.std.specs.Prelude.{if◌then◌else◌, List, [], ◌∷◌, ◌++◌, length, take, drop, false}
-use Rattle.std.specs.List.{flat_map, list_all}
+use Rattle.std.specs.Prelude.{ℕ, ◌-◌, ◌^◌, ◌/◌, ◌%◌, List, [], ◌∷◌, ◌++◌, false}
+use Rattle.std.specs.List.{flat_map}
 use Rattle.std.specs.Fmt.{decimal, digits, digit_glyph, padded_integral, format_spec}
 use Rattle.volume_codec.specs.Files.{File}
+use Rattle.file_rows.specs.Rows.{files_listing}
 
 -- a byte in two hexadecimal digits, after a space
 abbrev pub byte_text : ℕ → List ℕ
@@ -17,27 +17,14 @@ offset_text at = padded_integral (format_spec 32 0 4 12 (2 ^ 64 - 1)) false [] (
 abbrev pub row_text : ℕ → List ℕ → List ℕ
 row_text at bytes = offset_text at ++ flat_map byte_text bytes
 
--- their line, which is left out where all of them are zero
+-- a row: its line
 abbrev pub row_line : ℕ → List ℕ → List ℕ
-row_line at bytes = if list_all (λ byte. byte == 0) bytes then [] else row_text at bytes ++ 10 ∷ []
+row_line at bytes = row_text at bytes ++ 10 ∷ []
 
--- row n of these bytes
-abbrev pub row_of : List ℕ → ℕ → List ℕ
-row_of bytes n = take 16 (drop (16 * n) bytes)
+-- the head of a file: a line with its name, a space and its length in decimal digits
+abbrev pub head_line : List ℕ → ℕ → List ℕ
+head_line name n = name ++ 32 ∷ decimal n ++ 10 ∷ []
 
--- the lines of the rows before row n
-abbrev pub rows_before : List ℕ → ℕ → List ℕ
-rows_before bytes zero = []
-rows_before bytes (suc n) = rows_before bytes n ++ row_line (16 * n) (row_of bytes n)
-
--- how many rows n bytes have; the last one may be shorter
-abbrev pub row_count : ℕ → ℕ
-row_count n = (n + 15) / 16
-
--- a line with the name, a space and the length in decimal digits, and the lines of the rows
-abbrev pub file_text : File → List ℕ
-file_text f = f.name ++ 32 ∷ decimal (length f.bytes) ++ 10 ∷ [] ++ rows_before f.bytes (row_count (length f.bytes))
-
--- the files in their order
+-- the files in their order: of each its head, and its rows that aren't all zeros
 abbrev pub dump_text : List File → List ℕ
-dump_text files = flat_map file_text files
+dump_text files = files_listing head_line row_line files

@@ -5,10 +5,10 @@ ghost use Rattle.volume_codec.specs.Super.{names_in};
 ghost use Rattle.recovery.specs.Opening.{Opens};
 ghost use Rattle.recovery.specs.Volume.{IsWellFormed, files_of, bytes_of};
 ghost use Rattle.volume_files.specs.Export.{IsCopied, IsExported};
-ghost use Rattle.volume_files.specs.inside.Reading.{IsOnlyRead, AreFilesOf};
+ghost use Rattle.file_rows.specs.Reading.{IsReadVolume, AreFilesOf};
 
-use crate::listing::read_page;
 use device::Device;
+use file_rows::read_page;
 use page_entry::{PAGE, Refusal};
 use recovery::Volume;
 use std::alloc::Allocator;
@@ -108,7 +108,7 @@ fn copy_pages<D: Device + Drop, A: Allocator + Copy, W: io::Write>(
     requires files { D.is_honest volume.old.device → AreFilesOf volume.old (D.seen volume.old.device) }
     ensures copied { D.is_honest volume.old.device → OnOk result (Appends (W.contents out.old) (W.contents out.new)
         (bytes_of (files_of volume.old.table (D.seen volume.old.device)) file)) }
-    ensures read { IsOnlyRead D.Device volume.old volume.new }
+    ensures read { IsReadVolume D.Device volume.old volume.new }
 {
     for page in 0..bytes.div_ceil(PAGE) {
         let at = PAGE * page;

@@ -8,11 +8,12 @@ ghost use Rattle.volume_files.specs.Dump.{dump_text};
 
 use crate::cause::{Cause, Refused, refused_to_open};
 use crate::failure::FileFailure;
-use crate::listing::{DumpFault, write_files};
+use crate::listing::DumpLines;
 use crate::suspect_flag::SuspectFlag;
 use crate::volume_file::{Access, off_streams, open_locked, place};
 use crate::watched_file::{SyncNote, WatchedFile};
 use device::{Device, FileDisk, OverlayDisk};
+use file_rows::{ListFault, list_files};
 use page_entry::Refusal;
 use std::alloc::{AllocError, Allocator};
 use std::fs::{File, Files};
@@ -107,18 +108,17 @@ where
 {
     match print_volume(alloc, OverlayDisk::new(alloc, device), out) {
         Ok(Ok(())) => Ok(()),
-        Ok(Err(fault)) => Err(fault.of(path)),
+        Ok(Err(fault)) => Err(not_listed(path, fault)),
         Err((refusal, mut copy)) => Err(not_opened_on_copy(alloc, path, refusal, &mut copy)),
     }
 }
 
-impl DumpFault {
-    // Says so of the volume at a path.
-    fn of(self, path: &str) -> FileFailure<'_> {
-        match self {
-            DumpFault::Output(fault) => FileFailure::Output(fault),
-            DumpFault::Unreadable(refusal) => unreadable(path, refusal),
-        }
+/// Why the files of the volume at a path weren't printed.
+pub fn not_listed(path: &str, fault: ListFault) -> FileFailure<'_> {
+    match fault {
+        ListFault::Unreadable(refusal) => unreadable(path, refusal),
+        ListFault::Output(fault) => FileFailure::Output(fault),
+        ListFault::Memory(fault) => FileFailure::Memory(fault),
     }
 }
 
@@ -171,7 +171,7 @@ fn print_volume<D, A, W>(
     alloc: A,
     device: D,
     out: &mut W,
-) -> Result<Result<(), DumpFault>, (Refusal, D)>
+) -> Result<Result<(), ListFault>, (Refusal, D)>
 where
     D: Device + Drop,
     A: Allocator + Copy,
@@ -180,11 +180,7 @@ where
         × RecoversTo (D.seen device) files × Appends (W.contents out.old) (W.contents out.new) (dump_text files))) }
     ensures refused { IfErr result (λ refused. Opens D.Device device (Err refused.0) refused.1) }
 {
-    recovery::opened_as_recovered(&device);
-    match recovery::open(alloc, device) {
-        Ok(mut volume) => Ok(write_files(&mut volume, out)),
-        Err(refused) => Err(refused),
-    }
+    list_files(alloc, device, &DumpLines, out)
 }
 
 /// The bytes of a file, which may be a pipe.

@@ -1,7 +1,8 @@
 use Rattle.std.proofs.Common.{rules, ◌≡◌, ℕ, List, ◌++◌, ◌∷◌, [], length, subst}
 use Rattle.std.specs.Io.KnownBytes.{Appends}
 use Rattle.inspection.specs.Text.{open_head, homes_text}
-use Rattle.inspection.proofs.Writing.{appends_both, ok_map}
+use Rattle.std.proofs.lemmas.Result.{on_ok_weaker}
+use Rattle.file_rows.proofs.Public.{appends_both}
 use Rattle.inspection.proofs.text.write_descriptor.Goals as goal
 
 pub returns : goal.returns
@@ -20,6 +21,6 @@ returns g c =
     let Q : List ℕ → Type 0 = λ homes. Appends start first (open_head d.mark (length homes)) in
     let head : Appends start first x = subst Q c.homes-homes.ensures (subst P mark c.in_ok-write_open_head.ensures) in
     let homes : Appends first second y = search rules in
-    ok_map c.write_line_end.result
+    on_ok_weaker c.write_line_end.result
     (λ last. appends_both start second end (x ++ y) (10 ∷ []) (appends_both start first second x y head homes) last)
     c.write_line_end.ensures

@@ -2,7 +2,7 @@ use Rattle.std.proofs.Common.{◌≡◌, List, ℕ, slice_index, sym, ◌∙◌,
 use Rattle.std.specs.Io.KnownBytes.{Appends}
 use Rattle.volume_codec.specs.Super.{capacities_in, pages_of}
 use Rattle.inspection.specs.Text.{name_of, file_text, file_line}
-use Rattle.inspection.proofs.Writing.{ok_map}
+use Rattle.std.proofs.lemmas.Result.{on_ok_weaker}
 use Rattle.inspection.proofs.text.write_file.Goals as goal
 
 pub write_file_text-requires : goal.write_file_text-requires
@@ -22,4 +22,4 @@ returns g c =
     ∙ ap (file_text (name_of v i) n (slice_index (capacities_in v) i)) home.ensures in
     let P : List ℕ → Type 0 =
     λ text. Appends (g.W.Write.contents c.args.out.now) (g.W.Write.contents c.write_file_text.new.out) text in
-    ok_map c.write_file_text.result (subst P text) c.write_file_text.ensures
+    on_ok_weaker c.write_file_text.result (subst P text) c.write_file_text.ensures

@@ -1,5 +1,5 @@
-use Rattle.inspection.proofs.Writing.{ok_map}
+use Rattle.std.proofs.lemmas.Result.{on_ok_weaker}
 use Rattle.inspection.proofs.text.write_file_size.Goals as goal
 
 pub returns : goal.returns
-returns g c = ok_map c.write.result (λ is. is) c.write.ensures.bytes
+returns g c = on_ok_weaker c.write.result (λ is. is) c.write.ensures.bytes

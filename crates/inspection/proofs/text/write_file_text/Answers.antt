@@ -2,7 +2,8 @@ use Rattle.std.proofs.Common.{ℕ, ◌++◌, subst}
 use Rattle.std.specs.Io.KnownBytes.{Appends}
 use Rattle.volume_codec.specs.Super.{pages_of}
 use Rattle.inspection.specs.Text.{file_name, file_size, capacity_text}
-use Rattle.inspection.proofs.Writing.{appends_both, ok_map}
+use Rattle.std.proofs.lemmas.Result.{on_ok_weaker}
+use Rattle.file_rows.proofs.Public.{appends_both}
 use Rattle.inspection.proofs.text.write_file_text.Goals as goal
 
 pub returns : goal.returns
@@ -17,7 +18,7 @@ returns g c =
     let y = file_size a.bytes (pages_of a.capacity) a.home in
     let z = capacity_text a.bytes a.capacity in
     let P : ℕ → Type 0 = λ pages. Appends first second (file_size a.bytes pages a.home) in
-    ok_map c.write_capacity.result
+    on_ok_weaker c.write_capacity.result
     (λ last. appends_both start second end (x ++ y) z
     (appends_both start first second x y c.in_ok-write_file_name.ensures
     (subst P c.requires c.in_ok-write_file_size.ensures)) last)

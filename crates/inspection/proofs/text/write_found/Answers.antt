@@ -1,7 +1,8 @@
 use Rattle.std.proofs.Common.{rules, ◌++◌, length}
 use Rattle.std.specs.Io.KnownBytes.{Appends}
 use Rattle.inspection.specs.Text.{volume_line, file_lines, journal_lines, calls_line}
-use Rattle.inspection.proofs.Writing.{appends_both, ok_map}
+use Rattle.std.proofs.lemmas.Result.{on_ok_weaker}
+use Rattle.file_rows.proofs.Public.{appends_both}
 use Rattle.inspection.proofs.text.write_found.Goals as goal
 
 pub returns : goal.returns
@@ -19,7 +20,7 @@ returns g c =
     let e = calls_line found.calls in
     let files : Appends first second b = search rules in
     let journals : Appends second third d = search rules in
-    ok_map c.write_calls.result
+    on_ok_weaker c.write_calls.result
     (λ last. appends_both start third end (a ++ b ++ d) e
     (appends_both start second third (a ++ b) d
     (appends_both start first second a b c.in_ok-write_volume.ensures files) journals) last)

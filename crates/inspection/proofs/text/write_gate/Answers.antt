@@ -2,7 +2,7 @@ use Rattle.std.proofs.Common.{rules, ℕ, ◌-◌, ◌^◌, ◌<◌, List, [], O
 use Rattle.std.proofs.lemmas.Fmt.{hex_byte}
 use Rattle.std.specs.Fmt.{digits, padded_integral, format_spec}
 use Rattle.std.specs.Io.KnownBytes.{Appends}
-use Rattle.inspection.proofs.Writing.{ok_map}
+use Rattle.std.proofs.lemmas.Result.{on_ok_weaker}
 use Rattle.inspection.proofs.text.write_gate.Goals as goal
 
 pub returns : goal.returns
@@ -13,4 +13,4 @@ returns g c =
     λ text. Appends (g.W.Write.contents c.args.out.now) (g.W.Write.contents c.write.new.self) text in
     let wrote : OnOk c.write.result (Appends (g.W.Write.contents c.args.out.now) (g.W.Write.contents c.write.new.self)
     (padded_integral (format_spec 32 0 4 2 (2 ^ 64 - 1)) false [] (digits 16 false gate))) = search rules in
-    ok_map c.write.result (subst P (hex_byte false gate small)) wrote
+    on_ok_weaker c.write.result (subst P (hex_byte false gate small)) wrote

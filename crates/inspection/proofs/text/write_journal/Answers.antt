@@ -1,6 +1,7 @@
 use Rattle.std.proofs.Common.{◌++◌}
 use Rattle.inspection.specs.Text.{journal_name, gate_text, state_text}
-use Rattle.inspection.proofs.Writing.{appends_both, ok_map}
+use Rattle.std.proofs.lemmas.Result.{on_ok_weaker}
+use Rattle.file_rows.proofs.Public.{appends_both}
 use Rattle.inspection.proofs.text.write_journal.Goals as goal
 
 pub returns : goal.returns
@@ -13,7 +14,7 @@ returns g c =
     let end = contents c.write_state.new.out in
     let x = journal_name journal.number in
     let y = gate_text journal.gate in
-    ok_map c.write_state.result
+    on_ok_weaker c.write_state.result
     (λ last. appends_both start second end (x ++ y) (state_text c.args.table.now journal.descriptor)
     (appends_both start first second x y c.in_ok-write_journal_name.ensures c.in_ok-write_gate.ensures) last)
     c.write_state.ensures

@@ -1,4 +1,4 @@
-use Rattle.volume_files.proofs.Dumped.{files_of_well_formed}
+use Rattle.file_rows.proofs.Public.{files_of_well_formed}
 use Rattle.volume_files.proofs.copying.copy_named.Goals as goal
 
 pub copy_found-requires-clause-files : goal.copy_found-requires-clause-files

@@ -2,8 +2,8 @@ use Rattle.std.proofs.Common.{rules, ◌≡◌, ℕ, ◌-◌, ◌*◌, ◌<◌, 
 use Rattle.std.proofs.lemmas.List.{take_all}
 use Rattle.std.specs.Io.KnownBytes.{Appends}
 use Rattle.recovery.specs.Volume.{files_of, bytes_of}
-use Rattle.volume_files.specs.inside.Pages.{part_of}
-use Rattle.volume_files.proofs.Dumped.{length_of_file, files_read, read_then}
+use Rattle.file_rows.specs.Reading.{part_of}
+use Rattle.file_rows.proofs.Public.{length_of_file, files_read, volume_read_then}
 use Rattle.volume_files.proofs.Copied.{copied_more}
 use Rattle.volume_files.proofs.copying.copy_pages.Goals as goal
 
@@ -15,7 +15,7 @@ loop-page-preserved g c =
     let contents = g.W.Write.contents in
     let page = c.loop-page.page in
     let file = c.args.file in (
-      read_then g.D.Device old mid c.read_page.new.volume before.0 c.in_default.ensures.read,
+      volume_read_then g.D.Device old mid c.read_page.new.volume before.0 c.in_default.ensures.read,
       λ honest.
           let seen = g.D.Device.seen old.device in
           let bytes = bytes_of (files_of old.table seen) file in

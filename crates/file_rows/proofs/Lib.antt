@@ -1,0 +1,4 @@
+mod Appending
+mod Files
+mod Pages
+pub mod Public

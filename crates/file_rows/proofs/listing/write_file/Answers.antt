@@ -1,0 +1,26 @@
+use Rattle.std.proofs.Common.{List, ℕ, subst}
+use Rattle.std.proofs.lemmas.Result.{on_ok_weaker}
+use Rattle.std.specs.Io.KnownBytes.{Appends}
+use Rattle.recovery.specs.Volume.{files_of, bytes_of}
+use Rattle.file_rows.proofs.Appending.{appends_both}
+use Rattle.file_rows.proofs.Files.{length_of_file, name_of_file, file_at, file_listing_is}
+use Rattle.file_rows.proofs.listing.write_file.Goals as goal
+
+pub returns-clause-printed : goal.returns-clause-printed
+returns-clause-printed g c = λ honest f at.
+    let volume = c.args.volume.now in
+    let file = c.args.file in
+    let seen = g.D.Device.seen volume.device in
+    let contents = g.W.Write.contents in
+    let form = c.args.form.now in
+    let are = c.requires.files honest in
+    let named = name_of_file volume seen file f c.name-name.result.now are at c.name-name.ensures in
+    let long = length_of_file volume seen file c.length-bytes.result are c.length-bytes.ensures in
+    let text = file_listing_is (g.F.Form.head_text form) (g.F.Form.row_text form) f c.name-name.result.now
+    (bytes_of (files_of volume.table seen) file) c.length-bytes.result named
+    (file_at (files_of volume.table seen) file f at) long in
+    let P : List ℕ → Type 0 = λ text. Appends (contents c.args.out.now) (contents c.write_pages.new.out) text in
+    on_ok_weaker c.write_pages.result
+    (λ rows. subst P text (appends_both (contents c.args.out.now) (contents c.write_head.new.out)
+    (contents c.write_pages.new.out) _ _ c.in_ok-write_head.ensures rows))
+    (c.write_pages.ensures.printed honest)

@@ -1,0 +1,44 @@
+use Rattle.std.proofs.Common.{rules, ◌≡◌, ℕ, ◌-◌, ◌*◌, ◌<◌, ◌≤◌, List, length, min, ap, subst, ◌∙◌}
+use Rattle.std.specs.Io.KnownBytes.{Appends}
+use Rattle.recovery.specs.Volume.{files_of, bytes_of}
+use Rattle.file_rows.specs.Reading.{part_of}
+use Rattle.file_rows.proofs.Files.{length_of_file, files_read, volume_read_then}
+use Rattle.file_rows.proofs.Pages.{page_more, rows_all}
+use Rattle.file_rows.proofs.listing.write_pages.Goals as goal
+
+pub loop-page-preserved : goal.loop-page-preserved
+loop-page-preserved g c =
+    let old = c.args.volume.now in
+    let mid = c.loop-page.volume in
+    let before = c.loop-page.invariant in
+    let contents = g.W.Write.contents in
+    let page = c.loop-page.page in
+    let file = c.args.file in (
+      volume_read_then g.D.Device old mid c.read_page.new.volume before.0 c.in_default.ensures.read,
+      λ honest.
+          let seen = g.D.Device.seen old.device in
+          let bytes = bytes_of (files_of old.table seen) file in
+          let long = length_of_file old seen file c.args.bytes (c.requires.files honest) c.requires.long in
+          let below : 4096 * page < c.args.bytes = search rules in
+          let size : length c.read_page.new.part ≡ min (c.args.bytes - 4096 * page) 4096 = search rules in
+          let is = c.in_default.ensures.page (before.0.honest.1 honest)
+          ∙ ap (λ files. part_of (bytes_of files file) page) (files_read g.D.Device old mid before.0 honest) in
+          page_more (g.F.Form.row_text c.args.form.now) (contents c.args.out.now) (contents c.loop-page.out)
+          (contents c.write_rows.new.out) bytes page c.args.bytes c.read_page.new.part long below size is
+          (before.1 honest) c.in_ok-write_rows.ensures,
+    )
+
+pub returns : goal.returns
+returns g c =
+    let old = c.args.volume.now in
+    let contents = g.W.Write.contents in record {
+      printed = λ honest.
+          let seen = g.D.Device.seen old.device in
+          let bytes = bytes_of (files_of old.table seen) c.args.file in
+          let long = length_of_file old seen c.args.file c.args.bytes (c.requires.files honest) c.requires.long in
+          let past : c.args.bytes ≤ 4096 * c.loop-page.page = search rules in
+          let P : List ℕ → Type 0 = λ text. Appends (contents c.args.out.now) (contents c.loop-page.out) text in
+          subst P (rows_all (g.F.Form.row_text c.args.form.now) bytes c.args.bytes c.loop-page.page long past)
+          (c.loop-page.invariant.1 honest);
+      read = c.loop-page.invariant.0;
+    }

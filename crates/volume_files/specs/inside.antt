@@ -1,3 +1,0 @@
--- What ties private code to the definitions that public clauses name.
-pub mod Pages
-pub mod Reading
