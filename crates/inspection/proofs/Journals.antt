@@ -1,5 +1,5 @@
 -- What is read of journals.
-use Rattle.std.proofs.Common.{◌≡◌, ℕ, suc, ◌+◌, ◌-◌, ◌*◌, ◌<◌, List, [], ◌∷◌}
+use Rattle.std.proofs.Common.{◌≡◌, ℕ, suc, ◌+◌, ◌-◌, ◌*◌, List, [], ◌∷◌}
 use Rattle.std.proofs.Common.{◌++◌, inl, inr, ⊎_elim, length, take, drop}
 use Rattle.std.proofs.Common.{slice_range, Result, Ok, Err, IfErr, subst, refl, ap, ◌∙◌, arith}
 use Rattle.device.specs.Device.{LeavesOnly}

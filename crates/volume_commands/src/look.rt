@@ -7,8 +7,8 @@ use crate::print::print_value;
 use command_line::Look;
 use device::{Device, OverlayDisk};
 use inspection::{
-    Found, Health, damage_value, examine, found_value, health_value, inspect,
-    write_file_lines, write_found,
+    Found, Health, damage_value, examine, found_value, health_value, inspect, write_file_lines,
+    write_found,
 };
 use page_entry::Refusal;
 use std::alloc::{Allocator, Global};
@@ -16,8 +16,8 @@ use std::fs::File;
 use std::io;
 use std::rt::Files;
 use volume_files::{
-    Access, FileFailure, Refused, SyncNote, not_listed, not_opened, not_opened_on_copy, open_disk, place,
-    refused_to_open,
+    Access, FileFailure, Refused, SyncNote, not_listed, not_opened, not_opened_on_copy, open_disk,
+    place, refused_to_open,
 };
 
 /// Prints what the bytes of a volume say. `note` gets what is to be said of a sync that failed.
@@ -212,4 +212,3 @@ where
         Err((refusal, mut copy)) => Err(not_opened_on_copy(alloc, path, refusal, &mut copy)),
     }
 }
-

@@ -35,7 +35,12 @@ impl Form for DumpLines {
 
     ghost row_text = { λ lines. row_line };
 
-    fn write_head<W: io::Write>(&self, name: &str, bytes: u64, out: &mut W) -> Result<(), ListFault> {
+    fn write_head<W: io::Write>(
+        &self,
+        name: &str,
+        bytes: u64,
+        out: &mut W,
+    ) -> Result<(), ListFault> {
         writeln!(out, "{name} {bytes}")?;
         Ok(())
     }

@@ -1,10 +1,10 @@
-use Rattle.std.proofs.Common.{◌≡◌, ◌<◌, ◌≤◌, ◌-◌, ℕ, drop, slice_get, true≢false, sym, ◌∙◌, ap, subst, arith}
+use Rattle.std.proofs.Common.{◌≡◌, ◌-◌, drop, slice_get, true≢false, sym, ◌∙◌, ap, subst, arith}
 use Rattle.std.specs.Prelude.{IfSome}
 use Rattle.volume_codec.specs.Recovery.{recovered_block}
 use Rattle.volume_codec.specs.Layout.{first_home}
 use Rattle.volume_codec.proofs.Layouts.{first_home-within}
 use Rattle.inspection.specs.inside.Order.{batches_of, mark_with}
-use Rattle.inspection.proofs.Newest.{IsNewest, newest_none, taken, left}
+use Rattle.inspection.proofs.Newest.{newest_none, taken, left}
 use Rattle.inspection.proofs.lengths.recovered_first.Goals as goal
 
 pub loop-place-init : goal.loop-place-init

@@ -1,4 +1,4 @@
-use Rattle.std.proofs.Common.{◌≡◌, ◌+◌, ◌||◌, Bool, true, false, drop, ap, sym, ◌∙◌, arith}
+use Rattle.std.proofs.Common.{◌+◌, ◌||◌, Bool, true, false, drop, ap, sym, ◌∙◌, arith}
 use Rattle.std.proofs.lemmas.Bool.{or_left}
 use Rattle.inspection.specs.inside.Order.{shares_mark, have_one_mark}
 use Rattle.inspection.proofs.Newest.{shares_after, have_one_mark-next, have_one_mark-end}

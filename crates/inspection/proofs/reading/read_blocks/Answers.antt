@@ -1,6 +1,5 @@
-use Rattle.std.proofs.Common.{length, ap, ◌∙◌}
+use Rattle.std.proofs.Common.{length, ◌∙◌}
 use Rattle.std.proofs.lemmas.Result.{on_ok_weaker}
-use Rattle.volume_codec.specs.Layout.{blocks_at}
 use Rattle.inspection.proofs.Journals.{blocks_of_range}
 use Rattle.inspection.proofs.reading.read_blocks.Goals as goal
 

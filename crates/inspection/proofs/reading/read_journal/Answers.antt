@@ -1,4 +1,4 @@
-use Rattle.std.proofs.Common.{rules, ◌≡◌, ℕ, List, subst, ap, sym, ◌∙◌}
+use Rattle.std.proofs.Common.{rules, ◌≡◌, ℕ, List, subst, sym, ◌∙◌}
 use Rattle.volume_codec.specs.Layout.{descriptor_block, descriptor_blocks, blocks_at}
 use Rattle.volume_codec.specs.Recovery.{IsOpen}
 use Rattle.recovery.specs.inside.Reading.{RefusesJournal}

@@ -1,5 +1,4 @@
-use Rattle.std.proofs.Common.{List, sym, ap, ◌∙◌}
-use Rattle.inspection.specs.declared.found.Journal.{Journal}
+use Rattle.std.proofs.Common.{sym, ap, ◌∙◌}
 use Rattle.inspection.specs.inside.Order.{have_one_mark}
 use Rattle.inspection.proofs.Newest.{open_of, one_mark}
 use Rattle.inspection.proofs.reading.read_judged.Goals as goal

@@ -1,6 +1,6 @@
-use Rattle.std.proofs.Common.{◌≡◌, List, ℕ, length, sym, ◌∙◌, ap, subst, arith}
+use Rattle.std.proofs.Common.{List, ℕ, length, sym, ◌∙◌, ap, subst, arith}
 use Rattle.std.specs.Io.KnownBytes.{Appends}
-use Rattle.recovery.specs.Volume.{files_of, bytes_of}
+use Rattle.recovery.specs.Volume.{files_of}
 use Rattle.recovery.proofs.FileBytes.{some_at}
 use Rattle.file_rows.proofs.Public.{length_of_file, name_of_file, file_at, as_many_files}
 use Rattle.volume_files.proofs.copying.copy_found.Goals as goal
