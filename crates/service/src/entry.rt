@@ -2,7 +2,7 @@
 ghost use Rattle.std.specs.Prelude.{◌≡◌, ◌<◌, ◌+◌, if◌then◌else◌};
 ghost use Rattle.service.specs.Trace.{is_progress, may_be_seen};
 
-use crate::said::said_by;
+use crate::effect::effect_of;
 use machine::{Act, Reply, Step};
 use page_entry::ProcessorNumber;
 
@@ -36,7 +36,7 @@ pub(crate) fn step_of(p: ProcessorNumber, act: &Act) -> Step
 fn is_progress(act: &Act, reply: &Reply) -> bool
     ensures { result ≡ is_progress act.now reply.now }
 {
-    may_be_seen(act) && said_by(reply).has_done
+    may_be_seen(act) && effect_of(reply).has_done
 }
 
 // Whether an act may change what another processor sees.

@@ -5,12 +5,12 @@
 //! A call that takes `rt` may wait for another thread: what it ensures holds if it returns.
 #![tactic(auto)]
 
+mod effect;
 mod entry;
 mod gathering;
 mod locked;
 mod processor;
 mod raising;
-mod said;
 mod service;
 mod shared;
 mod starting;

@@ -4,7 +4,7 @@ ghost use Rattle.service.specs.Marks.{has_unmarked};
 ghost use Rattle.service.specs.inside.Raising.{raise_by};
 
 use crate::Entry;
-use crate::said::{Mark, said_by};
+use crate::effect::{MarkEffect, effect_of};
 use machine::Reply;
 
 // Nothing, the number of the last mark, or both numbers, to that of a mark that is acknowledged.
@@ -34,15 +34,15 @@ pub(crate) fn has_unmarked(trace: &[Entry]) -> bool
 pub(crate) fn raise_by(before: &[Entry], reply: &Reply) -> Raise
     ensures { result ≡ raise_by (has_unmarked before.now) reply.now }
 {
-    match said_by(reply).mark {
-        Mark::Nothing => Raise::Nothing,
-        Mark::Made(mark) => {
+    match effect_of(reply).mark {
+        MarkEffect::Nothing => Raise::Nothing,
+        MarkEffect::Made(mark) => {
             if has_unmarked(before) {
                 Raise::Stalled(mark)
             } else {
                 Raise::Committed(mark)
             }
         }
-        Mark::Committed(mark) => Raise::Committed(mark),
+        MarkEffect::Committed(mark) => Raise::Committed(mark),
     }
 }

@@ -1,4 +1,4 @@
-// What a reply says of the other processors and of marks.
+// What a reply stands for: whether something was done, and what happened to a mark.
 ghost use Rattle.std.specs.Prelude.{◌≡◌, Bool};
 ghost use Rattle.service.specs.Trace.{has_done};
 ghost use Rattle.service.specs.inside.Raising.{raise_by, raise_to};
@@ -6,31 +6,32 @@ ghost use Rattle.service.specs.inside.Raising.{raise_by, raise_to};
 use machine::Reply;
 use page_entry::Refusal;
 
-// A mark that a reply names.
+// What happened to a mark.
 #[derive(Clone, Copy)]
-pub(crate) enum Mark {
+pub(crate) enum MarkEffect {
     Nothing,
     Made(u64),
     Committed(u64),
 }
 
-// What a reply says.
+// The effect of a step, by its reply.
 #[derive(Clone, Copy)]
-pub(crate) struct Said {
+pub(crate) struct Effect {
     // That something was done, or that a device call failed.
     pub has_done: bool,
-    pub mark: Mark,
+    pub mark: MarkEffect,
 }
 
-pub(crate) fn said_by(reply: &Reply) -> Said
+// What a reply stands for.
+pub(crate) fn effect_of(reply: &Reply) -> Effect
     ensures done { result.has_done ≡ has_done reply.now }
     ensures mark { (unmarked : Bool) → raise_to unmarked result.mark ≡ raise_by unmarked reply.now }
 {
     match reply {
-        Reply::Refused(refusal) => saying(matches!(refusal, Refusal::Device), Mark::Nothing),
-        Reply::Nothing => saying(false, Mark::Nothing),
-        Reply::Marked(mark) => saying(true, Mark::Made(u64::from(*mark))),
-        Reply::Committed(mark) => saying(true, Mark::Committed(u64::from(*mark))),
+        Reply::Refused(refusal) => effect(matches!(refusal, Refusal::Device), MarkEffect::Nothing),
+        Reply::Nothing => effect(false, MarkEffect::Nothing),
+        Reply::Marked(mark) => effect(true, MarkEffect::Made(u64::from(*mark))),
+        Reply::Committed(mark) => effect(true, MarkEffect::Committed(u64::from(*mark))),
         Reply::Bytes(_)
         | Reply::Stored
         | Reply::Filled
@@ -52,12 +53,12 @@ pub(crate) fn said_by(reply: &Reply) -> Said
         | Reply::Acked
         | Reply::Resumed
         | Reply::Going
-        | Reply::Done(_) => saying(true, Mark::Nothing),
+        | Reply::Done(_) => effect(true, MarkEffect::Nothing),
     }
 }
 
-fn saying(has_done: bool, mark: Mark) -> Said
+fn effect(has_done: bool, mark: MarkEffect) -> Effect
     ensures { result ≡ record { has_done = has_done; mark = mark } }
 {
-    Said { has_done, mark }
+    Effect { has_done, mark }
 }
