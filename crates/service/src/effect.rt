@@ -28,10 +28,13 @@ pub(crate) fn effect_of(reply: &Reply) -> Effect
     ensures mark { (unmarked : Bool) → raise_to unmarked result.mark ≡ raise_by unmarked reply.now }
 {
     match reply {
-        Reply::Refused(refusal) => effect(matches!(refusal, Refusal::Device), MarkEffect::Nothing),
-        Reply::Nothing => effect(false, MarkEffect::Nothing),
-        Reply::Marked(mark) => effect(true, MarkEffect::Made(u64::from(*mark))),
-        Reply::Committed(mark) => effect(true, MarkEffect::Committed(u64::from(*mark))),
+        Reply::Refused(refusal) => effect_with(
+            matches!(refusal, Refusal::Device),
+            MarkEffect::Nothing,
+        ),
+        Reply::Nothing => effect_with(false, MarkEffect::Nothing),
+        Reply::Marked(mark) => effect_with(true, MarkEffect::Made(u64::from(*mark))),
+        Reply::Committed(mark) => effect_with(true, MarkEffect::Committed(u64::from(*mark))),
         Reply::Bytes(_)
         | Reply::Stored
         | Reply::Filled
@@ -53,11 +56,11 @@ pub(crate) fn effect_of(reply: &Reply) -> Effect
         | Reply::Acked
         | Reply::Resumed
         | Reply::Going
-        | Reply::Done(_) => effect(true, MarkEffect::Nothing),
+        | Reply::Done(_) => effect_with(true, MarkEffect::Nothing),
     }
 }
 
-fn effect(has_done: bool, mark: MarkEffect) -> Effect
+fn effect_with(has_done: bool, mark: MarkEffect) -> Effect
     ensures { result ≡ record { has_done = has_done; mark = mark } }
 {
     Effect { has_done, mark }
