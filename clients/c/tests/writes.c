@@ -7,6 +7,7 @@
 #include <stdatomic.h>
 #include <sys/syscall.h>
 #include <sys/uio.h>
+#include <time.h>
 
 #define SLOTS 1020
 /* More than there are journals. */
@@ -235,6 +236,31 @@ static void count_in_a_row(struct shape shape, enum way way)
     want_counts(shape, COMMITS, syncs == syncs_in_a_row(shape, COMMITS));
 }
 
+static double milliseconds(void)
+{
+    struct timespec now;
+    WANT(clock_gettime(CLOCK_MONOTONIC, &now) == 0);
+    return (double)now.tv_sec * 1e3 + (double)now.tv_nsec * 1e-6;
+}
+
+/* Where syncs are shared, the library's thread begins nothing while commits come sooner, each after the one before,
+   than it waits for another. */
+static void thread_waits(struct shape shape)
+{
+    bool soon = true;
+    make_file(shape);
+    begin((struct famsync_options){0}, BY_POINTER);
+    for (unsigned number = 1; number <= COMMITS; number++) {
+        double before = milliseconds();
+        usleep(2000);
+        commit(shape, BY_POINTER, number);
+        soon = soon && milliseconds() - before < 9;
+        WANT(!soon || syncs == 2 * number);
+    }
+    end(BY_POINTER);
+    want_counts(shape, COMMITS, were_synced(shape, COMMITS));
+}
+
 static void *others_load(void *argument)
 {
     unsigned char byte;
@@ -305,6 +331,8 @@ static void count_in_layout(unsigned layout)
         count_in_a_row(shapes[i], i % 2 == 0 ? BY_CALL : BY_POINTER);
     }
     count_by_themselves(shapes[0]);
+    if (shares(shapes[0]))
+        thread_waits(shapes[0]);
     beside_others(shapes[1]);
     for (unsigned commits = 1; commits <= 5; commits += 2)
         after_an_end(shapes[1], commits);
