@@ -17,6 +17,8 @@
 
 static atomic_uint writes, syncs;
 static _Thread_local unsigned own_syncs;
+/* When the last commit returned, and how long after that the next was asked for, in milliseconds. */
+static double returned, gap;
 
 ssize_t pwritev(int file, const struct iovec *range, int count, off_t offset)
 {
@@ -140,6 +142,13 @@ static void end(enum way way)
     WANT_CODE(famsync_close(handle), FAMSYNC_OK);
 }
 
+static double milliseconds(void)
+{
+    struct timespec now;
+    WANT(clock_gettime(CLOCK_MONOTONIC, &now) == 0);
+    return (double)now.tv_sec * 1e3 + (double)now.tv_nsec * 1e-6;
+}
+
 static void commit(struct shape shape, enum way way, uint64_t number)
 {
     for (uint64_t i = 0; i < shape.pages; i++) {
@@ -152,7 +161,9 @@ static void commit(struct shape shape, enum way way, uint64_t number)
     if (shape.resizes)
         WANT_CODE(famsync_setlength(handle, "b", 9000 - number), FAMSYNC_OK);
     own_syncs = 0;
+    gap = milliseconds() - returned;
     WANT_CODE(famsync_msync(handle, NULL), FAMSYNC_OK);
+    returned = milliseconds();
     WANT(own_syncs == 2 || (own_syncs > 2 && !shares(shape))); /* whatever the library's thread has begun before */
 }
 
@@ -236,13 +247,6 @@ static void count_in_a_row(struct shape shape, enum way way)
     want_counts(shape, COMMITS, syncs == syncs_in_a_row(shape, COMMITS));
 }
 
-static double milliseconds(void)
-{
-    struct timespec now;
-    WANT(clock_gettime(CLOCK_MONOTONIC, &now) == 0);
-    return (double)now.tv_sec * 1e3 + (double)now.tv_nsec * 1e-6;
-}
-
 /* Where syncs are shared, the library's thread begins nothing while commits come sooner, each after the one before,
    than it waits for another. */
 static void thread_waits(struct shape shape)
@@ -251,10 +255,9 @@ static void thread_waits(struct shape shape)
     make_file(shape);
     begin((struct famsync_options){0}, BY_POINTER);
     for (unsigned number = 1; number <= COMMITS; number++) {
-        double before = milliseconds();
-        usleep(2000);
+        usleep(3000);
         commit(shape, BY_POINTER, number);
-        soon = soon && milliseconds() - before < 9;
+        soon = soon && (number == 1 || gap < 8);
         WANT(!soon || syncs == 2 * number);
     }
     end(BY_POINTER);
