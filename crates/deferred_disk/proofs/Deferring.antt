@@ -22,34 +22,10 @@ use Rattle.device.specs.declared.log.Logged.{Logged}
 use Rattle.deferred_disk.specs.inside.Deferring.{IsKnownAt, AreKnown, AgreeWhereKnown, IsKept}
 use Rattle.device.specs.inside.Logged.{change_of, changes_of}
 use Rattle.device.specs.inside.Replay.{AreWithin}
-use Rattle.device.proofs.Public.{length-content_after}
-use Rattle.device.proofs.Public.{length-written, torn_before, torn_after, written_before, written_within, written_after}
-use Rattle.device.proofs.Public.{changes_of-more, changes_of-split, length-changes_of, within_older}
-
--- A list with a part of it replaced, by place.
-module _ {A : Type 0} (xs ys : List A) (from to i : ℕ) (d : A) (fits : from ≤ length xs) where
-  front : length (take from xs) ≡ from
-  front = omega (arith, fits, length-take from xs)
-
-  pub replaced_before : i < from → get_or (take from xs ++ ys ++ drop to xs) i d ≡ get_or xs i d
-  replaced_before lt =
-      get_or_append_left (take from xs ++ ys) (drop to xs) d i
-      (omega (arith, lt, front, length-append (take from xs) ys))
-      ∙ get_or_append_left (take from xs) ys d i (omega (arith, lt, front)) ∙ get_or-take from xs i d lt
-
-  pub replaced_within : from ≤ i → i < from + length ys
-      → get_or (take from xs ++ ys ++ drop to xs) i d ≡ get_or ys (i - from) d
-  replaced_within le lt =
-      get_or_append_left (take from xs ++ ys) (drop to xs) d i
-      (omega (arith, lt, front, length-append (take from xs) ys))
-      ∙ get_or-append_right (take from xs) ys from i d front le
-
-  pub replaced_after : from + length ys ≡ to → to ≤ i → get_or (take from xs ++ ys ++ drop to xs) i d ≡ get_or xs i d
-  replaced_after same le =
-      let place : to + (i - to) ≡ i = omega (arith, le) in
-      get_or-append_right (take from xs ++ ys) (drop to xs) to i d
-      (omega (arith, same, front, length-append (take from xs) ys)) le
-      ∙ get_or-drop to xs (i - to) d ∙ ap (λ k. get_or xs k d) place
+use Rattle.device.proofs.Public.{length-content_after, part_at, length-part, length-written, torn_before, torn_after}
+use Rattle.device.proofs.Public.{written_before, written_within, written_after, replaced_before, replaced_within}
+use Rattle.device.proofs.Public.{replaced_after, changes_of-more, changes_of-append, changes_of-split}
+use Rattle.device.proofs.Public.{length-changes_of, within_newer, within_older}
 
 module _ (flags : List Bool) (from to : ℕ) (le : from ≤ to) (fits : to ≤ length flags) where
   many : from + length (replicate (to - from) true) ≡ to
@@ -120,25 +96,19 @@ neither : (a b : Option ℕ) → or_else a b ≡ None → (a ≡ None) × (b ≡
 neither None b none = (refl, none)
 neither (Some n) b none = absurd (cc)
 
-part_place : (s : List ℕ) (a b i : ℕ) → a + i < b → get_or (slice_range s a b) i 0 ≡ get_or s (a + i) 0
-part_place s a b i lt = get_or-take (b - a) (drop a s) i 0 (omega (arith, lt)) ∙ get_or-drop a s i 0
-
-part_size : (s : List ℕ) (a b : ℕ) → a ≤ b → b ≤ length s → length (slice_range s a b) ≡ b - a
-part_size s a b le fits = omega (arith, le, fits, length-take (b - a) (drop a s), length-drop a s)
-
 -- A read that lacks no block gives what the disk has.
 pub agrees_for_read : (flags : List Bool) (bytes seen : List ℕ) (at n : ℕ) → AgreeWhereKnown flags bytes seen
     → length bytes ≡ length seen → at + n ≤ length seen → lacked_by_read flags at n ≡ None
     → slice_range bytes at (at + n) ≡ slice_range seen at (at + n)
 agrees_for_read flags bytes seen at n agree same fits none =
-    let long = part_size bytes at (at + n) (omega arith) (omega (arith, same, fits)) in
-    let wide = part_size seen at (at + n) (omega arith) fits in
+    let long = length-part bytes at (at + n) (omega arith) (omega (arith, same, fits)) in
+    let wide = length-part seen at (at + n) (omega arith) fits in
     ext_get_or 0 (slice_range bytes at (at + n)) (slice_range seen at (at + n)) (long ∙ sym wide) (λ i lt.
     let small : i < n = omega (arith, lt, long) in
-    part_place bytes at (at + n) i (omega (arith, small))
+    part_at bytes at (at + n) i (omega (arith, small))
     ∙ agree (at + i) (none_unknown flags (at / 4096) (div_ceil (at + n) 4096 - at / 4096) ((at + i) / 4096) none
     (omega arith) (omega (arith, small)))
-    ∙ sym (part_place seen at (at + n) i (omega (arith, small))))
+    ∙ sym (part_at seen at (at + n) i (omega (arith, small))))
 
 -- After a write that lacks no block they still agree.
 pub agrees_after_write : (flags : List Bool) (bytes seen new : List ℕ) (at : ℕ) → AgreeWhereKnown flags bytes seen
@@ -185,7 +155,7 @@ agrees_after_supply flags bytes seen new block agree whole same size fits is i k
     (λ (within : i < 4096 * block + length new).
     let place : 4096 * block + (i - 4096 * block) ≡ i = omega (arith, from) in
     written_within bytes (4096 * block) new i inside from within ∙ ap (λ (l : List ℕ). get_or l (i - 4096 * block) 0) is
-    ∙ part_place seen (4096 * block) (4096 * block + 4096) (i - 4096 * block) (omega (arith, within, size, from))
+    ∙ part_at seen (4096 * block) (4096 * block + 4096) (i - 4096 * block) (omega (arith, within, size, from))
     ∙ ap (λ k. get_or seen k 0) place)
     (λ (past : 4096 * block + length new ≤ i).
     let there : get_or flags (i / 4096) false ≡ true =
@@ -301,35 +271,11 @@ kept_with_block first changes supplied bytes flags waiting len block new kept si
           (omega (arith, seen, fits)) alike.0;
     }
 
--- A disk of deferred calls is a disk in memory, in what a read gives and a crash may leave.
-pub as_written : {T E : Type 0} (result : Result T E) (old new : Deferred) (at : ℕ) (bytes : List ℕ)
-    → OnOk result (new ≡ after_write old at bytes)
-    → OnOk result (as_recorded new ≡ memory.after_change (as_recorded old) (write at bytes))
-as_written (Ok x) old new at bytes is = ap as_recorded is
-as_written (Err e) old new at bytes is = tt
-
-pub as_synced : {T E : Type 0} (result : Result T E) (old new : Deferred) → OnOk result (new ≡ after_sync old)
-    → OnOk result (as_recorded new ≡ memory.after_change (as_recorded old) sync)
-as_synced (Ok x) old new is = ap as_recorded is
-as_synced (Err e) old new is = tt
-
-pub as_refused : {T E : Type 0} (result : Result T E) (old new : Deferred) (lacked : Option ℕ)
-    → OnErr result (new ≡ after_refusal old lacked)
-    → OnErr result (as_recorded new ≡ memory.after_refusal (as_recorded old))
-as_refused (Ok x) old new lacked is = tt
-as_refused (Err e) old new lacked is = ap as_recorded is
-
 pub same_supplied : {T E : Type 0} (result : Result T E) (old new : Deferred) (done refused : List (List ℕ × List ℕ))
     → OnOk result (new.supplied ≡ old.supplied) → OnErr result (new.supplied ≡ old.supplied)
     → new.supplied ≡ old.supplied
 same_supplied (Ok x) old new done refused is other = is
 same_supplied (Err e) old new done refused is other = other
-
-pub deferred_time : (old new : Deferred) (P : List ℕ → Type 0)
-    → LeavesOnly moment_of left_since_of (as_recorded old) (as_recorded new) P
-    → LeavesOnly (λ (d : Deferred). moment_of (as_recorded d))
-    (λ (d : Deferred). left_since_of (as_recorded d)) old new P
-deferred_time old new P time = record { later = time.later; each = time.each; before = time.before; keeps = time.keeps }
 
 -- The scan for an unknown block goes on where one is known, and ends where one isn't.
 pub scan_on : (flags : List Bool) (k to : ℕ) → k < to → get_or flags k false ≡ true
@@ -412,11 +358,6 @@ kept_as {first} {first'} {changes} {changes'} {supplied} {supplied'} {bytes} {by
     (subst (λ (x : List Bool). IsKept first changes supplied bytes x waiting' len) (sym k)
     (subst (λ (x : List DiskChange). IsKept first changes supplied bytes flags x len) (sym w) kept)))))
 
-pub within_front : (n : ℕ) (newer older : List DiskChange) → AreWithin n (newer ++ older) → AreWithin n newer
-within_front n [] older within = tt
-within_front n (write at bytes ∷ newer) older within = (within.0, within_front n newer older within.1)
-within_front n (sync ∷ newer) older within = within_front n newer older within
-
 -- What lies within the content lies within the bytes of the device, within those that are kept, and within the length.
 pub within_kept : {inside now : Deferred} {supplied : List (List ℕ × List ℕ)} {bytes : List ℕ} {flags : List Bool}
     {waiting : List DiskChange} {len : ℕ} (n : ℕ)
@@ -436,7 +377,7 @@ within_log first changes log n size within waits =
     let m = length log in
     let all = subst (AreWithin (length first)) (sym (take-append-drop m changes)) within in
     subst (λ k. AreWithin k log) (sym (size ∙ length-content_after first changes within))
-    (subst (AreWithin (length first)) (sym waits) (within_front (length first) (take m changes) (drop m changes) all))
+    (subst (AreWithin (length first)) (sym waits) (within_newer (length first) (take m changes) (drop m changes) all))
 
 -- At a place whose block isn't known no waiting call wrote.
 untouched : (flags : List Bool) (first : List ℕ) (newer older : List DiskChange) (i : ℕ)
@@ -473,19 +414,19 @@ unknown_stays first changes supplied bytes flags waiting len block kept fits unk
     let within = subst (AreWithin (length first)) (sym split) kept.within in
     let before = length-content_after first older (within_older (length first) waiting older within) in
     let after = length-content_after first changes kept.within in
-    let small = part_size (content_after first older) (4096 * block) (4096 * block + 4096) (omega arith)
+    let small = length-part (content_after first older) (4096 * block) (4096 * block + 4096) (omega arith)
     (omega (arith, before, fits)) in
-    let same = part_size (content_after first changes) (4096 * block) (4096 * block + 4096) (omega arith)
+    let same = length-part (content_after first changes) (4096 * block) (4096 * block + 4096) (omega arith)
     (omega (arith, after, fits)) in
     ext_get_or 0 (block_of (content_after first older) block) (block_of (content_after first changes) block)
     (small ∙ sym same) (λ i lt.
     let inside : i < 4096 = omega (arith, lt, small) in
     let here : (4096 * block + i) / 4096 ≡ block = omega (arith, inside) in
-    part_place (content_after first older) (4096 * block) (4096 * block + 4096) i (omega (arith, inside))
+    part_at (content_after first older) (4096 * block) (4096 * block + 4096) i (omega (arith, inside))
     ∙ sym (untouched flags first waiting older (4096 * block + i) within kept.reached
     (ap (λ b. get_or flags b false) here ∙ unknown))
     ∙ ap (λ (l : List DiskChange). get_or (content_after first l) (4096 * block + i) 0) split
-    ∙ sym (part_place (content_after first changes) (4096 * block) (4096 * block + 4096) i (omega (arith, inside))))
+    ∙ sym (part_at (content_after first changes) (4096 * block) (4096 * block + 4096) i (omega (arith, inside))))
 
 pub none_of : (lacked : Option ℕ) → is_some lacked ≡ false → lacked ≡ None
 none_of None none = refl
@@ -624,16 +565,10 @@ one_there log k block entry lt is here =
     (ap (λ (l : List DiskChange). one_reaches l block) (changes_of-more log k entry lt is)
     ∙ ap (λ b. b || one_reaches (changes_of (take k log)) block) here)
 
-appended : {A : Type 0} (older newer : List (Logged A))
-    → changes_of (older ++ newer) ≡ changes_of newer ++ changes_of older
-appended [] newer = sym (append-nil (changes_of newer))
-appended (e ∷ older) newer = ap (λ (l : List DiskChange). l ++ change_of e ∷ []) (appended older newer)
-    ∙ append_assoc (changes_of newer) (changes_of older) (change_of e ∷ [])
-
 -- the changes of a log in two parts
 pub changes_of_both : {A : Type 0} (older newer log : List (Logged A)) → older ++ newer ≡ log
     → changes_of log ≡ changes_of newer ++ changes_of older
-changes_of_both older newer log is = ap changes_of (sym is) ∙ appended older newer
+changes_of_both older newer log is = ap changes_of (sym is) ∙ changes_of-append older newer
 
 pub one_of_two : (newer older : List DiskChange) (block : ℕ)
     → one_reaches (newer ++ older) block ≡ (one_reaches newer block || one_reaches older block)
@@ -702,13 +637,13 @@ unknown_there first changes supplied bytes flags waiting len block seen kept fit
     let all = subst (AreWithin (length first)) (sym (take-append-drop n changes)) kept.within in
     let size = length-content_after first (drop n changes)
     (within_older (length first) (take n changes) (drop n changes) all) in
-    let small = part_size seen (4096 * block) (4096 * block + 4096) (omega arith) (omega (arith, long, fits)) in
-    let same = part_size before (4096 * block) (4096 * block + 4096) (omega arith) (omega (arith, size, fits)) in
+    let small = length-part seen (4096 * block) (4096 * block + 4096) (omega arith) (omega (arith, long, fits)) in
+    let same = length-part before (4096 * block) (4096 * block + 4096) (omega arith) (omega (arith, size, fits)) in
     ext_get_or 0 (block_of seen block) (block_of before block) (small ∙ sym same) (λ i lt.
     let inside : i < 4096 = omega (arith, lt, small) in
     let here : (4096 * block + i) / 4096 ≡ block = omega (arith, inside) in
-    part_place seen (4096 * block) (4096 * block + 4096) i (omega (arith, inside))
+    part_at seen (4096 * block) (4096 * block + 4096) i (omega (arith, inside))
     ∙ torn_elsewhere flags changes waiting before seen (4096 * block + i) kept.waits kept.reached
     (ap (λ b. get_or flags b false) here ∙ unknown) torn
-    ∙ sym (part_place before (4096 * block) (4096 * block + 4096) i (omega (arith, inside))))
+    ∙ sym (part_at before (4096 * block) (4096 * block + 4096) i (omega (arith, inside))))
     ∙ there

@@ -3,8 +3,8 @@ use Rattle.deferred_disk.specs.Deferred.{one_reaches}
 use Rattle.device.specs.Memory.{DiskChange}
 use Rattle.device.specs.inside.Logged.{changes_of}
 use Rattle.device.specs.inside.Replay.{AreWithin}
-use Rattle.deferred_disk.proofs.Deferring.{changes_of_both, one_of_two, within_front}
-use Rattle.device.proofs.Public.{within_older}
+use Rattle.deferred_disk.proofs.Deferring.{changes_of_both, one_of_two}
+use Rattle.device.proofs.Public.{within_newer, within_older}
 use Rattle.deferred_disk.proofs.deferred.waits_for.Goals.{After-as_slices, After-one_writes_to-newer_one}
 use Rattle.deferred_disk.proofs.deferred.waits_for.Goals as goal
 
@@ -17,7 +17,7 @@ within_parts g c =
 
 pub one_writes_to-newer_one-requires : goal.one_writes_to-newer_one-requires
 one_writes_to-newer_one-requires g c =
-    within_front (2 ^ 64 - 1) (changes_of c.as_slices.result.1.now) (changes_of c.as_slices.result.0.now)
+    within_newer (2 ^ 64 - 1) (changes_of c.as_slices.result.1.now) (changes_of c.as_slices.result.0.now)
     (within_parts g (goal.at.one_writes_to-newer_one-requires g c).After-as_slices)
 
 pub one_writes_to-older_one-requires : goal.one_writes_to-older_one-requires
