@@ -1,50 +1,76 @@
 -- What a file says of a call, as a disk over it does.
-use Rattle.std.proofs.Common.{◌≡◌, ◌↔◌, ℕ, ◌+◌, List, length, Result, OnOk, sym, ◌∙◌, ap, subst}
+use Rattle.std.proofs.Common.{◌≡◌, ◌↔◌, ℕ, ◌+◌, List, length, Result, OnOk, IsErr, sym, ◌∙◌, ap, subst}
 use Rattle.std.specs.Prelude.{slice_range}
 use Rattle.device.specs.Device.{written, Torn, Only}
 use Rattle.device.specs.File.{Opened, IsOverHonest, fitted}
+use Rattle.device.specs.declared.block_file.BlockFile.{Ghosts}
 use Rattle.device.specs.inside.Fitted.{fitted_size, whole_fitted}
 
--- what is read of a file is read of a disk as long
-pub read_fitted : {T E : Type 0} (result : Result T E) (n at count : ℕ) (seen buffer : List ℕ) → length seen ≡ n
-    → OnOk result (buffer ≡ slice_range seen at (at + count))
-    → OnOk result (buffer ≡ slice_range (fitted n seen) at (at + count))
-read_fitted result n at count seen buffer long read =
-    let P : List ℕ → Type 0 = λ l. OnOk result (buffer ≡ slice_range l at (at + count)) in
-    subst P (sym (whole_fitted n seen long)) read
+-- A file before a call of a disk over it and after.
+module _ {F : Type 0} (file : Ghosts F) (old new : Opened F) (size : new.size ≡ old.size) where
+  -- an honest file is given as it is
+  before : IsOverHonest file.is_honest file.seen old → fitted old.size (file.seen old.file) ≡ file.seen old.file
+  before honest = whole_fitted old.size (file.seen old.file) honest.1
 
-pub same_fitted : (n m : ℕ) (old new : List ℕ) → m ≡ n → new ≡ old → fitted m new ≡ fitted n old
-same_fitted n m old new size same = ap (λ k. fitted k new) size ∙ ap (λ (l : List ℕ). fitted n l) same
+  after : IsOverHonest file.is_honest file.seen old → length (file.seen new.file) ≡ length (file.seen old.file)
+      → fitted new.size (file.seen new.file) ≡ file.seen new.file
+  after honest kept = whole_fitted new.size (file.seen new.file) (kept ∙ honest.1 ∙ sym size)
 
-pub length_fitted_same : (n m : ℕ) (old new : List ℕ) → m ≡ n → length (fitted m new) ≡ length (fitted n old)
-length_fitted_same n m old new size = fitted_size m new ∙ size ∙ sym (fitted_size n old)
+  pub read_over : {T E : Type 0} (result : Result T E) (at count : ℕ) (buffer : List ℕ)
+      → (file.is_honest old.file → OnOk result (buffer ≡ slice_range (file.seen old.file) at (at + count)))
+      → IsOverHonest file.is_honest file.seen old
+      → OnOk result (buffer ≡ slice_range (fitted old.size (file.seen old.file)) at (at + count))
+  read_over result at count buffer read honest =
+      let P : List ℕ → Type 0 = λ l. OnOk result (buffer ≡ slice_range l at (at + count)) in
+      subst P (sym (before honest)) (read honest.0)
 
-pub written_fitted : {T E : Type 0} (result : Result T E) (n m at : ℕ) (old new bytes : List ℕ) → m ≡ n → length old ≡ n
-    → length new ≡ length old → OnOk result (new ≡ written old at bytes)
-    → OnOk result (fitted m new ≡ written (fitted n old) at bytes)
-written_fitted result n m at old new bytes size long kept done =
-    let P : List ℕ → Type 0 = λ l. OnOk result (l ≡ written (fitted n old) at bytes) in
-    let Q : List ℕ → Type 0 = λ l. OnOk result (new ≡ written l at bytes) in
-    subst P (sym (whole_fitted m new (kept ∙ long ∙ sym size))) (subst Q (sym (whole_fitted n old long)) done)
+  pub same_over : file.seen new.file ≡ file.seen old.file
+      → fitted new.size (file.seen new.file) ≡ fitted old.size (file.seen old.file)
+  same_over same = ap (λ k. fitted k (file.seen new.file)) size ∙ ap (λ (l : List ℕ). fitted old.size l) same
 
-pub torn_fitted : (n m at count : ℕ) (old new : List ℕ) → m ≡ n → length old ≡ n → length new ≡ length old
-    → Torn at count old new → Torn at count (fitted n old) (fitted m new)
-torn_fitted n m at count old new size long kept torn =
-    let P : List ℕ → Type 0 = λ l. Torn at count (fitted n old) l in
-    let Q : List ℕ → Type 0 = λ l. Torn at count l new in
-    subst P (sym (whole_fitted m new (kept ∙ long ∙ sym size))) (subst Q (sym (whole_fitted n old long)) torn)
+  -- where only an honest file is known to give the same
+  pub kept_over : (file.is_honest old.file → file.seen new.file ≡ file.seen old.file)
+      → IsOverHonest file.is_honest file.seen old
+      → fitted new.size (file.seen new.file) ≡ fitted old.size (file.seen old.file)
+  kept_over same honest = same_over (same honest.0)
 
-pub durable_fitted : {T E : Type 0} (result : Result T E) (lists : List ℕ → Type 0) (n : ℕ) (seen : List ℕ)
-    → length seen ≡ n → OnOk result (Only lists seen) → OnOk result (Only lists (fitted n seen))
-durable_fitted result lists n seen long durable =
-    let P : List ℕ → Type 0 = λ l. OnOk result (Only lists l) in
-    subst P (sym (whole_fitted n seen long)) durable
+  pub length_over : length (fitted new.size (file.seen new.file)) ≡ length (fitted old.size (file.seen old.file))
+  length_over =
+      fitted_size new.size (file.seen new.file) ∙ size ∙ sym (fitted_size old.size (file.seen old.file))
 
--- A disk over a file that stays honest and as long is as honest as before.
-pub honest_over : {F : Type 0} (is_honest : F → Type 0) (seen : F → List ℕ) (old new : Opened F) → new.size ≡ old.size
-    → is_honest new.file ↔ is_honest old.file → (is_honest old.file → length (seen new.file) ≡ length (seen old.file))
-    → IsOverHonest is_honest seen new ↔ IsOverHonest is_honest seen old
-honest_over is_honest seen old new size honest kept = (
-  (λ over. (honest.0 over.0, sym (kept (honest.0 over.0)) ∙ over.1 ∙ size)),
-  (λ over. (honest.1 over.0, kept over.0 ∙ over.1 ∙ sym size)),
-)
+  pub write_over : {T E : Type 0} (result : Result T E) (at : ℕ) (bytes : List ℕ)
+      → (file.is_honest old.file → length (file.seen new.file) ≡ length (file.seen old.file))
+      → (file.is_honest old.file → OnOk result (file.seen new.file ≡ written (file.seen old.file) at bytes))
+      → IsOverHonest file.is_honest file.seen old
+      → OnOk result (fitted new.size (file.seen new.file) ≡ written (fitted old.size (file.seen old.file)) at bytes)
+  write_over result at bytes kept wrote honest =
+      let P : List ℕ → Type 0 = λ l. OnOk result (l ≡ written (fitted old.size (file.seen old.file)) at bytes) in
+      let Q : List ℕ → Type 0 = λ l. OnOk result (file.seen new.file ≡ written l at bytes) in
+      subst P (sym (after honest (kept honest.0))) (subst Q (sym (before honest)) (wrote honest.0))
+
+  pub torn_over : {T E : Type 0} (result : Result T E) (at count : ℕ)
+      → (file.is_honest old.file → length (file.seen new.file) ≡ length (file.seen old.file))
+      → (IsErr result → file.is_honest old.file → Torn at count (file.seen old.file) (file.seen new.file))
+      → IsErr result → IsOverHonest file.is_honest file.seen old
+      → Torn at count (fitted old.size (file.seen old.file)) (fitted new.size (file.seen new.file))
+  torn_over result at count kept torn failed honest =
+      let P : List ℕ → Type 0 = λ l. Torn at count (fitted old.size (file.seen old.file)) l in
+      let Q : List ℕ → Type 0 = λ l. Torn at count l (file.seen new.file) in
+      subst P (sym (after honest (kept honest.0))) (subst Q (sym (before honest)) (torn failed honest.0))
+
+  pub durable_over : {T E : Type 0} (result : Result T E)
+      → (file.is_honest old.file → OnOk result (Only (file.may_leave new.file) (file.seen old.file)))
+      → IsOverHonest file.is_honest file.seen old
+      → OnOk result (Only (file.may_leave new.file) (fitted old.size (file.seen old.file)))
+  durable_over result durable honest =
+      let P : List ℕ → Type 0 = λ l. OnOk result (Only (file.may_leave new.file) l) in
+      subst P (sym (before honest)) (durable honest.0)
+
+  -- A disk over a file that stays honest and as long is as honest as before.
+  pub honest_over : file.is_honest new.file ↔ file.is_honest old.file
+      → (file.is_honest old.file → length (file.seen new.file) ≡ length (file.seen old.file))
+      → IsOverHonest file.is_honest file.seen new ↔ IsOverHonest file.is_honest file.seen old
+  honest_over honest kept = (
+    (λ over. (honest.0 over.0, sym (kept (honest.0 over.0)) ∙ over.1 ∙ size)),
+    (λ over. (honest.1 over.0, kept over.0 ∙ over.1 ∙ sym size)),
+  )

@@ -1,13 +1,10 @@
 pub mod Moments
-mod Carrying
-mod Counting
-mod Deferring
 pub mod Done
 mod Fitting
-mod Outcomes
-mod Overlays
-mod Patches
+pub mod Outcomes
+pub mod Overlays
+pub mod Patches
 pub mod Ranges
-mod Replay
+pub mod Replay
 mod Spoiling
 pub mod Public

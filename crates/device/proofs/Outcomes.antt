@@ -18,3 +18,7 @@ either (Err e) p q = inr q
 pub ok_map : {T E P Q : Type 0} (result : Result T E) → (P → Q) → OnOk result P → OnOk result Q
 ok_map (Ok x) f p = f p
 ok_map (Err e) f p = tt
+
+pub err_map : {T E P Q : Type 0} (result : Result T E) → (P → Q) → OnErr result P → OnErr result Q
+err_map (Ok x) f p = tt
+err_map (Err e) f p = f p

@@ -3,7 +3,7 @@ use Rattle.std.proofs.Common.{◌≡◌, ℕ, ◌+◌, ◌≤◌, Bool, List, le
 use Rattle.std.proofs.Common.{◌∙◌, ap, subst, arith, Result, Ok, Err, OnOk, OnErr}
 use Rattle.std.proofs.lemmas.List.{ext_get_or}
 use Rattle.std.specs.Prelude.{slice_range}
-use Rattle.device.specs.Device.{LeavesOnly, Only}
+use Rattle.device.specs.Device.{TornFrom, LeavesOnly, Only}
 use Rattle.device.specs.Failing.{IsPassedOn}
 use Rattle.device.specs.Memory.{DiskChange, Recorded, content_after, MayBeLeft}
 use Rattle.device.specs.Memory.{seen_of, may_leave_of, moment_of, left_since_of}
@@ -14,43 +14,64 @@ use Rattle.device.specs.inside.Replay.{AreWithin}
 use Rattle.device.proofs.Outcomes.{ok_map}
 use Rattle.device.proofs.Patches.{length-content_after}
 use Rattle.device.proofs.Ranges.{length-written}
-
-pub as_changed : {D T E : Type 0} (seen : D → List ℕ) (result : Result T E) (old new : Overlaid D) (change : DiskChange)
-    → OnOk result (new ≡ after_change old change)
-    → OnOk result (as_recorded seen new ≡ memory.after_change (as_recorded seen old) change)
-as_changed seen (Ok x) old new change is = ap (as_recorded seen) is
-as_changed seen (Err e) old new change is = tt
-
--- Nothing but the counts is another where memory was refused.
-pub as_refused : {D T E : Type 0} (seen : D → List ℕ) (result : Result T E) (old new : Overlaid D)
-    → OnErr result (new ≡ after_refusal old)
-    → OnErr result (as_recorded seen new ≡ memory.after_refusal (as_recorded seen old))
-as_refused seen (Ok x) old new is = tt
-as_refused seen (Err e) old new is = ap (as_recorded seen) is
+use Rattle.device.proofs.Replay.{write_left, write_keeps, write_time, sync_time}
 
 pub same_inner : {D T E : Type 0} (result : Result T E) (old new : Overlaid D) (change : DiskChange)
     → OnOk result (new ≡ after_change old change) → OnErr result (new ≡ after_refusal old) → new.inner ≡ old.inner
 same_inner (Ok x) old new change done refused = ap (λ (d : Overlaid _). d.inner) done
 same_inner (Err e) old new change done refused = ap (λ (d : Overlaid _). d.inner) refused
 
-pub overlay_time : {D : Type 0} (seen : D → List ℕ) (old new : Overlaid D) (P : List ℕ → Type 0)
-    → LeavesOnly moment_of left_since_of (as_recorded seen old) (as_recorded seen new) P
-    → LeavesOnly (λ (d : Overlaid D). moment_of (as_recorded seen d))
-    (λ (d : Overlaid D). left_since_of (as_recorded seen d)) old new P
-overlay_time seen old new P time =
+-- a disk that is a record in what a read gives and a crash may leave is one in what a crash left since a moment, too
+recorded_time : {D : Type 0} (recorded : D → Recorded) (old new : D) (P : List ℕ → Type 0)
+    → LeavesOnly moment_of left_since_of (recorded old) (recorded new) P
+    → LeavesOnly (λ (d : D). moment_of (recorded d)) (λ (d : D). left_since_of (recorded d)) old new P
+recorded_time recorded old new P time =
     record { later = time.later; each = time.each; before = time.before; keeps = time.keeps }
 
-pub length_after_write : {T E : Type 0} (result : Result T E) (old new : Recorded) (at : ℕ) (bytes : List ℕ)
+length_after_write : {T E : Type 0} (result : Result T E) (old new : Recorded) (at : ℕ) (bytes : List ℕ)
     → at + length bytes ≤ length (seen_of old) → OnOk result (new ≡ memory.after_change old (write at bytes))
     → OnErr result (new ≡ memory.after_refusal old) → length (seen_of new) ≡ length (seen_of old)
 length_after_write (Ok x) old new at bytes fits done refused = rw done (length-written (seen_of old) at bytes fits)
 length_after_write (Err e) old new at bytes fits done refused = rw refused refl
 
-pub durable_after_sync : {T E : Type 0} (result : Result T E) (old new : Recorded)
+durable_after_sync : {T E : Type 0} (result : Result T E) (old new : Recorded)
     → OnOk result (new ≡ memory.after_change old sync) → OnOk result (Only (may_leave_of new) (seen_of old))
 durable_after_sync (Ok x) old new done =
     rw done (λ c left. ext_get_or 0 c (seen_of old) left.same_length (λ i lt. left.synced i refl))
 durable_after_sync (Err e) old new done = tt
+
+-- What a disk that is a record promises of a write, which is done or refused: of a crash, and of its length,
+pub write_told : {D T E : Type 0} (recorded : D → Recorded) (result : Result T E) (old new : D) (at : ℕ)
+    (bytes : List ℕ) → at + length bytes ≤ length (seen_of (recorded old))
+    → OnOk result (recorded new ≡ memory.after_change (recorded old) (write at bytes))
+    → OnErr result (recorded new ≡ memory.after_refusal (recorded old))
+    → ((c : List ℕ) → may_leave_of (recorded old) c → may_leave_of (recorded new) c)
+    × (((c : List ℕ) → may_leave_of (recorded new) c → TornFrom at (length bytes) (may_leave_of (recorded old)) c)
+    × (LeavesOnly (λ (d : D). moment_of (recorded d)) (λ (d : D). left_since_of (recorded d)) old new
+    (TornFrom at (length bytes) (may_leave_of (recorded old)))
+    × (length (seen_of (recorded new)) ≡ length (seen_of (recorded old)))))
+write_told recorded result old new at bytes fits done refused = (
+  write_keeps result (recorded old) (recorded new) at bytes fits done refused,
+  (
+    write_left result (recorded old) (recorded new) at bytes fits done refused,
+    (
+      recorded_time recorded old new _ (write_time result (recorded old) (recorded new) at bytes fits done refused),
+      length_after_write result (recorded old) (recorded new) at bytes fits done refused,
+    ),
+  ),
+)
+
+-- and of a sync
+pub sync_told : {D T E : Type 0} (recorded : D → Recorded) (result : Result T E) (old new : D)
+    → OnOk result (recorded new ≡ memory.after_change (recorded old) sync)
+    → OnErr result (recorded new ≡ memory.after_refusal (recorded old))
+    → OnOk result (Only (may_leave_of (recorded new)) (seen_of (recorded old)))
+    × LeavesOnly (λ (d : D). moment_of (recorded d)) (λ (d : D). left_since_of (recorded d)) old new
+    (may_leave_of (recorded old))
+sync_told recorded result old new done refused = (
+  durable_after_sync result (recorded old) (recorded new) done,
+  recorded_time recorded old new _ (sync_time result (recorded old) (recorded new) done refused),
+)
 
 -- It is as long as the disk under it, as its fields say: its writes are within that.
 pub length_of_overlay : {D : Type 0} (seen : D → List ℕ) (disk : Overlaid D) (inner : D) (changes : List DiskChange)

@@ -21,10 +21,11 @@ length-content_after first (write at bytes ∷ older) within =
     length-written (content_after first older) at bytes (omega (arith, before, within.0)) ∙ before
 length-content_after first (sync ∷ older) within = length-content_after first older within
 
-part_at : (s : List ℕ) (a b i : ℕ) → a + i < b → get_or (slice_range s a b) i 0 ≡ get_or s (a + i) 0
+-- a place of a part
+pub part_at : (s : List ℕ) (a b i : ℕ) → a + i < b → get_or (slice_range s a b) i 0 ≡ get_or s (a + i) 0
 part_at s a b i lt = get_or-take (b - a) (drop a s) i 0 (omega (arith, lt)) ∙ get_or-drop a s i 0
 
-length-part : (s : List ℕ) (a b : ℕ) → a ≤ b → b ≤ length s → length (slice_range s a b) ≡ b - a
+pub length-part : (s : List ℕ) (a b : ℕ) → a ≤ b → b ≤ length s → length (slice_range s a b) ≡ b - a
 length-part s a b le fits = omega (arith, length-take (b - a) (drop a s), length-drop a s)
 
 -- a place of a part, after a write that doesn't reach it

@@ -17,34 +17,43 @@ length-written old at bytes fits =
       length-drop (at + length bytes) old,
     )
 
--- the place is before the range that is written
+-- A list with a part of it replaced, by place.
+module _ {A : Type 0} (xs ys : List A) (from to i : ℕ) (d : A) (fits : from ≤ length xs) where
+  front : length (take from xs) ≡ from
+  front = omega (arith, fits, length-take from xs)
+
+  pub replaced_before : i < from → get_or (take from xs ++ ys ++ drop to xs) i d ≡ get_or xs i d
+  replaced_before lt =
+      get_or_append_left (take from xs ++ ys) (drop to xs) d i
+      (omega (arith, lt, front, length-append (take from xs) ys))
+      ∙ get_or_append_left (take from xs) ys d i (omega (arith, lt, front)) ∙ get_or-take from xs i d lt
+
+  pub replaced_within : from ≤ i → i < from + length ys
+      → get_or (take from xs ++ ys ++ drop to xs) i d ≡ get_or ys (i - from) d
+  replaced_within le lt =
+      get_or_append_left (take from xs ++ ys) (drop to xs) d i
+      (omega (arith, lt, front, length-append (take from xs) ys))
+      ∙ get_or-append_right (take from xs) ys from i d front le
+
+  pub replaced_after : from + length ys ≡ to → to ≤ i → get_or (take from xs ++ ys ++ drop to xs) i d ≡ get_or xs i d
+  replaced_after same le =
+      let place : to + (i - to) ≡ i = omega (arith, le) in
+      get_or-append_right (take from xs ++ ys) (drop to xs) to i d
+      (omega (arith, same, front, length-append (take from xs) ys)) le
+      ∙ get_or-drop to xs (i - to) d ∙ ap (λ k. get_or xs k d) place
+
+-- the place is before the range that is written, in it or past it
 pub written_before : (old : List ℕ) (at : ℕ) (bytes : List ℕ) (i : ℕ) → at + length bytes ≤ length old → i < at
     → get_or (written old at bytes) i 0 ≡ get_or old i 0
-written_before old at bytes i fits lt =
-    let front : length (take at old) ≡ at = omega (arith, length-take at old) in
-    let first : get_or (written old at bytes) i 0 ≡ get_or (take at old ++ bytes) i 0 = get_or_append_left (take at old
-    ++ bytes) (drop (at + length bytes) old) 0 i (omega (arith, front, length-append (take at old) bytes)) in
-    first ∙ get_or_append_left (take at old) bytes 0 i (omega (arith, front)) ∙ get_or-take at old i 0 lt
+written_before old at bytes i fits = replaced_before old bytes at (at + length bytes) i 0 (omega (arith, fits))
 
--- the place is in the range that is written
 pub written_within : (old : List ℕ) (at : ℕ) (bytes : List ℕ) (i : ℕ) → at + length bytes ≤ length old → at ≤ i
     → i < at + length bytes → get_or (written old at bytes) i 0 ≡ get_or bytes (i - at) 0
-written_within old at bytes i fits le lt =
-    let front : length (take at old) ≡ at = omega (arith, length-take at old) in
-    let first : get_or (written old at bytes) i 0 ≡ get_or (take at old ++ bytes) i 0 = get_or_append_left (take at old
-    ++ bytes) (drop (at + length bytes) old) 0 i (omega (arith, front, length-append (take at old) bytes)) in
-    first ∙ get_or-append_right (take at old) bytes at i 0 front le
+written_within old at bytes i fits = replaced_within old bytes at (at + length bytes) i 0 (omega (arith, fits))
 
--- the place is past the range that is written
 pub written_after : (old : List ℕ) (at : ℕ) (bytes : List ℕ) (i : ℕ) → at + length bytes ≤ length old
     → at + length bytes ≤ i → get_or (written old at bytes) i 0 ≡ get_or old i 0
-written_after old at bytes i fits le =
-    let front : length (take at old ++ bytes) ≡ at + length bytes =
-    omega (arith, length-append (take at old) bytes, length-take at old) in
-    let first : get_or (written old at bytes) i 0 ≡ get_or (drop (at + length bytes) old) (i - (at + length bytes)) 0 =
-    get_or-append_right (take at old ++ bytes) (drop (at + length bytes) old) (at + length bytes) i 0 front le in
-    let place : at + length bytes + (i - (at + length bytes)) ≡ i = omega arith in
-    first ∙ get_or-drop (at + length bytes) old (i - (at + length bytes)) 0 ∙ ap (λ k. get_or old k 0) place
+written_after old at bytes i fits = replaced_after old bytes at (at + length bytes) i 0 (omega (arith, fits)) refl
 
 pub take-written : (old : List ℕ) (at : ℕ) (bytes : List ℕ) → at + length bytes ≤ length old
     → take at (written old at bytes) ≡ take at old

@@ -26,7 +26,7 @@ pub changes_of-push : {A : Type 0} (log : List (Logged A)) (entry : Logged A)
 changes_of-push [] entry = refl
 changes_of-push (e ∷ log) entry = ap (λ (l : List DiskChange). l ++ change_of e ∷ []) (changes_of-push log entry)
 
-changes_of-append : {A : Type 0} (old new : List (Logged A))
+pub changes_of-append : {A : Type 0} (old new : List (Logged A))
     → changes_of (old ++ new) ≡ changes_of new ++ changes_of old
 changes_of-append [] new = sym (append-nil (changes_of new))
 changes_of-append (e ∷ old) new =
@@ -72,7 +72,7 @@ unsynced_is_written log synced i since =
     ap (λ (l : List DiskChange). is_unsynced l i) split
     ∙ unsynced_newer (changes_of (drop synced log)) (changes_of (take synced log)) i count
 
-within_newer : (n : ℕ) (newer older : List DiskChange) → AreWithin n (newer ++ older) → AreWithin n newer
+pub within_newer : (n : ℕ) (newer older : List DiskChange) → AreWithin n (newer ++ older) → AreWithin n newer
 within_newer n [] older within = tt
 within_newer n (write at bytes ∷ newer) older within = (within.0, within_newer n newer older within.1)
 within_newer n (sync ∷ newer) older within = within_newer n newer older within

@@ -1,12 +1,9 @@
-pub mod Carrying
 pub mod Count
-pub mod Deferred
 pub mod Device
 pub mod Work
 pub mod Did
 pub mod Failing
 pub mod File
-pub mod Lent
 pub mod Memory
 pub mod Overlay
 pub mod inside

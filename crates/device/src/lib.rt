@@ -3,10 +3,8 @@
 #![tactic(auto)]
 
 mod block_file;
-mod blocks;
 mod borrowed;
 mod count;
-mod deferred;
 mod device;
 mod doing;
 mod failing;
@@ -16,14 +14,14 @@ mod log;
 mod memory;
 mod memory_file;
 mod overlay;
-mod past;
 
 pub use block_file::BlockFile;
-pub use deferred::{DeferredCall, DeferredDisk};
+pub use count::raise;
 pub use device::Device;
 pub use doing::{copy_block, make_durable, write_at};
 pub use failing::FailingDisk;
 pub use fault::DeviceFault;
 pub use file::FileDisk;
+pub use log::{Logged, put};
 pub use memory::MemDisk;
 pub use overlay::OverlayDisk;

@@ -1,9 +1,10 @@
 // A disk whose writes and syncs are recorded, and made later on a disk in memory.
 ghost use Rattle.std.specs.Prelude.{◌≡◌, ℕ, ◌+◌, ◌*◌, ◌≤◌, length, IfOk};
 ghost use Rattle.device.specs.Memory.{seen_of};
-ghost use Rattle.device.specs.Deferred.{as_recorded};
+ghost use Rattle.deferred_disk.specs.Deferred.{as_recorded};
 
-use device::{DeferredDisk, Device, DeviceFault, MemDisk};
+use deferred_disk::DeferredDisk;
+use device::{Device, DeviceFault, MemDisk};
 use std::alloc::{AllocError, Allocator, Global};
 use std::process::Abort;
 

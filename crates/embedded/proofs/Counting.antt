@@ -2,7 +2,7 @@
 use Rattle.std.proofs.Common.{◌≡◌, ◌≤◌, ◌<◌, ℕ, ◌+◌, ◌-◌, ◌^◌, Bool, true, false, List, [], ◌∷◌, length, ap, arith}
 use Rattle.std.proofs.lemmas.Bool.Decides.{nat_tests}
 use Rattle.std.specs.Prelude.{min, nat_le, ◌||◌, if◌then◌else◌}
-use Rattle.device.specs.Deferred.{Deferred, as_recorded, recorded_calls}
+use Rattle.deferred_disk.specs.Deferred.{Deferred, as_recorded, recorded_calls}
 use Rattle.device.specs.Memory.{Recorded, moment_of}
 use Rattle.machine.specs.declared.act.Reply.{Reply}
 use Rattle.machine.specs.declared.act.Step.{Step}

@@ -1,7 +1,7 @@
 -- What a crash leaves while a host makes the calls.
 use Rattle.std.proofs.Common.{◌≡◌, ◌≤◌, ◌⊎◌, inl, inr, ℕ, List, [], ◌∷◌, ◌++◌}
 use Rattle.std.proofs.Common.{take, refl, sym, ◌∙◌, ap, subst, arith, Contains}
-use Rattle.device.specs.Deferred.{Deferred, as_recorded, carried_moment}
+use Rattle.deferred_disk.specs.Deferred.{Deferred, as_recorded, carried_moment}
 use Rattle.device.specs.Device.{LeavesOnly}
 use Rattle.device.specs.Memory.{Recorded, left_since_of}
 use Rattle.volume_codec.specs.Files.{File}

@@ -1,6 +1,6 @@
 -- What an embedded machine has served, seen over the disk in memory that made the calls.
 use Rattle.std.proofs.Common.{◌≡◌, ℕ, List, [], ◌++◌, Option, Some, None, IfSome, Result, Ok, Err}
-use Rattle.device.specs.Deferred.{Deferred, as_recorded, IsSuppliedWell, recorded_calls}
+use Rattle.deferred_disk.specs.Deferred.{Deferred, as_recorded, IsSuppliedWell, recorded_calls}
 use Rattle.device.specs.Memory.{Recorded}
 use Rattle.machine.specs.declared.act.Reply.{Reply}
 use Rattle.machine.specs.declared.act.Shape.{Shape}

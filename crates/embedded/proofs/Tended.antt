@@ -1,7 +1,7 @@
 -- A disk that was tended between two requests is the same disk in memory.
 use Rattle.std.proofs.Common.{◌≡◌, ◌≤◌, ◌<◌, ℕ, ◌+◌, ◌-◌, ◌^◌, ◌==◌, ◌∷◌, get_or, Bool, true, false, if◌then◌else◌}
 use Rattle.std.proofs.Common.{List, length, Option, Some, None, IfSome, refl, sym, ◌∙◌, ap, subst, arith}
-use Rattle.device.specs.Deferred.{Deferred, as_recorded, after_supply, with_known, block_of, IsSuppliedWell}
+use Rattle.deferred_disk.specs.Deferred.{Deferred, as_recorded, after_supply, with_known, block_of, IsSuppliedWell}
 use Rattle.device.specs.Memory.{Recorded, seen_of, moment_of}
 use Rattle.machine.specs.State.{Whole}
 use Rattle.session.specs.declared.notes.Notes.{Notes}

@@ -1,7 +1,7 @@
 -- A machine whose device calls a host makes, and the marks that it committed.
 use Rattle.std.specs.Prelude.{ℕ, ◌≡◌, ◌==◌, ◌-◌, ◌^◌, ◌<◌, ◌≤◌, min, nat_le, Bool, ◌||◌}
 use Rattle.std.specs.Prelude.{if◌then◌else◌, List, Option, Some, IfSome, Result, Ok, Err}
-use Rattle.device.specs.Deferred.{Deferred, IsSuppliedWell, recorded_calls}
+use Rattle.deferred_disk.specs.Deferred.{Deferred, IsSuppliedWell, recorded_calls}
 use Rattle.device.specs.Memory.{Recorded, moment_of}
 use Rattle.machine.specs.declared.act.Reply.{Reply}
 use Rattle.machine.specs.declared.act.Shape.{Shape}

@@ -1,6 +1,6 @@
 -- What a crash leaves of the device on which a host makes the calls of an embedded volume.
 use Rattle.std.specs.Prelude.{ℕ, ◌-◌, List, ◌++◌, length, take, Contains}
-use Rattle.device.specs.Deferred.{Deferred, with_waiting}
+use Rattle.deferred_disk.specs.Deferred.{Deferred, with_waiting}
 use Rattle.device.specs.Memory.{Recorded}
 use Rattle.volume_codec.specs.Files.{File}
 use Rattle.machine.specs.History.{Event, Acknowledge}

@@ -1,7 +1,7 @@
 -- A machine whose writes and syncs wait for a host, as the same machine over a disk in memory that made them at once.
 use Rattle.std.specs.Prelude.{⊤}
 use Rattle.device.specs.declared.device.Device.{Ghosts}
-use Rattle.device.specs.Deferred.{Deferred, as_recorded, IsSuppliedWell}
+use Rattle.deferred_disk.specs.Deferred.{Deferred, as_recorded, IsSuppliedWell}
 use Rattle.device.specs.Memory.{Recorded, seen_of, may_leave_of, moment_of, left_since_of}
 use Rattle.machine.specs.State.{Whole}
 

@@ -1,6 +1,6 @@
 -- Blocks that a host supplies, and that it needn't keep, whatever their numbers.
 use Rattle.std.specs.Prelude.{ℕ, ◌+◌, ◌*◌, nat_le, Bool, not, ◌&&◌, if◌then◌else◌, List, length, take}
-use Rattle.device.specs.Deferred.{Deferred, as_recorded, after_supply, one_reaches}
+use Rattle.deferred_disk.specs.Deferred.{Deferred, as_recorded, after_supply, one_reaches}
 use Rattle.device.specs.Memory.{seen_of}
 use Rattle.volume_codec.specs.Layout.{first_file_home}
 use Rattle.machine.specs.State.{Whole}

@@ -1,12 +1,12 @@
 // A volume whose device calls a host makes.
 ghost use Rattle.std.specs.Prelude.{◌≡◌, ◌-◌, None, IfOk, IfErr};
-ghost use Rattle.device.specs.Deferred.{recorded_calls};
+ghost use Rattle.deferred_disk.specs.Deferred.{recorded_calls};
 ghost use Rattle.engine.specs.Engine.{HasNotStarted};
 ghost use Rattle.session.specs.Sessions.{IsStarted};
 ghost use Rattle.embedded.specs.Recorded.{deferred_disk};
 ghost use Rattle.embedded.specs.Embedded.{ServesWell};
 
-use device::DeferredDisk;
+use deferred_disk::DeferredDisk;
 use machine::Shape;
 use page_entry::Refusal;
 use session::{Files, Requests};
@@ -33,7 +33,7 @@ pub struct Embedded<A: Allocator + Copy> {
 
 impl<A: Allocator + Copy> Model for Embedded<A> {
     ghost use Rattle.std.specs.Coded.{codes};
-    ghost use Rattle.device.specs.inside.Deferring.{deferred_code};
+    ghost use Rattle.deferred_disk.specs.inside.Deferring.{deferred_code};
     ghost use Rattle.machine.specs.inside.Codes.{map_code};
     ghost use Rattle.embedded.specs.Embedded.{EmbeddedState, ServesWell};
 

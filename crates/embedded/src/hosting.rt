@@ -1,7 +1,7 @@
 // What a host does for an embedded volume: it supplies blocks, and makes the calls that wait.
 ghost use Rattle.std.specs.Prelude.{◌≡◌, ◌+◌, ◌-◌, ◌^◌, min, true, false, get_or, option_map, if◌then◌else◌, OnOk, OnErr};
-ghost use Rattle.device.specs.Deferred.{after_forget, waits_behind, with_waiting};
-ghost use Rattle.device.specs.Lent.{change_lent};
+ghost use Rattle.deferred_disk.specs.Deferred.{after_forget, waits_behind, with_waiting};
+ghost use Rattle.deferred_disk.specs.Lent.{change_lent};
 ghost use Rattle.embedded.specs.Embedded.{are_made, made_of};
 ghost use Rattle.embedded.specs.Recorded.{recorded};
 ghost use Rattle.embedded.specs.Supplying.{may_forget, with_supplied, with_device};
@@ -9,7 +9,7 @@ ghost use Rattle.embedded.specs.Supplying.{may_forget, with_supplied, with_devic
 use crate::embedded::Embedded;
 use crate::requesting::{confirmed, is_made, made_now};
 use crate::tending::{Carrying, Forgetting, Supplying};
-use device::DeferredCall;
+use deferred_disk::DeferredCall;
 use std::alloc::{AllocError, Allocator};
 
 impl<A: Allocator + Copy> Embedded<A> {

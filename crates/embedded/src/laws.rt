@@ -1,7 +1,7 @@
 // What the steps over a disk of deferred calls are, seen over the disk in memory that made the calls.
 ghost use Rattle.std.specs.Prelude.{ℕ, Bool, ◌-◌, ◌^◌, ◌<◌, ◌≤◌, List, Option, Some};
-ghost use Rattle.device.specs.Carrying.{CarriedOut};
-ghost use Rattle.device.specs.Deferred.{Deferred, as_recorded, carried_moment, IsBehind, IsSuppliedWell};
+ghost use Rattle.deferred_disk.specs.Carrying.{CarriedOut};
+ghost use Rattle.deferred_disk.specs.Deferred.{Deferred, as_recorded, carried_moment, IsBehind, IsSuppliedWell};
 ghost use Rattle.device.specs.Device.{LeavesOnly};
 ghost use Rattle.device.specs.Memory.{Recorded, moment_of, seen_of};
 ghost use Rattle.volume_codec.specs.Files.{File};

@@ -1,6 +1,6 @@
 // What is asked of an embedded volume.
 ghost use Rattle.std.specs.Prelude.{◌≡◌, [], ◌∷◌, if◌then◌else◌};
-ghost use Rattle.device.specs.Deferred.{recorded_calls};
+ghost use Rattle.deferred_disk.specs.Deferred.{recorded_calls};
 ghost use Rattle.session.specs.CarriedOut.{CarriesOut};
 ghost use Rattle.session.specs.Commits.{AnswersCommit};
 ghost use Rattle.session.specs.Lengths.{AnswersLength};
@@ -12,7 +12,7 @@ ghost use Rattle.embedded.specs.Progress.{reached_by, ReportsWanted};
 
 use crate::embedded::Embedded;
 use crate::progress::{Progress, block_number};
-use device::DeferredDisk;
+use deferred_disk::DeferredDisk;
 use machine::{Reply, Step};
 use page_entry::ProcessorNumber;
 use std::alloc::Allocator;

@@ -1,10 +1,11 @@
 // What a host does with the disk between two requests.
 ghost use Rattle.std.specs.Prelude.{◌≡◌, length};
-ghost use Rattle.device.specs.Deferred.{as_recorded};
+ghost use Rattle.deferred_disk.specs.Deferred.{as_recorded};
 ghost use Rattle.device.specs.Memory.{seen_of};
 ghost use Rattle.embedded.specs.inside.Tending.{HasSupplied, HasForgotten, HasCarried};
 
-use device::{DeferredDisk, Device};
+use deferred_disk::DeferredDisk;
+use device::Device;
 use machine::Tender;
 use std::alloc::Allocator;
 

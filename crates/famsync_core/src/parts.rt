@@ -1,5 +1,6 @@
 // What the first block of a volume says of where its parts are.
-use device::{DeferredDisk, Device};
+use deferred_disk::DeferredDisk;
+use device::Device;
 use machine::Shape;
 use page_entry::Refusal;
 use std::alloc::Allocator;

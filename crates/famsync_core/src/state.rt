@@ -5,7 +5,8 @@ ghost use Rattle.famsync_core.specs.Codes.{lack_code, lacked_block, progress_cod
 use crate::codes::{ARGUMENT, NO_MEMORY, NONE, OK, ORDER, WANTED, code_of_refusal, code_of_reply};
 use crate::parts::parts_of;
 use crate::place::place_of;
-use device::{DeferredCall, DeferredDisk, Device};
+use deferred_disk::{DeferredCall, DeferredDisk};
+use device::Device;
 use embedded::{Embedded, Progress};
 use machine::{Act, Reply, Shape, Step};
 use mappings::Rights;

@@ -7,7 +7,7 @@ use Rattle.std.specs.Prelude.{◌&&◌, ◌||◌, nat_eq, nat_le, nat_lt, if◌t
 use Rattle.device.specs.Device.{written}
 use Rattle.device.specs.Memory.{DiskChange, content_after, is_unsynced}
 use Rattle.device.specs.Memory.DiskChange.{write, sync}
-use Rattle.least_syncs.proofs.Written.{length-written, written_before, written_after}
+use Rattle.device.proofs.Public.{length-written, written_before, written_after}
 use Rattle.least_syncs.specs.Commit.{AreWithin, syncs_of, before_sync}
 
 not_zero : (n : ℕ) → nat_eq (suc n) 0 ≡ false

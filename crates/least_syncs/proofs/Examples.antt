@@ -7,7 +7,7 @@ use Rattle.std.proofs.lemmas.List.{length-replicate}
 use Rattle.std.specs.Prelude.{◌≢◌, ◌&&◌, ◌||◌, nat_eq, nat_le, nat_lt, if◌then◌else◌}
 use Rattle.device.specs.Device.{written}
 use Rattle.device.specs.Memory.{new_disk, left_since_of, may_leave_of}
-use Rattle.least_syncs.proofs.Written.{written_before, written_within, written_after}
+use Rattle.device.proofs.Public.{written_before, written_within, written_after}
 use Rattle.least_syncs.specs.Commit.{IsCommit, AreByOneSync}
 use Rattle.least_syncs.specs.Examples.{flagged, flag_at, flag_made, gated, gate_over, gate_made}
 

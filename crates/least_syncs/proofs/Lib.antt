@@ -2,4 +2,3 @@ mod Alike
 mod Counting
 mod Early
 mod Examples
-mod Written

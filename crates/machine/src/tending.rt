@@ -5,7 +5,7 @@ use crate::Machine;
 use device::Device;
 use std::alloc::Allocator;
 
-/// Who does something with a machine's device between two steps, as the host of a [`device::DeferredDisk`] does that
+/// Who does something with a machine's device between two steps, as the host of a `DeferredDisk` does that
 /// supplies a block or takes a recorded call away. The device stays as long as it was.
 pub trait Tender<D: Device> {
     /// What it makes of itself and of the device: itself and the device before, the device and itself after.

@@ -1,5 +1,5 @@
 use Rattle.std.proofs.Common.{◌≤◌, ◌++◌, take, arith}
-use Rattle.device.specs.Deferred.{carried_moment}
+use Rattle.deferred_disk.specs.Deferred.{carried_moment}
 use Rattle.device.specs.Memory.{moment_of}
 use Rattle.embedded.specs.Hosting.{with_made}
 use Rattle.embedded.specs.Recorded.{recorded}

@@ -1,49 +1,19 @@
-use Rattle.std.proofs.Common.{rules}
-use Rattle.device.specs.Memory.DiskChange.{write, sync}
+use Rattle.std.proofs.Common.{ap, rules}
 use Rattle.device.specs.Overlay.{as_recorded}
-use Rattle.device.proofs.Replay.{write_left, write_keeps, write_time, sync_time}
-use Rattle.device.proofs.Overlays.{as_changed, as_refused, overlay_time, length_after_write, durable_after_sync}
+use Rattle.device.proofs.Outcomes.{ok_map, err_map}
+use Rattle.device.proofs.Overlays.{write_told, sync_told}
 use Rattle.device.proofs.overlay.OverlayDiskDevice.TheImpl.Goals as goal
 
 pub write-tells : goal.write-tells
 write-tells g c =
-    let old = as_recorded g.D.Device.seen c.args.self.now in
-    let new = as_recorded g.D.Device.seen c.new.self.now in
-    let done = as_changed g.D.Device.seen c.result c.args.self.now c.new.self.now
-    (write c.args.at c.args.bytes.now) c.ensures.recorded in
-    let refused = as_refused g.D.Device.seen c.result c.args.self.now c.new.self.now c.ensures.refused in
-    record {
-      written = search rules;
-      torn = search rules;
-      keeps = λ honest. write_keeps c.result old new c.args.at c.args.bytes.now c.requires done refused;
-      left = write_left c.result old new c.args.at c.args.bytes.now c.requires done refused;
-      time = overlay_time g.D.Device.seen c.args.self.now c.new.self.now _
-          (write_time c.result old new c.args.at c.args.bytes.now c.requires done refused);
-      honest = search rules;
-      len = length_after_write c.result old new c.args.at c.args.bytes.now c.requires done refused;
-      calls = search rules;
-      calls_stay = search rules;
-      failed = search rules;
-      faults_stay = search rules;
-      done = search rules;
-    }
+    let recorded = as_recorded g.D.Device.seen in
+    let told = write_told recorded c.result c.args.self.now c.new.self.now c.args.at c.args.bytes.now c.requires
+    (ok_map c.result (ap recorded) c.ensures.recorded) (err_map c.result (ap recorded) c.ensures.refused) in
+    search (rules, told.0, told.1.0, told.1.1.0, told.1.1.1)
 
 pub sync-tells : goal.sync-tells
 sync-tells g c =
-    let old = as_recorded g.D.Device.seen c.args.self.now in
-    let new = as_recorded g.D.Device.seen c.new.self.now in
-    let done = as_changed g.D.Device.seen c.result c.args.self.now c.new.self.now sync c.ensures.recorded in
-    let refused = as_refused g.D.Device.seen c.result c.args.self.now c.new.self.now c.ensures.refused in
-    record {
-      same = search rules;
-      durable = λ honest. durable_after_sync c.result old new done;
-      left = search rules;
-      time = overlay_time g.D.Device.seen c.args.self.now c.new.self.now _ (sync_time c.result old new done refused);
-      honest = search rules;
-      len = search rules;
-      calls = search rules;
-      calls_stay = search rules;
-      failed = search rules;
-      faults_stay = search rules;
-      done = search rules;
-    }
+    let recorded = as_recorded g.D.Device.seen in
+    let told = sync_told recorded c.result c.args.self.now c.new.self.now
+    (ok_map c.result (ap recorded) c.ensures.recorded) (err_map c.result (ap recorded) c.ensures.refused) in
+    search (rules, told.0, told.1)

@@ -1,5 +1,5 @@
 use Rattle.std.proofs.Common.{sym, ap, ◌∙◌, subst}
-use Rattle.device.specs.Deferred.{Deferred, as_recorded, IsSuppliedWell}
+use Rattle.deferred_disk.specs.Deferred.{Deferred, as_recorded, IsSuppliedWell}
 use Rattle.machine.specs.State.{Whole}
 use Rattle.embedded.specs.Embedded.{are_made, made_of}
 use Rattle.embedded.proofs.Counting.{one_more_made}

@@ -1,5 +1,5 @@
 use Rattle.std.proofs.Common.{ℕ, ◌≤◌, Option, sym, ◌∙◌, ap, subst, arith}
-use Rattle.device.specs.Deferred.{Deferred, recorded_calls}
+use Rattle.deferred_disk.specs.Deferred.{Deferred, recorded_calls}
 use Rattle.machine.specs.State.{Whole}
 use Rattle.session.specs.CarriedOut.{CarriesOut}
 use Rattle.session.specs.Commits.{AnswersCommit}

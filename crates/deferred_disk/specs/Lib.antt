@@ -1,0 +1,4 @@
+pub mod Carrying
+pub mod Deferred
+pub mod Lent
+pub mod inside

@@ -1,0 +1,496 @@
+// A disk whose writes and syncs somebody else makes.
+ghost use Rattle.std.specs.Prelude.{◌≡◌, ℕ, ◌+◌, ◌-◌, ◌*◌, ◌^◌, ◌<◌, ◌≤◌, false, Some, None, List, [], ◌∷◌, ◌++◌, length, take, get_or, not, true, is_none, is_ok, option_map, slice_get, slice_range, IfOk, OnOk, OnErr, IsOk};
+ghost use Rattle.deferred_disk.specs.Carrying.{CarriedOut};
+ghost use Rattle.device.specs.Device.{written};
+ghost use Rattle.device.specs.Did.{Did};
+ghost use Rattle.device.specs.Memory.{seen_of};
+ghost use Rattle.device.specs.Memory.DiskChange.{write, sync};
+ghost use Rattle.deferred_disk.specs.Deferred.{deferred, as_recorded, carried_out, block_of, with_known, first_block, end_block, lacked_by_read, lacked_by_write, IsSuppliedWell, after_read, after_write, after_sync, after_refusal, after_supply, after_forget, reaches, one_reaches, with_waiting, oldest, waits_behind, done_by, recorded_calls};
+ghost use Rattle.device.specs.Work.{TornByWork};
+ghost use Rattle.deferred_disk.specs.Lent.{change_lent};
+ghost use Rattle.device.specs.inside.Logged.{change_of, changes_of};
+ghost use Rattle.device.specs.inside.Replay.{AreWithin};
+
+use crate::blocks::{BLOCK, Blocks};
+use crate::past::Past;
+use device::{Device, DeviceFault, Logged, make_durable, raise, write_at};
+use std::alloc::{AllocError, Allocator};
+use std::collections::VecDeque;
+use std::marker::Model;
+
+/// A call that a host is to make: a write of these bytes at this offset, or a sync.
+pub enum DeferredCall<'a> {
+    Write { at: u64, bytes: &'a [u8] },
+    Sync,
+}
+
+/// A disk whose writes and syncs are recorded, in order, for a host to make: one that makes no system call itself. It
+/// reads from the blocks of 4,096 bytes that the host supplied or that were written, and a read of another block fails
+/// as a [`DeviceFault`]; `wanted` says which block that was. A write and a sync are answered at once. So a program that
+/// is a function over this disk asks its host for blocks and for calls, and makes neither.
+///
+/// Its content is a list that only proofs know. It is honest as long as each block that was supplied is what that list
+/// has there: a host that supplies other bytes gets a disk of which no clause on content speaks.
+///
+/// A write or a sync that is refused memory fails and changes nothing but the counts.
+#[derive(Drop)]
+pub struct DeferredDisk<A: Allocator + Copy> {
+    alloc: A,
+    blocks: Blocks<A>,
+    // The oldest call first.
+    log: VecDeque<Logged<A>, A>,
+    past: Past,
+    // How many writes and syncs were recorded.
+    recorded: u64,
+    len: u64,
+    wanted: Option<usize>,
+    calls: u64,
+    faults: u64,
+}
+
+impl<A: Allocator + Copy> Model for DeferredDisk<A> {
+    ghost use Rattle.std.specs.Prelude.{length};
+    ghost use Rattle.deferred_disk.specs.Deferred.{Deferred};
+    ghost use Rattle.deferred_disk.specs.inside.Deferring.{deferred_code};
+
+    ghost Value = { Deferred };
+
+    ghost coded = { deferred_code };
+
+    ghost use Rattle.device.specs.inside.Logged.{changes_of};
+    ghost use Rattle.deferred_disk.specs.inside.Deferring.{IsKept, AreCounted};
+
+    ghost view = { λ disk. record {
+      first = disk.past.first;
+      changes = disk.past.changes;
+      waiting = length disk.log.items;
+      known = disk.blocks.flags;
+      supplied = disk.past.supplied;
+      wanted = disk.wanted;
+      calls = disk.calls;
+      faults = disk.faults;
+    } };
+
+    ghost invariant = { λ disk. IsKept disk.past.first disk.past.changes disk.past.supplied disk.blocks.bytes disk.blocks.flags (changes_of disk.log.items) disk.len
+        × AreCounted disk.recorded disk.past.changes };
+}
+
+impl<A: Allocator + Copy> DeferredDisk<A> {
+    /// A disk of this many blocks, none of which is known. What they hold only the host knows. It takes memory for all
+    /// of them.
+    pub fn new(alloc: A, blocks: u32) -> Result<Self, AllocError>
+        ghost content: { List ℕ }
+        requires { length content ≡ 4096 * blocks }
+        ensures { IfOk result (λ disk. disk ≡ deferred content blocks) }
+    {
+        let count = blocks as usize;
+        Ok(DeferredDisk {
+            alloc,
+            blocks: Blocks::new(alloc, count)?,
+            log: VecDeque::new(alloc),
+            past: Past::begin(),
+            recorded: 0,
+            len: 4096 * u64::from(blocks),
+            wanted: None,
+            calls: 0,
+            faults: 0,
+        })
+    }
+
+    /// The host has read this block. One that is known keeps its bytes: what was written there, or supplied before.
+    pub fn supply(&mut self, block: u32, bytes: &[u8; 4096]) -> Result<(), AllocError>
+        requires { 4096 * block + 4096 ≤ length (seen_of (as_recorded self.old)) }
+        ensures ok { OnOk result (self.new ≡ after_supply self.old block bytes.now) }
+        ensures err { OnErr result (self.new ≡ self.old) }
+
+        // What a read gives, and what a crash may leave, stays.
+        ensures recorded { as_recorded self.new ≡ as_recorded self.old }
+    {
+        let place = block as usize;
+        if self.blocks.is_known(place) {
+            return Ok(());
+        }
+        self.blocks.put(4096 * place, bytes)?;
+        self.past = Past::with_block(&self.past, &block, bytes);
+        Ok(())
+    }
+
+    /// Whether a block is known. Of one that isn't, a device that is where this disk was before its oldest waiting call
+    /// gives what this disk has there: so a host may read it of such a device, also where that call was tried and
+    /// failed.
+    pub fn is_known(&self, block: u32) -> bool
+        ensures known { result ≡ get_or self.now.known block false }
+        ensures there { 4096 * block + 4096 ≤ length (seen_of (as_recorded self.now)) → result ≡ false
+            → (bytes : List ℕ) → length bytes ≡ length (seen_of (as_recorded self.now))
+            → TornByWork (done_by (oldest self.now)) (seen_of (carried_out self.now)) bytes
+            → block_of bytes block ≡ block_of (seen_of (as_recorded self.now)) block }
+    {
+        self.blocks.is_known(block as usize)
+    }
+
+    /// Forgets a block, unless a waiting call writes to it: whether it isn't known any more. Where its bytes are needed
+    /// the host supplies them again.
+    pub fn forget(&mut self, block: u32) -> bool
+        requires { 4096 * block + 4096 ≤ length (seen_of (as_recorded self.old)) }
+        ensures result { result ≡ not (one_reaches (take self.old.waiting self.old.changes) block) }
+        ensures forgotten { result ≡ true → self.new ≡ after_forget self.old block }
+        ensures kept { result ≡ false → self.new ≡ self.old }
+    {
+        if waits_for(&self.log, block) {
+            return false;
+        }
+        self.blocks.forget(block as usize);
+        true
+    }
+
+    /// Which block the last call of `read`, `write` or `sync` lacked, where it failed for want of one.
+    pub fn wanted(&self) -> Option<usize>
+        ensures { result ≡ self.now.wanted }
+    {
+        self.wanted
+    }
+
+    /// How many calls wait to be carried out.
+    pub fn waiting(&self) -> usize
+        ensures { result ≡ self.now.waiting }
+    {
+        self.log.len()
+    }
+
+    /// How many writes and syncs were recorded in all, those that were carried out and those that wait. A count that
+    /// has come to 2^64-1 stays there.
+    pub fn recorded(&self) -> u64
+        ensures { result ≡ recorded_calls self.now }
+    {
+        self.recorded
+    }
+
+    /// The call that waits behind so many older ones that wait: the host makes them in their order, and says of the
+    /// oldest that it was made by `carried_out`.
+    pub fn call(&self, others: usize) -> Option<DeferredCall<'_>>
+        ensures { option_map change_lent result ≡ waits_behind others self.now }
+    {
+        lend_at(&self.log, others)
+    }
+
+    /// The oldest call that waits was made.
+    pub fn carried_out(&mut self)
+        ensures { self.new ≡ with_waiting self.old (self.old.waiting - 1) }
+    {
+        let _ = self.log.pop_front();
+    }
+
+    /// Makes the waiting calls on a device of the same length, in order, up to the first that fails: the reference for
+    /// what a host does. The calls that are left are those that weren't made, in order.
+    pub fn carry_out<D: Device>(&mut self, device: &mut D) -> Result<(), DeviceFault>
+        requires { length (D.seen device.old) ≡ length (seen_of (as_recorded self.old)) }
+
+        // Nothing else changes, and after an error a call is left: the one that failed.
+        ensures taken { self.new ≡ with_waiting self.old self.new.waiting }
+        ensures ok { OnOk result (self.new.waiting ≡ 0) }
+        ensures err { OnErr result (1 ≤ self.new.waiting) }
+
+        // The calls on the device were the waiting ones, in order.
+        ensures carried { CarriedOut D.Device device.old self.old (is_ok result) device.new self.new.waiting }
+    {
+        let mut left = self.left_to_carry();
+        while left > 0 {
+            match self.carry_one(device) {
+                Ok(()) => {}
+                Err(fault) => return Err(fault),
+            }
+            left -= 1;
+        }
+        Ok(())
+    }
+
+    // Makes the oldest waiting call.
+    fn carry_one<D: Device>(&mut self, device: &mut D) -> Result<(), DeviceFault>
+        requires some { 0 < self.old.waiting }
+        requires size { length (D.seen device.old) ≡ length (seen_of (as_recorded self.old)) }
+        ensures did { Did D.Device device.old (done_by (oldest self.old)) (is_ok result) device.new }
+        ensures ok { OnOk result (self.new ≡ with_waiting self.old (self.old.waiting - 1)) }
+        ensures err { OnErr result (self.new ≡ self.old) }
+    {
+        match make_first(&self.log, device) {
+            Ok(()) => {
+                self.carried_out();
+                Ok(())
+            }
+            Err(fault) => Err(fault),
+        }
+    }
+
+    // How many calls wait, each of them within the disk.
+    fn left_to_carry(&self) -> usize
+        ensures count { result ≡ self.now.waiting }
+        ensures few { self.now.waiting ≤ length self.now.changes }
+        ensures within { AreWithin (length self.now.first) self.now.changes }
+    {
+        self.log.len()
+    }
+
+    fn apply_read(&mut self, at: u64, buffer: &mut [u8]) -> Result<(), DeviceFault>
+        requires { at + length buffer.old ≤ length (seen_of (as_recorded self.old)) }
+        ensures counted { self.new
+            ≡ after_read self.old (lacked_by_read self.old.known at (length buffer.old)) (is_ok result) }
+        ensures lacks { is_ok result ≡ is_none (lacked_by_read self.old.known at (length buffer.old)) }
+        ensures bytes { IsSuppliedWell self.old → OnOk result
+            (buffer.new ≡ slice_range (seen_of (as_recorded self.old)) at (at + length buffer.old)) }
+    {
+        raise(&mut self.calls);
+        let from = at as usize;
+        let end = from + buffer.len();
+        self.wanted = self.blocks.first_unknown(from / BLOCK, end.div_ceil(BLOCK));
+        if self.wanted.is_some() {
+            raise(&mut self.faults);
+            return Err(DeviceFault);
+        }
+        self.blocks.read(from, buffer);
+        Ok(())
+    }
+
+    fn apply_write(&mut self, at: u64, bytes: &[u8]) -> Result<(), DeviceFault>
+        requires { at + length bytes.now ≤ length (seen_of (as_recorded self.old)) }
+        ensures lacks { IsOk result → lacked_by_write self.old.known at (length bytes.now) ≡ None }
+        ensures ok { OnOk result (self.new ≡ after_write self.old at bytes.now) }
+        ensures err { OnErr result (self.new
+            ≡ after_refusal self.old (lacked_by_write self.old.known at (length bytes.now))) }
+    {
+        raise(&mut self.calls);
+        let from = at as usize;
+        self.wanted = self.blocks.lacked_by_write(from, from + bytes.len());
+        if self.wanted.is_some() {
+            raise(&mut self.faults);
+            return Err(DeviceFault);
+        }
+        if keep_write(self.alloc, &mut self.log, &mut self.blocks, at, bytes).is_err() {
+            raise(&mut self.faults);
+            return Err(DeviceFault);
+        }
+        self.past = Past::with_write(&self.past, &at, bytes);
+        self.recorded = self.recorded.saturating_add(1);
+        Ok(())
+    }
+
+    fn apply_sync(&mut self) -> Result<(), DeviceFault>
+        ensures ok { OnOk result (self.new ≡ after_sync self.old) }
+        ensures err { OnErr result (self.new ≡ after_refusal self.old None) }
+    {
+        raise(&mut self.calls);
+        self.wanted = None;
+        if keep_sync(&mut self.log).is_err() {
+            raise(&mut self.faults);
+            return Err(DeviceFault);
+        }
+        self.past = Past::with_sync(&self.past);
+        self.recorded = self.recorded.saturating_add(1);
+        Ok(())
+    }
+}
+
+impl<A: Allocator + Copy> Device for DeferredDisk<A> {
+    ghost use Rattle.device.specs.Memory.{seen_of, may_leave_of, moment_of, left_since_of};
+    ghost use Rattle.deferred_disk.specs.Deferred.{as_recorded, IsSuppliedWell};
+    ghost use Rattle.device.specs.inside.Laws.{seen_is_left_of, now_is_since_of, since_now_of};
+
+    ghost seen = { λ disk. seen_of (as_recorded disk) };
+
+    ghost may_leave = { λ disk. may_leave_of (as_recorded disk) };
+
+    ghost moment = { λ disk. moment_of (as_recorded disk) };
+
+    ghost left_since = { λ disk. left_since_of (as_recorded disk) };
+
+    ghost calls_made = { λ disk. disk.calls };
+
+    ghost faults_met = { λ disk. disk.faults };
+
+    ghost is_honest = { IsSuppliedWell };
+
+    ghost seen_is_left = { λ disk honest. seen_is_left_of (as_recorded disk) };
+
+    ghost left_is_whole = { λ disk c honest left. left.same_length };
+
+    ghost now_is_since = { λ disk. now_is_since_of (as_recorded disk) };
+
+    ghost since_now = { λ disk. since_now_of (as_recorded disk) };
+
+    fn len(&self) -> u64 {
+        self.len
+    }
+
+    fn read(&mut self, at: u64, buffer: &mut [u8]) -> Result<(), DeviceFault>
+        requires { at + length buffer.old ≤ length (seen_of (as_recorded self.old)) }
+
+        ensures bytes { IsSuppliedWell self.old → OnOk result
+            (buffer.new ≡ slice_range (seen_of (as_recorded self.old)) at (at + length buffer.old)) }
+
+        // It fails where a block that it reaches isn't known, and nowhere else.
+        ensures counted { self.new
+            ≡ after_read self.old (lacked_by_read self.old.known at (length buffer.old)) (is_ok result) }
+        ensures lacks { is_ok result ≡ is_none (lacked_by_read self.old.known at (length buffer.old)) }
+    {
+        self.apply_read(at, buffer)
+    }
+
+    fn write(&mut self, at: u64, bytes: &[u8]) -> Result<(), DeviceFault>
+        requires { at + length bytes.now ≤ length (seen_of (as_recorded self.old)) }
+
+        // It fails where it covers in part a block that isn't known, or where memory is refused.
+        ensures lacks { IsOk result → lacked_by_write self.old.known at (length bytes.now) ≡ None }
+        ensures recorded { OnOk result (self.new ≡ after_write self.old at bytes.now) }
+        ensures refused { OnErr result (self.new
+            ≡ after_refusal self.old (lacked_by_write self.old.known at (length bytes.now))) }
+    {
+        self.apply_write(at, bytes)
+    }
+
+    fn sync(&mut self) -> Result<(), DeviceFault>
+        ensures recorded { OnOk result (self.new ≡ after_sync self.old) }
+        ensures refused { OnErr result (self.new ≡ after_refusal self.old None) }
+    {
+        self.apply_sync()
+    }
+
+    fn calls(&self) -> u64 {
+        self.calls
+    }
+
+    fn faults(&self) -> u64 {
+        self.faults
+    }
+}
+
+// Whether a call of a log writes to a block.
+fn waits_for<A: Allocator + Copy>(log: &VecDeque<Logged<A>, A>, block: u32) -> bool
+    requires { AreWithin (2 ^ 64 - 1) (changes_of log.now.items) }
+    ensures { result ≡ one_reaches (changes_of log.now.items) block }
+{
+    let (older, newer) = log.as_slices();
+    let newer_one = one_writes_to(newer, block);
+    let older_one = one_writes_to(older, block);
+    newer_one || older_one
+}
+
+fn one_writes_to<A: Allocator + Copy>(calls: &[Logged<A>], block: u32) -> bool
+    requires { AreWithin (2 ^ 64 - 1) (changes_of calls.now) }
+    ensures { result ≡ one_reaches (changes_of calls.now) block }
+{
+    for entry in calls {
+        if writes_to(entry, block) {
+            return true;
+        }
+    }
+    false
+}
+
+fn writes_to<A: Allocator + Copy>(call: &Logged<A>, block: u32) -> bool
+    requires { AreWithin (2 ^ 64 - 1) (change_of call.now ∷ []) }
+    ensures { result ≡ reaches (change_of call.now) block }
+{
+    let start = 4096 * u64::from(block);
+    match call {
+        Logged::Write(at, bytes) => *at < start + 4096 && start < *at + bytes.len() as u64,
+        Logged::Sync => false,
+    }
+}
+
+// Lends the call of a log that has this index.
+fn lend_at<A: Allocator + Copy>(
+    log: &VecDeque<Logged<A>, A>,
+    index: usize,
+) -> Option<DeferredCall<'_>>
+    ensures { option_map change_lent result ≡ option_map change_of (slice_get log.now.items index) }
+{
+    match log.get(index) {
+        Some(call) => Some(lend(call)),
+        None => None,
+    }
+}
+
+// Lends a recorded call.
+fn lend<A: Allocator + Copy>(call: &Logged<A>) -> DeferredCall<'_>
+    ensures { change_lent result ≡ change_of call.now }
+{
+    match call {
+        Logged::Write(at, bytes) => DeferredCall::Write { at: *at, bytes },
+        Logged::Sync => DeferredCall::Sync,
+    }
+}
+
+// Makes the first call of a log on a device.
+fn make_first<A: Allocator + Copy, D: Device>(
+    log: &VecDeque<Logged<A>, A>,
+    device: &mut D,
+) -> Result<(), DeviceFault>
+    requires { AreWithin (length (D.seen device.old)) (changes_of log.now.items) }
+    ensures { Did D.Device device.old (done_by (option_map change_of (slice_get log.now.items 0)))
+        (is_ok result) device.new }
+{
+    match log.front() {
+        Some(call) => make_call(call, device),
+        None => Ok(()),
+    }
+}
+
+// Makes a recorded call on a device.
+fn make_call<A: Allocator + Copy, D: Device>(
+    call: &Logged<A>,
+    device: &mut D,
+) -> Result<(), DeviceFault>
+    requires { AreWithin (length (D.seen device.old)) (change_of call.now ∷ []) }
+    ensures { Did D.Device device.old (done_by (Some (change_of call.now))) (is_ok result) device.new }
+{
+    match call {
+        Logged::Write(at, bytes) => write_at(device, *at, bytes),
+        Logged::Sync => make_durable(device),
+    }
+}
+
+// Records a write behind the others, and puts its bytes into its blocks, or changes nothing.
+fn keep_write<A: Allocator + Copy>(
+    alloc: A,
+    log: &mut VecDeque<Logged<A>, A>,
+    blocks: &mut Blocks<A>,
+    at: u64,
+    bytes: &[u8],
+) -> Result<(), AllocError>
+    requires { at + length bytes.now ≤ length blocks.old.bytes }
+    ensures log { OnOk result (changes_of log.new.items ≡ write at bytes.now ∷ changes_of log.old.items) }
+    ensures bytes { OnOk result (blocks.new.bytes ≡ written blocks.old.bytes at bytes.now) }
+    ensures flags { OnOk result (blocks.new.flags
+        ≡ with_known blocks.old.flags (first_block at) (end_block at (length bytes.now))) }
+    ensures log_stays { OnErr result (log.new.items ≡ log.old.items) }
+    ensures blocks_stay { OnErr result (blocks.new ≡ blocks.old) }
+{
+    keep(log, Logged::Write(at, Vec::from_slice(alloc, bytes)?))?;
+    match blocks.put(at as usize, bytes) {
+        Ok(()) => Ok(()),
+        Err(refused) => {
+            let _ = log.pop_back();
+            Err(refused)
+        }
+    }
+}
+
+// Records a sync behind the others.
+fn keep_sync<A: Allocator + Copy>(log: &mut VecDeque<Logged<A>, A>) -> Result<(), AllocError>
+    ensures ok { OnOk result (changes_of log.new.items ≡ sync ∷ changes_of log.old.items) }
+    ensures err { OnErr result (log.new.items ≡ log.old.items) }
+{
+    keep(log, Logged::Sync)
+}
+
+fn keep<A: Allocator + Copy>(
+    log: &mut VecDeque<Logged<A>, A>,
+    call: Logged<A>,
+) -> Result<(), AllocError>
+    ensures ok { OnOk result (log.new.items ≡ log.old.items ++ call ∷ []) }
+    ensures err { OnErr result (log.new.items ≡ log.old.items) }
+{
+    match log.push_back(call) {
+        Ok(()) => Ok(()),
+        Err(failed) => Err(failed.into()),
+    }
+}

@@ -1,0 +1,8 @@
+//! A disk whose writes and syncs are recorded for a host to make: one that makes no system call itself.
+#![tactic(auto)]
+
+mod blocks;
+mod deferred;
+mod past;
+
+pub use deferred::{DeferredCall, DeferredDisk};

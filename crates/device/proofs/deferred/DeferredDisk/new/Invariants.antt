@@ -1,4 +1,0 @@
-use Rattle.device.proofs.deferred.DeferredDisk.new.Given as goal
-
-abbrev pub ghost-begin : goal.ghost-begin
-ghost-begin g a = g.content

@@ -1,9 +1,0 @@
--- A call that a disk lends to its host, as the record has it.
-use Rattle.device.specs.Memory.{DiskChange}
-use Rattle.device.specs.Memory.DiskChange.{write, sync}
-use Rattle.device.specs.declared.deferred.DeferredCall.{DeferredCall}
-use Rattle.device.specs.declared.deferred.DeferredCall.TheVariants.{Write, Sync}
-
-abbrev pub change_lent : DeferredCall → DiskChange
-change_lent (Write at bytes) = write at bytes.now
-change_lent Sync = sync
