@@ -1,20 +1,20 @@
 -- What each call of a disk of deferred calls keeps.
 use Rattle.std.proofs.Common.{◌≡◌, ◌<◌, ◌≤◌, ◌⊎◌, inl, inr, ⊎_elim, ℕ, zero, suc, ◌+◌, ◌-◌, ◌*◌, ◌/◌}
-use Rattle.std.proofs.Common.{Bool, true, false, List, [], ◌∷◌, ◌++◌, length, get_or, append_assoc}
+use Rattle.std.proofs.Common.{Bool, true, false, List, [], ◌∷◌, ◌++◌, length, get_or}
 use Rattle.std.proofs.Common.{length-append, length-drop, length-take, take, drop, replicate, set, Option}
 use Rattle.std.proofs.Common.{Some, None, refl, sym, ◌∙◌, ap, subst, arith, Result, Ok, Err, OnOk, OnErr}
 use Rattle.std.proofs.lemmas.Bool.{cases_lt}
 use Rattle.std.proofs.lemmas.Bool.Decides.{nat_tests}
-use Rattle.std.proofs.lemmas.List.{append-nil, ext_get_or, get_or-take, get_or-drop, get_or_append_left}
-use Rattle.std.proofs.lemmas.List.{get_or-append_right, get_or-replicate, get_or-set_same, get_or-set_other}
+use Rattle.std.proofs.lemmas.List.{ext_get_or}
+use Rattle.std.proofs.lemmas.List.{get_or-replicate, get_or-set_same, get_or-set_other}
 use Rattle.std.proofs.lemmas.List.{length-set, length-replicate, take_at, take-take, take-append-drop}
 use Rattle.std.specs.Prelude.{slice_get, slice_range, option_map, is_some, nat_lt, ◌&&◌, ◌||◌, if◌then◌else◌}
 use Rattle.std.specs.Int.{div_ceil}
-use Rattle.device.specs.Device.{written, LeavesOnly}
+use Rattle.device.specs.Device.{written}
 use Rattle.device.specs.Memory as memory
 use Rattle.device.specs.Memory.{DiskChange, content_after, moment_of, left_since_of}
 use Rattle.device.specs.Memory.DiskChange.{write, sync}
-use Rattle.deferred_disk.specs.Deferred.{Deferred, as_recorded, after_write, after_sync, after_refusal, reaches}
+use Rattle.deferred_disk.specs.Deferred.{Deferred, as_recorded, reaches}
 use Rattle.deferred_disk.specs.Deferred.{one_reaches, block_of, made_before, done_by, first_unknown, with_known}
 use Rattle.deferred_disk.specs.Deferred.{first_block, end_block, lacked_by_read, lacked_by_write, or_else}
 use Rattle.device.specs.Work.{TornByWork}

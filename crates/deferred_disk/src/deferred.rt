@@ -111,7 +111,7 @@ impl<A: Allocator + Copy> DeferredDisk<A> {
             return Ok(());
         }
         self.blocks.put(4096 * place, bytes)?;
-        self.past = Past::with_block(&self.past, &block, bytes);
+        self.past = Past::with_block(&self.past, block, bytes);
         Ok(())
     }
 

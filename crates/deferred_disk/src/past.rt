@@ -23,46 +23,45 @@ impl Model for Past {
 }
 
 impl Past {
-    // A past with these parts.
-    fn holding() -> Past
+    pub(crate) fn begin() -> Past
+        ghost content: { List ℕ }
+        ensures { (result.first ≡ content) × (result.changes ≡ []) × (result.supplied ≡ []) }
+    {
+        Past {}
+    }
+
+    // A past with these parts, which the caller picks from the arguments.
+    fn holding(_before: &Past, _number: &u64, _bytes: &[u8]) -> Past
         ghost held: { List ℕ × (List DiskChange × List (List ℕ × List ℕ)) }
         ensures { (result.first ≡ held.0) × (result.changes ≡ held.1.0) × (result.supplied ≡ held.1.1) }
     {
         Past {}
     }
 
-    pub(crate) fn begin() -> Past
-        ghost content: { List ℕ }
-        ensures { (result.first ≡ content) × (result.changes ≡ []) × (result.supplied ≡ []) }
+    pub(crate) fn with_write(before: &Past, at: &u64, bytes: &[u8]) -> Past
+        ensures { (result.first ≡ before.now.first)
+            × (result.changes ≡ write at.now bytes.now ∷ before.now.changes)
+            × (result.supplied ≡ before.now.supplied) }
     {
-        Past::holding()
+        Past::holding(before, at, bytes)
     }
 
-    pub(crate) fn with_write(_before: &Past, _at: &u64, _bytes: &[u8]) -> Past
-        ensures { (result.first ≡ _before.now.first)
-            × (result.changes ≡ write _at.now _bytes.now ∷ _before.now.changes)
-            × (result.supplied ≡ _before.now.supplied) }
+    pub(crate) fn with_sync(before: &Past) -> Past
+        ensures { (result.first ≡ before.now.first)
+            × (result.changes ≡ sync ∷ before.now.changes)
+            × (result.supplied ≡ before.now.supplied) }
     {
-        Past::holding()
+        Past::holding(before, &0, &[])
     }
 
-    pub(crate) fn with_sync(_before: &Past) -> Past
-        ensures { (result.first ≡ _before.now.first)
-            × (result.changes ≡ sync ∷ _before.now.changes)
-            × (result.supplied ≡ _before.now.supplied) }
-    {
-        Past::holding()
-    }
-
-    pub(crate) fn with_block(_before: &Past, _block: &u32, _bytes: &[u8]) -> Past
-        ensures { (result.first ≡ _before.now.first)
-            × (result.changes ≡ _before.now.changes)
+    pub(crate) fn with_block(before: &Past, block: u32, bytes: &[u8]) -> Past
+        ensures { (result.first ≡ before.now.first)
+            × (result.changes ≡ before.now.changes)
             × (result.supplied ≡ (
-              _bytes.now,
-              slice_range (content_after _before.now.first _before.now.changes)
-                  (4096 * _block.now) (4096 * _block.now + 4096),
-            ) ∷ _before.now.supplied) }
+              bytes.now,
+              slice_range (content_after before.now.first before.now.changes) (4096 * block) (4096 * block + 4096),
+            ) ∷ before.now.supplied) }
     {
-        Past::holding()
+        Past::holding(before, &u64::from(block), bytes)
     }
 }

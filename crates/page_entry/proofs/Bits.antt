@@ -42,23 +42,46 @@ scaled : (f : ℕ) (w a d : Bool)
     → bits f w a d ≡ 5 + flag_weight w 1 * 2 + flag_weight a 1 * 32 + flag_weight d 1 * 64 + f * 4096
 scaled f w a d = omega (arith, flag_scaled w 2, flag_scaled a 32, flag_scaled d 64)
 
-has_writable : (f : ℕ) (w a d : Bool) → has_bit (bits f w a d) 1 ≡ w
-has_writable f w a d =
-    ap (λ x. x == 1) (let e : bits f w a d / 2 % 2 ≡ flag_weight w 1 =
-    omega (arith, scaled f w a d, flag_small w, flag_small a, flag_small d) in e)
-    ∙ flag_test w
+-- the flags of an entry: which bit each is, what it says, and the entry with it set or clear
+pub data Flag : Type 0 where
+  Writable : Flag
+  Accessed : Flag
+  Dirty : Flag
 
-has_accessed : (f : ℕ) (w a d : Bool) → has_bit (bits f w a d) 5 ≡ a
-has_accessed f w a d =
-    ap (λ x. x == 1) (let e : bits f w a d / 32 % 2 ≡ flag_weight a 1 =
-    omega (arith, scaled f w a d, flag_small w, flag_small a, flag_small d) in e)
-    ∙ flag_test a
+abbrev pub bit_of : Flag → ℕ
+bit_of Writable = 1
+bit_of Accessed = 5
+bit_of Dirty = 6
 
-has_dirty : (f : ℕ) (w a d : Bool) → has_bit (bits f w a d) 6 ≡ d
-has_dirty f w a d =
-    ap (λ x. x == 1) (let e : bits f w a d / 64 % 2 ≡ flag_weight d 1 =
-    omega (arith, scaled f w a d, flag_small w, flag_small a, flag_small d) in e)
-    ∙ flag_test d
+abbrev said_by : Flag → Mapped → Bool
+said_by Writable m = m.writable
+said_by Accessed m = m.accessed
+said_by Dirty m = m.dirty
+
+abbrev pub with_flag : Flag → Option Mapped → Bool → Option Mapped
+with_flag Writable e b = with_writable_of e b
+with_flag Accessed e b = with_accessed_of e b
+with_flag Dirty e b = with_dirty_of e b
+
+-- the bits with another value of a flag, as a sum
+module _ (m : Mapped) where
+  sums : bits_of (Some m)
+      ≡ 5 + flag_weight m.writable 1 * 2 + flag_weight m.accessed 1 * 32 + flag_weight m.dirty 1 * 64 + m.frame * 4096
+  sums = scaled m.frame m.writable m.accessed m.dirty
+
+  at_bit : (flag : Flag) → bits_of (Some m) / 2 ^ bit_of flag % 2 ≡ flag_weight (said_by flag m) 1
+  at_bit Writable = omega (arith, sums, flag_small m.writable, flag_small m.accessed, flag_small m.dirty)
+  at_bit Accessed = omega (arith, sums, flag_small m.writable, flag_small m.accessed, flag_small m.dirty)
+  at_bit Dirty = omega (arith, sums, flag_small m.writable, flag_small m.accessed, flag_small m.dirty)
+
+  has_flag : (flag : Flag) → has_bit (bits_of (Some m)) (bit_of flag) ≡ said_by flag m
+  has_flag flag = ap (λ x. x == 1) (at_bit flag) ∙ flag_test (said_by flag m)
+
+  replaced : (flag : Flag) (b : Bool) → bits_of (with_flag flag (Some m) b)
+      + flag_weight (said_by flag m) 1 * 2 ^ bit_of flag ≡ bits_of (Some m) + flag_weight b 1 * 2 ^ bit_of flag
+  replaced Writable b = omega (arith, sums, scaled m.frame b m.accessed m.dirty)
+  replaced Accessed b = omega (arith, sums, scaled m.frame m.writable b m.dirty)
+  replaced Dirty b = omega (arith, sums, scaled m.frame m.writable m.accessed b)
 
 has_present : (f : ℕ) (w a d : Bool) → has_bit (bits f w a d) 0 ≡ true
 has_present f w a d = ap (λ x. x == 1) (let e : bits f w a d / 1 % 2 ≡ 1 =
@@ -74,7 +97,11 @@ small_bits f w a d small = omega (arith, scaled f w a d, flag_small w, flag_smal
 again : (f : ℕ) (w a d : Bool)
     → entry_of (bits f w a d) ≡ Some (record { frame = f; writable = w; accessed = a; dirty = d })
 again f w a d =
-    rw (has_present f w a d, has_frame f w a d, has_writable f w a d, has_accessed f w a d, has_dirty f w a d) refl
+    let m : Mapped = record { frame = f; writable = w; accessed = a; dirty = d } in
+    let has_writable : has_bit (bits f w a d) 1 ≡ w = has_flag m Writable in
+    let has_accessed : has_bit (bits f w a d) 5 ≡ a = has_flag m Accessed in
+    let has_dirty : has_bit (bits f w a d) 6 ≡ d = has_flag m Dirty in
+    rw (has_present f w a d, has_frame f w a d, has_writable, has_accessed, has_dirty) refl
 
 -- an entry with a frame of 32 bits
 abbrev pub IsSmall : Option Mapped → Type 0
@@ -100,80 +127,62 @@ small_entry (Some m) n same s =
 pub IsSmall-entry_of : (n : ℕ) → IsEntry n → IsSmall (entry_of n)
 IsSmall-entry_of n is = small_entry (entry_of n) n is.named is.small
 
--- what a test of one bit says
-one_bit : (n k : ℕ) (b : Bool) → n / 2 ^ k % 2 ≡ flag_weight b 1 → (flag_weight b 1 * 2 ^ k == 2 ^ k) ≡ b
-    → (bit_and n (2 ^ k) == 2 ^ k) ≡ b
-one_bit n k b at weighed = ap (λ x. x == 2 ^ k) (and_pow n k ∙ ap (λ x. x * 2 ^ k) at) ∙ weighed
+-- a bit as a number is one where its weight is the weight of a set bit
+weighed : (bit : ℕ) (weight : ℕ) → bit < 2 → 0 < weight → (bit * weight == weight) ≡ (bit == 1)
+weighed zero weight less some = grind (arith, nat_tests)
+weighed (suc zero) weight less some = grind (arith, nat_tests)
+weighed (suc (suc bit)) weight less some = absurd (omega arith)
 
+-- what a test of one bit says of any number
+pub test_bit : (n k : ℕ) → 0 < 2 ^ k → (bit_and n (2 ^ k) == 2 ^ k) ≡ has_bit n k
+test_bit n k some = ap (λ x. x == 2 ^ k) (and_pow n k) ∙ weighed (n / 2 ^ k % 2) (2 ^ k) (omega arith) some
+
+-- and of the bits of an entry
 pub test_writable : (e : Option Mapped) → (bit_and (bits_of e) 2 == 2) ≡ is_writable e
 test_writable None = refl
-test_writable (Some m) = let f = m.frame in let w = m.writable in let a = m.accessed in let d = m.dirty in
-    one_bit (bits f w a d) 1 w (omega (arith, scaled f w a d, flag_small w, flag_small a, flag_small d))
-    (elim w as (λ b. (flag_weight b 1 * 2 == 2) ≡ b) [ true ↦ refl | false ↦ refl ])
+test_writable (Some m) = test_bit (bits_of (Some m)) 1 (omega arith) ∙ has_flag m Writable
 
 pub test_accessed : (e : Option Mapped) → (bit_and (bits_of e) 32 == 32) ≡ is_accessed e
 test_accessed None = refl
-test_accessed (Some m) = let f = m.frame in let w = m.writable in let a = m.accessed in let d = m.dirty in
-    one_bit (bits f w a d) 5 a (omega (arith, scaled f w a d, flag_small w, flag_small a, flag_small d))
-    (elim a as (λ b. (flag_weight b 1 * 32 == 32) ≡ b) [ true ↦ refl | false ↦ refl ])
+test_accessed (Some m) = test_bit (bits_of (Some m)) 5 (omega arith) ∙ has_flag m Accessed
 
 pub test_dirty : (e : Option Mapped) → (bit_and (bits_of e) 64 == 64) ≡ is_dirty e
 test_dirty None = refl
-test_dirty (Some m) = let f = m.frame in let w = m.writable in let a = m.accessed in let d = m.dirty in
-    one_bit (bits f w a d) 6 d (omega (arith, scaled f w a d, flag_small w, flag_small a, flag_small d))
-    (elim d as (λ b. (flag_weight b 1 * 64 == 64) ≡ b) [ true ↦ refl | false ↦ refl ])
+test_dirty (Some m) = test_bit (bits_of (Some m)) 6 (omega arith) ∙ has_flag m Dirty
 
 -- the bits with some of them set or cleared
 abbrev pub after_set : ℕ → ℕ → Bool → ℕ
 after_set n mask set = if set then bit_or n mask else without 64 n mask
 
-pub set_writable : (e : Option Mapped) (b : Bool) → IsSmall e → is_some e ≡ true
-    → after_set (bits_of e) 2 b ≡ bits_of (with_writable_of e b)
-set_writable None b s h = cc
-set_writable (Some m) true s h = let f = m.frame in let w = m.writable in let a = m.accessed in let d = m.dirty in
-    omega (arith, or_bit (bits f w a d) 1, scaled f w a d, scaled f true a d, flag_small w, flag_small a, flag_small d)
-set_writable (Some m) false s h = let f = m.frame in let w = m.writable in let a = m.accessed in let d = m.dirty in
-    omega (
-      arith,
-      clear_bit (bits f w a d) 1 (small_bits f w a d s) (omega arith),
-      scaled f w a d,
-      scaled f false a d,
-      flag_small w,
-      flag_small a,
-      flag_small d,
-    )
+-- one bit that is set or cleared takes the place of what it was
+set_one : (n m k : ℕ) (was b : Bool) → n < 2 ^ 64 → 2 ^ k < 2 ^ 64 → n / 2 ^ k % 2 ≡ flag_weight was 1
+    → m + flag_weight was 1 * 2 ^ k ≡ n + flag_weight b 1 * 2 ^ k → after_set n (2 ^ k) b ≡ m
+set_one n m k was true small weight at same =
+    let scale : n / 2 ^ k % 2 * 2 ^ k ≡ flag_weight was 1 * 2 ^ k = ap (λ x. x * 2 ^ k) at in
+    omega (arith, or_bit n k, scale, same)
+set_one n m k was false small weight at same =
+    let scale : n / 2 ^ k % 2 * 2 ^ k ≡ flag_weight was 1 * 2 ^ k = ap (λ x. x * 2 ^ k) at in
+    omega (arith, clear_bit n k small weight, scale, same)
 
-pub set_accessed : (e : Option Mapped) (b : Bool) → IsSmall e → is_some e ≡ true
-    → after_set (bits_of e) 32 b ≡ bits_of (with_accessed_of e b)
-set_accessed None b s h = cc
-set_accessed (Some m) true s h = let f = m.frame in let w = m.writable in let a = m.accessed in let d = m.dirty in
-    omega (arith, or_bit (bits f w a d) 5, scaled f w a d, scaled f w true d, flag_small w, flag_small a, flag_small d)
-set_accessed (Some m) false s h = let f = m.frame in let w = m.writable in let a = m.accessed in let d = m.dirty in
-    omega (
-      arith,
-      clear_bit (bits f w a d) 5 (small_bits f w a d s) (omega arith),
-      scaled f w a d,
-      scaled f w false d,
-      flag_small w,
-      flag_small a,
-      flag_small d,
-    )
+light : (flag : Flag) → 2 ^ bit_of flag < 2 ^ 64
+light Writable = omega arith
+light Accessed = omega arith
+light Dirty = omega arith
 
-pub set_dirty : (e : Option Mapped) (b : Bool) → IsSmall e → is_some e ≡ true
-    → after_set (bits_of e) 64 b ≡ bits_of (with_dirty_of e b)
-set_dirty None b s h = cc
-set_dirty (Some m) true s h = let f = m.frame in let w = m.writable in let a = m.accessed in let d = m.dirty in
-    omega (arith, or_bit (bits f w a d) 6, scaled f w a d, scaled f w a true, flag_small w, flag_small a, flag_small d)
-set_dirty (Some m) false s h = let f = m.frame in let w = m.writable in let a = m.accessed in let d = m.dirty in
-    omega (
-      arith,
-      clear_bit (bits f w a d) 6 (small_bits f w a d s) (omega arith),
-      scaled f w a d,
-      scaled f w a false,
-      flag_small w,
-      flag_small a,
-      flag_small d,
-    )
+set_flag : (flag : Flag) (e : Option Mapped) (b : Bool) → IsSmall e → is_some e ≡ true
+    → after_set (bits_of e) (2 ^ bit_of flag) b ≡ bits_of (with_flag flag e b)
+set_flag flag None b s h = cc
+set_flag flag (Some m) b s h = set_one (bits_of (Some m)) (bits_of (with_flag flag (Some m) b)) (bit_of flag)
+    (said_by flag m) b (small_bits m.frame m.writable m.accessed m.dirty s) (light flag) (at_bit m flag)
+    (replaced m flag b)
+
+small_with : (flag : Flag) (e : Option Mapped) (b : Bool) → IsSmall e → IsSmall (with_flag flag e b)
+small_with Writable None b s = s
+small_with Writable (Some m) b s = s
+small_with Accessed None b s = s
+small_with Accessed (Some m) b s = s
+small_with Dirty None b s = s
+small_with Dirty (Some m) b s = s
 
 -- a change that computes the bits of another small entry makes that entry
 pub record Makes (bits : ℕ) (e : Option Mapped) : Type 0 where
@@ -198,33 +207,8 @@ changes compute change is old new e was view some same =
     let s : IsSmall e = subst IsSmall view (IsSmall-entry_of old was) in
     makes new (change e) (same ∙ ap compute (sym was.named ∙ ap bits_of view) ∙ is.bits e s some) (is.small e s)
 
-pub writable_changes : (b : Bool) → Computes (λ n. after_set n 2 b) (λ e. with_writable_of e b)
-writable_changes b = record {
-  bits = λ e s h. set_writable e b s h;
-  small = λ e. elim e as (λ e. IsSmall e → IsSmall (with_writable_of e b)) [ None ↦ λ s. s | Some m ↦ λ s. s ];
-}
-
-pub accessed_changes : (b : Bool) → Computes (λ n. after_set n 32 b) (λ e. with_accessed_of e b)
-accessed_changes b = record {
-  bits = λ e s h. set_accessed e b s h;
-  small = λ e. elim e as (λ e. IsSmall e → IsSmall (with_accessed_of e b)) [ None ↦ λ s. s | Some m ↦ λ s. s ];
-}
-
-pub dirty_changes : (b : Bool) → Computes (λ n. after_set n 64 b) (λ e. with_dirty_of e b)
-dirty_changes b = record {
-  bits = λ e s h. set_dirty e b s h;
-  small = λ e. elim e as (λ e. IsSmall e → IsSmall (with_dirty_of e b)) [ None ↦ λ s. s | Some m ↦ λ s. s ];
-}
-
--- a bit as a number is one where its weight is the weight of a set bit
-weighed : (bit : ℕ) (weight : ℕ) → bit < 2 → 0 < weight → (bit * weight == weight) ≡ (bit == 1)
-weighed zero weight less some = grind (arith, nat_tests)
-weighed (suc zero) weight less some = grind (arith, nat_tests)
-weighed (suc (suc bit)) weight less some = absurd (omega arith)
-
--- what a test of one bit says of any number
-pub test_bit : (n k : ℕ) → 0 < 2 ^ k → (bit_and n (2 ^ k) == 2 ^ k) ≡ has_bit n k
-test_bit n k some = ap (λ x. x == 2 ^ k) (and_pow n k) ∙ weighed (n / 2 ^ k % 2) (2 ^ k) (omega arith) some
+pub flag_changes : (flag : Flag) (b : Bool) → Computes (λ n. after_set n (2 ^ bit_of flag) b) (λ e. with_flag flag e b)
+flag_changes flag b = record { bits = λ e s h. set_flag flag e b s h; small = λ e s. small_with flag e b s }
 
 -- the entry that is made of these bits, one by one
 pub read_back : (n : ℕ)

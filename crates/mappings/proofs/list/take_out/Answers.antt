@@ -1,18 +1,28 @@
 use Rattle.std.proofs.Common.{rules, ◌≡◌, ◌+◌, ◌-◌, ◌<◌, ◌≤◌, IsSome, length, sym, ap, ◌∙◌, subst, arith}
 use Rattle.std.specs.Vec.{vec_capacity, vec_len}
-use Rattle.mappings.specs.inside.Listed.{IsMapping, IsMeeting}
+use Rattle.mappings.specs.Places.{without_range}
+use Rattle.mappings.specs.inside.Listed.{places_of, IsMapping, IsKept, IsMeeting}
 use Rattle.mappings.specs.inside.Edits.{put_at}
 use Rattle.mappings.proofs.Lists.{mapping_at}
 use Rattle.mappings.proofs.Removing.{room_for_parts, removed_by_parts, removed_nothing}
+use Rattle.mappings.proofs.list.take_out.Goals.{After-meeting-places, After-put-2}
 use Rattle.mappings.proofs.list.take_out.Goals as goal
+
+-- the places are those of the mappings that have pages of the range
+meets : (g : _) (c : After-meeting-places g) → IsMeeting c.args.list.now.items c.args.range.first
+    (c.args.range.first + c.args.range.count) c.meeting-places.result.start c.meeting-places.result.end
+meets g c =
+    let range = c.args.range in
+    let places = c.meeting-places.result in
+    subst (λ l. IsMeeting l range.first (range.first + range.count) places.start places.end)
+    c.deref.ensures.value c.meeting-places.ensures
 
 pub returns-then-is_empty-clause-places : goal.returns-then-is_empty-clause-places
 returns-then-is_empty-clause-places g c =
     let list = c.args.list.now.items in
     let range = c.args.range in
     let places = c.meeting-places.result in
-    let meeting = subst (λ l. IsMeeting l range.first (range.first + range.count) places.start places.end)
-    c.deref.ensures.value c.meeting-places.ensures in
+    let meeting = meets g (goal.at.returns-then-is_empty-clause-places g c).After-meeting-places in
     let none : places.end ≤ places.start = search rules in
     removed_nothing list range.first range.count places.start places.end c.requires.pages c.requires.kept meeting none
 
@@ -27,8 +37,7 @@ put-requires-2-clause-room g c some =
     let list = c.args.list.now.items in
     let range = c.args.range in
     let places = c.meeting-places.result in
-    let meeting = subst (λ l. IsMeeting l range.first (range.first + range.count) places.start places.end)
-    c.deref.ensures.value c.meeting-places.ensures in
+    let meeting = meets g (goal.at.put-requires-2-clause-room g c some).After-meeting-places in
     let less : places.start < places.end = search rules in
     let p = c.part_below-before.ensures in
     let q = c.part_from-after.ensures in
@@ -47,13 +56,14 @@ put-requires-2-clause-room g c some =
       c.args.list.now.ok.0,
     )
 
-pub returns-clause-kept : goal.returns-clause-kept
-returns-clause-kept g c =
-    let list = c.args.list.now.items in
-    let range = c.args.range in
+-- what is left
+left : (g : _) (c : After-put-2 g) → IsMeeting c.args.list.now.items c.args.range.first
+    (c.args.range.first + c.args.range.count) c.meeting-places.result.start c.meeting-places.result.end
+    → IsKept c.put-2.new.list.items
+    × (places_of c.put-2.new.list.items
+    ≡ without_range (places_of c.args.list.now.items) c.args.range.first c.args.range.count)
+left g c meeting =
     let places = c.meeting-places.result in
-    let meeting = subst (λ l. IsMeeting l range.first (range.first + range.count) places.start places.end)
-    c.deref.ensures.value c.meeting-places.ensures in
     let less : places.start < places.end = search rules in
     let p = c.part_below-before.ensures in
     let q = c.part_from-after.ensures in
@@ -61,24 +71,14 @@ returns-clause-kept g c =
     c.put-2.ensures.items
     ∙ (λ i. put_at ((c.put.ensures.items ∙ (λ j. put_at (c.remove_range.ensures.items j) places.start (q j))) i)
     places.start (p i)) in
-    (removed_by_parts list c.put-2.new.list.items range.first range.count places.start places.end
-    c.index.result.now c.index-2.result.now c.requires.pages c.requires.kept meeting less (sym c.index.ensures)
-    (sym c.index-2.ensures) items).0
+    removed_by_parts c.args.list.now.items c.put-2.new.list.items c.args.range.first c.args.range.count places.start
+    places.end c.index.result.now c.index-2.result.now c.requires.pages c.requires.kept meeting less
+    (sym c.index.ensures) (sym c.index-2.ensures) items
+
+pub returns-clause-kept : goal.returns-clause-kept
+returns-clause-kept g c =
+    let at = goal.at.returns-clause-kept g c in (left g at.After-put-2 (meets g at.After-meeting-places)).0
 
 pub returns-clause-places : goal.returns-clause-places
 returns-clause-places g c =
-    let list = c.args.list.now.items in
-    let range = c.args.range in
-    let places = c.meeting-places.result in
-    let meeting = subst (λ l. IsMeeting l range.first (range.first + range.count) places.start places.end)
-    c.deref.ensures.value c.meeting-places.ensures in
-    let less : places.start < places.end = search rules in
-    let p = c.part_below-before.ensures in
-    let q = c.part_from-after.ensures in
-    let items =
-    c.put-2.ensures.items
-    ∙ (λ i. put_at ((c.put.ensures.items ∙ (λ j. put_at (c.remove_range.ensures.items j) places.start (q j))) i)
-    places.start (p i)) in
-    (removed_by_parts list c.put-2.new.list.items range.first range.count places.start places.end
-    c.index.result.now c.index-2.result.now c.requires.pages c.requires.kept meeting less (sym c.index.ensures)
-    (sym c.index-2.ensures) items).1
+    let at = goal.at.returns-clause-places g c in (left g at.After-put-2 (meets g at.After-meeting-places)).1

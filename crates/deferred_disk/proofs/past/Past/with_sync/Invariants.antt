@@ -3,4 +3,4 @@ use Rattle.device.specs.Memory.DiskChange.{sync}
 use Rattle.deferred_disk.proofs.past.Past.with_sync.Given as goal
 
 abbrev pub ghost-holding : goal.ghost-holding
-ghost-holding g a = (a._before.now.first, (sync ∷ a._before.now.changes, a._before.now.supplied))
+ghost-holding a = (a._before.now.first, (sync ∷ a._before.now.changes, a._before.now.supplied))

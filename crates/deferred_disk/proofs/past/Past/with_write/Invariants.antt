@@ -3,7 +3,7 @@ use Rattle.device.specs.Memory.DiskChange.{write}
 use Rattle.deferred_disk.proofs.past.Past.with_write.Given as goal
 
 abbrev pub ghost-holding : goal.ghost-holding
-ghost-holding g a = (
+ghost-holding a = (
   a._before.now.first,
-  (write a._at.now a._bytes.now ∷ a._before.now.changes, a._before.now.supplied),
+  (write a._number.now a._bytes.now ∷ a._before.now.changes, a._before.now.supplied),
 )

@@ -1,11 +1,12 @@
 use Rattle.std.proofs.Common.{sym, ◌∙◌}
 use Rattle.page_entry.specs.Entry.{with_dirty_of}
-use Rattle.page_entry.proofs.Bits.{Makes, after_set, changes, dirty_changes}
+use Rattle.page_entry.proofs.Bits.Flag.{Dirty}
+use Rattle.page_entry.proofs.Bits.{Makes, after_set, changes, flag_changes}
 use Rattle.page_entry.proofs.entry.Entry.with_dirty.Goals as goal
 
 made : (c : goal.After-bits) → Makes c.bits.result (with_dirty_of c.args.self c.args.dirty)
 made c = changes (λ n. after_set n 64 c.args.dirty) (λ e. with_dirty_of e c.args.dirty)
-    (dirty_changes c.args.dirty) c.self.inside.0 c.bits.result c.args.self c.self.invariant c.self.view_is
+    (flag_changes Dirty c.args.dirty) c.self.inside.0 c.bits.result c.args.self c.self.invariant c.self.view_is
     (sym c.if-not-present.ensures) (c.bits.ensures tt ∙ c.set.ensures tt)
 
 pub invariant_of-result-2 : goal.invariant_of-result-2

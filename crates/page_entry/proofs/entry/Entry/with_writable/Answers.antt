@@ -1,11 +1,12 @@
 use Rattle.std.proofs.Common.{sym, ◌∙◌}
 use Rattle.page_entry.specs.Entry.{with_writable_of}
-use Rattle.page_entry.proofs.Bits.{Makes, after_set, changes, writable_changes}
+use Rattle.page_entry.proofs.Bits.Flag.{Writable}
+use Rattle.page_entry.proofs.Bits.{Makes, after_set, changes, flag_changes}
 use Rattle.page_entry.proofs.entry.Entry.with_writable.Goals as goal
 
 made : (c : goal.After-bits) → Makes c.bits.result (with_writable_of c.args.self c.args.writable)
 made c = changes (λ n. after_set n 2 c.args.writable) (λ e. with_writable_of e c.args.writable)
-    (writable_changes c.args.writable) c.self.inside.0 c.bits.result c.args.self c.self.invariant c.self.view_is
+    (flag_changes Writable c.args.writable) c.self.inside.0 c.bits.result c.args.self c.self.invariant c.self.view_is
     (sym c.if-not-present.ensures) (c.bits.ensures tt ∙ c.set.ensures tt)
 
 pub invariant_of-result-2 : goal.invariant_of-result-2
