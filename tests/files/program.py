@@ -69,7 +69,8 @@ def start(
             resource.setrlimit(resource.RLIMIT_AS, (memory, memory))
 
     return subprocess.Popen(
-        [PROGRAM, *words], stdin=input, stdout=out, stderr=subprocess.PIPE, env=environment, preexec_fn=prepare
+        ["famsync", *words], executable=PROGRAM, stdin=input, stdout=out, stderr=subprocess.PIPE, env=environment,
+        preexec_fn=prepare,
     )
 
 

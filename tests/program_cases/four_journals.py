@@ -84,7 +84,9 @@ b 4096
 
 SPOILT = "damaged: the super block breaks the format"
 
-SPOILT_JOURNAL = "damaged: the descriptor of an open journal or the lengths break the format, or two journals have one mark"
+SPOILT_JOURNAL = (
+    "damaged: the descriptor of an open journal or the lengths break the format, or two journals have one mark"
+)
 
 # What is changed in the image of the volume of layout 4, and what is said of it then.
 SPOILT_IMAGES = [

@@ -91,8 +91,8 @@ BEFORE_FAILING = "space 1\nmapped\nswitched\nfault 4\n"
 
 
 def a_failed_device_call_is_told():
-    """Where a device call fails, the run goes on: all replies are printed, and the status is 3 then. The file is cut off
-    before the first page is read."""
+    """Where a device call fails, the run goes on: all replies are printed, and the status is 3 then. The file is cut
+    off before the first page is read."""
     write("failing.json", FAILING_SCRIPT)
     moment = first_moment("failing", "read", BEFORE_FAILING)
     if moment is None:

@@ -62,8 +62,8 @@ def a_closed_pipe_is_a_fault():
     yield from leaves("closed_pipe.img")
 
 
-# The replies of the first script that are flushed, and what the step of each left: `going` comes with the next line that
-# is another.
+# The replies of the first script that are flushed, and what the step of each left: `going` comes with the next line
+# that is another.
 FLUSHED = [
     ("space 1\n", []),
     ("mapped\n", []),
@@ -122,13 +122,15 @@ def records_in(path):
 def a_run_stops_with_a_going():
     """The output fails at a `going` in the middle of a commit: records were written up to that step, and no later one,
     nor the descriptor and the gate."""
-    yield from prints(f"format|--layout|4|great.img|{SLOTS}|a={4096 * PAGES}", 0, f"formatted {blocks_of_great()} blocks\n")
+    make = f"format|--layout|4|great.img|{SLOTS}|a={4096 * PAGES}"
+    yield from prints(make, 0, f"formatted {blocks_of_great()} blocks\n")
     write("great.json", script_of_a_great_commit())
     before = "space 1\nmapped\nswitched\n" + "fixed\nstored\n" * PAGES + "begun\nmarked 1\n"
     room = len(before) + 3
     yield from is_cut_off("run|great.img|great.json", room, f"{before}goi".encode())
     written, others_are_zeros = records_in("great.img")
-    yield from agree("some records are written, but not all, and nothing after them", (True, True), (0 < written < PAGES, others_are_zeros))
+    yield from agree(f"{written} records are written, some and not all", True, 0 < written < PAGES)
+    yield from agree("what is after them is zeros", True, others_are_zeros)
     yield from prints("dump|great.img", 0, f"a {4096 * PAGES}\n")
     yield from leaves("great.img", "great.json")
 

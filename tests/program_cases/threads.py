@@ -5,7 +5,10 @@ from program_cases.images import image_of_one, makes_volume
 from program_cases.trial import agree, complains, ended_so, holds, leaves, prints, run
 
 # Two processors share space 1, in which file `a` is mapped at 4,096.
-TWO = '{"cpus":2,"tlb":8,"frames":4,"copies":0,"steps":[[0,"create"],[0,"map",1,4096,12288,0,0,"rw","rw"],[0,"switch",1,"drop"],[1,"switch",1,"drop"]],'
+TWO = (
+    '{"cpus":2,"tlb":8,"frames":4,"copies":0,"steps":[[0,"create"],[0,"map",1,4096,12288,0,0,"rw","rw"],'
+    '[0,"switch",1,"drop"],[1,"switch",1,"drop"]],'
+)
 
 # One processor stores and commits, and the other waits for the byte and stores beside it.
 ROW = '"programs":[[["store",4096,[1]],["msync",4096,4096,4]],[["await",4096,1],["store",4097,[2]]]]}'
@@ -25,15 +28,23 @@ b 4096
 ]
 
 # Sixteen processors in space 1, in which the files are mapped at 4,096 and at 16,384.
-SIXTEEN = '{"cpus":16,"tlb":2,"frames":4,"copies":2,"trace":100000,"steps":[[0,"create"],[0,"map",1,4096,12288,0,0,"rw","rw"],[0,"map",1,16384,4096,1,0,"rw","rw"],[0,"switch",1,"drop"],[1,"switch",1,"drop"],[2,"switch",1,"drop"],[3,"switch",1,"drop"],[4,"switch",1,"drop"],[5,"switch",1,"drop"],[6,"switch",1,"drop"],[7,"switch",1,"drop"],[8,"switch",1,"drop"],[9,"switch",1,"drop"],[10,"switch",1,"drop"],[11,"switch",1,"drop"],[12,"switch",1,"drop"],[13,"switch",1,"drop"],[14,"switch",1,"drop"],[15,"switch",1,"drop"]],"programs":['
+SIXTEEN = (
+    '{"cpus":16,"tlb":2,"frames":4,"copies":2,"trace":100000,"steps":[[0,"create"],'
+    '[0,"map",1,4096,12288,0,0,"rw","rw"],[0,"map",1,16384,4096,1,0,"rw","rw"],'
+    + ",".join(f'[{cpu},"switch",1,"drop"]' for cpu in range(16))
+    + '],"programs":['
+)
 
 # Four programs over four pages: one commits, one takes rights and gives them back, one has an alias of a page, and one
 # takes pages out of memory.
-FOUR = """\
-[["store",4096,[1]],["store",16384,[1]],["msync",4096,4096,4],["store",4096,[2]],["msync",4096,4096,1]],
-[["store",8192,[3]],["protect",1,8192,4096,"r"],["load",8192,1],["protect",1,8192,4096,"rw"],["store",8192,[4]],["msync",4096,4096,4]],
-[["map",1,32768,4096,0,0,"rw","rw"],["store",32768,[5]],["load",4096,1],["unmap",1,32768,4096],["store",12288,[6]]],
-[["reclaim",0,0],["load",4097,1],["reclaim",0,1],["store",8193,[7]],["reclaim",1,0],["load",16384,1]]"""
+FOUR = (
+    '[["store",4096,[1]],["store",16384,[1]],["msync",4096,4096,4],["store",4096,[2]],["msync",4096,4096,1]],\n'
+    '[["store",8192,[3]],["protect",1,8192,4096,"r"],["load",8192,1],["protect",1,8192,4096,"rw"],'
+    '["store",8192,[4]],["msync",4096,4096,4]],\n'
+    '[["map",1,32768,4096,0,0,"rw","rw"],["store",32768,[5]],["load",4096,1],["unmap",1,32768,4096],'
+    '["store",12288,[6]]],\n'
+    '[["reclaim",0,0],["load",4097,1],["reclaim",0,1],["store",8193,[7]],["reclaim",1,0],["load",16384,1]]'
+)
 
 # Scripts that are refused before the disk is opened, and what is said of each.
 REFUSED = [

@@ -80,7 +80,8 @@ FAULTS = [
     ("format|none.img|4|a b=1", "disk \"none.img\": badshape: the name \"a b\" isn't 1 to 32 characters from ! to ~\n"),
     (
         "format|none.img|4|abcdefghijklmnopqrstuvwxyz1234567=1",
-        "disk \"none.img\": badshape: the name \"abcdefghijklmnopqrstuvwxyz1234567\" isn't 1 to 32 characters from ! to ~\n",
+        'disk "none.img": badshape: the name "abcdefghijklmnopqrstuvwxyz1234567" '
+        "isn't 1 to 32 characters from ! to ~\n",
     ),
     (
         "format|none.img|4|a=18446744073709551615",
