@@ -1,7 +1,8 @@
 -- A disk that was tended between two requests is the same disk in memory.
 use Rattle.std.proofs.Common.{◌≡◌, ◌≤◌, ◌<◌, ℕ, ◌+◌, ◌-◌, ◌^◌, ◌==◌, ◌∷◌, get_or, Bool, true, false, if◌then◌else◌}
 use Rattle.std.proofs.Common.{List, length, Option, Some, None, IfSome, refl, sym, ◌∙◌, ap, subst, arith}
-use Rattle.device.specs.Deferred.{Deferred, as_recorded, after_supply, with_known, block_of, IsSuppliedWell}
+use Rattle.device.specs.Deferred.{Deferred, as_recorded, after_forget, after_supply, with_known, block_of}
+use Rattle.device.specs.Deferred.{IsSuppliedWell}
 use Rattle.device.specs.Memory.{Recorded, seen_of, moment_of}
 use Rattle.machine.specs.State.{Whole}
 use Rattle.session.specs.declared.notes.Notes.{Notes}
@@ -14,7 +15,7 @@ use Rattle.embedded.specs.inside.Tending.{HasSupplied, HasForgotten}
 use Rattle.embedded.proofs.Counting.{steps_later, still_made, needs_made}
 
 -- the same disk in memory, and supplied well only if the other one was
-abbrev IsLike : Deferred → Deferred → Type 0
+abbrev pub IsLike : Deferred → Deferred → Type 0
 IsLike after before = (as_recorded after ≡ as_recorded before) × (IsSuppliedWell after → IsSuppliedWell before)
 
 like_itself : (disk : Deferred) → IsLike disk disk
@@ -25,8 +26,13 @@ either_like : (b : Bool) (x y before : Deferred) → IsLike x before → IsLike 
 either_like true x y before first other = first
 either_like false x y before first other = other
 
-like_is : (after same before : Deferred) → after ≡ same → IsLike same before → IsLike after before
-like_is after same before is like = subst (λ (d : Deferred). IsLike d before) (sym is) like
+-- one of two, by whether something was done
+like_one : (done : Bool) (after first other before : Deferred) → (done ≡ true → after ≡ first)
+    → (done ≡ false → after ≡ other) → IsLike first before → IsLike other before → IsLike after before
+like_one true after first other before is not like other_like =
+    subst (λ (d : Deferred). IsLike d before) (sym (is refl)) like
+like_one false after first other before is not like other_like =
+    subst (λ (d : Deferred). IsLike d before) (sym (not refl)) other_like
 
 -- a block more was supplied
 abbrev added : Deferred → ℕ → List ℕ → Deferred
@@ -45,20 +51,16 @@ supplied_like disk block bytes =
 -- whatever came of it
 pub tended_supply : (old new : Supplying) (before after : Deferred) → HasSupplied old before after new
     → IsLike after before
-tended_supply old new before after it = by new.refused refl
-  where
-    by : (b : Bool) → new.refused ≡ b → IsLike after before
-    by true is = like_is after before before (it.err is) (like_itself before)
-    by false is = like_is after _ before (it.ok is) (supplied_like before old.block old.bytes.now)
+tended_supply old new before after it =
+    like_one new.refused after before (with_supplied before old.block old.bytes.now) before it.err it.ok
+    (like_itself before) (supplied_like before old.block old.bytes.now)
 
 -- a block was forgotten, or not
 pub tended_forget : (old new : Forgetting) (before after : Deferred) → HasForgotten old before after new
     → IsLike after before
-tended_forget old new before after it = by new.done refl
-  where
-    by : (b : Bool) → new.done ≡ b → IsLike after before
-    by true is = like_is after _ before (it.forgotten is) (like_itself before)
-    by false is = like_is after before before (it.kept is) (like_itself before)
+tended_forget old new before after it =
+    like_one new.done after (after_forget before old.block) before before it.forgotten it.kept
+    (refl, λ well. well) (like_itself before)
 
 -- the machine with its device
 pub machine_is : (old new : Whole Deferred) (device : Deferred) → new.state ≡ old.state → new.device ≡ device
