@@ -3,6 +3,7 @@ ghost use Rattle.std.specs.Prelude.{◌≡◌, ◌<◌};
 ghost use Rattle.std.specs.Thread.{IsSync};
 
 use horizon::{Horizon, Seen};
+use std::alloc::Global;
 use std::sync::Wait;
 use std::thread::{Threads, join};
 
@@ -36,16 +37,36 @@ fn raise_by_two<R: Threads + Wait + Sync>(
     )
 }
 
+// Whether two threads read what they may.
+fn is_raised_by_two<R: Threads + Wait + Sync>(rt: &R, horizon: &Horizon, seen: &mut Seen) -> bool
+    requires { seen.old.cell ≡ horizon.now }
+    ensures { seen.new ≡ seen.old }
+{
+    let (first, second) = raise_by_two(rt, horizon, seen);
+    first == (7, 6)
+        && (second.0 == 5 && second.1 == 4 || second.0 == 7 && (4..=6).contains(&second.1))
+}
+
+// Whether both numbers of a new horizon rise, and are read.
+fn rises<R: Threads + Wait + Sync>(rt: &R, horizon: &Horizon, seen: &mut Seen) -> bool
+    requires { seen.old.cell ≡ horizon.now }
+{
+    if horizon.read(rt, seen) != (0, 0) || !is_raised_by_two(rt, horizon, seen) {
+        return false;
+    }
+    let raised = horizon.read(rt, seen);
+    horizon.raise_committed(rt, seen, 9);
+    raised == (7, 6) && horizon.read(rt, seen) == (9, 9)
+}
+
+fn is_made_and_rises<R: Threads + Wait + Sync>(rt: &R, alloc: Global) -> bool {
+    match Horizon::new(alloc) {
+        Ok((horizon, mut seen)) => rises(rt, &horizon, &mut seen),
+        Err(_) => false,
+    }
+}
+
 #[test]
 fn both_numbers_rise(rt: HostRuntime) {
-    let Ok((horizon, mut seen)) = Horizon::new(rt.alloc()) else {
-        panic!(rt; "no memory for a horizon");
-    };
-    assert!(rt; horizon.read(&rt, &mut seen) == (0, 0));
-    let (first, second) = raise_by_two(&rt, &horizon, &mut seen);
-    assert!(rt; first == (7, 6));
-    assert!(rt; second.0 == 5 && second.1 == 4 || second.0 == 7 && (4..=6).contains(&second.1));
-    assert!(rt; horizon.read(&rt, &mut seen) == (7, 6));
-    horizon.raise_committed(&rt, &mut seen, 9);
-    assert!(rt; horizon.read(&rt, &mut seen) == (9, 9));
+    assert!(rt; is_made_and_rises(&rt, rt.alloc()));
 }

@@ -1,18 +1,17 @@
 // Acts of processors, and what is answered.
-use crate::machines::Trial;
-use machine::{Act, MsyncFlags, Reply, Step};
+use machine::{Act, FewBytes, MsyncFlags, Reply, Step};
 use mappings::Rights;
 use page_entry::ProcessorNumber;
 use service::Entry;
 
-/// A commit of all stores that is asked for.
+// A commit of all stores that is asked for.
 pub const MSYNC: Act = Act::Msync {
     va: 0,
     len: 0,
     flags: MsyncFlags::SYNC,
 };
 
-/// The four pages of file 0, mapped to space 1.
+// The four pages of file 0, mapped to space 1.
 pub const MAP: Act = Act::Map {
     space: 1,
     va: 4096,
@@ -23,21 +22,21 @@ pub const MAP: Act = Act::Map {
     access: Rights::ReadWrite,
 };
 
-/// Space 1 becomes current.
+// Space 1 becomes current.
 pub const SWITCH: Act = Act::Switch {
     space: 1,
     keep: false,
 };
 
-/// The reply of a machine to an act of a processor.
-pub fn reply_to(machine: &mut Trial, p: ProcessorNumber, act: &Act) -> Reply {
-    machine.step(&Step { p, act: *act })
-}
-
-/// The entry of an act of a processor.
+// The entry of an act of a processor.
 pub fn entry(p: ProcessorNumber, act: Act, reply: Reply) -> Entry {
     Entry {
         step: Step { p, act },
         reply,
     }
+}
+
+// The reply to a load that reads this byte.
+pub fn loaded(byte: u8) -> Option<Reply> {
+    Some(Reply::Bytes(FewBytes::new(&[byte])?))
 }
