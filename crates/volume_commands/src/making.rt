@@ -2,7 +2,7 @@
 ghost use Rattle.std.specs.Prelude.{◌≡◌};
 
 use crate::print::{print_blocks, print_bytes};
-use command_line::{Export, Make, Migration};
+use command_line::{Make, Migration};
 use std::alloc::Allocator;
 use std::fs::File;
 use std::io;
@@ -44,7 +44,12 @@ where
             print_blocks(rt.alloc(), asked.json, "migrated", blocks, out)
         }
         Make::Copy(asked) => {
-            let bytes = volume_files::export(rt, alloc, copy(&asked), asked.trust, note)?;
+            let plan = ExportPlan {
+                disk: asked.disk,
+                file: asked.file,
+                out: asked.out,
+            };
+            let bytes = volume_files::export(rt, alloc, plan, asked.trust, note)?;
             print_bytes(rt.alloc(), asked.json, bytes, out)
         }
     }
@@ -62,18 +67,5 @@ fn migration<'a>(asked: &Migration<'a>) -> MigrationPlan<'a>
         new: asked.new,
         layout: asked.layout,
         slots: asked.slots,
-    }
-}
-
-// What is copied, and where to.
-fn copy<'a>(asked: &Export<'a>) -> ExportPlan<'a>
-    ensures disk { result.disk ≡ asked.now.disk }
-    ensures file { result.file ≡ asked.now.file }
-    ensures out { result.out ≡ asked.now.out }
-{
-    ExportPlan {
-        disk: asked.disk,
-        file: asked.file,
-        out: asked.out,
     }
 }
