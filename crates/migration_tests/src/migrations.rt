@@ -26,32 +26,31 @@ const MIGRATED: u64 = 69_632;
 
 const MIGRATED_GROWING: u64 = 73_728;
 
+// How many slots each new volume has.
+const SLOTS: u64 = 4;
+
 fn disk_of<R: Abort + AllocGlobal>(rt: &R, image: &[u8]) -> Disk {
     let bytes = image.to_vec(rt.alloc()).expect(rt, "memory");
     MemDisk::from_bytes(rt.alloc(), bytes).expect(rt, "memory")
-}
-
-// A crash of a disk of as many bytes as the choice.
-fn crash(rt: &impl Abort, disk: &mut Disk, choice: &[u8]) {
-    assert!(rt;
-        choice.len() == disk.bytes().len(),
-        "the choice is as long as the disk"
-    );
-    disk.stop(choice);
-}
-
-// The volume of a disk that opens.
-fn volume_of<R: Abort + AllocGlobal>(rt: &R, disk: Disk) -> Volume<Disk, Global> {
-    match open(rt.alloc(), disk) {
-        Ok(volume) => volume,
-        Err((refusal, _)) => panic!(rt; "{refusal}"),
-    }
 }
 
 // A disk of so many bytes, none of them zero.
 fn used<R: Abort + AllocGlobal>(rt: &R, len: u64) -> Disk {
     let bytes = vec![in rt.alloc(); 0xEE; len as usize].expect(rt, "memory");
     MemDisk::from_bytes(rt.alloc(), bytes).expect(rt, "memory")
+}
+
+// The volume of a disk, where it opens.
+fn opened<D: Device + Drop, A: Allocator + Copy>(alloc: A, disk: D) -> Option<Volume<D, A>> {
+    match open(alloc, disk) {
+        Ok(volume) => Some(volume),
+        Err(_) => None,
+    }
+}
+
+// The volume of a disk that opens.
+fn volume_of<R: Abort + AllocGlobal>(rt: &R, disk: Disk) -> Volume<Disk, Global> {
+    opened(rt.alloc(), disk).expect(rt, "a volume")
 }
 
 // Puts bytes into both files, `a` from block `a` on and `b` in block `b`, and bytes past their ends where they have
@@ -111,47 +110,74 @@ fn has_files<D: Device, A: Allocator + Copy>(volume: &Volume<D, A>, files: &[Kno
     volume.file_count() == files.len()
 }
 
-// Reads up to 8 bytes of a file, the last ones before its end first.
-fn read_end<D: Device, A: Allocator + Copy>(volume: &mut Volume<D, A>, file: usize) -> [u8; 8] {
-    let mut bytes = [0; 8];
-    if file < volume.file_count() && volume.length(file) >= 8 {
-        let at = volume.length(file) - 8;
-        let _ = volume.read_file(file, at, &mut bytes);
-    }
-    bytes
-}
-
-// Reads 8 bytes from a place of a file on.
-fn read_at<D: Device, A: Allocator + Copy>(
+// Whether a file has these 8 bytes from a place on.
+fn has_at<D: Device, A: Allocator + Copy>(
     volume: &mut Volume<D, A>,
     file: usize,
     at: u64,
-) -> [u8; 8] {
+    wanted: &[u8; 8],
+) -> bool {
     let mut bytes = [0; 8];
-    if file < volume.file_count() && volume.length(file) >= 8 && at <= volume.length(file) - 8 {
-        let _ = volume.read_file(file, at, &mut bytes);
+    if file >= volume.file_count() || volume.length(file) < 8 || at > volume.length(file) - 8 {
+        return false;
     }
-    bytes
+    volume.read_file(file, at, &mut bytes).is_ok() && bytes == *wanted
 }
 
-// Whether the files have the bytes of the sample.
+// Whether the files have the bytes of the sample, up to their ends.
 fn has_bytes<D: Device, A: Allocator + Copy>(volume: &mut Volume<D, A>) -> bool {
-    read_at(volume, 0, 0) == *b"first\0\0\0"
-        && read_at(volume, 0, 4090) == [0, 0, 0, 0, 1, 2, 3, 4]
-        && read_end(volume, 0) == [0, 0, 0, 0, 0, 0, 5, 6]
-        && read_at(volume, 1, 0) == *b"second\0\0"
-        && read_end(volume, 1) == [0, 0, 0, 0, 0, 0, 0, 9]
+    has_at(volume, 0, 0, b"first\0\0\0")
+        && has_at(volume, 0, 4090, &[0, 0, 0, 0, 1, 2, 3, 4])
+        && has_at(volume, 0, 4992, &[0, 0, 0, 0, 0, 0, 5, 6])
+        && has_at(volume, 1, 0, b"second\0\0")
+        && has_at(volume, 1, 4088, &[0, 0, 0, 0, 0, 0, 0, 9])
+}
+
+// Whether a volume has the files of the sample, in the layout of this number.
+fn is_sample<D: Device, A: Allocator + Copy>(
+    volume: &mut Volume<D, A>,
+    layout: u64,
+    files: &[Known],
+) -> bool {
+    volume.layout().number() == layout && has_files(volume, files) && has_bytes(volume)
 }
 
 // Whether a disk opens to the files of the sample, in the layout of this number.
-fn is_whole_in<R: Abort + AllocGlobal>(rt: &R, disk: Disk, layout: u64, files: &[Known]) -> bool {
-    let mut volume = volume_of(rt, disk);
-    volume.layout().number() == layout && has_files(&volume, files) && has_bytes(&mut volume)
+fn opens_to<D: Device + Drop, A: Allocator + Copy>(
+    alloc: A,
+    disk: D,
+    layout: u64,
+    files: &[Known],
+) -> bool {
+    match opened(alloc, disk) {
+        Some(mut volume) => is_sample(&mut volume, layout, files),
+        None => false,
+    }
 }
 
-// Whether a disk opens to the files of the sample, in layout 3.
-fn is_whole<R: Abort + AllocGlobal>(rt: &R, disk: Disk, files: &[Known]) -> bool {
-    is_whole_in(rt, disk, 3, files)
+// What a migration to the layout of this number answers.
+fn answer_of<D: Device, E: Device, A: Allocator + Copy>(
+    alloc: A,
+    old: &mut Volume<D, A>,
+    new: &mut E,
+    layout: u64,
+) -> Result<(), Refusal> {
+    migrate(alloc, old, new, layout, SLOTS)
+}
+
+// Whether a migration comes to an end and leaves the old volume's files.
+fn migrates<D: Device, E: Device, A: Allocator + Copy>(
+    alloc: A,
+    old: &mut Volume<D, A>,
+    new: &mut E,
+    layout: u64,
+) -> bool {
+    answer_of(alloc, old, new, layout).is_ok() && has_bytes(old)
+}
+
+// Whether the bytes of a disk past its first ones are 100, and as they were.
+fn is_used_past<A: Allocator + Copy>(disk: &MemDisk<A>, len: u64) -> bool {
+    disk.bytes().get(len as usize..) == Some([0xEE; 100].as_slice())
 }
 
 // Whether the volume of an image becomes these files, in the layout of this number, on a disk of so many bytes and some
@@ -165,23 +191,16 @@ fn migrates_to<R: Abort + AllocGlobal>(
 ) -> bool {
     let mut old = volume_of(rt, disk_of(rt, image));
     let mut new = used(rt, len.saturating_add(100));
-    if migrate(rt.alloc(), &mut old, &mut new, layout, 4).is_err() {
-        return false;
-    }
-    let past = new.bytes().get(len as usize..).expect(rt, "bytes past it");
-    past == [0xEE; 100].as_slice() && has_bytes(&mut old) && is_whole_in(rt, new, layout, files)
-}
-
-// The same in layout 3.
-fn migrates<R: Abort + AllocGlobal>(rt: &R, image: &[u8], len: u64, files: &[Known]) -> bool {
-    migrates_to(rt, image, 3, len, files)
+    let migrates = migrates(rt.alloc(), &mut old, &mut new, layout);
+    let stays = is_used_past(&new, len);
+    opens_to(rt.alloc(), new, layout, files) && migrates && stays
 }
 
 #[test]
 fn volumes_of_all_layouts_migrate(rt: HostRuntime) {
-    assert!(rt; migrates(&rt, &image_one(), MIGRATED, &FIXED));
-    assert!(rt; migrates(&rt, &image_two(), MIGRATED, &FIXED));
-    assert!(rt; migrates(&rt, &image_three(), MIGRATED_GROWING, &GROWING));
+    assert!(rt; migrates_to(&rt, &image_one(), 3, MIGRATED, &FIXED));
+    assert!(rt; migrates_to(&rt, &image_two(), 3, MIGRATED, &FIXED));
+    assert!(rt; migrates_to(&rt, &image_three(), 3, MIGRATED_GROWING, &GROWING));
 }
 
 // With 4 slots layout 4 has its lengths in block 25, and the files from block 26 on.
@@ -192,33 +211,70 @@ fn volumes_of_all_layouts_become_layout_4(rt: HostRuntime) {
     assert!(rt; migrates_to(&rt, &image_three(), 4, 4096 * 30, &GROWING));
 }
 
+// Whether layout 2 is refused for its shape, before any call.
+fn refuses_two<D: Device, E: Device, A: Allocator + Copy>(
+    alloc: A,
+    old: &mut Volume<D, A>,
+    new: &mut E,
+) -> bool {
+    answer_of(alloc, old, new, 2) == Err(Refusal::BadShape) && new.calls() == 0
+}
+
 // A file that is shorter than its capacity goes to no layout without a block for lengths.
 #[test]
 fn files_that_are_full_go_back_to_layout_2(rt: HostRuntime) {
     assert!(rt; migrates_to(&rt, &image_one(), 2, 4096 * 16, &FIXED));
     let mut old = volume_of(&rt, disk_of(&rt, &image_three()));
-    let mut new = used(&rt, MIGRATED_GROWING);
-    assert!(rt; migrate(rt.alloc(), &mut old, &mut new, 2, 4) == Err(Refusal::BadShape));
-    assert!(rt; new.calls() == 0);
+    assert!(rt; refuses_two(rt.alloc(), &mut old, &mut used(&rt, MIGRATED_GROWING)));
+}
+
+// An image where a journal has the second file's bytes, and the file others.
+fn put_second(image: &mut [u8], home: u8) {
+    put(image, 4096 * usize::from(home), b"before");
+    put_batch(image, home, b"second");
+    put(image, 12_288 + 4095, &[9]);
+}
+
+fn open_one() -> [u8; LENGTH_ONE] {
+    let mut image = image_one();
+    put_second(&mut image, 9);
+    image
+}
+
+fn open_two() -> [u8; LENGTH_TWO] {
+    let mut image = image_two();
+    put_second(&mut image, 15);
+    image
+}
+
+// One where a journal has the lengths.
+fn open_three() -> [u8; LENGTH_THREE] {
+    let mut image = image_three();
+    put_lengths(&mut image, 12_288);
+    put(&mut image, 53_255, &[0]);
+    put_batch(&mut image, 13, &[]);
+    image
 }
 
 #[test]
 fn volumes_with_open_gates_migrate(rt: HostRuntime) {
-    let mut one = image_one();
-    put(&mut one, 4096 * 9, b"before");
-    put_batch(&mut one, 9, b"second");
-    put(&mut one, 12_288 + 4095, &[9]);
-    assert!(rt; migrates(&rt, &one, MIGRATED, &FIXED));
-    let mut two = image_two();
-    put(&mut two, 4096 * 15, b"before");
-    put_batch(&mut two, 15, b"second");
-    put(&mut two, 12_288 + 4095, &[9]);
-    assert!(rt; migrates(&rt, &two, MIGRATED, &FIXED));
-    let mut three = image_three();
-    put_lengths(&mut three, 12_288);
-    put(&mut three, 53_255, &[0]);
-    put_batch(&mut three, 13, &[]);
-    assert!(rt; migrates(&rt, &three, MIGRATED_GROWING, &GROWING));
+    assert!(rt; migrates_to(&rt, &open_one(), 3, MIGRATED, &FIXED));
+    assert!(rt; migrates_to(&rt, &open_two(), 3, MIGRATED, &FIXED));
+    assert!(rt; migrates_to(&rt, &open_three(), 3, MIGRATED_GROWING, &GROWING));
+}
+
+// Whether a migration to layout 3 makes 9 calls of the new disk.
+fn makes_nine_calls<D: Device, E: Device, A: Allocator + Copy>(
+    alloc: A,
+    old: &mut Volume<D, A>,
+    new: &mut E,
+) -> bool {
+    answer_of(alloc, old, new, 3) == Ok(()) && new.calls() == 9
+}
+
+// Whether these bytes stand around the end of the first file, at 5,000.
+fn has_end<A: Allocator + Copy>(disk: &MemDisk<A>, wanted: [u8; 6]) -> bool {
+    disk.bytes().get(62_340..62_346) == Some(wanted.as_slice())
 }
 
 // The bytes past a length of 5,000 in block 15 are 7 and 8 on the old disk, and zeros on the new one.
@@ -226,13 +282,14 @@ fn volumes_with_open_gates_migrate(rt: HostRuntime) {
 fn bytes_past_a_length_are_zeros(rt: HostRuntime) {
     let mut old = volume_of(&rt, disk_of(&rt, &image_three()));
     let mut new = used(&rt, MIGRATED_GROWING);
-    assert!(rt; migrate(rt.alloc(), &mut old, &mut new, 3, 4) == Ok(()));
-    let bytes = new.bytes();
-    assert!(rt; bytes.get(62_340..62_346) == Some([0, 0, 5, 6, 0, 0].as_slice()));
-    assert!(rt;
-        old.into_device().bytes().get(62_340..62_346) == Some([0, 0, 5, 6, 7, 8].as_slice())
-    );
-    assert!(rt; new.calls() == 9);
+    let makes = makes_nine_calls(rt.alloc(), &mut old, &mut new);
+    let stays = has_end(&old.into_device(), [0, 0, 5, 6, 7, 8]);
+    assert!(rt; makes && stays && has_end(&new, [0, 0, 5, 6, 0, 0]));
+}
+
+// Whether the first file has no bytes, and the second one has its own.
+fn has_second<D: Device, A: Allocator + Copy>(volume: &mut Volume<D, A>) -> bool {
+    has_files(volume, &[("a", 0, 12_288), ("b", 4096, 4096)]) && has_at(volume, 1, 0, b"second\0\0")
 }
 
 #[test]
@@ -241,10 +298,8 @@ fn a_file_of_length_0_migrates(rt: HostRuntime) {
     put(&mut image, 53_254, &[0, 0]);
     let mut old = volume_of(&rt, disk_of(&rt, &image));
     let mut new = used(&rt, MIGRATED_GROWING);
-    assert!(rt; migrate(rt.alloc(), &mut old, &mut new, 3, 4) == Ok(()));
-    let mut volume = volume_of(&rt, new);
-    assert!(rt; has_files(&volume, &[("a", 0, 12_288), ("b", 4096, 4096)]));
-    assert!(rt; read_at(&mut volume, 1, 0) == *b"second\0\0");
+    let answer = answer_of(rt.alloc(), &mut old, &mut new, 3);
+    assert!(rt; has_second(&mut volume_of(&rt, new)) && answer == Ok(()));
 }
 
 // What is refused for its shape, on a disk of so many bytes, with no device call.
@@ -252,7 +307,19 @@ fn refuses(rt: &(impl Abort + AllocGlobal), len: u64, slots: u64) -> bool {
     let mut old = volume_of(rt, disk_of(rt, &image_two()));
     let mut new = used(rt, len);
     let refused = migrate(rt.alloc(), &mut old, &mut new, 3, slots) == Err(Refusal::BadShape);
-    refused && new.calls() == 0 && old.into_device().calls() == 4
+    old.into_device().calls() == 4 && new.calls() == 0 && refused
+}
+
+// Whether the blocks of the new volume are counted, and what no volume has is refused.
+fn are_counted<D: Device, A: Allocator + Copy>(old: &Volume<D, A>) -> bool {
+    migrated_blocks(old, 3, 4) == Ok(17)
+        && migrated_blocks(old, 3, 1020) == Ok(2049)
+        && migrated_blocks(old, 3, 1021) == Err(Refusal::BadShape)
+        && migrated_blocks(old, 4, 4) == Ok(29)
+        && migrated_blocks(old, 4, 1021) == Ok(4101)
+        && migrated_blocks(old, 4, 65_535) == Ok(262_409)
+        && migrated_blocks(old, 4, 65_536) == Err(Refusal::BadShape)
+        && migrated_blocks(old, 5, 4) == Err(Refusal::BadShape)
 }
 
 #[test]
@@ -261,26 +328,18 @@ fn shapes_are_judged_before_any_call(rt: HostRuntime) {
     for slots in [0, 1, 1021, u64::MAX] {
         assert!(rt; refuses(&rt, MIGRATED, slots), "{slots} slots");
     }
-    let old = volume_of(&rt, disk_of(&rt, &image_two()));
-    assert!(rt; migrated_blocks(&old, 3, 4) == Ok(17));
-    assert!(rt; migrated_blocks(&old, 3, 1020) == Ok(2049));
-    assert!(rt; migrated_blocks(&old, 3, 1021) == Err(Refusal::BadShape));
-    assert!(rt; migrated_blocks(&old, 4, 4) == Ok(29));
-    assert!(rt; migrated_blocks(&old, 4, 1021) == Ok(4101));
-    assert!(rt; migrated_blocks(&old, 4, 65_535) == Ok(262_409));
-    assert!(rt; migrated_blocks(&old, 4, 65_536) == Err(Refusal::BadShape));
-    assert!(rt; migrated_blocks(&old, 5, 4) == Err(Refusal::BadShape));
+    assert!(rt; are_counted(&volume_of(&rt, disk_of(&rt, &image_two()))));
 }
 
 // What a migration answers where the call of this number of the new disk fails, and whether the old disk is as it was.
 fn new_fails<R: Abort + AllocGlobal>(rt: &R, n: u64) -> (Result<(), Refusal>, bool) {
     let mut old = volume_of(rt, disk_of(rt, &image_two()));
     let mut new = FailingDisk::new(used(rt, MIGRATED), n);
-    let answer = migrate(rt.alloc(), &mut old, &mut new, 3, 4);
+    let answer = answer_of(rt.alloc(), &mut old, &mut new, 3);
     let same = has_bytes(&mut old);
     (
         answer,
-        same && old.into_device().bytes() == image_two().as_slice(),
+        old.into_device().bytes() == image_two().as_slice() && same,
     )
 }
 
@@ -300,13 +359,11 @@ fn each_call_of_the_new_disk_fails(rt: HostRuntime) {
 // one, and whether the old one opens to the same files.
 fn old_fails<R: Abort + AllocGlobal>(rt: &R, n: u64) -> (Result<(), Refusal>, u64, bool) {
     let mut new = used(rt, MIGRATED);
-    let Ok(mut old) = open(rt.alloc(), FailingDisk::new(disk_of(rt, &image_two()), n)) else {
-        return (Err(Refusal::Damaged), 0, false);
-    };
-    let answer = migrate(rt.alloc(), &mut old, &mut new, 3, 4);
-    let mut again = volume_of(rt, old.into_device().into_inner());
-    let same = has_files(&again, &FIXED) && has_bytes(&mut again);
-    (answer, new.calls(), same)
+    let disk = FailingDisk::new(disk_of(rt, &image_two()), n);
+    let mut old = opened(rt.alloc(), disk).expect(rt, "a volume");
+    let answer = answer_of(rt.alloc(), &mut old, &mut new, 3);
+    let disk = old.into_device().into_inner();
+    (answer, new.calls(), opens_to(rt.alloc(), disk, 2, &FIXED))
 }
 
 // 4 calls open the volume, and each file is read by one.
@@ -317,34 +374,43 @@ fn each_call_of_the_old_disk_fails(rt: HostRuntime) {
     assert!(rt; old_fails(&rt, 7) == (Ok(()), 9, true));
 }
 
+// A crash of a disk that leaves a choice, and whether the choice is as long as the disk.
+fn crashes<A: Allocator + Copy>(disk: &mut MemDisk<A>, choice: &[u8]) -> bool {
+    if choice.len() != disk.bytes().len() {
+        return false;
+    }
+    disk.stop(choice);
+    true
+}
+
 // Whether the new disk is whole after a crash that leaves this byte where it may, once a migration is done.
 fn is_whole_after<R: Abort + AllocGlobal>(rt: &R, byte: u8) -> bool {
     let mut old = volume_of(rt, disk_of(rt, &image_three()));
     let mut new = used(rt, MIGRATED_GROWING);
-    if migrate(rt.alloc(), &mut old, &mut new, 3, 4).is_err() {
-        return false;
-    }
-    crash(rt, &mut new, &[byte; MIGRATED_GROWING as usize]);
-    is_whole(rt, new, &GROWING)
+    let migrates = migrates(rt.alloc(), &mut old, &mut new, 3);
+    let crashes = crashes(&mut new, &[byte; MIGRATED_GROWING as usize]);
+    opens_to(rt.alloc(), new, 3, &GROWING) && migrates && crashes
 }
 
 #[test]
 fn a_crash_after_it_leaves_the_new_disk_whole(rt: HostRuntime) {
-    for byte in [0, 0xA7, 0xFF] {
-        assert!(rt; is_whole_after(&rt, byte), "byte {byte}");
-    }
+    assert!(rt; is_whole_after(&rt, 0) && is_whole_after(&rt, 0xA7) && is_whole_after(&rt, 0xFF));
+}
+
+// Whether a migration of one disk to another succeeds after a crash of both.
+fn goes_on_after<R: Abort + AllocGlobal>(rt: &R, mut old: Disk, mut new: Disk) -> bool {
+    let crashes = crashes(&mut old, &[0xA7; LENGTH_TWO])
+        && crashes(&mut new, &[0xA7; MIGRATED as usize]);
+    let migrates = migrates(rt.alloc(), &mut volume_of(rt, old), &mut new, 3);
+    opens_to(rt.alloc(), new, 3, &FIXED) && migrates && crashes
 }
 
 // Whether a migration succeeds where an earlier one was cut off by a crash of both disks, at this call of the new one.
 fn goes_on<R: Abort + AllocGlobal>(rt: &R, n: u64) -> bool {
     let mut old = volume_of(rt, disk_of(rt, &image_two()));
     let mut new = FailingDisk::new(used(rt, MIGRATED), n);
-    let _ = migrate(rt.alloc(), &mut old, &mut new, 3, 4);
-    let (mut old, mut new) = (old.into_device(), new.into_inner());
-    crash(rt, &mut old, &[0xA7; LENGTH_TWO]);
-    crash(rt, &mut new, &[0xA7; MIGRATED as usize]);
-    let mut old = volume_of(rt, old);
-    migrate(rt.alloc(), &mut old, &mut new, 3, 4).is_ok() && is_whole(rt, new, &FIXED)
+    let _ = answer_of(rt.alloc(), &mut old, &mut new, 3);
+    goes_on_after(rt, old.into_device(), new.into_inner())
 }
 
 #[test]
@@ -354,28 +420,35 @@ fn it_can_be_made_again_after_a_crash_at_each_call(rt: HostRuntime) {
     }
 }
 
-// Whether the request for memory of this number was refused; then no call was made of either disk, and again it
-// succeeds.
-fn is_refused<R: Abort + AllocGlobal>(rt: &R, alloc: &CountingAllocator<Global>, n: u64) -> bool {
-    let mut new = used(rt, MIGRATED);
-    let Ok(mut old) = open(alloc, disk_of(rt, &image_two())) else {
-        return false;
-    };
+// Whether the request for memory of this number was refused; then no call was made of the new disk, and again the
+// migration succeeds. None where something else came.
+fn refuses_memory<D: Device, E: Device, A: Allocator + Copy>(
+    alloc: &CountingAllocator<A>,
+    old: &mut Volume<D, &CountingAllocator<A>>,
+    new: &mut E,
+    n: u64,
+) -> Option<bool> {
     alloc.restart();
     alloc.refuse_nth(n);
-    let answer = migrate(alloc, &mut old, &mut new, 3, 4);
-    if alloc.refused() == 0 {
-        assert!(rt; answer == Ok(()));
-        return false;
-    }
-    assert!(rt; answer == Err(Refusal::OutOfMemory), "request {n}");
-    assert!(rt; new.calls() == 0, "request {n}");
-    assert!(rt;
-        migrate(alloc, &mut old, &mut new, 3, 4) == Ok(()),
-        "request {n}"
-    );
-    assert!(rt; old.into_device().calls() == 6, "request {n}");
-    true
+    let answer = answer_of(alloc, old, new, 3);
+    let refused = alloc.refused() != 0;
+    let wanted = if refused {
+        Err(Refusal::OutOfMemory)
+    } else {
+        Ok(())
+    };
+    let again = !refused || new.calls() == 0 && answer_of(alloc, old, new, 3) == Ok(());
+    (answer == wanted && again).then_some(refused)
+}
+
+// Whether it was refused; then no call was made of either disk.
+fn is_refused<R: Abort + AllocGlobal>(rt: &R, alloc: &CountingAllocator<Global>, n: u64) -> bool {
+    let mut new = used(rt, MIGRATED);
+    let mut old = opened(alloc, disk_of(rt, &image_two())).expect(rt, "a volume");
+    let refused = refuses_memory(alloc, &mut old, &mut new, n);
+    let calls = old.into_device().calls();
+    assert!(rt; calls == 6 && refused != None, "request {n}");
+    refused == Some(true)
 }
 
 #[test]
