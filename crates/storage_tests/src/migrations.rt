@@ -422,9 +422,9 @@ fn it_can_be_made_again_after_a_crash_at_each_call(rt: HostRuntime) {
 
 // Whether the request for memory of this number was refused; then no call was made of the new disk, and again the
 // migration succeeds. None where something else came.
-fn refuses_memory<D: Device, E: Device, A: Allocator + Copy>(
-    alloc: &CountingAllocator<A>,
-    old: &mut Volume<D, &CountingAllocator<A>>,
+fn refuses_memory<'a, D: Device, E: Device, A: Allocator + Copy>(
+    alloc: &'a CountingAllocator<A>,
+    old: &mut Volume<D, &'a CountingAllocator<A>>,
     new: &mut E,
     n: u64,
 ) -> Option<bool> {
