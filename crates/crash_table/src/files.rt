@@ -3,7 +3,7 @@ ghost use Rattle.std.specs.Prelude.{◌≡◌, ◌<◌, ◌↔◌, List, Some, l
 ghost use Rattle.volume_codec.specs.Files.{File};
 ghost use Rattle.volume_codec.specs.Recovery.{RecoversTo};
 ghost use Rattle.recovery.specs.Volume.{IsWellFormed, files_of, bytes_of};
-ghost use Rattle.crash_table.specs.inside.Reading.{IsOnlyRead, HasLengthsOf};
+ghost use Rattle.recovery.specs.Reading.{IsOnlyRead, HasLengthsOf};
 
 use crate::crash_fault::CrashFault;
 use device::Device;

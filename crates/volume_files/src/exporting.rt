@@ -2,12 +2,13 @@
 use crate::copying::{CopyFault, copy_file};
 use crate::disk::{not_opened_on_copy, open_disk, unreadable};
 use crate::failure::FileFailure;
-use crate::making::{named, take_after};
+use crate::making::{named, new_file, take_after};
 use crate::volume_file::{Access, off_streams, other_kind, place, sync_folder_of};
-use crate::watched_file::SyncNote;
+use crate::sync_note::SyncNote;
 use device::{Device, OverlayDisk};
+use file_rows::ListFault;
 use std::alloc::Allocator;
-use std::fs::{File, Files, OpenOptions, TryLockError};
+use std::fs::{File, Files, TryLockError};
 use std::io::ErrorKind;
 use std::os::unix::fs::MetadataExt;
 use std::{fs, io};
@@ -94,7 +95,12 @@ where
     A: Allocator + Copy,
 {
     let new = format!(in rt.alloc(); "{to}.new")?;
-    let mut file = new_copy(rt, plan.out, &new)?;
+    let Some(mut file) = new_file(rt, &new)? else {
+        return Err(FileFailure::CopyIsThere {
+            path: plan.out,
+            new,
+        });
+    };
     match copied(alloc, plan, disk, old, &mut file) {
         Ok(count) => {
             let file = named(rt, plan.out, &new, to, Ok(file))?;
@@ -135,29 +141,6 @@ where
         Ok(()) => Ok(Some(file)),
         Err(TryLockError::WouldBlock) => Err(FileFailure::CopyInUse { path: out }),
         Err(TryLockError::Error(cause)) => Err(refused(cause)),
-    }
-}
-
-// An empty file in which the copy is made.
-fn new_copy<'a, R>(rt: &R, out: &'a str, new: &String) -> Result<File, FileFailure<'a>>
-where
-    R: Files<File = File>,
-{
-    let opened = OpenOptions::new()
-        .write(true)
-        .create_new(true)
-        .open(rt, new.as_str())
-        .and_then(off_streams);
-    match opened {
-        Ok(file) => Ok(file),
-        Err(cause) => {
-            let new = new.clone()?;
-            if cause.kind() == ErrorKind::AlreadyExists {
-                Err(FileFailure::CopyIsThere { path: out, new })
-            } else {
-                Err(FileFailure::Beside { path: new, cause })
-            }
-        }
     }
 }
 
@@ -230,11 +213,12 @@ impl CopyFault {
                 path: plan.disk,
                 file: plan.file,
             },
-            CopyFault::Unreadable(refusal) => unreadable(plan.disk, refusal),
-            CopyFault::Output(cause) => FileFailure::File {
+            CopyFault::Pages(ListFault::Unreadable(refusal)) => unreadable(plan.disk, refusal),
+            CopyFault::Pages(ListFault::Output(cause)) => FileFailure::File {
                 path: plan.out,
                 cause,
             },
+            CopyFault::Pages(ListFault::Memory(fault)) => FileFailure::Memory(fault),
         }
     }
 }

@@ -3,7 +3,7 @@ use crate::cause::refused_to_format;
 use crate::failure::FileFailure;
 use crate::suspect_flag::SuspectFlag;
 use crate::volume_file::{Access, lock, off_streams, open_locked, place, sync_folder_of};
-use device::FileDisk;
+use device::{Device, FileDisk};
 use page_entry::{PAGE, Refusal};
 use std::alloc::Allocator;
 use std::fs::{File, Files, OpenOptions, Permissions};
@@ -86,9 +86,13 @@ where
     A: Allocator + Copy,
 {
     let new = format!(in rt.alloc(); "{place}.new")?;
-    let file = new_file(rt, path, &new)?;
-    let volume = made(rt, alloc, path, place, plan, blocks, old, file);
-    named(rt, path, &new, place, volume)
+    match new_file(rt, &new)? {
+        Some(file) => {
+            let volume = made(rt, alloc, path, place, plan, blocks, old, file);
+            named(rt, path, &new, place, volume)
+        }
+        None => Err(FileFailure::NewIsThere { path, new }),
+    }
 }
 
 /// Gives the new file, in which all of a volume is on the disk, the name of the old one. Where it wasn't made, or can't
@@ -134,8 +138,8 @@ where
     }
 }
 
-/// An empty file in which a volume is made.
-pub fn new_file<'a, R>(rt: &R, path: &'a str, new: &String) -> Result<File, FileFailure<'a>>
+/// An empty file for what takes another's name once it is whole. There is none where a file has this name already.
+pub fn new_file<'a, R>(rt: &R, new: &String) -> Result<Option<File>, FileFailure<'a>>
 where
     R: Files<File = File>,
 {
@@ -146,15 +150,12 @@ where
         .open(rt, new.as_str())
         .and_then(off_streams);
     match opened {
-        Ok(file) => Ok(file),
-        Err(cause) => {
-            let new = new.clone()?;
-            if cause.kind() == ErrorKind::AlreadyExists {
-                Err(FileFailure::NewIsThere { path, new })
-            } else {
-                Err(FileFailure::Beside { path: new, cause })
-            }
-        }
+        Ok(file) => Ok(Some(file)),
+        Err(cause) if cause.kind() == ErrorKind::AlreadyExists => Ok(None),
+        Err(cause) => Err(FileFailure::Beside {
+            path: new.clone()?,
+            cause,
+        }),
     }
 }
 
@@ -174,10 +175,19 @@ where
     A: Allocator + Copy,
 {
     let mut disk = ready(rt, alloc, path, place, blocks, old, file)?;
-    match recovery::format_as(alloc, &mut disk, plan.layout, plan.files, plan.slots) {
+    match format_on(alloc, plan, &mut disk) {
         Ok(()) => Ok(disk.into_file()),
         Err(refusal) => Err(plan.refused(path, refusal)),
     }
+}
+
+// Makes the volume on a device.
+fn format_on<D: Device, A: Allocator + Copy>(
+    alloc: A,
+    plan: Plan<'_, '_>,
+    disk: &mut D,
+) -> Result<(), Refusal> {
+    recovery::format_as(alloc, disk, plan.layout, plan.files, plan.slots)
 }
 
 /// A disk over a new file of so many blocks, all zeros, which is to replace an old one, if there is one. `path` names

@@ -2,7 +2,7 @@
 use crate::failure::FileFailure;
 use std::fs::{File, Files, Metadata, OpenOptions, TryLockError};
 use std::os::fd::AsRawFd;
-use std::os::unix::fs::{FileTypeExt, MetadataExt};
+use std::os::unix::fs::MetadataExt;
 use std::path::Path;
 use std::{fs, io};
 
@@ -122,23 +122,19 @@ fn judge_kind<'a>(path: &'a str, found: &Metadata) -> Result<(), FileFailure<'a>
     }
 }
 
+// The bits of a file's mode that say of what kind it is.
+const KIND: u32 = 0o170_000;
+
 /// What a file is that isn't a regular one.
 pub fn other_kind(found: &Metadata) -> Option<&'static str> {
-    let kind = found.file_type();
-    if kind.is_file() {
-        None
-    } else if kind.is_dir() {
-        Some("a folder")
-    } else if kind.is_fifo() {
-        Some("a pipe")
-    } else if kind.is_socket() {
-        Some("a socket")
-    } else if kind.is_block_device() {
-        Some("a block device")
-    } else if kind.is_char_device() {
-        Some("a character device")
-    } else {
-        Some("no file")
+    match found.mode() & KIND {
+        0o100_000 => None,
+        0o040_000 => Some("a folder"),
+        0o010_000 => Some("a pipe"),
+        0o140_000 => Some("a socket"),
+        0o060_000 => Some("a block device"),
+        0o020_000 => Some("a character device"),
+        _ => Some("no file"),
     }
 }
 

@@ -2,9 +2,9 @@ use Rattle.std.proofs.Common.{rules, ◌≡◌, ◌<◌, ◌≤◌, ℕ, List, [
 use Rattle.std.proofs.lemmas.List.{map-append}
 use Rattle.volume_codec.specs.Files.{File}
 use Rattle.recovery.specs.Volume.{files_of, bytes_of}
+use Rattle.recovery.proofs.Public.{lengths_of_well_formed, lengths_after_reading, files_read, read_then}
 use Rattle.crash_table.specs.inside.Kept.{contents_of}
-use Rattle.crash_table.proofs.Reading.{lengths_of_well_formed, lengths_after_reading, files_read}
-use Rattle.crash_table.proofs.Reading.{read_then, as_many_files, bytes_more, all_bytes}
+use Rattle.crash_table.proofs.Reading.{as_many_files, bytes_more, all_bytes}
 use Rattle.crash_table.proofs.files.read_files.Goals as goal
 
 pub read_file-requires-clause-files : goal.read_file-requires-clause-files

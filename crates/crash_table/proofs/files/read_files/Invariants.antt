@@ -1,6 +1,6 @@
 use Rattle.std.proofs.Common.{◌≡◌, take, map}
 use Rattle.recovery.specs.Volume.{files_of}
-use Rattle.crash_table.specs.inside.Reading.{IsOnlyRead}
+use Rattle.recovery.specs.Reading.{IsOnlyRead}
 use Rattle.crash_table.proofs.files.read_files.Given as goal
 
 abbrev pub invariant-loop-file : goal.invariant-loop-file
