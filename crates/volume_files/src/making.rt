@@ -2,7 +2,7 @@
 use crate::cause::refused_to_format;
 use crate::failure::FileFailure;
 use crate::suspect_flag::SuspectFlag;
-use crate::volume_file::{Access, lock, off_streams, open_locked, place, sync_folder_of};
+use crate::volume_file::{Access, lock, off_streams, open_locked, place, sync_folder_of, unless};
 use device::{Device, FileDisk};
 use page_entry::{PAGE, Refusal};
 use std::alloc::Allocator;
@@ -132,8 +132,13 @@ where
     R: Files<File = File>,
 {
     match fs::exists(rt, place) {
-        Ok(false) => Ok(None),
-        Ok(true) => Ok(Some(open_locked(rt, path, place, Access::Write)?)),
+        Ok(there) => {
+            if there {
+                Ok(Some(open_locked(rt, path, place, Access::Write)?))
+            } else {
+                Ok(None)
+            }
+        }
         Err(cause) => Err(FileFailure::File { path, cause }),
     }
 }
@@ -151,11 +156,22 @@ where
         .and_then(off_streams);
     match opened {
         Ok(file) => Ok(Some(file)),
-        Err(cause) if cause.kind() == ErrorKind::AlreadyExists => Ok(None),
-        Err(cause) => Err(FileFailure::Beside {
-            path: new.clone()?,
-            cause,
-        }),
+        Err(cause) => not_made(new, cause),
+    }
+}
+
+// Whether a new file wasn't made since one of its name is there already.
+fn not_made<'a>(new: &String, cause: io::Error) -> Result<Option<File>, FileFailure<'a>> {
+    match unless(ErrorKind::AlreadyExists, cause) {
+        Ok(()) => Ok(None),
+        Err(cause) => Err(beside(new, cause)),
+    }
+}
+
+fn beside<'a>(new: &String, cause: io::Error) -> FileFailure<'a> {
+    match new.clone() {
+        Ok(path) => FileFailure::Beside { path, cause },
+        Err(fault) => FileFailure::Memory(fault),
     }
 }
 
@@ -226,10 +242,24 @@ where
 {
     lock(path, file, Access::Write)?;
     match old {
-        Some(old) => take_after(file, old).map_err(|cause| FileFailure::File { path, cause }),
-        // Nobody else makes one while this new file is there, but one may have been made before.
-        None if fs::exists(rt, place).unwrap_or(true) => Err(FileFailure::InUse { path }),
-        None => Ok(()),
+        Some(old) => match take_after(file, old) {
+            Ok(()) => Ok(()),
+            Err(cause) => Err(FileFailure::File { path, cause }),
+        },
+        None => judge_absent(rt, path, place),
+    }
+}
+
+// Nobody else makes a volume at a place while a new file for it is there, but one may have been made before.
+fn judge_absent<'a, R: Files<File = File>>(
+    rt: &R,
+    path: &'a str,
+    place: &str,
+) -> Result<(), FileFailure<'a>> {
+    if fs::exists(rt, place).unwrap_or(true) {
+        Err(FileFailure::InUse { path })
+    } else {
+        Ok(())
     }
 }
 
@@ -243,8 +273,8 @@ pub fn take_after(new: &File, old: &File) -> io::Result<()> {
 
 fn unless_denied(outcome: io::Result<()>) -> io::Result<()> {
     match outcome {
-        Err(fault) if fault.kind() == ErrorKind::PermissionDenied => Ok(()),
-        other => other,
+        Ok(()) => Ok(()),
+        Err(fault) => unless(ErrorKind::PermissionDenied, fault),
     }
 }
 

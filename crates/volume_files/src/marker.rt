@@ -51,8 +51,7 @@ pub trait Noted {
 }
 
 impl<F: BlockFile + Drop, R: Files<File = File> + AllocGlobal> Noted
-    for FileDisk<WatchedFile<F, Marker<'_, R>>>
-{
+    for FileDisk<WatchedFile<F, Marker<'_, R>>> {
     fn into_note(self) -> SyncNote {
         self.into_file().into_note()
     }

@@ -11,16 +11,14 @@ use crate::disk::{not_opened, open_to_write};
 use crate::failure::FileFailure;
 use crate::making::{durably_name, named, new_file, old_file, ready};
 use crate::marker::Noted;
-use crate::volume_file::place;
 use crate::sync_note::SyncNote;
+use crate::volume_file::{apart, found_at, place};
 use device::{Device, FileDisk};
 use page_entry::Refusal;
 use recovery::Volume;
 use std::alloc::{AllocError, Allocator};
 use std::fs;
 use std::fs::{File, Files};
-use std::io::ErrorKind;
-use std::os::unix::fs::MetadataExt;
 use volume_codec::Layout;
 
 /// Which volume is migrated, and where to: the paths of the two files, the number of the new volume's layout, 3 or 4
@@ -109,21 +107,11 @@ fn judge_apart<'a, R>(
 where
     R: Files<File = File>,
 {
-    let new = match fs::metadata(rt, to) {
-        Ok(new) => new,
-        Err(fault) if fault.kind() == ErrorKind::NotFound => return Ok(()),
-        Err(cause) => {
-            return Err(FileFailure::File {
-                path: plan.new,
-                cause,
-            });
-        }
+    let Some(new) = found_at(rt, plan.new, to)? else {
+        return Ok(());
     };
     match fs::metadata(rt, from) {
-        Ok(old) if new.dev() == old.dev() && new.ino() == old.ino() => Err(FileFailure::SameFile {
-            path: plan.new,
-        }),
-        Ok(_) => Ok(()),
+        Ok(old) => apart(plan.new, &new, &old),
         Err(cause) => Err(FileFailure::File {
             path: plan.old,
             cause,
