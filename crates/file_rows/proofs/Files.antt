@@ -11,7 +11,7 @@ use Rattle.volume_codec.specs.Super.{pages_of, names_in}
 use Rattle.volume_codec.specs.Lengths.{lengths_in}
 use Rattle.volume_codec.specs.Recovery.{files_from}
 use Rattle.recovery.specs.Volume.{VolumeState, IsWellFormed, files_of, bytes_of}
-use Rattle.recovery.specs.Reading.{IsOnlyRead}
+use Rattle.recovery.specs.VolumeReading.{IsVolumeOnlyRead}
 use Rattle.recovery.proofs.Public.{lengths_of_well_formed, files_read, lengths_after_reading}
 use Rattle.std.specs.Io.KnownBytes.{Appends}
 use Rattle.file_rows.specs.Rows.{rows_text, row_count, file_listing, files_listing}
@@ -38,7 +38,7 @@ files_of_well_formed disk volume well_formed honest =
     }
 
 -- a volume that was only read has the same files, with the same names and lengths
-pub files_after_reading : {D : Type 0} (disk : Ghosts D) (old new : VolumeState D) → IsOnlyRead disk old new
+pub files_after_reading : {D : Type 0} (disk : Ghosts D) (old new : VolumeState D) → IsVolumeOnlyRead disk old new
     → disk.is_honest old.device → AreFilesOf old (disk.seen old.device) → AreFilesOf new (disk.seen new.device)
 files_after_reading disk old new only honest are =
     let files = files_read disk old new only honest in

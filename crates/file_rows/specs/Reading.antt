@@ -1,7 +1,7 @@
 -- The pages of a volume's files.
 use Rattle.std.specs.Prelude.{ℕ, zero, suc, ◌≡◌, ◌+◌, ◌*◌, ◌/◌, List, [], ◌++◌, map, take, drop}
 use Rattle.recovery.specs.Volume.{VolumeState, files_of}
-use Rattle.recovery.specs.Reading.{HasLengthsOf}
+use Rattle.recovery.specs.VolumeReading.{HasLengthsOf}
 use Rattle.volume_codec.specs.Super.{names_in}
 
 -- the part of these bytes that is page n, or what there is of it

@@ -6,7 +6,7 @@ ghost use Rattle.volume_codec.specs.Files.{File};
 ghost use Rattle.volume_codec.specs.Recovery.{RecoversTo};
 ghost use Rattle.recovery.specs.Opening.{Opens};
 ghost use Rattle.recovery.specs.Volume.{files_of};
-ghost use Rattle.recovery.specs.Reading.{IsOnlyRead};
+ghost use Rattle.recovery.specs.VolumeReading.{IsVolumeOnlyRead};
 ghost use Rattle.file_rows.specs.Rows.{shown, row_count, file_listing, files_listing};
 ghost use Rattle.file_rows.specs.Reading.{AreFilesOf};
 ghost use Rattle.file_rows.specs.inside.Pages.{rows_at};
@@ -75,7 +75,7 @@ fn write_file<D: Device + Drop, A: Allocator + Copy, F: Form, W: io::Write>(
         → slice_get (files_of volume.old.table (D.seen volume.old.device)) file ≡ Some f
         → OnOk result (Appends (W.contents out.old) (W.contents out.new)
         (file_listing (F.head_text form.now) (F.row_text form.now) f)) }
-    ensures read { IsOnlyRead D.Device volume.old volume.new }
+    ensures read { IsVolumeOnlyRead D.Device volume.old volume.new }
 {
     let bytes = volume.length(file);
     let name = volume.name(file);

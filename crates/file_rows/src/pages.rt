@@ -2,7 +2,7 @@
 ghost use Rattle.std.specs.Prelude.{◌≡◌, ◌<◌, ◌+◌, ◌^◌, ℕ, List, length, slice_get, Some, OnOk};
 ghost use Rattle.std.specs.Io.KnownBytes.{Appends};
 ghost use Rattle.recovery.specs.Volume.{files_of, bytes_of};
-ghost use Rattle.recovery.specs.Reading.{IsOnlyRead};
+ghost use Rattle.recovery.specs.VolumeReading.{IsVolumeOnlyRead};
 ghost use Rattle.file_rows.specs.Reading.{AreFilesOf, pages_text, page_count};
 
 use crate::form::ListFault;
@@ -38,7 +38,7 @@ pub fn write_pages<D: Device + Drop, A: Allocator + Copy, F: PageForm, W: io::Wr
     ensures written { D.is_honest volume.old.device → OnOk result (Appends (W.contents out.old) (W.contents out.new)
         (pages_text (F.page_text form.now) (bytes_of (files_of volume.old.table (D.seen volume.old.device)) file)
         (page_count bytes))) }
-    ensures read { IsOnlyRead D.Device volume.old volume.new }
+    ensures read { IsVolumeOnlyRead D.Device volume.old volume.new }
 {
     for page in 0..bytes.div_ceil(PAGE) {
         let at = PAGE * page;

@@ -13,5 +13,5 @@ pub mod Carrying
 pub mod Copied
 pub mod Migrated
 pub mod Writing
-pub mod Reading
+pub mod VolumeReading
 pub mod Public

@@ -4,5 +4,5 @@ pub mod Format
 pub mod Opening
 pub mod Openings
 pub mod Migration
-pub mod Reading
+pub mod VolumeReading
 pub mod inside

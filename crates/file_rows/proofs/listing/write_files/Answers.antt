@@ -4,7 +4,7 @@ use Rattle.std.specs.Io.KnownBytes.{Appends}
 use Rattle.volume_codec.specs.Files.{File}
 use Rattle.recovery.specs.Volume.{files_of}
 use Rattle.recovery.proofs.FileBytes.{some_at}
-use Rattle.recovery.proofs.Public.{files_read, read_then}
+use Rattle.recovery.proofs.Public.{files_read, volume_read_then}
 use Rattle.file_rows.specs.Rows.{files_listing}
 use Rattle.file_rows.proofs.Files.{files_of_well_formed, files_after_reading, file_more, as_many_files}
 use Rattle.file_rows.proofs.listing.write_files.Goals as goal
@@ -24,7 +24,7 @@ loop-file-preserved g c =
     let contents = g.W.Write.contents in
     let form = c.args.form.now in
     let i = c.loop-file.file in (
-      read_then g.D.Device old mid c.write_file.new.volume before.0 c.write_file.ensures.read,
+      volume_read_then g.D.Device old mid c.write_file.new.volume before.0 c.write_file.ensures.read,
       λ honest.
           let files = files_of old.table (g.D.Device.seen old.device) in
           let are = files_of_well_formed g.D.Device old c.file_count-file-end.ensures.well_formed honest in

@@ -1,7 +1,7 @@
 use Rattle.std.proofs.Common.{rules, ◌≡◌, ℕ, ap, subst, ◌∙◌}
 use Rattle.std.specs.Io.KnownBytes.{Appends}
 use Rattle.recovery.specs.Volume.{files_of, bytes_of}
-use Rattle.recovery.proofs.Public.{files_read, read_then}
+use Rattle.recovery.proofs.Public.{files_read, volume_read_then}
 use Rattle.file_rows.specs.Reading.{part_of, pages_text, page_count}
 use Rattle.file_rows.proofs.PageText.{page_more}
 use Rattle.file_rows.proofs.pages.write_pages.Goals as goal
@@ -14,7 +14,7 @@ loop-page-preserved g c =
     let contents = g.W.Write.contents in
     let page = c.loop-page.page in
     let file = c.args.file in (
-      read_then g.D.Device old mid c.read_page.new.volume before.0 c.in_default.ensures.read,
+      volume_read_then g.D.Device old mid c.read_page.new.volume before.0 c.in_default.ensures.read,
       λ honest.
           let bytes = bytes_of (files_of old.table (g.D.Device.seen old.device)) file in
           let is = c.in_default.ensures.page (before.0.honest.1 honest)

@@ -9,7 +9,7 @@ use Rattle.volume_codec.specs.Lengths.{lengths_in}
 use Rattle.volume_codec.specs.Recovery.{files_from}
 use Rattle.volume_codec.proofs.Public.{length-block_at, length-file}
 use Rattle.recovery.specs.Volume.{VolumeState, IsWellFormed, files_of, bytes_of}
-use Rattle.recovery.specs.Reading.{IsOnlyRead, HasLengthsOf}
+use Rattle.recovery.specs.VolumeReading.{IsVolumeOnlyRead, HasLengthsOf}
 
 lengths_from : (contents : ℕ → List ℕ) (b : ℕ) (fs : List TableFile) (lengths : List ℕ) → length lengths ≡ length fs
     → ((i n : ℕ) (f : TableFile) → slice_get fs i ≡ Some f → slice_get lengths i ≡ Some n → n ≤ f.capacity)
@@ -37,20 +37,20 @@ lengths_of_well_formed disk volume well_formed honest =
     rest.lengths_fit.are.count rest.lengths_fit.are.within whole ∙ sym rest.lengths_are
 
 -- a volume that was only read has the same files
-pub files_read : {D : Type 0} (disk : Ghosts D) (old new : VolumeState D) → IsOnlyRead disk old new
+pub files_read : {D : Type 0} (disk : Ghosts D) (old new : VolumeState D) → IsVolumeOnlyRead disk old new
     → disk.is_honest old.device → files_of new.table (disk.seen new.device) ≡ files_of old.table (disk.seen old.device)
 files_read disk old new only honest =
     ap (λ t. files_of t (disk.seen new.device)) only.table ∙ ap (files_of old.table) (only.same honest)
 
-pub lengths_after_reading : {D : Type 0} (disk : Ghosts D) (old new : VolumeState D) → IsOnlyRead disk old new
+pub lengths_after_reading : {D : Type 0} (disk : Ghosts D) (old new : VolumeState D) → IsVolumeOnlyRead disk old new
     → disk.is_honest old.device → HasLengthsOf old (disk.seen old.device) → HasLengthsOf new (disk.seen new.device)
 lengths_after_reading disk old new only honest are =
     ap (map (λ (f : File). length f.bytes)) (files_read disk old new only honest) ∙ are ∙ sym only.lengths
 
 -- a volume that was only read, and then again
-pub read_then : {D : Type 0} (disk : Ghosts D) (old mid new : VolumeState D) → IsOnlyRead disk old mid
-    → IsOnlyRead disk mid new → IsOnlyRead disk old new
-read_then disk old mid new first second = record {
+pub volume_read_then : {D : Type 0} (disk : Ghosts D) (old mid new : VolumeState D) → IsVolumeOnlyRead disk old mid
+    → IsVolumeOnlyRead disk mid new → IsVolumeOnlyRead disk old new
+volume_read_then disk old mid new first second = record {
   table = second.table ∙ first.table;
   lengths = second.lengths ∙ first.lengths;
   honest = (λ h. first.honest.0 (second.honest.0 h), λ h. second.honest.1 (first.honest.1 h));
