@@ -2,4 +2,3 @@
 pub mod Codes
 pub mod Contents
 pub mod Kept
-pub mod Reading

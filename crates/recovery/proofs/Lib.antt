@@ -14,4 +14,5 @@ pub mod Copied
 pub mod Migrated
 pub mod Writing
 pub mod Parts
+pub mod VolumeReading
 pub mod Public

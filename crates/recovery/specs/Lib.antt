@@ -5,4 +5,5 @@ pub mod Opening
 pub mod Openings
 pub mod Reading
 pub mod Migration
+pub mod VolumeReading
 pub mod inside

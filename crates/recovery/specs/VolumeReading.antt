@@ -4,7 +4,7 @@ use Rattle.device.specs.declared.device.Device.{Ghosts}
 use Rattle.recovery.specs.Volume.{VolumeState, files_of}
 
 -- a volume that was only read: its table and lengths stay, and so does what an honest device gives
-pub record IsOnlyRead {D : Type 0} (disk : Ghosts D) (old new : VolumeState D) : Type 0 where
+pub record IsVolumeOnlyRead {D : Type 0} (disk : Ghosts D) (old new : VolumeState D) : Type 0 where
   pub table : new.table ≡ old.table
   pub lengths : new.lengths ≡ old.lengths
   pub honest : disk.is_honest new.device ↔ disk.is_honest old.device
