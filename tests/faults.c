@@ -1,6 +1,6 @@
 /*
- * Preloaded into the program by `real_files`: at the Nth call that changes a file or makes one durable, counted from 1,
- * the call fails, or the process is killed or stopped before it is made.
+ * Preloaded into the program by `real_files` and `program`: at the Nth call that changes a file or makes one durable,
+ * counted from 1, the call fails, or the process is killed or stopped before it is made.
  *
  *   FAULT=none             nothing; the number of calls is written to the file COUNT
  *   FAULT=kill:N           the process is killed
@@ -8,7 +8,8 @@
  *   FAULT=fail:N:ERRNO     this call fails
  *   FAULT=from:N:ERRNO     this call fails, and all later ones
  *
- * ONLY=sync counts calls of fsync and fdatasync alone, ONLY=write writes alone.
+ * ONLY=sync counts calls of fsync and fdatasync alone, ONLY=write writes alone, and ONLY=read reads at an offset alone,
+ * which are no such calls and else aren't counted.
  */
 #define _GNU_SOURCE
 #include <dlfcn.h>
@@ -23,7 +24,7 @@
 #include <sys/types.h>
 #include <unistd.h>
 
-enum kind { OTHER, WRITE, SYNC };
+enum kind { OTHER, WRITE, SYNC, READ };
 
 static long calls;
 
@@ -31,7 +32,9 @@ static int counts(enum kind kind)
 {
     const char *only = getenv("ONLY");
     if (!only)
-        return 1;
+        return kind != READ;
+    if (strcmp(only, "read") == 0)
+        return kind == READ;
     return strcmp(only, "sync") == 0 ? kind == SYNC : kind == WRITE;
 }
 
@@ -90,6 +93,16 @@ ssize_t write(int file, const void *bytes, size_t count)
 {
     /* what is printed isn't a file's */
     return file > 2 && fails(WRITE) ? -1 : NEXT(write)(file, bytes, count);
+}
+
+ssize_t pread(int file, void *bytes, size_t count, off_t at)
+{
+    return fails(READ) ? -1 : NEXT(pread)(file, bytes, count, at);
+}
+
+ssize_t pread64(int file, void *bytes, size_t count, off64_t at)
+{
+    return fails(READ) ? -1 : NEXT(pread64)(file, bytes, count, at);
 }
 
 int fsync(int file)

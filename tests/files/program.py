@@ -2,6 +2,7 @@
 
 import os
 import resource
+import signal
 import struct
 import subprocess
 import sys
@@ -40,7 +41,16 @@ class Outcome:
         return f"status {self.status}, out {self.out[-200:]!r}, err {self.err!r}"
 
 
-def start(words, fault=None, only=None, closed=(), limit=None, memory=None, out=subprocess.PIPE, input=subprocess.DEVNULL):
+def build_faults():
+    """Builds the library that makes calls fail, in this folder. Tells whether that succeeded."""
+    words = ["cc", "-shared", "-fPIC", "-O1", "-Wall", "-Wextra", "-Werror", "-o", "faults.so", f"{TESTS}/faults.c", "-ldl"]
+    return subprocess.run(words).returncode == 0
+
+
+def start(
+    words, fault=None, only=None, closed=(), limit=None, memory=None, ignored=(), out=subprocess.PIPE,
+    input=subprocess.DEVNULL,
+):
     """Starts the program in the folder of this test."""
     environment = dict(os.environ)
     if fault:
@@ -51,13 +61,16 @@ def start(words, fault=None, only=None, closed=(), limit=None, memory=None, out=
     def prepare():
         for descriptor in closed:
             os.close(descriptor)
+        for number in ignored:
+            signal.signal(number, signal.SIG_IGN)
         if limit is not None:
             resource.setrlimit(resource.RLIMIT_FSIZE, (limit, limit))
         if memory is not None:
             resource.setrlimit(resource.RLIMIT_AS, (memory, memory))
 
     return subprocess.Popen(
-        [PROGRAM, *words], stdin=input, stdout=out, stderr=subprocess.PIPE, env=environment, preexec_fn=prepare
+        ["famsync", *words], executable=PROGRAM, stdin=input, stdout=out, stderr=subprocess.PIPE, env=environment,
+        preexec_fn=prepare,
     )
 
 
@@ -135,15 +148,15 @@ COMMANDS = {
 READERS = ("dump", "info", "check", "export")
 
 
-def stopped(words, call):
+def stopped(words, call, **how):
     """The program, stopped before this call, or None where it ended before."""
-    process = start(words, fault=f"stop:{call}")
+    process = start(words, fault=f"stop:{call}", **how)
     _, status = os.waitpid(process.pid, os.WUNTRACED)
     if os.WIFSTOPPED(status):
         return process
     process.returncode = os.waitstatus_to_exitcode(status)
-    process.stdout.close()
-    process.stderr.close()
+    for pipe in filter(None, (process.stdout, process.stderr)):
+        pipe.close()
     return None
 
 

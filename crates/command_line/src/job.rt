@@ -6,63 +6,66 @@ use volume_codec::FileSpec;
 /// What the words of a command line ask for.
 #[derive(Drop)]
 pub enum Job<'a, A: Allocator + Copy> {
-    /// Make a volume in the layout of this number, with these files.
-    Format {
+    /// Make a volume, or copy a file out of one, and print how much was made.
+    Make(Make<'a, A>),
+    /// Print what is to be seen of a volume.
+    Look(Look<'a>),
+    /// Run a script on a volume.
+    Run(Scripted<'a>),
+    /// Run a script's programs in threads on a volume.
+    Threads(Scripted<'a>),
+    /// Run a trace again on a copy of a volume.
+    Replay(Scripted<'a>),
+    /// Print what a crash within each device call of a script leaves.
+    Crashes(Scripted<'a>, Form),
+    /// Answer requests on a volume, also on one that is marked as suspect where it is trusted.
+    Serve { disk: &'a str, trust: bool },
+    /// Print this text: help, or the version.
+    Show(String),
+}
+
+/// What is made, and whether what is printed is JSON.
+#[derive(Drop)]
+pub enum Make<'a, A: Allocator + Copy> {
+    /// A volume in the layout of this number, with these files.
+    Volume {
         layout: u64,
         disk: &'a str,
         slots: u64,
         files: Vec<FileSpec<'a>, A>,
         json: bool,
     },
-    /// Run a script on a volume, also on one that is marked as suspect where it is trusted.
-    Run {
-        disk: &'a str,
-        script: &'a str,
-        trust: bool,
-    },
-    /// Run a script's programs in threads on a volume, also on one that is marked as suspect where it is trusted.
-    Threads {
-        disk: &'a str,
-        script: &'a str,
-        trust: bool,
-    },
-    /// Answer requests on a volume, also on one that is marked as suspect where it is trusted.
-    Serve {
-        disk: &'a str,
-        trust: bool,
-    },
-    /// Print the files of a volume.
-    Dump(Look<'a>),
-    /// Print what the bytes of a volume say.
-    Info(Look<'a>),
-    /// Print whether a volume is clean, needs opening, or is damaged.
-    Check(Look<'a>),
-    /// Copy a file out of a volume.
-    Export(Export<'a>),
-    /// Make a volume whose files can grow of another.
-    Migrate(Migration<'a>),
-    /// Run a trace again on a copy of a volume, also of one that is marked as suspect where it is trusted.
-    Replay {
-        disk: &'a str,
-        trace: &'a str,
-        trust: bool,
-    },
-    /// Print what a crash within each device call of a script leaves, also of a volume that is marked as suspect where
-    /// it is trusted.
-    Crashes {
-        disk: &'a str,
-        script: &'a str,
-        trust: bool,
-        form: Form,
-    },
-    /// Print this text: help, or the version.
-    Show(String),
+    /// A volume whose files can grow, of another.
+    Migration(Migration<'a>),
+    /// A copy of a file of a volume.
+    Copy(Export<'a>),
 }
 
-/// A volume that is looked at: the path of its file, whether it is trusted though it may be marked as suspect, and
-/// whether what is printed is JSON.
+/// A volume on which what another file says is run: the paths of the volume's file and of the script or the trace, and
+/// whether the volume is trusted though it may be marked as suspect.
+#[derive(Clone, Copy)]
+pub struct Scripted<'a> {
+    pub disk: &'a str,
+    pub script: &'a str,
+    pub trust: bool,
+}
+
+/// What is looked at of a volume.
+#[derive(Clone, Copy, PartialEq, Eq)]
+pub enum Sight {
+    /// Its files.
+    Files,
+    /// What its bytes say.
+    Bytes,
+    /// Whether it is clean, needs opening, or is damaged.
+    Health,
+}
+
+/// A volume that is looked at: what is looked at, the path of its file, whether it is trusted though it may be marked as
+/// suspect, and whether what is printed is JSON.
 #[derive(Clone, Copy)]
 pub struct Look<'a> {
+    pub sight: Sight,
     pub disk: &'a str,
     pub trust: bool,
     pub json: bool,

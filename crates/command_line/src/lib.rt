@@ -2,11 +2,12 @@
 #![tactic(auto)]
 
 mod command;
+mod commands;
 mod job;
 mod word_fault;
 mod words;
 
 pub use command::read_words;
-pub use job::{Export, Form, Job, Look, Migration};
+pub use job::{Export, Form, Job, Look, Make, Migration, Scripted, Sight};
 pub use word_fault::WordFault;
 pub use words::{decimal, file_spec};

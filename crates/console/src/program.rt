@@ -16,8 +16,8 @@ use std::rt::Files;
 use std::sync::Wait;
 use std::thread::Threads;
 use threads_command::threads;
-use volume_commands::{check, dump, export, format, info, migrate};
-use volume_files::{Plan, SyncNote};
+use volume_commands::{look, make};
+use volume_files::SyncNote;
 
 /// Does what the words ask for, of which the first is the program's name. What it prints goes to `out`, and where
 /// something is wrong, one line to `err`.
@@ -39,7 +39,8 @@ where
     ensures { result ≤ 3 }
 {
     let mut note = SyncNote::Nothing;
-    match obey_and_flush(rt, alloc, words, out, &mut note) {
+    let done = obey(rt, alloc, words, out, &mut note);
+    match once_flushed(done, out.flush()) {
         Ok(status) => status,
         Err(failure) => {
             // Where this can't be written either, the status is all that is left to say.
@@ -50,23 +51,14 @@ where
     }
 }
 
-// What was printed comes out also where there is a failure.
-fn obey_and_flush<'a, R, A, S, O>(
-    rt: &R,
-    alloc: A,
-    words: &'a [S],
-    out: &mut O,
-    note: &mut SyncNote,
+// What was printed comes out also where there is a failure, which then counts.
+fn once_flushed<'a>(
+    done: Result<u8, Failure<'a>>,
+    flushed: io::Result<()>,
 ) -> Result<u8, Failure<'a>>
-where
-    R: Files<File = File> + Input + AllocGlobal + Threads + Wait + Sync,
-    A: Allocator + Copy,
-    S: AsStr,
-    O: io::Write,
+    requires { IfOk done (λ status. status ≤ 3) }
     ensures { IfOk result (λ status. status ≤ 3) }
 {
-    let done = obey(rt, alloc, words, out, note);
-    let flushed = out.flush();
     let status = done?;
     flushed?;
     Ok(status)
@@ -87,77 +79,30 @@ where
     ensures { IfOk result (λ status. status ≤ 3) }
 {
     match read_words(rt.alloc(), alloc, words)? {
-        Job::Format {
-            layout,
-            disk,
-            slots,
-            files,
-            json,
-        } => {
-            let plan = Plan {
-                layout,
-                files: &files,
-                slots,
-            };
-            format(rt, alloc, disk, plan, json, out)?;
-            Ok(0)
+        Job::Look(asked) => {
+            let status = look(rt, alloc, asked, out, note)?;
+            return Ok(status);
         }
-        Job::Migrate(asked) => {
-            migrate(rt, alloc, asked, out, note)?;
-            Ok(0)
+        Job::Replay(asked) => {
+            return replay(rt, alloc, asked.disk, asked.script, asked.trust, out, note);
         }
-        Job::Run {
-            disk,
-            script,
-            trust,
-        } => {
-            run(rt, alloc, disk, script, trust, out, note)?;
-            Ok(0)
+        Job::Make(asked) => make(rt, alloc, asked, out, note)?,
+        Job::Run(asked) => run(rt, alloc, asked.disk, asked.script, asked.trust, out, note)?,
+        Job::Threads(asked) => threads(rt, asked.disk, asked.script, asked.trust, out, note)?,
+        Job::Crashes(asked, form) => {
+            crashes(
+                rt,
+                alloc,
+                asked.disk,
+                asked.script,
+                asked.trust,
+                form,
+                out,
+                note,
+            )?
         }
-        Job::Threads {
-            disk,
-            script,
-            trust,
-        } => {
-            threads(rt, disk, script, trust, out, note)?;
-            Ok(0)
-        }
-        Job::Serve { disk, trust } => {
-            serve(rt, alloc, disk, trust, out, note)?;
-            Ok(0)
-        }
-        Job::Replay { disk, trace, trust } => {
-            let status = replay(rt, alloc, disk, trace, trust, out, note)?;
-            Ok(status)
-        }
-        Job::Dump(look) => {
-            dump(rt, alloc, look, out, note)?;
-            Ok(0)
-        }
-        Job::Info(look) => {
-            info(rt, alloc, look, out, note)?;
-            Ok(0)
-        }
-        Job::Check(look) => {
-            let status = check(rt, alloc, look, out, note)?;
-            Ok(status)
-        }
-        Job::Export(asked) => {
-            export(rt, alloc, asked, out, note)?;
-            Ok(0)
-        }
-        Job::Crashes {
-            disk,
-            script,
-            trust,
-            form,
-        } => {
-            crashes(rt, alloc, disk, script, trust, form, out, note)?;
-            Ok(0)
-        }
-        Job::Show(text) => {
-            out.write_all(text.as_bytes())?;
-            Ok(0)
-        }
+        Job::Serve { disk, trust } => serve(rt, alloc, disk, trust, out, note)?,
+        Job::Show(text) => out.write_all(text.as_bytes())?,
     }
+    Ok(0)
 }

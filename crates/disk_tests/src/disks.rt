@@ -1,9 +1,8 @@
 // Each call once, on a disk in memory, on one that fails and on one over a file.
 ghost use Rattle.std.specs.Prelude.{◌≡◌, ◌+◌, ◌≤◌, ◌∷◌, [], ◌++◌, length, IsTrue, is_ok};
-ghost use Rattle.device.specs.Memory.{seen_of};
 
 use device::{BlockFile, Device, DeviceFault, FailingDisk, FileDisk, MemDisk};
-use std::alloc::Global;
+use std::alloc::{Allocator, Global};
 use std::fs::{File, OpenOptions};
 use std::process::Abort;
 use std::{fs, io};
@@ -127,17 +126,13 @@ impl<R: Abort> BlockFile for CountedFile<'_, R> {
     }
 }
 
-// A disk of zeros.
-fn disk_of<R: Abort + AllocGlobal>(rt: &R, len: u64) -> MemDisk<Global>
-    ensures { length (seen_of result) ≡ len }
-{
+/// A disk of zeros.
+pub fn disk_of<R: Abort + AllocGlobal>(rt: &R, len: u64) -> MemDisk<Global> {
     MemDisk::new(rt.alloc(), len).expect(rt, "memory")
 }
 
 // A disk of these bytes.
-fn disk_with<R: Abort + AllocGlobal>(rt: &R, bytes: &[u8]) -> MemDisk<Global>
-    ensures { seen_of result ≡ bytes.now }
-{
+fn disk_with<R: Abort + AllocGlobal>(rt: &R, bytes: &[u8]) -> MemDisk<Global> {
     let bytes = bytes.to_vec(rt.alloc()).expect(rt, "memory");
     MemDisk::from_bytes(rt.alloc(), bytes).expect(rt, "memory")
 }
@@ -147,16 +142,16 @@ fn counts<D: Device>(disk: &D) -> (u64, u64, u64) {
     (disk.len(), disk.calls(), disk.faults())
 }
 
-// A write within a disk.
-fn write<D: Device>(disk: &mut D, at: u64, bytes: &[u8]) -> Result<(), DeviceFault>
+/// A write within a disk.
+pub fn write<D: Device>(disk: &mut D, at: u64, bytes: &[u8]) -> Result<(), DeviceFault>
     requires { at + length bytes.now ≤ length (D.seen disk.old) }
     ensures { length (D.seen disk.new) ≡ length (D.seen disk.old) }
 {
     disk.write(at, bytes)
 }
 
-// A read within a disk.
-fn read<D: Device>(disk: &mut D, at: u64, buffer: &mut [u8]) -> Result<(), DeviceFault>
+/// A read within a disk.
+pub fn read<D: Device>(disk: &mut D, at: u64, buffer: &mut [u8]) -> Result<(), DeviceFault>
     requires { at + length buffer.old ≤ length (D.seen disk.old) }
     ensures disk { length (D.seen disk.new) ≡ length (D.seen disk.old) }
     ensures buffer { length buffer.new ≡ length buffer.old }
@@ -164,18 +159,20 @@ fn read<D: Device>(disk: &mut D, at: u64, buffer: &mut [u8]) -> Result<(), Devic
     disk.read(at, buffer)
 }
 
-// A write, a sync and a read, through the bound.
-fn write_and_read<D: Device>(mut device: D, buffer: &mut [u8]) -> Result<D, DeviceFault>
-where
-    D: Drop,
-    requires room { length (D.seen device) ≡ 8 }
-    requires buffer { length buffer.old ≡ 4 }
-    ensures len { length buffer.new ≡ 4 }
-{
-    device.write(2, &[7, 8, 9])?;
-    device.sync()?;
-    device.read(1, buffer)?;
-    Ok(device)
+// Whether a write, a sync and a read go well, through the bound.
+fn goes_well<D: Device>(disk: &mut D) -> bool {
+    let mut buffer = [0; 4];
+    disk.len() == 8
+        && write(disk, 2, &[7, 8, 9]).is_ok()
+        && disk.sync().is_ok()
+        && read(disk, 1, &mut buffer).is_ok()
+        && buffer == [0, 7, 8, 9]
+        && counts(disk) == (8, 3, 0)
+}
+
+// Whether they do where the device is a reference to one.
+fn goes_well_behind_a_reference<D: Device>(mut disk: &mut D) -> bool {
+    goes_well(&mut disk) && counts(disk) == (8, 3, 0)
 }
 
 // Many syncs, each after a write of one byte.
@@ -192,11 +189,13 @@ fn sync_often<D: Device>(device: &mut D, times: u32) -> Result<(), DeviceFault> 
 
 #[test]
 fn a_disk_in_memory_reads_what_was_written(rt: HostRuntime) {
-    let mut buffer = [0; 4];
-    let disk = write_and_read(disk_of(&rt, 8), &mut buffer).expect(&rt, "no call fails");
-    assert!(rt; buffer == [0, 7, 8, 9]);
-    assert!(rt; disk.bytes() == [0, 0, 7, 8, 9, 0, 0, 0].as_slice());
-    assert!(rt; counts(&disk) == (8, 3, 0));
+    let mut disk = disk_of(&rt, 8);
+    assert!(rt; goes_well(&mut disk) && disk.bytes() == [0, 0, 7, 8, 9, 0, 0, 0].as_slice());
+}
+
+#[test]
+fn a_device_behind_a_reference_is_one(rt: HostRuntime) {
+    assert!(rt; goes_well_behind_a_reference(&mut disk_of(&rt, 8)));
 }
 
 #[test]
@@ -205,56 +204,50 @@ fn a_disk_that_no_memory_has_room_for_is_refused(rt: HostRuntime) {
 }
 
 // Writes two ranges that overlap after a write that is synced, and tells whether no call failed.
-fn write_since_a_sync<D: Device>(disk: &mut D) -> bool
-    requires { length (D.seen disk.old) ≡ 5 }
-{
-    write(disk, 0, &[11]).is_ok()
+fn write_since_a_sync<D: Device>(disk: &mut D) -> bool {
+    disk.len() == 5
+        && write(disk, 0, &[11]).is_ok()
         && disk.sync().is_ok()
         && write(disk, 1, &[22, 33]).is_ok()
         && write(disk, 2, &[34, 44]).is_ok()
 }
 
+// A write of a byte and two syncs: whether no call failed.
+fn write_and_sync_twice<D: Device>(disk: &mut D) -> bool {
+    disk.len() == 3 && write(disk, 0, &[9]).is_ok() && disk.sync().is_ok() && disk.sync().is_ok()
+}
+
+// Whether a crash of a disk with this choice, which is as long, leaves these bytes.
+fn crash_leaves<A: Allocator + Copy>(disk: &mut MemDisk<A>, choice: &[u8], wanted: &[u8]) -> bool {
+    if choice.len() != disk.bytes().len() {
+        return false;
+    }
+    disk.stop(choice);
+    disk.bytes() == wanted
+}
+
 // Whether a first crash takes its choice, and a second one nothing, as all that is left is synced.
-fn crashes_once(rt: &impl Abort, disk: &mut MemDisk<Global>) -> bool {
+fn crashes_once<A: Allocator + Copy>(disk: &mut MemDisk<A>) -> bool {
     let left = [11, 91, 92, 93, 5];
-    crash_leaves(rt, disk, &[90, 91, 92, 93, 94], &left)
-        && crash_leaves(rt, disk, &[80, 81, 82, 83, 84], &left)
+    crash_leaves(disk, &[90, 91, 92, 93, 94], &left)
+        && crash_leaves(disk, &[80, 81, 82, 83, 84], &left)
+        && disk.calls() == 4
 }
 
 #[test]
 fn a_crash_leaves_what_is_chosen_where_it_was_written(rt: HostRuntime) {
     let mut disk = disk_with(&rt, &[1, 2, 3, 4, 5]);
-    assert!(rt; write_since_a_sync(&mut disk));
-    assert!(rt; crashes_once(&rt, &mut disk));
-    assert!(rt; disk.calls() == 4);
-}
-
-// A write of a byte and two syncs: whether no call failed.
-fn write_and_sync_twice<D: Device>(disk: &mut D) -> bool
-    requires { length (D.seen disk.old) ≡ 3 }
-{
-    write(disk, 0, &[9]).is_ok() && disk.sync().is_ok() && disk.sync().is_ok()
-}
-
-// Whether a crash of a disk with this choice leaves these bytes.
-fn crash_leaves(rt: &impl Abort, disk: &mut MemDisk<Global>, choice: &[u8], wanted: &[u8]) -> bool {
-    assert!(rt;
-        choice.len() == disk.bytes().len(),
-        "the choice is as long as the disk"
-    );
-    disk.stop(choice);
-    disk.bytes() == wanted
+    assert!(rt; write_since_a_sync(&mut disk) && crashes_once(&mut disk));
 }
 
 #[test]
 fn a_crash_after_syncs_leaves_what_a_read_gives(rt: HostRuntime) {
     let mut disk = disk_with(&rt, &[1, 2, 3]);
-    assert!(rt; write_and_sync_twice(&mut disk));
-    assert!(rt; crash_leaves(&rt, &mut disk, &[7, 7, 7], &[9, 2, 3]));
+    assert!(rt; write_and_sync_twice(&mut disk) && crash_leaves(&mut disk, &[7, 7, 7], &[9, 2, 3]));
 }
 
 // Whether a disk had 2,000 such writes and syncs, and has nothing after the last one.
-fn is_synced_often(disk: &MemDisk<Global>) -> bool {
+fn is_synced_often<A: Allocator + Copy>(disk: &MemDisk<A>) -> bool {
     disk.calls() == 4000
         && disk.bytes().get(2048 * 1999) == Some(&1)
         && disk.bytes().get(2048 * 2000) == Some(&0)
@@ -263,16 +256,14 @@ fn is_synced_often(disk: &MemDisk<Global>) -> bool {
 #[test]
 fn a_large_disk_is_synced_often(rt: HostRuntime) {
     let mut disk = disk_of(&rt, 4_194_304);
-    assert!(rt; sync_often(&mut disk, 2000).is_ok());
-    assert!(rt; is_synced_often(&disk));
+    assert!(rt; sync_often(&mut disk, 2000).is_ok() && is_synced_often(&disk));
 }
 
 // Whether the second one of two writes fails and leaves its range spoilt.
-fn second_write_fails<D: Device>(disk: &mut D) -> bool
-    requires { length (D.seen disk.old) ≡ 10_000 }
-{
+fn second_write_fails<D: Device>(disk: &mut D) -> bool {
     let mut buffer = [0; 3];
-    write(disk, 0, &[1, 2, 3]).is_ok()
+    disk.len() == 10_000
+        && write(disk, 0, &[1, 2, 3]).is_ok()
         && write(disk, 1000, &[5; 8000]).is_err()
         && read(disk, 998, &mut buffer).is_ok()
         && buffer == [0, 0, 0xEE]
@@ -288,71 +279,58 @@ fn spoilt() -> [u8; 10_000] {
 }
 
 // Whether a disk has those bytes. The range of 8,000 bytes is written in two pieces.
-fn is_spoilt(disk: &MemDisk<Global>) -> bool {
+fn is_spoilt<A: Allocator + Copy>(disk: &MemDisk<A>) -> bool {
     disk.bytes() == spoilt().as_slice() && counts(disk) == (10_000, 4, 0)
 }
 
 #[test]
 fn a_write_that_fails_leaves_its_range_spoilt(rt: HostRuntime) {
     let mut disk = FailingDisk::new(disk_of(&rt, 10_000), 2);
-    assert!(rt; second_write_fails(&mut disk));
-    assert!(rt; is_spoilt(&disk.into_inner()));
+    let fails = second_write_fails(&mut disk);
+    assert!(rt; is_spoilt(&disk.into_inner()) && fails);
 }
 
 // Whether a sync after a write fails.
-fn sync_fails<D: Device>(disk: &mut D) -> bool
-    requires { length (D.seen disk.old) ≡ 4 }
-{
-    write(disk, 1, &[7]).is_ok() && disk.sync().is_err() && counts(disk) == (4, 2, 1)
+fn sync_fails<D: Device>(disk: &mut D) -> bool {
+    disk.len() == 4
+        && write(disk, 1, &[7]).is_ok()
+        && disk.sync().is_err()
+        && counts(disk) == (4, 2, 1)
+}
+
+// Whether a crash of a disk that had one call leaves what was written and not synced.
+fn is_not_synced<A: Allocator + Copy>(disk: &mut MemDisk<A>) -> bool {
+    disk.calls() == 1 && crash_leaves(disk, &[9, 9, 9, 9], &[0, 9, 0, 0])
 }
 
 #[test]
 fn a_sync_that_fails_makes_nothing_sure(rt: HostRuntime) {
     let mut disk = FailingDisk::new(disk_of(&rt, 4), 2);
-    assert!(rt; sync_fails(&mut disk));
-    let mut inner = disk.into_inner();
-    assert!(rt; inner.calls() == 1);
-    assert!(rt; crash_leaves(&rt, &mut inner, &[9, 9, 9, 9], &[0, 9, 0, 0]));
+    let fails = sync_fails(&mut disk);
+    assert!(rt; is_not_synced(&mut disk.into_inner()) && fails);
 }
 
 // Whether the first one of two reads fails and leaves its buffer.
-fn first_read_fails<D: Device>(disk: &mut D) -> bool
-    requires { length (D.seen disk.old) ≡ 4 }
-{
+fn first_read_fails<D: Device>(disk: &mut D) -> bool {
     let mut buffer = [5; 2];
-    read(disk, 0, &mut buffer).is_err()
+    disk.len() == 4
+        && read(disk, 0, &mut buffer).is_err()
         && buffer == [5, 5]
         && read(disk, 0, &mut buffer).is_ok()
         && buffer == [0, 0]
         && counts(disk) == (4, 2, 1)
 }
 
-// Whether a write, a sync and a read go well.
-fn goes_well<D: Device>(disk: &mut D) -> bool
-    requires { length (D.seen disk.old) ≡ 8 }
-{
-    let mut buffer = [0; 4];
-    match write_and_read(disk, &mut buffer) {
-        Ok(disk) => buffer == [0, 7, 8, 9] && counts(&disk) == (8, 3, 0),
-        Err(_) => false,
-    }
-}
-
 #[test]
 fn a_read_that_fails_leaves_the_buffer(rt: HostRuntime) {
     let mut disk = FailingDisk::new(disk_of(&rt, 4), 1);
-    assert!(rt; first_read_fails(&mut disk));
-    assert!(rt; disk.into_inner().calls() == 1);
-    // The call of number 0 never comes.
-    let mut disk = FailingDisk::new(disk_of(&rt, 8), 0);
-    assert!(rt; goes_well(&mut disk));
+    let fails = first_read_fails(&mut disk);
+    assert!(rt; disk.into_inner().calls() == 1 && fails);
 }
 
 #[test]
-fn a_device_behind_a_reference_is_one(rt: HostRuntime) {
-    let mut disk = disk_of(&rt, 8);
-    assert!(rt; goes_well(&mut disk));
-    assert!(rt; counts(&disk) == (8, 3, 0));
+fn a_call_of_the_number_0_never_comes(rt: HostRuntime) {
+    assert!(rt; goes_well(&mut FailingDisk::new(disk_of(&rt, 8), 0)));
 }
 
 // Whether a file was synced as its disk was made, had the calls of such a write, sync and read, and was synced in vain
@@ -373,22 +351,19 @@ fn are_the_calls(calls: &[Call]) -> bool {
     }
 }
 
-#[test]
-fn each_call_of_a_disk_is_one_of_its_file(rt: HostRuntime) {
-    let file = CountedFile {
-        rt: &rt,
-        alloc: rt.alloc(),
-        bytes: [0; 8],
-        calls: Vec::new(rt.alloc()),
-        broken: false,
-    };
+// Whether a disk of 8 bytes had no calls, and goes well.
+fn begins_well<D: Device>(disk: &mut D) -> bool {
+    counts(disk) == (8, 0, 0) && goes_well(disk)
+}
+
+// Whether a disk over a file goes well, and the file has its calls.
+fn is_called<R: Abort>(file: CountedFile<'_, R>) -> bool {
     match FileDisk::over(file) {
         Ok(mut disk) => {
-            assert!(rt; counts(&disk) == (8, 0, 0));
-            assert!(rt; disk.len() == 8 && goes_well(&mut disk));
-            assert!(rt; breaks(disk.into_file()));
+            let begins = begins_well(&mut disk);
+            breaks(disk.into_file()) && begins
         }
-        Err(_) => assert!(rt; false, "the file is synced"),
+        Err(_) => false,
     }
 }
 
@@ -401,19 +376,32 @@ fn breaks<R: Abort>(mut file: CountedFile<'_, R>) -> bool {
     }
 }
 
+#[test]
+fn each_call_of_a_disk_is_one_of_its_file(rt: HostRuntime) {
+    let file = CountedFile {
+        rt: &rt,
+        alloc: rt.alloc(),
+        bytes: [0; 8],
+        calls: Vec::new(rt.alloc()),
+        broken: false,
+    };
+    assert!(rt; is_called(file));
+}
+
 // Whether a disk has what such a write has left.
-fn is_written<D: Device>(disk: &mut D) -> bool
-    requires { length (D.seen disk.old) ≡ 8 }
-{
+fn is_written<D: Device>(disk: &mut D) -> bool {
     let mut whole = [1; 8];
-    read(disk, 0, &mut whole).is_ok() && whole == [0, 0, 7, 8, 9, 0, 0, 0]
+    disk.len() == 8 && read(disk, 0, &mut whole).is_ok() && whole == [0, 0, 7, 8, 9, 0, 0, 0]
 }
 
 // Whether a read of a disk that had one call fails, and is counted.
-fn second_read_fails<D: Device>(disk: &mut D) -> bool
-    requires { length (D.seen disk.old) ≡ 8 }
-{
-    read(disk, 0, &mut [1; 8]).is_err() && counts(disk) == (8, 2, 1)
+fn second_read_fails<D: Device>(disk: &mut D) -> bool {
+    disk.len() == 8 && read(disk, 0, &mut [1; 8]).is_err() && counts(disk) == (8, 2, 1)
+}
+
+// Whether a disk over the file at a path has what was written, and a read of it fails once another hand cuts the file.
+fn is_written_and_cut<D: Device>(rt: &HostRuntime, disk: &mut D, path: &str) -> bool {
+    is_written(disk) && fs::write(rt, path, "cut").is_ok() && second_read_fails(disk)
 }
 
 // A disk over the file at a path.
@@ -429,21 +417,15 @@ fn file_disk(rt: &HostRuntime, path: &str) -> Option<FileDisk<File>> {
 // Whether a disk over the file at a path goes well.
 fn goes_well_on_a_file(rt: &HostRuntime, path: &str) -> bool {
     match file_disk(rt, path) {
-        Some(mut disk) => disk.len() == 8 && goes_well(&mut disk),
+        Some(mut disk) => begins_well(&mut disk),
         None => false,
     }
 }
 
-// Whether a disk over the file at a path has what was written, and a read of it fails once another hand cuts the file.
-fn is_written_and_cut(rt: &HostRuntime, path: &str) -> bool {
+// Whether another one has what was written, until the file is cut.
+fn is_kept_until_cut(rt: &HostRuntime, path: &str) -> bool {
     match file_disk(rt, path) {
-        Some(mut disk) => {
-            disk.len() == 8
-                && is_written(&mut disk)
-                && fs::write(rt, path, "cut").is_ok()
-                && disk.len() == 8
-                && second_read_fails(&mut disk)
-        }
+        Some(mut disk) => is_written_and_cut(rt, &mut disk, path),
         None => false,
     }
 }
@@ -452,8 +434,7 @@ fn is_written_and_cut(rt: &HostRuntime, path: &str) -> bool {
 fn a_file_keeps_what_was_written(rt: HostRuntime) {
     let path = "a_file_keeps_what_was_written";
     assert!(rt; fs::write(&rt, path, [0; 8]).is_ok());
-    assert!(rt; goes_well_on_a_file(&rt, path));
-    assert!(rt; is_written_and_cut(&rt, path));
+    assert!(rt; goes_well_on_a_file(&rt, path) && is_kept_until_cut(&rt, path));
     assert!(rt; fs::remove_file(&rt, path).is_ok());
 }
 

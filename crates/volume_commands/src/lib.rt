@@ -5,5 +5,5 @@ mod look;
 mod make;
 mod print;
 
-pub use look::{check, dump, info};
-pub use make::{export, format, migrate};
+pub use look::look;
+pub use make::make;

@@ -4,7 +4,7 @@ ghost use Rattle.std.specs.Prelude.{◌≡◌, ◌≤◌, length, IfOk};
 ghost use Rattle.volume_commands.specs.inside.Health.{health_status};
 
 use crate::print::print_value;
-use command_line::Look;
+use command_line::{Look, Sight};
 use device::{Device, OverlayDisk};
 use inspection::{
     Found, Health, damage_value, examine, found_value, health_value, inspect, write_file_lines,
@@ -20,23 +20,67 @@ use volume_files::{
     place, refused_to_open,
 };
 
-/// Prints what the bytes of a volume say. `note` gets what is to be said of a sync that failed.
-pub fn info<'a, R, A, W>(
+/// Prints what is looked at of a volume, and answers the status: 0, and of a volume's health 0, 1 or 3. `note` gets what
+/// is to be said of a sync that failed.
+pub fn look<'a, R, A, W>(
     rt: &R,
     alloc: A,
     look: Look<'a>,
     out: &mut W,
     note: &mut SyncNote,
-) -> Result<(), FileFailure<'a>>
+) -> Result<u8, FileFailure<'a>>
 where
     R: Files<File = File> + AllocGlobal,
     A: Allocator + Copy,
     W: io::Write,
+    ensures { IfOk result (λ status. status ≤ 3) }
 {
+    if look.sight == Sight::Files && !look.json {
+        volume_files::dump(rt, alloc, look.disk, look.trust, out, note)?;
+        return Ok(0);
+    }
     let place = place(rt, look.disk)?;
-    let mut disk = open_disk(rt, look.disk, &place, Access::Read, look.trust, note)?;
-    let found = found_on(alloc, look.disk, &mut disk)?;
-    print_found(rt.alloc(), look.json, &found, out)
+    let disk = open_disk(rt, look.disk, &place, Access::Read, look.trust, note)?;
+    print_sight(rt.alloc(), alloc, look, disk, out)
+}
+
+// Prints what is looked at of the volume of a device, its files as lines of JSON, and answers the status.
+fn print_sight<'a, D, A, W>(
+    global: Global,
+    alloc: A,
+    look: Look<'a>,
+    mut disk: D,
+    out: &mut W,
+) -> Result<u8, FileFailure<'a>>
+where
+    D: Device + Drop,
+    A: Allocator + Copy,
+    W: io::Write,
+    ensures { IfOk result (λ status. status ≤ 3) }
+{
+    match look.sight {
+        Sight::Health => check_disk(global, alloc, look, &mut disk, out),
+        Sight::Bytes => {
+            print_bytes_of(global, alloc, look, &mut disk, out)?;
+            Ok(0)
+        }
+        Sight::Files => {
+            print_lines(global, alloc, look.disk, disk, out)?;
+            Ok(0)
+        }
+    }
+}
+
+// Prints what the bytes of the volume of a device say.
+fn print_bytes_of<'a, D: Device, A: Allocator + Copy, W: io::Write>(
+    global: Global,
+    alloc: A,
+    look: Look<'a>,
+    disk: &mut D,
+    out: &mut W,
+) -> Result<(), FileFailure<'a>> {
+    let found = found_on(alloc, look.disk, disk)?;
+    print_found(global, look.json, &found, out)
 }
 
 // What is found of the volume of a device.
@@ -67,26 +111,6 @@ fn print_found<'a, A: Allocator + Copy, W: io::Write>(
     }
     write_found(found, out)?;
     Ok(())
-}
-
-/// Prints whether a volume is clean, needs opening, or is damaged, and answers the status: 0, 1 or 3. `note` gets what
-/// is to be said of a sync that failed.
-pub fn check<'a, R, A, W>(
-    rt: &R,
-    alloc: A,
-    look: Look<'a>,
-    out: &mut W,
-    note: &mut SyncNote,
-) -> Result<u8, FileFailure<'a>>
-where
-    R: Files<File = File> + AllocGlobal,
-    A: Allocator + Copy,
-    W: io::Write,
-    ensures { IfOk result (λ status. status ≤ 3) }
-{
-    let place = place(rt, look.disk)?;
-    let mut disk = open_disk(rt, look.disk, &place, Access::Read, look.trust, note)?;
-    check_disk(rt.alloc(), alloc, look, &mut disk, out)
 }
 
 // Prints how the volume of a device is, and answers the status.
@@ -154,43 +178,6 @@ fn print_damage<'a, W: io::Write>(
     }
     writeln!(out, "{refused}")?;
     Ok(())
-}
-
-/// Prints the files of a volume, as text or as lines of JSON. `note` gets what is to be said of a sync that failed.
-pub fn dump<'a, R, A, W>(
-    rt: &R,
-    alloc: A,
-    look: Look<'a>,
-    out: &mut W,
-    note: &mut SyncNote,
-) -> Result<(), FileFailure<'a>>
-where
-    R: Files<File = File> + AllocGlobal,
-    A: Allocator + Copy,
-    W: io::Write,
-{
-    if look.json {
-        dump_lines(rt, alloc, look, out, note)
-    } else {
-        volume_files::dump(rt, alloc, look.disk, look.trust, out, note)
-    }
-}
-
-fn dump_lines<'a, R, A, W>(
-    rt: &R,
-    alloc: A,
-    look: Look<'a>,
-    out: &mut W,
-    note: &mut SyncNote,
-) -> Result<(), FileFailure<'a>>
-where
-    R: Files<File = File> + AllocGlobal,
-    A: Allocator + Copy,
-    W: io::Write,
-{
-    let place = place(rt, look.disk)?;
-    let disk = open_disk(rt, look.disk, &place, Access::Read, look.trust, note)?;
-    print_lines(rt.alloc(), alloc, look.disk, disk, out)
 }
 
 // Prints the files of the volume of a device as lines of JSON, from a copy that keeps in memory what is written.

@@ -1,0 +1,245 @@
+// The commands, with their options and words, and what help says of them.
+use clap::{Arg, ArgAction, Command};
+use std::alloc::{AllocError, Global};
+
+// An option of a command.
+#[derive(Clone, Copy)]
+enum Choice {
+    Layout,
+    NewLayout,
+    Trust,
+    Json,
+    JsonLines,
+    Html,
+}
+
+// A command: its name, what it does, its options, its words, and the word that may come more than once after them. A
+// word has its name and its help.
+#[derive(Clone, Copy)]
+struct Shape {
+    name: &'static str,
+    about: &'static str,
+    options: &'static [Choice],
+    words: &'static [(&'static str, &'static str)],
+    last: Option<(&'static str, &'static str)>,
+}
+
+const DISK: (&str, &str) = ("DISK", "The file that holds the volume");
+
+const SCRIPT: (&str, &str) = ("SCRIPT", "The file that holds the script, a JSON object");
+
+const COMMANDS: &[Shape] = &[
+    Shape {
+        name: "format",
+        about: "Makes or replaces the file DISK by a volume whose files are all zeros",
+        options: &[Choice::Layout, Choice::Json],
+        words: &[
+            ("DISK", "The file to make"),
+            (
+                "SLOTS",
+                "Record slots of each journal, 1 to 1020, in layout 3 from 2 on, in layout 4 from 2 to 65535: the most blocks that one commit can have",
+            ),
+        ],
+        last: Some((
+            "FILE",
+            "A file of the volume, as NAME=LENGTH in bytes, in layouts 3 and 4 also as NAME=LENGTH/CAPACITY",
+        )),
+    },
+    Shape {
+        name: "migrate",
+        about: "Makes or replaces the file NEW by a volume whose files may grow, with the files of the volume in OLD",
+        options: &[Choice::NewLayout, Choice::Trust, Choice::Json],
+        words: &[
+            ("OLD", "The file that holds the volume, which is opened"),
+            ("NEW", "The file to make"),
+            (
+                "SLOTS",
+                "Record slots of each journal of the new volume, 2 to 1020, in layout 4 to 65535",
+            ),
+        ],
+        last: None,
+    },
+    Shape {
+        name: "run",
+        about: "Runs a script of steps on a volume, and prints a reply for each step",
+        options: &[Choice::Trust],
+        words: &[DISK, SCRIPT],
+        last: None,
+    },
+    Shape {
+        name: "threads",
+        about: "Runs a program for each processor in a thread of its own, and prints a trace of all steps",
+        options: &[Choice::Trust],
+        words: &[
+            DISK,
+            (
+                "SCRIPT",
+                "The file that holds the script with the programs, a JSON object",
+            ),
+        ],
+        last: None,
+    },
+    Shape {
+        name: "serve",
+        about: "Answers requests on a volume: the first line of the input is the shape of a machine, and each further one a request",
+        options: &[Choice::Trust],
+        words: &[DISK],
+        last: None,
+    },
+    Shape {
+        name: "replay",
+        about: "Runs a trace again on a copy of a volume, and prints whether each reply is the same",
+        options: &[Choice::Trust],
+        words: &[DISK, ("TRACE", "The file that holds the trace")],
+        last: None,
+    },
+    Shape {
+        name: "dump",
+        about: "Prints the files of a volume as it would be opened, and leaves it as it is",
+        options: &[Choice::Trust, Choice::Json],
+        words: &[DISK],
+        last: None,
+    },
+    Shape {
+        name: "info",
+        about: "Prints what the bytes of a volume say: its shape, its files, its journals, and what opening would do",
+        options: &[Choice::Trust, Choice::Json],
+        words: &[DISK],
+        last: None,
+    },
+    Shape {
+        name: "check",
+        about: "Prints whether a volume is clean, needs opening or is damaged, with status 0, 1 or 3",
+        options: &[Choice::Trust, Choice::Json],
+        words: &[DISK],
+        last: None,
+    },
+    Shape {
+        name: "export",
+        about: "Copies a file of a volume, as it would be opened, to the file OUT, and leaves the volume as it is",
+        options: &[Choice::Trust, Choice::Json],
+        words: &[
+            DISK,
+            ("FILE", "The name of the file in the volume"),
+            ("OUT", "The file to make or replace"),
+        ],
+        last: None,
+    },
+    Shape {
+        name: "crashes",
+        about: "Prints what a crash within each device call of a script leaves of a copy of a volume",
+        options: &[Choice::Trust, Choice::JsonLines, Choice::Html],
+        words: &[DISK, SCRIPT],
+        last: None,
+    },
+];
+
+/// The program with its commands.
+pub fn program<'a>(alloc: Global) -> Result<Command<'a>, AllocError> {
+    let mut program = Command::new(alloc, "famsync")
+        .version("0.2.0")
+        .about(
+            "Commits all stores to the files of a volume at once, whatever moment a crash comes at",
+        )
+        .subcommand_required(true);
+    for shape in COMMANDS {
+        program = with(program, command_of(alloc, shape))?;
+    }
+    Ok(program)
+}
+
+// A command with one more subcommand.
+fn with<'a>(
+    command: Command<'a>,
+    below: Result<Command<'a>, AllocError>,
+) -> Result<Command<'a>, AllocError> {
+    command.subcommand(below?)
+}
+
+fn command_of<'a>(alloc: Global, shape: &Shape) -> Result<Command<'a>, AllocError> {
+    let command = Command::new(alloc, shape.name).about(shape.about);
+    let command = with_options(alloc, command, shape.options)?;
+    let command = with_words(alloc, command, shape.words)?;
+    match shape.last {
+        Some((name, help)) => command.arg(
+            word(alloc, name, help)
+                .action(ArgAction::Append)
+                .num_args(1..),
+        ),
+        None => Ok(command),
+    }
+}
+
+fn with_options<'a>(
+    alloc: Global,
+    mut command: Command<'a>,
+    options: &[Choice],
+) -> Result<Command<'a>, AllocError> {
+    for &choice in options {
+        command = with_option(alloc, command, choice)?;
+    }
+    Ok(command)
+}
+
+fn with_option<'a>(
+    alloc: Global,
+    command: Command<'a>,
+    choice: Choice,
+) -> Result<Command<'a>, AllocError> {
+    match choice {
+        Choice::Layout => command.arg(layout(
+            alloc,
+            "1",
+            "The number of the volume's layout: 1 has one journal, 2 has two, 3 has two and files that may grow, and 4 has four, such files, and room for larger commits",
+        )),
+        Choice::NewLayout => command.arg(layout(
+            alloc,
+            "3",
+            "The number of the new volume's layout: 3, or 4, and none below that of OLD",
+        )),
+        Choice::Trust => command.arg(flag(
+            alloc,
+            "trust",
+            "Open the volume although a sync of it failed before",
+        )),
+        Choice::Json => command.arg(flag(alloc, "json", "Print JSON, faults too")),
+        Choice::JsonLines => command.arg(flag(
+            alloc,
+            "json",
+            "Print a JSON object a line, faults too",
+        )),
+        Choice::Html => {
+            command.arg(flag(alloc, "html", "Print an HTML page").conflicts_with("json")?)
+        }
+    }
+}
+
+fn with_words<'a>(
+    alloc: Global,
+    mut command: Command<'a>,
+    words: &[(&'static str, &'static str)],
+) -> Result<Command<'a>, AllocError> {
+    for &(name, help) in words {
+        command = command.arg(word(alloc, name, help))?;
+    }
+    Ok(command)
+}
+
+fn layout<'a>(alloc: Global, default: &'a str, help: &'a str) -> Arg<'a> {
+    Arg::new(alloc, "layout")
+        .long("layout")
+        .value_name("LAYOUT")
+        .default_value(default)
+        .help(help)
+}
+
+fn flag<'a>(alloc: Global, name: &'a str, help: &'a str) -> Arg<'a> {
+    Arg::new(alloc, name)
+        .long(name)
+        .action(ArgAction::SetTrue)
+        .help(help)
+}
+
+fn word<'a>(alloc: Global, name: &'a str, help: &'a str) -> Arg<'a> {
+    Arg::new(alloc, name).required(true).help(help)
+}
