@@ -1,20 +1,18 @@
 -- Mappings that have pages on both sides of a page's begin, in a list in which no mapping goes on where another ends.
-use Rattle.std.proofs.Common.{◌≡◌, ℕ, zero, suc, ◌+◌, ◌-◌, ◌<◌, ◌≤◌, Bool, true, false, cond}
+use Rattle.std.proofs.Common.{◌≡◌, ℕ, zero, suc, ◌+◌, ◌-◌, ◌<◌, ◌≤◌, Bool, true, false}
 use Rattle.std.proofs.Common.{ltb, not, ◌&&◌, ◌==◌, List, [], ◌∷◌, length, get_or, Option}
-use Rattle.std.proofs.Common.{Some, None, refl, sym, ap, ◌∙◌, subst, inl, inr, ◌⊎◌, arith}
+use Rattle.std.proofs.Common.{Some, None, refl, sym, ap, ◌∙◌, subst, inl, inr, arith}
 use Rattle.std.proofs.lemmas.Bool.{cases_lt, false≢true}
 use Rattle.std.proofs.lemmas.Bool.Decides.{nat_tests}
-use Rattle.std.proofs.lemmas.List.{get_or_default}
 use Rattle.mappings.specs.declared.place.Place.{Place}
 use Rattle.mappings.specs.declared.place.Rights.{Rights}
-use Rattle.mappings.specs.declared.place.Rights.TheVariants.{Read, ReadWrite}
 use Rattle.mappings.specs.declared.mapping.Mapping.{Mapping}
 use Rattle.mappings.specs.Places.{same_rights, follows, is_among, goes_on, is_within, is_cut}
 use Rattle.mappings.specs.inside.Listed.{covers, place_in, places_of, joins, Beside}
 use Rattle.mappings.specs.inside.Listed.{IsMerged, IsOrdered, IsKept, IsFirstAfter}
 use Rattle.mappings.specs.inside.Edits.{IsAround, HaveRights}
 use Rattle.mappings.proofs.PlacesLaws.{Decides-all_in_range, get-with_rights}
-use Rattle.mappings.proofs.Lists.{lookup, get-places_of, lookup_below, low_at, apart_at, mapping_at}
+use Rattle.mappings.proofs.Lists.{lookup, get-places_of, lookup_below, low_at, apart_at}
 use Rattle.mappings.proofs.Changes.{follows-place_in, same_rights-itself}
 
 -- a page that a mapping covers is mapped by it

@@ -1,11 +1,9 @@
 -- What the questions about ranges and file pages say of one page, for the crates above.
 use Rattle.std.proofs.Common.{◌≡◌, ℕ, ◌<◌, Bool, true, false, cond, eqb, ◌&&◌}
-use Rattle.std.proofs.Common.{List, [], ◌∷◌, map, filter, refl, ◌∙◌, arith}
+use Rattle.std.proofs.Common.{List, [], ◌∷◌, map, filter, refl, arith}
 use Rattle.std.specs.List.{list_any}
 use Rattle.std.specs.Ordering.{nat_cmp}
-use Rattle.std.specs.FinMap as fin_map
 use Rattle.std.specs.FinMap.Entries.{below_all}
-use Rattle.std.proofs.lemmas.Bool.{false≢true}
 use Rattle.std.proofs.lemmas.Bool.Decides.{nat_tests}
 use Rattle.mappings.specs.declared.place.Place.{Place}
 

@@ -1,18 +1,17 @@
 -- What is left of a list of mappings without the pages of a range.
-use Rattle.std.proofs.Common.{◌≡◌, ◌≢◌, ℕ, zero, suc, ◌+◌, ◌-◌, ◌<◌, ◌≤◌, Bool, true, false, cond}
-use Rattle.std.proofs.Common.{◌&&◌, ◌||◌, leb, ltb, List, [], ◌∷◌, ◌++◌, length, get_or, take, drop}
+use Rattle.std.proofs.Common.{◌≡◌, ℕ, zero, suc, ◌+◌, ◌-◌, ◌<◌, ◌≤◌, Bool, true, false, cond}
+use Rattle.std.proofs.Common.{◌&&◌, leb, ltb, List, [], ◌∷◌, length, get_or, take, drop}
 use Rattle.std.proofs.Common.{Option, Some, None, IsSome, refl, sym, ap, ◌∙◌, subst, inl, inr, arith}
 use Rattle.std.specs.List.{remove_range}
 use Rattle.std.specs.FinMap as fin_map
-use Rattle.std.specs.Ordering.{nat_cmp}
 use Rattle.std.specs.Cmp.{nat_cmp_total}
-use Rattle.std.proofs.lemmas.Bool.{cases_lt, false≢true}
+use Rattle.std.proofs.lemmas.Bool.{cases_lt}
 use Rattle.std.proofs.lemmas.Bool.Decides.{nat_tests}
 use Rattle.mappings.specs.declared.place.Place.{Place}
 use Rattle.mappings.specs.declared.mapping.Mapping.{Mapping}
 use Rattle.std.proofs.lemmas.List.{length-append, length-take-le, length-drop, get_or_default}
 use Rattle.std.proofs.lemmas.List.Edits.{length-insert}
-use Rattle.mappings.specs.Places.{is_among, is_within, without_range}
+use Rattle.mappings.specs.Places.{is_within, without_range}
 use Rattle.mappings.specs.inside.Listed.{covers, place_in, places_of, joins, Beside}
 use Rattle.mappings.specs.inside.Listed.{IsMerged, IsOrdered, IsMeeting, IsKept}
 use Rattle.mappings.specs.inside.Edits.{below, from_page, is_outside, part_below, part_from}

@@ -4,6 +4,7 @@ mod Masks
 mod Trees
 mod Links
 mod Ranges
+mod Searching
 mod PageEdits
 mod View
 mod Dirties

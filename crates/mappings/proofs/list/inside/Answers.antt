@@ -1,4 +1,4 @@
-use Rattle.std.proofs.Common.{rules, ◌≡◌, ◌≤◌, length, subst, arith}
+use Rattle.std.proofs.Common.{rules, ◌≤◌, length, subst, arith}
 use Rattle.std.proofs.lemmas.List.{get_or_default}
 use Rattle.mappings.specs.declared.mapping.Mapping.{Mapping}
 use Rattle.mappings.proofs.Searches.{blank}

@@ -1,5 +1,4 @@
 use Rattle.std.proofs.Common.{rules, ◌≡◌, ◌+◌, ◌-◌, ◌<◌, ◌≤◌, IsSome, length, sym, ap, ◌∙◌, subst, arith}
-use Rattle.std.specs.Vec.{vec_capacity, vec_len}
 use Rattle.mappings.specs.Places.{without_range}
 use Rattle.mappings.specs.inside.Listed.{places_of, IsMapping, IsKept, IsMeeting}
 use Rattle.mappings.specs.inside.Edits.{put_at}
@@ -37,7 +36,7 @@ put-requires-2-clause-room g c some =
     let list = c.args.list.now.items in
     let range = c.args.range in
     let places = c.meeting-places.result in
-    let meeting = meets g (goal.at.put-requires-2-clause-room g c some).After-meeting-places in
+    let meeting = meets g (goal.at.put-requires-2-clause-room g c).After-meeting-places in
     let less : places.start < places.end = search rules in
     let p = c.part_below-before.ensures in
     let q = c.part_from-after.ensures in

@@ -1,6 +1,7 @@
 use Rattle.std.proofs.Common.{◌+◌, ◌*◌, length, ◌∙◌, sym, arith}
 use Rattle.page_table.proofs.MarkedNotes.{NotesMarked-all, NotesMarked-next}
 use Rattle.page_table.proofs.MarkedNotes.{NotesMarked-dirty, NotesMarked-clean, frame_below}
+use Rattle.page_table.proofs.Searching.{SoFar-next}
 use Rattle.page_table.proofs.marks.note_node.Goals as goal
 use Rattle.page_table.proofs.marks.note_node.Goals.{then-dirty, else-dirty}
 
@@ -16,28 +17,22 @@ bounds-notes-frame c =
 
 pub entries-preserved : goal.entries-preserved
 entries-preserved c =
-    let inv = c.entries.invariant in
     let found = c.in-Some.ensures in
     let low = found.low in
-    let high = found.high in
-    let from = inv.low in
-    record {
-      low = omega arith;
-      high = omega arith;
-      done = NotesMarked-next c.args.words.now c.args.present.now (c.args.node * 512) c.entries.place
-          ((c.args.node + 1) * 512) c.in-Some.at c.args.notes.now c.entries.notes c.if-dirty.notes from inv.done found
-          (elim c.if-dirty.branch [
-            | then-dirty w ↦ rw (w.notes-is, w.frame.ensures)
-                (NotesMarked-dirty c.args.words.now c.args.present.now c.in-Some.at c.of_bits-entry.result
-                c.entries.notes found.here c.of_bits-entry.ensures (sym c.dirty.ensures ∙ w.if-dirty.true) (let below =
-                frame_below c.args.words.now c.args.present.now (c.args.node * 512) ((c.args.node + 1) * 512)
-                (length c.args.notes.now) c.in-Some.at c.of_bits-entry.result c.requires.notes
-                (omega arith) high found.here c.of_bits-entry.ensures (sym c.dirty.ensures ∙ w.if-dirty.true) in
-                omega (arith, c.entries.auto.notes)))
-            | else-dirty w ↦ rw w.notes-is (NotesMarked-clean c.args.words.now c.args.present.now c.in-Some.at
-                c.of_bits-entry.result c.entries.notes c.of_bits-entry.ensures (sym c.dirty.ensures ∙ w.if-dirty.false))
-          ]);
-    }
+    let from = c.entries.invariant.low in
+    SoFar-next c.entries.invariant found (NotesMarked-next c.args.words.now c.args.present.now (c.args.node * 512)
+    c.entries.place ((c.args.node + 1) * 512) c.in-Some.at c.args.notes.now c.entries.notes c.if-dirty.notes from
+    c.entries.invariant.done found (elim c.if-dirty.branch [
+      | then-dirty w ↦ rw (w.notes-is, w.frame.ensures)
+          (NotesMarked-dirty c.args.words.now c.args.present.now c.in-Some.at c.of_bits-entry.result
+          c.entries.notes found.here c.of_bits-entry.ensures (sym c.dirty.ensures ∙ w.if-dirty.true) (let below =
+          frame_below c.args.words.now c.args.present.now (c.args.node * 512) ((c.args.node + 1) * 512)
+          (length c.args.notes.now) c.in-Some.at c.of_bits-entry.result c.requires.notes
+          (omega arith) found.high found.here c.of_bits-entry.ensures (sym c.dirty.ensures ∙ w.if-dirty.true) in
+          omega (arith, c.entries.auto.notes)))
+      | else-dirty w ↦ rw w.notes-is (NotesMarked-clean c.args.words.now c.args.present.now c.in-Some.at
+          c.of_bits-entry.result c.entries.notes c.of_bits-entry.ensures (sym c.dirty.ensures ∙ w.if-dirty.false))
+    ]))
 
 pub returns : goal.returns
 returns c =
