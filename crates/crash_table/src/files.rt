@@ -5,7 +5,7 @@ ghost use Rattle.volume_codec.specs.Recovery.{RecoversTo};
 ghost use Rattle.recovery.specs.Volume.{IsWellFormed, files_of, bytes_of};
 ghost use Rattle.recovery.specs.VolumeReading.{IsVolumeOnlyRead, HasLengthsOf};
 
-use crate::crash_fault::CrashFault;
+use crash_states::CrashFault;
 use device::Device;
 use page_entry::Refusal;
 use recovery::{Volume, opened_as_recovered};
