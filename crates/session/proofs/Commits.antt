@@ -14,8 +14,8 @@ use Rattle.machine.specs.Rules.{Acts}
 use Rattle.machine.specs.State.{State, Whole}
 use Rattle.session.specs.declared.notes.Notes.{Notes}
 use Rattle.session.specs.CarriedOut.{CarriesOut}
-use Rattle.session.specs.Commits.{AreWaits, BeginsMark, RefusesMark, IsLastAttempt, IsOfOther, IsWritten, IsUnwritten}
-use Rattle.session.specs.Commits.{WritesUntil, MarksAnd, CommitsMark, StopsCommit, AnswersCommit, msync_by}
+use Rattle.session.specs.Commits.{AreWaits, BeginsMark, RefusesMark, IsLastAttempt, IsOfOther, IsWritten}
+use Rattle.session.specs.Commits.{IsLeftUnwritten, WritesUntil, MarksAnd, CommitsMark, StopsCommit, AnswersCommit, msync_by}
 use Rattle.session.specs.Commits.{reports_unmade}
 use Rattle.session.specs.Lengths.{AnswersChange, AreOthers, EndsWaiting, change_steps, change_replies}
 use Rattle.session.specs.Lengths.{flush_by, reports_begun, reports_flushed, reports_refused}
@@ -247,7 +247,7 @@ stops_of_commit p before answer steps replied (inl it) =
     are p steps _ replied _ it.steps_are it.replies_are (each_then (Passes is_of_commit p) it.waits it.waited it.last
     it.replied (waits_of_commit p it.waits it.waited it.busy) (last_of_commit p answer it.last it.replied it.refused))
 stops_of_commit p before answer steps replied (inr (mark, it)) =
-    marks_of_commit p before mark (IsUnwritten p mark answer)
+    marks_of_commit p before mark (IsLeftUnwritten p mark answer)
     (λ noted steps replied stopped. writes_of_commit p mark answer steps replied stopped.1) steps replied it
 
 pub answers_of_commit : (p : ℕ) (before : Notes) (committed : Result ℕ Reply) (steps : List Step) (replied : List Reply)

@@ -92,8 +92,8 @@ abbrev pub CommitsMark : ℕ → Notes → ℕ → List Step → List Reply → 
 CommitsMark p before mark steps replies = MarksAnd p before mark (IsWritten p mark) steps replies
 
 -- A step of the write-outs that was to write a mark wasn't made, which is the answer.
-abbrev pub IsUnwritten : ℕ → ℕ → Reply → Notes → List Step → List Reply → Type 0
-IsUnwritten p mark answer noted steps replies =
+abbrev pub IsLeftUnwritten : ℕ → ℕ → Reply → Notes → List Step → List Reply → Type 0
+IsLeftUnwritten p mark answer noted steps replies =
     (noted.has_unmarked ≡ true) × WritesUntil p mark answer steps replies × (reports_unmade answer ≡ true)
 
 -- The answer is that of the step that stopped the commit: an attempt to begin its mark, or a step of the write-outs
@@ -101,7 +101,7 @@ IsUnwritten p mark answer noted steps replies =
 abbrev pub StopsCommit : ℕ → Notes → Reply → List Step → List Reply → Type 0
 StopsCommit p before answer steps replies =
     RefusesMark p answer steps replies
-    ⊎ ((mark : ℕ) × MarksAnd p before mark (IsUnwritten p mark answer) steps replies)
+    ⊎ ((mark : ℕ) × MarksAnd p before mark (IsLeftUnwritten p mark answer) steps replies)
 
 -- Steps of a commit by processor p that came to this: a mark that is durable, or what the step that stopped it was
 -- answered, which wasn't made.

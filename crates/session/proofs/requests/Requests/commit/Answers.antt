@@ -2,7 +2,7 @@ use Rattle.std.proofs.Common.{Bool, inl, inr, refl, sym, ◌∙◌, ap, subst}
 use Rattle.std.proofs.lemmas.Bool.{false≢true}
 use Rattle.machine.specs.declared.act.Reply.{Reply}
 use Rattle.session.specs.declared.notes.Notes.{Notes}
-use Rattle.session.specs.Commits.{IsUnwritten, IsWritten, WritesUntil}
+use Rattle.session.specs.Commits.{IsLeftUnwritten, IsWritten, WritesUntil}
 use Rattle.session.proofs.Carried.{carries_more, carries_nothing}
 use Rattle.session.proofs.Commits.{mark_replied, mark_stops, marks_and}
 use Rattle.session.proofs.Stretches.{not_false, not_true}
@@ -37,7 +37,7 @@ returns-then-not-is_committed g c =
     let some = ap has_unmarked (sym c.notes-before.ensures) ∙ not_false _ c.if-not-before.false in
     let unmade = c.write_out-written.ensures.ends (λ is. false≢true (c.if-not-is_committed.ensures.1 is)) in
     carries_more g.D.Device _ _ _ _ _ _ (λ steps replies it. (inr (mark, it), unmade))
-    (marks_and g.D.Device _ _ _ _ _ _ _ _ c.args.p mark _ (IsUnwritten c.args.p mark c.write_out-written.result)
+    (marks_and g.D.Device _ _ _ _ _ _ _ _ c.args.p mark _ (IsLeftUnwritten c.args.p mark c.write_out-written.result)
     c.in-Some.ensures.some (c.begin_mark-begun.ensures.begins (sym c.if-not-is_begun.ensures))
     c.change-changed.ensures.answers c.change-changed.ensures.over
     (carries_more g.D.Device _ _ _ _ _ _ (λ steps replies writes. (some, writes, unmade))
