@@ -15,8 +15,8 @@ use Rattle.machine.specs.State.{State, Whole}
 use Rattle.session.specs.declared.notes.Notes.{Notes}
 use Rattle.session.specs.CarriedOut.{CarriesOut}
 use Rattle.session.specs.Commits.{AreWaits, BeginsMark, RefusesMark, IsLastAttempt, IsOfOther, IsWritten}
-use Rattle.session.specs.Commits.{IsLeftUnwritten, WritesUntil, MarksAnd, CommitsMark, StopsCommit, AnswersCommit, msync_by}
-use Rattle.session.specs.Commits.{reports_unmade}
+use Rattle.session.specs.Commits.{IsLeftUnwritten, WritesUntil, MarksAnd, CommitsMark, StopsCommit, AnswersCommit}
+use Rattle.session.specs.Commits.{msync_by, reports_unmade}
 use Rattle.session.specs.Lengths.{AnswersChange, AreOthers, EndsWaiting, change_steps, change_replies}
 use Rattle.session.specs.Lengths.{flush_by, reports_begun, reports_flushed, reports_refused}
 use Rattle.session.specs.Notes.{noted_all}
