@@ -3,12 +3,10 @@
 #![tactic(auto)]
 
 #[cfg(test)]
-mod layout_four;
-#[cfg(test)]
-mod layout_three;
-#[cfg(test)]
 mod machines;
 #[cfg(test)]
 mod memory;
 #[cfg(test)]
 mod refusals;
+#[cfg(test)]
+mod trial;

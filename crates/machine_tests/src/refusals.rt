@@ -1,347 +1,285 @@
-// A machine over the disk of a file, which takes no memory itself: which acts ask for memory, and how often; and what
-// comes of a run in which one of these requests is refused, for each of them.
+// Which acts ask for memory, and how often; and what comes of a run in which one of these requests is refused, for each
+// of them.
+use crate::trial::{Disk, booted, layout_one, layout_three, reply_to, shape};
 use counting_alloc::CountingAllocator;
-use device::{Device, FileDisk, MemDisk};
-use machine::{Act, Machine, Reply, Shape, Step};
+use device::Device;
+use machine::{Act, Machine, Reply, Step};
 use page_entry::Refusal;
-use recovery::{Volume, format_as, open};
+use recovery::open;
 use scripts::{parsed, read_step};
 use shootdown::ProcState;
-use std::alloc::Global;
-use std::fs;
-use std::fs::{File, OpenOptions};
+use std::alloc::{Allocator, Global};
 use std::process::Abort;
-use std::rt::Files;
-use volume_codec::FileSpec;
-
-// What the tests ask of the runtime.
-trait Host: Files<File = File> + AllocGlobal + Abort {}
-
-impl<R: Files<File = File> + AllocGlobal + Abort> Host for R {}
 
 type Counting = CountingAllocator<Global>;
 
-type Disk = FileDisk<File>;
-
-type Trial<'a> = Machine<Disk, &'a Counting>;
-
-// A step, what it is answered where memory is ample, and how many requests for memory it makes.
-type Row = (&'static str, &'static str, u64);
+// How often a step is made, the step, what it is answered where memory is ample, and how many requests for memory it
+// makes.
+type Row = (u8, &'static str, &'static str, u64);
 
 // A commit of what both processors stored, the second one also after it was interrupted, until it is done; holes in a
 // mapping, and in the rights of another; a second space, and each act that takes no memory.
 const LAYOUT_ONE: &[Row] = &[
-    (r#"[0,"create"]"#, "space 1", 3),
-    (r#"[0,"map",1,4096,12288,0,0,"rw","rw"]"#, "mapped", 3),
-    (r#"[0,"map",1,16384,4096,1,0,"rw","rw"]"#, "mapped", 0),
-    (r#"[0,"switch",1,"drop"]"#, "switched", 0),
-    (r#"[1,"switch",1,"drop"]"#, "switched", 0),
-    (r#"[0,"store",4096,[65]]"#, "fault 6", 0),
-    (r#"[0,"fix",4096,"write"]"#, "fixed", 0),
-    (r#"[0,"store",4096,[65]]"#, "stored", 0),
-    (r#"[1,"load",4096,1]"#, "bytes 65", 0),
-    (r#"[0,"msync",4096,4096,4]"#, "begun", 0),
-    (r#"[1,"store",4097,[66]]"#, "stored", 0),
-    (r#"[0,"change"]"#, "notyet 1", 0),
-    (r#"[1,"ack"]"#, "acked", 0),
-    (r#"[1,"store",4098,[67]]"#, "stalled", 0),
-    (r#"[0,"change"]"#, "marked 1", 0),
-    (r#"[1,"resume"]"#, "resumed", 0),
-    (r#"[1,"store",4098,[67]]"#, "fault 7", 0),
-    (r#"[0,"flush"]"#, "going", 0),
-    (r#"[0,"flush"]"#, "going", 0),
-    (r#"[0,"flush"]"#, "going", 0),
-    (r#"[0,"flush"]"#, "going", 0),
-    (r#"[0,"flush"]"#, "committed 1", 0),
-    (r#"[0,"flush"]"#, "going", 0),
-    (r#"[0,"flush"]"#, "going", 0),
-    (r#"[0,"flush"]"#, "going", 0),
-    (r#"[0,"flush"]"#, "done 1", 0),
-    (r#"[0,"flush"]"#, "nothing", 0),
-    (r#"[0,"map",1,32768,12288,0,0,"rw","rw"]"#, "mapped", 0),
-    (r#"[0,"protect",1,36864,4096,"r"]"#, "begun", 1),
-    (r#"[1,"ack"]"#, "acked", 0),
-    (r#"[0,"change"]"#, "protected", 0),
-    (r#"[1,"resume"]"#, "resumed", 0),
-    (r#"[0,"map",1,49152,4096,1,0,"rw","rw"]"#, "mapped", 0),
-    (r#"[0,"map",1,57344,4096,1,0,"rw","rw"]"#, "mapped", 0),
-    (r#"[0,"map",1,65536,4096,1,0,"rw","rw"]"#, "mapped", 0),
-    (r#"[0,"unmap",1,8192,4096]"#, "begun", 1),
-    (r#"[1,"ack"]"#, "acked", 0),
-    (r#"[0,"change"]"#, "unmapped", 0),
-    (r#"[1,"resume"]"#, "resumed", 0),
-    (r#"[0,"create"]"#, "space 2", 3),
-    (r#"[0,"map",2,4096,4096,1,0,"rw","rw"]"#, "mapped", 3),
-    (r#"[1,"switch",2,"keep"]"#, "switched", 0),
-    (r#"[1,"fix",4096,"read"]"#, "fixed", 0),
-    (r#"[1,"fill",1]"#, "filled", 0),
-    (r#"[1,"evict",0]"#, "evicted", 0),
-    (r#"[1,"idle"]"#, "idled", 0),
-    (r#"[1,"wake"]"#, "woken", 0),
-    (r#"[1,"switch",1,"keep"]"#, "switched", 0),
-    (r#"[0,"reclaim",1,0]"#, "begun", 0),
-    (r#"[0,"change"]"#, "reclaimed", 0),
-    (r#"[0,"destroy",2]"#, "destroyed", 0),
-    (r#"[0,"setlength",0,5000]"#, "einval", 0),
-    (r#"[0,"create"]"#, "space 2", 3),
+    (1, r#"[0,"create"]"#, "space 1", 3),
+    (1, r#"[0,"map",1,4096,12288,0,0,"rw","rw"]"#, "mapped", 3),
+    (1, r#"[0,"map",1,16384,4096,1,0,"rw","rw"]"#, "mapped", 0),
+    (1, r#"[0,"switch",1,"drop"]"#, "switched", 0),
+    (1, r#"[1,"switch",1,"drop"]"#, "switched", 0),
+    (1, r#"[0,"store",4096,[65]]"#, "fault 6", 0),
+    (1, r#"[0,"fix",4096,"write"]"#, "fixed", 0),
+    (1, r#"[0,"store",4096,[65]]"#, "stored", 0),
+    (1, r#"[1,"load",4096,1]"#, "bytes 65", 0),
+    (1, r#"[0,"msync",4096,4096,4]"#, "begun", 0),
+    (1, r#"[1,"store",4097,[66]]"#, "stored", 0),
+    (1, r#"[0,"change"]"#, "notyet 1", 0),
+    (1, r#"[1,"ack"]"#, "acked", 0),
+    (1, r#"[1,"store",4098,[67]]"#, "stalled", 0),
+    (1, r#"[0,"change"]"#, "marked 1", 0),
+    (1, r#"[1,"resume"]"#, "resumed", 0),
+    (1, r#"[1,"store",4098,[67]]"#, "fault 7", 0),
+    (4, r#"[0,"flush"]"#, "going", 0),
+    (1, r#"[0,"flush"]"#, "committed 1", 0),
+    (3, r#"[0,"flush"]"#, "going", 0),
+    (1, r#"[0,"flush"]"#, "done 1", 0),
+    (1, r#"[0,"flush"]"#, "nothing", 0),
+    (1, r#"[0,"map",1,32768,12288,0,0,"rw","rw"]"#, "mapped", 0),
+    (1, r#"[0,"protect",1,36864,4096,"r"]"#, "begun", 1),
+    (1, r#"[1,"ack"]"#, "acked", 0),
+    (1, r#"[0,"change"]"#, "protected", 0),
+    (1, r#"[1,"resume"]"#, "resumed", 0),
+    (1, r#"[0,"map",1,49152,4096,1,0,"rw","rw"]"#, "mapped", 0),
+    (1, r#"[0,"map",1,57344,4096,1,0,"rw","rw"]"#, "mapped", 0),
+    (1, r#"[0,"map",1,65536,4096,1,0,"rw","rw"]"#, "mapped", 0),
+    (1, r#"[0,"unmap",1,8192,4096]"#, "begun", 1),
+    (1, r#"[1,"ack"]"#, "acked", 0),
+    (1, r#"[0,"change"]"#, "unmapped", 0),
+    (1, r#"[1,"resume"]"#, "resumed", 0),
+    (1, r#"[0,"create"]"#, "space 2", 3),
+    (1, r#"[0,"map",2,4096,4096,1,0,"rw","rw"]"#, "mapped", 3),
+    (1, r#"[1,"switch",2,"keep"]"#, "switched", 0),
+    (1, r#"[1,"fix",4096,"read"]"#, "fixed", 0),
+    (1, r#"[1,"fill",1]"#, "filled", 0),
+    (1, r#"[1,"evict",0]"#, "evicted", 0),
+    (1, r#"[1,"idle"]"#, "idled", 0),
+    (1, r#"[1,"wake"]"#, "woken", 0),
+    (1, r#"[1,"switch",1,"keep"]"#, "switched", 0),
+    (1, r#"[0,"reclaim",1,0]"#, "begun", 0),
+    (1, r#"[0,"change"]"#, "reclaimed", 0),
+    (1, r#"[0,"destroy",2]"#, "destroyed", 0),
+    (1, r#"[0,"setlength",0,5000]"#, "einval", 0),
+    (1, r#"[0,"create"]"#, "space 2", 3),
+];
+
+// Four mappings of three pages, the first of which an unmap splits; three far apart; a protect that splits the second;
+// one more beside them; spaces until their list grows; and an unmap that takes the end of a mapping away.
+const SPLITS: &[Row] = &[
+    (1, r#"[0,"create"]"#, "space 1", 3),
+    (1, r#"[0,"map",1,4096,12288,0,0,"rw","rw"]"#, "mapped", 3),
+    (1, r#"[0,"map",1,20480,12288,0,0,"rw","rw"]"#, "mapped", 0),
+    (1, r#"[0,"map",1,36864,12288,0,0,"rw","rw"]"#, "mapped", 0),
+    (1, r#"[0,"map",1,53248,12288,0,0,"rw","rw"]"#, "mapped", 0),
+    (1, r#"[0,"unmap",1,8192,4096]"#, "begun", 1),
+    (1, r#"[0,"change"]"#, "unmapped", 0),
+    (
+        1,
+        r#"[0,"map",1,1099511627776,4096,0,0,"rw","rw"]"#,
+        "mapped",
+        2,
+    ),
+    (
+        1,
+        r#"[0,"map",1,2199023255552,4096,0,0,"rw","rw"]"#,
+        "mapped",
+        2,
+    ),
+    (
+        1,
+        r#"[0,"map",1,4398046511104,4096,0,0,"rw","rw"]"#,
+        "mapped",
+        0,
+    ),
+    (1, r#"[0,"protect",1,24576,4096,"r"]"#, "begun", 1),
+    (1, r#"[0,"change"]"#, "protected", 0),
+    (1, r#"[0,"map",1,122880,4096,0,0,"rw","rw"]"#, "mapped", 0),
+    (1, r#"[0,"create"]"#, "space 2", 3),
+    (1, r#"[0,"create"]"#, "space 3", 3),
+    (1, r#"[0,"create"]"#, "space 4", 4),
+    (1, r#"[0,"map",4,4096,4096,0,0,"rw","rw"]"#, "mapped", 3),
+    (1, r#"[0,"unmap",1,61440,4096]"#, "begun", 0),
+    (1, r#"[0,"change"]"#, "unmapped", 0),
 ];
 
 // A file grows by a page, and is cut again; the commit in between has its length and its pages.
 const LAYOUT_THREE: &[Row] = &[
-    (r#"[0,"create"]"#, "space 1", 3),
-    (r#"[0,"map",1,4096,12288,0,0,"rw","rw"]"#, "mapped", 3),
-    (r#"[0,"switch",1,"drop"]"#, "switched", 0),
-    (r#"[1,"switch",1,"drop"]"#, "switched", 0),
-    (r#"[1,"fix",8192,"read"]"#, "fixed", 0),
-    (r#"[1,"store",8192,[1]]"#, "stored", 0),
-    (r#"[0,"setlength",0,9000]"#, "begun", 0),
-    (r#"[1,"ack"]"#, "acked", 0),
-    (r#"[0,"change"]"#, "resized", 0),
-    (r#"[1,"resume"]"#, "resumed", 0),
-    (r#"[0,"fix",12288,"write"]"#, "fixed", 0),
-    (r#"[0,"store",12288,[7]]"#, "stored", 0),
-    (r#"[1,"msync",0,0,1]"#, "begun", 0),
-    (r#"[0,"ack"]"#, "acked", 0),
-    (r#"[1,"change"]"#, "marked 1", 0),
-    (r#"[0,"resume"]"#, "resumed", 0),
-    (r#"[1,"fix",12288,"write"]"#, "fixed", 0),
-    (r#"[1,"store",12288,[8]]"#, "stored", 0),
-    (r#"[0,"flush"]"#, "going", 0),
-    (r#"[0,"flush"]"#, "going", 0),
-    (r#"[0,"flush"]"#, "going", 0),
-    (r#"[0,"flush"]"#, "going", 0),
-    (r#"[0,"flush"]"#, "going", 0),
-    (r#"[0,"flush"]"#, "going", 0),
-    (r#"[0,"flush"]"#, "committed 1", 0),
-    (r#"[0,"flush"]"#, "going", 0),
-    (r#"[0,"flush"]"#, "going", 0),
-    (r#"[0,"flush"]"#, "going", 0),
-    (r#"[0,"flush"]"#, "going", 0),
-    (r#"[0,"flush"]"#, "going", 0),
-    (r#"[0,"flush"]"#, "done 1", 0),
-    (r#"[0,"setlength",0,4096]"#, "begun", 0),
-    (r#"[1,"ack"]"#, "acked", 0),
-    (r#"[0,"change"]"#, "resized", 0),
-    (r#"[1,"resume"]"#, "resumed", 0),
+    (1, r#"[0,"create"]"#, "space 1", 3),
+    (1, r#"[0,"map",1,4096,12288,0,0,"rw","rw"]"#, "mapped", 3),
+    (1, r#"[0,"switch",1,"drop"]"#, "switched", 0),
+    (1, r#"[1,"switch",1,"drop"]"#, "switched", 0),
+    (1, r#"[1,"fix",8192,"read"]"#, "fixed", 0),
+    (1, r#"[1,"store",8192,[1]]"#, "stored", 0),
+    (1, r#"[0,"setlength",0,9000]"#, "begun", 0),
+    (1, r#"[1,"ack"]"#, "acked", 0),
+    (1, r#"[0,"change"]"#, "resized", 0),
+    (1, r#"[1,"resume"]"#, "resumed", 0),
+    (1, r#"[0,"fix",12288,"write"]"#, "fixed", 0),
+    (1, r#"[0,"store",12288,[7]]"#, "stored", 0),
+    (1, r#"[1,"msync",0,0,1]"#, "begun", 0),
+    (1, r#"[0,"ack"]"#, "acked", 0),
+    (1, r#"[1,"change"]"#, "marked 1", 0),
+    (1, r#"[0,"resume"]"#, "resumed", 0),
+    (1, r#"[1,"fix",12288,"write"]"#, "fixed", 0),
+    (1, r#"[1,"store",12288,[8]]"#, "stored", 0),
+    (6, r#"[0,"flush"]"#, "going", 0),
+    (1, r#"[0,"flush"]"#, "committed 1", 0),
+    (5, r#"[0,"flush"]"#, "going", 0),
+    (1, r#"[0,"flush"]"#, "done 1", 0),
+    (1, r#"[0,"setlength",0,4096]"#, "begun", 0),
+    (1, r#"[1,"ack"]"#, "acked", 0),
+    (1, r#"[0,"change"]"#, "resized", 0),
+    (1, r#"[1,"resume"]"#, "resumed", 0),
 ];
 
-// A run: the volume's layout, the capacity of its file `a` and its bytes; the machine's frames; the steps; and how many
-// device calls they make with those of the opening.
+// A run: whether its volume is in layout 3 and not in layout 1, the machine's frames, the steps, and how many device
+// calls they make with those of the opening.
 #[derive(Clone, Copy)]
 struct Run {
-    layout: u64,
-    capacity: u64,
-    bytes: u64,
+    grows: bool,
     frames: u64,
     rows: &'static [Row],
     calls: u64,
 }
 
-const FIRST: Run = Run {
-    layout: 1,
-    capacity: 5000,
-    bytes: 40_960,
-    frames: 4,
-    rows: LAYOUT_ONE,
-    calls: 15,
-};
-
-const THIRD: Run = Run {
-    layout: 3,
-    capacity: 12_288,
-    bytes: 73_728,
-    frames: 3,
-    rows: LAYOUT_THREE,
-    calls: 22,
-};
-
-impl Run {
-    // The bytes of its volume, which has files of zeros.
-    fn image<R: Host>(&self, rt: &R) -> Vec<u8> {
-        let specs = [
-            FileSpec {
-                name: "a",
-                length: 5000,
-                capacity: self.capacity,
-            },
-            FileSpec {
-                name: "b",
-                length: 4096,
-                capacity: 4096,
-            },
-        ];
-        let mut disk = MemDisk::new(rt.alloc(), self.bytes).expect(rt, "a disk");
-        format_as(rt.alloc(), &mut disk, self.layout, &specs, 4).expect(rt, "a volume");
-        disk.bytes().to_vec(rt.alloc()).expect(rt, "memory")
-    }
-
-    // Two processors with TLBs of 8 entries, and 2 copy frames.
-    fn shape(&self) -> Shape {
-        Shape {
-            cpus: 2,
-            tlb: 8,
-            frames: self.frames,
-            copies: 2,
-        }
-    }
-
-    // How many requests for memory all its steps make.
-    fn requests(&self) -> u64 {
-        let mut sum: u64 = 0;
-        for (_, _, requests) in self.rows {
-            sum = sum.wrapping_add(*requests);
-        }
-        sum
-    }
-
-    // Makes its steps on a file with these bytes, where the request of this number is refused, if it isn't 0, and
-    // gives the bytes that are left.
-    fn left<R: Host>(&self, rt: &R, path: &str, image: &[u8], refused: u64) -> Vec<u8> {
-        let alloc = Counting::new(rt.alloc());
-        let volume = opened(rt, &alloc, disk_over(rt, path, image));
-        let mut machine = booted(rt, &alloc, volume, self.shape());
-        alloc.restart();
-        alloc.refuse_nth(refused);
-        for row in self.rows {
-            make(rt, &alloc, &mut machine, row);
-        }
-        let calls = machine.into_device().calls();
-        assert!(rt; calls == self.calls, "{calls} device calls");
-        assert!(rt;
-            alloc.refused() == u64::from(refused > 0),
-            "request {refused}"
-        );
-        fs::read(rt, path).ok().expect(rt, "the file")
-    }
-
-    // Refuses each request in turn: all replies but one, and all bytes, are as where memory is ample. Gives the bytes.
-    fn refuse_each<R: Host>(&self, rt: &R, path: &str) -> Vec<u8> {
-        let image = self.image(rt);
-        let ample = self.left(rt, path, &image, 0);
-        for refused in 1..self.requests().saturating_add(1) {
-            let left = self.left(rt, path, &image, refused);
-            assert!(rt; left == ample, "request {refused}");
-        }
-        assert!(rt; fs::remove_file(rt, path).is_ok());
-        ample
-    }
-}
-
-// A disk over the file at a path, to which these bytes are written first.
-fn disk_over<R: Host>(rt: &R, path: &str, image: &[u8]) -> Disk {
-    assert!(rt; fs::write(rt, path, image).is_ok());
-    let file = OpenOptions::new()
-        .read(true)
-        .write(true)
-        .open(rt, path)
-        .ok()
-        .expect(rt, "the file");
-    match FileDisk::over(file) {
-        Ok(disk) => disk,
-        Err(_) => panic!(rt; "{path}"),
-    }
-}
-
-// The volume on it, opened with memory that is counted.
-fn opened<'a, R: Host>(rt: &R, alloc: &'a Counting, disk: Disk) -> Volume<Disk, &'a Counting> {
-    match open(alloc, disk) {
-        Ok(volume) => volume,
-        Err((refusal, _)) => panic!(rt; "{refusal}"),
-    }
-}
-
-// A machine over it, whose memory is counted.
-fn booted<'a, R: Host>(
-    rt: &R,
-    alloc: &'a Counting,
-    volume: Volume<Disk, &'a Counting>,
-    shape: Shape,
-) -> Trial<'a> {
-    match Machine::boot(alloc, volume, shape) {
-        Ok(machine) => machine,
-        Err((refusal, _)) => panic!(rt; "{refusal}"),
-    }
-}
-
 // The step that a text is.
-fn step_of<R: Host>(rt: &R, text: &str) -> Step {
-    let Ok(value) = parsed(rt.alloc(), text) else {
-        panic!(rt; "{text}");
-    };
-    match read_step(&value) {
-        Ok(step) => step,
-        Err(_) => panic!(rt; "{text}"),
+fn step_of(global: Global, text: &str) -> Option<Step> {
+    match parsed(global, text) {
+        Ok(value) => read_step(&value).ok(),
+        Err(_) => None,
     }
 }
 
 // Whether a reply is printed so.
-fn is_printed<R: Host>(rt: &R, reply: &Reply, wanted: &str) -> bool {
-    let printed = format!(in rt.alloc(); "{reply}").expect(rt, "memory");
-    printed.as_str() == wanted
+fn is_printed(global: Global, reply: Reply, wanted: &str) -> bool {
+    match reply.to_string(global) {
+        Ok(printed) => printed.as_str() == wanted,
+        Err(_) => false,
+    }
 }
 
 // What both processors are doing.
-fn states(machine: &Trial) -> [Result<ProcState, Refusal>; 2] {
+fn states<D: Device, A: Allocator + Copy>(
+    machine: &Machine<D, A>,
+) -> [Result<ProcState, Refusal>; 2] {
     [machine.state(0), machine.state(1)]
 }
 
-// Makes a step, again where its request was refused, and compares what it is answered.
-fn make<R: Host>(rt: &R, alloc: &Counting, machine: &mut Trial, row: &Row) {
-    let (text, wanted, requests) = *row;
-    let step = step_of(rt, text);
-    let before = states(machine);
-    let refused = alloc.refused();
-    let asked = alloc.requests();
-    let mut reply = machine.step(&step);
-    if alloc.refused() == refused {
-        let made = alloc.requests().wrapping_sub(asked);
-        assert!(rt; made == requests, "{text}: {made} requests");
-    } else {
-        assert!(rt;
-            reply == Reply::Refused(Refusal::OutOfMemory),
-            "{text}: {reply}"
-        );
-        assert!(rt; states(machine) == before && is_unlocked(machine), "{text}");
-        reply = machine.step(&step);
-    }
-    assert!(rt; is_printed(rt, &reply, wanted), "{text}: {reply}");
-}
-
-// Whether no change is under way. Where one is, another processor is told that the lock is held.
-fn is_unlocked(machine: &mut Trial) -> bool {
-    let change = Step {
-        p: 1,
-        act: Act::Change,
+// Makes a step, again where its request was refused: then its reply said so, no processor's state was another, and no
+// change was under way. (Where one is, another processor is told that the lock is held.) Whether it is answered so, and
+// by so many requests.
+fn makes<D: Device, A: Allocator + Copy>(
+    alloc: &Counting,
+    global: Global,
+    machine: &mut Machine<D, A>,
+    row: &Row,
+) -> bool {
+    let (_, text, wanted, requests) = *row;
+    let Some(Step { p, act }) = step_of(global, text) else {
+        return false;
     };
-    machine.step(&change) == Reply::Nothing
+    let before = states(machine);
+    let (refused, asked) = (alloc.refused(), alloc.requests());
+    let reply = reply_to(machine, p, act);
+    if alloc.refused() == refused {
+        alloc.requests().wrapping_sub(asked) == requests && is_printed(global, reply, wanted)
+    } else {
+        reply == Reply::Refused(Refusal::OutOfMemory)
+            && states(machine) == before
+            && reply_to(machine, 1, Act::Change) == Reply::Nothing
+            && is_printed(global, reply_to(machine, p, act), wanted)
+    }
 }
 
-// The length of the first file of a volume with these bytes, and the file's first bytes.
-fn first_file<R: Host>(rt: &R, bytes: Vec<u8>) -> (u64, [u8; 3]) {
-    let disk = MemDisk::from_bytes(rt.alloc(), bytes).expect(rt, "memory");
-    let Ok(mut volume) = open(rt.alloc(), disk) else {
-        panic!(rt; "the volume isn't opened");
+// The place of the first of the rows whose step isn't answered so.
+fn first_other<D: Device, A: Allocator + Copy>(
+    alloc: &Counting,
+    global: Global,
+    machine: &mut Machine<D, A>,
+    rows: &[Row],
+) -> Option<usize> {
+    for (place, row) in rows.iter().enumerate() {
+        for _ in 0..row.0 {
+            if !makes(alloc, global, machine, row) {
+                return Some(place);
+            }
+        }
+    }
+    None
+}
+
+impl Run {
+    // Makes its steps, where the request of this number is refused, if it isn't 0. How many requests there were, and
+    // the disk that is left.
+    fn left(&self, rt: &impl Abort, global: Global, refused: u64) -> (u64, Disk) {
+        let disk = if self.grows {
+            layout_three(rt, global)
+        } else {
+            layout_one(rt, global)
+        };
+        let alloc = Counting::new(global);
+        let mut machine = booted(rt, &alloc, disk, shape(self.frames));
+        alloc.restart();
+        alloc.refuse_nth(refused);
+        let other = first_other(&alloc, global, &mut machine, self.rows);
+        let disk = machine.into_device();
+        assert!(rt; other.is_none(), "request {refused}, row {other:?}");
+        assert!(rt;
+            alloc.refused() == u64::from(refused > 0) && disk.calls() == self.calls,
+            "request {refused}"
+        );
+        (alloc.requests(), disk)
+    }
+
+    // Refuses each request in turn: all replies but one, and all bytes, are as where memory is ample. Gives the disk.
+    fn refuse_each(&self, rt: &impl Abort, global: Global) -> Disk {
+        let (requests, ample) = self.left(rt, global, 0);
+        for refused in 1..=requests {
+            let (_, left) = self.left(rt, global, refused);
+            assert!(rt; left.bytes() == ample.bytes(), "request {refused}");
+        }
+        ample
+    }
+}
+
+// Whether the first file of the volume on a disk has this length, and begins with these bytes.
+fn first_file_is(global: Global, disk: Disk, length: u64, bytes: [u8; 3]) -> bool {
+    let Ok(mut volume) = open(global, disk) else {
+        return false;
     };
     let mut first = [0xEE; 3];
-    if volume.file_count() == 0 {
-        return (0, first);
-    }
-    let length = volume.length(0);
-    if length >= 3 {
-        assert!(rt; volume.read_file(0, 0, &mut first).is_ok());
-    }
-    (length, first)
+    volume.file_count() > 0
+        && volume.length(0) == length
+        && length >= 3
+        && volume.read_file(0, 0, &mut first).is_ok()
+        && first == bytes
 }
 
-// The commit has what was stored before the other processor stalled.
+// The commit has what was stored before the other processor stalled. Nothing is stored where mappings are split.
 #[test]
-fn a_commit_and_splits_are_refused_memory(rt: HostRuntime) {
-    let left = FIRST.refuse_each(&rt, "a_commit_and_splits_are_refused_memory");
-    assert!(rt; first_file(&rt, left) == (5000, [65, 66, 0]));
-}
-
-#[test]
-fn a_length_and_its_commit_are_refused_memory(rt: HostRuntime) {
-    let left = THIRD.refuse_each(&rt, "a_length_and_its_commit_are_refused_memory");
-    assert!(rt; first_file(&rt, left) == (9000, [0, 0, 0]));
+fn each_request_for_memory_can_be_refused(rt: HostRuntime) {
+    for (grows, frames, rows, calls, length, bytes) in [
+        (false, 4, LAYOUT_ONE, 15, 5000, [65, 66, 0]),
+        (false, 4, SPLITS, 3, 5000, [0; 3]),
+        (true, 3, LAYOUT_THREE, 22, 9000, [0; 3]),
+    ] {
+        let run = Run {
+            grows,
+            frames,
+            rows,
+            calls,
+        };
+        let disk = run.refuse_each(&rt, rt.alloc());
+        assert!(rt;
+            first_file_is(rt.alloc(), disk, length, bytes),
+            "{calls} calls"
+        );
+    }
 }
