@@ -1,15 +1,23 @@
-// Which acts ask for memory, and how often; and what comes of a run in which one of these requests is refused, for each
-// of them.
-use crate::trial::{Disk, booted, layout_one, layout_three, reply_to, shape};
+// A machine over the disk of a file, which takes no memory itself: which acts ask for memory, and how often; and what
+// comes of a run in which one of these requests is refused, for each of them.
+use crate::trial::{booted, layout_one, layout_three, reply_to, shape};
 use counting_alloc::CountingAllocator;
-use device::Device;
+use device::{Device, FileDisk, MemDisk};
 use machine::{Act, Machine, Reply, Step};
 use page_entry::Refusal;
 use recovery::open;
 use scripts::{parsed, read_step};
 use shootdown::ProcState;
 use std::alloc::{Allocator, Global};
+use std::fs;
+use std::fs::{File, OpenOptions};
 use std::process::Abort;
+use std::rt::Files;
+
+// What the tests ask of the runtime.
+trait Host: Files<File = File> + Abort {}
+
+impl<R: Files<File = File> + Abort> Host for R {}
 
 type Counting = CountingAllocator<Global>;
 
@@ -198,59 +206,98 @@ fn makes<D: Device, A: Allocator + Copy>(
     }
 }
 
-// The place of the first of the rows whose step isn't answered so.
-fn first_other<D: Device, A: Allocator + Copy>(
+// Whether each row's step is answered so, as often as it is made.
+fn makes_all<D: Device, A: Allocator + Copy>(
     alloc: &Counting,
     global: Global,
     machine: &mut Machine<D, A>,
     rows: &[Row],
-) -> Option<usize> {
-    for (place, row) in rows.iter().enumerate() {
+) -> bool {
+    for row in rows {
         for _ in 0..row.0 {
             if !makes(alloc, global, machine, row) {
-                return Some(place);
+                return false;
             }
         }
     }
-    None
+    true
+}
+
+// A disk over the file at a path, to which these bytes are written first.
+fn disk_over<R: Host>(rt: &R, path: &str, image: &[u8]) -> Option<FileDisk<File>> {
+    fs::write(rt, path, image).ok()?;
+    let file = OpenOptions::new()
+        .read(true)
+        .write(true)
+        .open(rt, path)
+        .ok()?;
+    FileDisk::over(file).ok()
 }
 
 impl Run {
-    // Makes its steps, where the request of this number is refused, if it isn't 0. How many requests there were, and
-    // the disk that is left.
-    fn left(&self, rt: &impl Abort, global: Global, refused: u64) -> (u64, Disk) {
+    // The bytes of its volume, which has files of zeros.
+    fn image(&self, rt: &impl Abort, global: Global) -> Vec<u8> {
         let disk = if self.grows {
             layout_three(rt, global)
         } else {
             layout_one(rt, global)
         };
+        disk.bytes().to_vec(global).expect(rt, "memory")
+    }
+
+    // Makes its steps over a disk, where the request of this number is refused, if it isn't 0. How many requests there
+    // were, if all came so.
+    fn requests<D: Device + Drop>(
+        &self,
+        rt: &impl Abort,
+        global: Global,
+        disk: D,
+        refused: u64,
+    ) -> Option<u64> {
         let alloc = Counting::new(global);
         let mut machine = booted(rt, &alloc, disk, shape(self.frames));
         alloc.restart();
         alloc.refuse_nth(refused);
-        let other = first_other(&alloc, global, &mut machine, self.rows);
-        let disk = machine.into_device();
-        assert!(rt; other.is_none(), "request {refused}, row {other:?}");
-        assert!(rt;
-            alloc.refused() == u64::from(refused > 0) && disk.calls() == self.calls,
-            "request {refused}"
-        );
-        (alloc.requests(), disk)
+        let fine = makes_all(&alloc, global, &mut machine, self.rows)
+            && alloc.refused() == u64::from(refused > 0)
+            && machine.device().calls() == self.calls;
+        if fine { Some(alloc.requests()) } else { None }
     }
 
-    // Refuses each request in turn: all replies but one, and all bytes, are as where memory is ample. Gives the disk.
-    fn refuse_each(&self, rt: &impl Abort, global: Global) -> Disk {
-        let (requests, ample) = self.left(rt, global, 0);
+    // Makes them on a file with these bytes. How many requests there were, and the bytes that are left.
+    fn left<R: Host>(
+        &self,
+        rt: &R,
+        global: Global,
+        path: &str,
+        image: &[u8],
+        refused: u64,
+    ) -> (Option<u64>, Vec<u8>) {
+        let disk = disk_over(rt, path, image).expect(rt, "the disk");
+        let requests = self.requests(rt, global, disk, refused);
+        let left = fs::read(rt, path).ok().expect(rt, "the file");
+        (requests, left)
+    }
+
+    // Refuses each request in turn: all replies but one, and all bytes, are as where memory is ample. Gives the bytes.
+    fn refuse_each<R: Host>(&self, rt: &R, global: Global, path: &str) -> Vec<u8> {
+        let image = self.image(rt, global);
+        let (requests, ample) = self.left(rt, global, path, &image, 0);
+        let requests = requests.expect(rt, "the run with ample memory");
         for refused in 1..=requests {
-            let (_, left) = self.left(rt, global, refused);
-            assert!(rt; left.bytes() == ample.bytes(), "request {refused}");
+            let (found, left) = self.left(rt, global, path, &image, refused);
+            assert!(rt; found.is_some() && left == ample, "request {refused}");
         }
+        assert!(rt; fs::remove_file(rt, path).is_ok());
         ample
     }
 }
 
-// Whether the first file of the volume on a disk has this length, and begins with these bytes.
-fn first_file_is(global: Global, disk: Disk, length: u64, bytes: [u8; 3]) -> bool {
+// Whether the first file of a volume with these bytes has this length, and begins with these.
+fn first_file_is(global: Global, image: Vec<u8>, length: u64, bytes: [u8; 3]) -> bool {
+    let Ok(disk) = MemDisk::from_bytes(global, image) else {
+        return false;
+    };
     let Ok(mut volume) = open(global, disk) else {
         return false;
     };
@@ -276,9 +323,9 @@ fn each_request_for_memory_can_be_refused(rt: HostRuntime) {
             rows,
             calls,
         };
-        let disk = run.refuse_each(&rt, rt.alloc());
+        let left = run.refuse_each(&rt, rt.alloc(), "each_request_for_memory_can_be_refused");
         assert!(rt;
-            first_file_is(rt.alloc(), disk, length, bytes),
+            first_file_is(rt.alloc(), left, length, bytes),
             "{calls} calls"
         );
     }

@@ -59,12 +59,12 @@ pub(crate) fn boot<D: Device, A: Allocator + Copy>(
 }
 
 // The machine that nothing refuses to boot.
-pub(crate) fn booted<A: Allocator + Copy>(
+pub(crate) fn booted<D: Device + Drop, A: Allocator + Copy>(
     rt: &impl Abort,
     alloc: A,
-    disk: Disk,
+    disk: D,
     shape: Shape,
-) -> Machine<Disk, A> {
+) -> Machine<D, A> {
     match boot(alloc, disk, shape) {
         Ok(machine) => machine,
         Err((refusal, _)) => panic!(rt; "{refusal}"),

@@ -100,8 +100,9 @@ impl Plain {
             self.invalidate(Invpcid::AllContexts);
         }
         for place in 0..self.notified.len() {
-            if let Some(action) = self.notified.get(place) {
-                self.invalidate(*action);
+            let notified = self.notified.get(place).copied();
+            if let Some(action) = notified {
+                self.invalidate(action);
             }
         }
         self.notified.clear();
