@@ -147,7 +147,7 @@ fn codes(alloc: &Counting) -> Result<[u64; 3], Refusal> {
 #[test]
 fn a_refused_block_can_be_written_and_read_at_once(rt: HostRuntime) {
     let alloc = Counting::new(rt.alloc());
-    let ample = Ok([6, 12, 13]);
+    let ample: Result<[u64; 3], Refusal> = Ok([6, 12, 13]);
     for n in 0..=13 {
         alloc.restart();
         alloc.refuse_nth(n);

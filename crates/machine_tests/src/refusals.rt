@@ -15,9 +15,9 @@ use std::process::Abort;
 use std::rt::Files;
 
 // What the tests ask of the runtime.
-trait Host: Files<File = File> + Abort {}
+trait Host: Files<File = File> + AllocGlobal + Abort {}
 
-impl<R: Files<File = File> + Abort> Host for R {}
+impl<R: Files<File = File> + AllocGlobal + Abort> Host for R {}
 
 type Counting = CountingAllocator<Global>;
 
@@ -148,14 +148,44 @@ const LAYOUT_THREE: &[Row] = &[
 ];
 
 // A run: whether its volume is in layout 3 and not in layout 1, the machine's frames, the steps, and how many device
-// calls they make with those of the opening.
+// calls they make with those of the opening; and the length and the first bytes of `a` after it.
 #[derive(Clone, Copy)]
 struct Run {
     grows: bool,
     frames: u64,
     rows: &'static [Row],
     calls: u64,
+    length: u64,
+    first: [u8; 3],
 }
+
+// The commit has what was stored before the other processor stalled. Nothing is stored where mappings are split.
+const RUNS: [Run; 3] = [
+    Run {
+        grows: false,
+        frames: 4,
+        rows: LAYOUT_ONE,
+        calls: 15,
+        length: 5000,
+        first: [65, 66, 0],
+    },
+    Run {
+        grows: false,
+        frames: 4,
+        rows: SPLITS,
+        calls: 3,
+        length: 5000,
+        first: [0; 3],
+    },
+    Run {
+        grows: true,
+        frames: 3,
+        rows: LAYOUT_THREE,
+        calls: 22,
+        length: 9000,
+        first: [0; 3],
+    },
+];
 
 // The step that a text is.
 fn step_of(global: Global, text: &str) -> Option<Step> {
@@ -211,7 +241,7 @@ fn makes_all<D: Device, A: Allocator + Copy>(
     alloc: &Counting,
     global: Global,
     machine: &mut Machine<D, A>,
-    rows: &[Row],
+    rows: &'static [Row],
 ) -> bool {
     for row in rows {
         for _ in 0..row.0 {
@@ -231,7 +261,10 @@ fn disk_over<R: Host>(rt: &R, path: &str, image: &[u8]) -> Option<FileDisk<File>
         .write(true)
         .open(rt, path)
         .ok()?;
-    FileDisk::over(file).ok()
+    match FileDisk::over(file) {
+        Ok(disk) => Some(disk),
+        Err(_) => None,
+    }
 }
 
 impl Run {
@@ -309,24 +342,10 @@ fn first_file_is(global: Global, image: Vec<u8>, length: u64, bytes: [u8; 3]) ->
         && first == bytes
 }
 
-// The commit has what was stored before the other processor stalled. Nothing is stored where mappings are split.
 #[test]
 fn each_request_for_memory_can_be_refused(rt: HostRuntime) {
-    for (grows, frames, rows, calls, length, bytes) in [
-        (false, 4, LAYOUT_ONE, 15, 5000, [65, 66, 0]),
-        (false, 4, SPLITS, 3, 5000, [0; 3]),
-        (true, 3, LAYOUT_THREE, 22, 9000, [0; 3]),
-    ] {
-        let run = Run {
-            grows,
-            frames,
-            rows,
-            calls,
-        };
+    for run in RUNS {
         let left = run.refuse_each(&rt, rt.alloc(), "each_request_for_memory_can_be_refused");
-        assert!(rt;
-            first_file_is(rt.alloc(), left, length, bytes),
-            "{calls} calls"
-        );
+        assert!(rt; first_file_is(rt.alloc(), left, run.length, run.first));
     }
 }
