@@ -95,12 +95,14 @@ fn boots(alloc: &Counting, disk: Disk) -> (Result<(), Refusal>, Disk) {
     }
 }
 
-// Boots where the `n`th request for memory is refused, and if it was made, at once again. How many were refused of each.
+// Boots where the `n`th request for memory is refused, and at once again where none is. How many were refused, and
+// whether both were answered so.
 fn boots_again(alloc: &Counting, disk: Disk, n: u64) -> (u64, bool, Disk) {
     alloc.restart();
     alloc.refuse_nth(n);
     let (first, disk) = boots(alloc, disk);
     let refused = alloc.refused();
+    alloc.restart();
     let (second, disk) = boots(alloc, disk);
     let wanted = if refused == 0 {
         Ok(())

@@ -7,7 +7,6 @@ use machine::{Act, Machine, Reply, Step};
 use page_entry::Refusal;
 use recovery::open;
 use scripts::{parsed, read_step};
-use shootdown::ProcState;
 use std::alloc::{Allocator, Global};
 use std::fs;
 use std::fs::{File, OpenOptions};
@@ -189,8 +188,11 @@ const RUNS: [Run; 3] = [
 
 // The step that a text is.
 fn step_of(global: Global, text: &str) -> Option<Step> {
-    match parsed(global, text) {
-        Ok(value) => read_step(&value).ok(),
+    let Ok(value) = parsed(global, text) else {
+        return None;
+    };
+    match read_step(&value) {
+        Ok(step) => Some(step),
         Err(_) => None,
     }
 }
@@ -201,13 +203,6 @@ fn is_printed(global: Global, reply: Reply, wanted: &str) -> bool {
         Ok(printed) => printed.as_str() == wanted,
         Err(_) => false,
     }
-}
-
-// What both processors are doing.
-fn states<D: Device, A: Allocator + Copy>(
-    machine: &Machine<D, A>,
-) -> [Result<ProcState, Refusal>; 2] {
-    [machine.state(0), machine.state(1)]
 }
 
 // Makes a step, again where its request was refused: then its reply said so, no processor's state was another, and no
@@ -223,14 +218,15 @@ fn makes<D: Device, A: Allocator + Copy>(
     let Some(Step { p, act }) = step_of(global, text) else {
         return false;
     };
-    let before = states(machine);
+    let (first, second) = (machine.state(0), machine.state(1));
     let (refused, asked) = (alloc.refused(), alloc.requests());
     let reply = reply_to(machine, p, act);
     if alloc.refused() == refused {
         alloc.requests().wrapping_sub(asked) == requests && is_printed(global, reply, wanted)
     } else {
         reply == Reply::Refused(Refusal::OutOfMemory)
-            && states(machine) == before
+            && machine.state(0) == first
+            && machine.state(1) == second
             && reply_to(machine, 1, Act::Change) == Reply::Nothing
             && is_printed(global, reply_to(machine, p, act), wanted)
     }
