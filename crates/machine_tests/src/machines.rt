@@ -85,6 +85,16 @@ const REPLIES: [Reply; 6] = [
     Reply::Stored,
 ];
 
+// The replies to these steps at once.
+fn run_at_once<D: Device, A: Allocator + Copy>(
+    machine: &mut Machine<D, A>,
+    steps: &[Step; 6],
+) -> [Reply; 6] {
+    let mut replies = [Reply::Nothing; 6];
+    machine.run(steps, &mut replies);
+    replies
+}
+
 // Whether a space that maps the first page of `a`, and a store that faults, is served and is made, are answered at once
 // as one by one, and a step after them.
 fn makes_at_once<D: Device, A: Allocator + Copy>(
@@ -100,9 +110,7 @@ fn makes_at_once<D: Device, A: Allocator + Copy>(
         by_first(FIX),
         store,
     ];
-    let mut replies = [Reply::Nothing; 6];
-    machine.run(&steps, &mut replies);
-    replies == REPLIES && reply_to(machine, 0, Act::Create) == Reply::Space(2)
+    run_at_once(machine, &steps) == REPLIES && reply_to(machine, 0, Act::Create) == Reply::Space(2)
 }
 
 // A run of steps at once is answered as they are one by one.

@@ -1,6 +1,6 @@
 // A machine over the disk of a file, which takes no memory itself: which acts ask for memory, and how often; and what
 // comes of a run in which one of these requests is refused, for each of them.
-use crate::trial::{booted, layout_one, layout_three, reply_to, shape};
+use crate::trial::{booted, layout_one, layout_three, reply_of, reply_to, shape};
 use counting_alloc::CountingAllocator;
 use device::{Device, FileDisk, MemDisk};
 use machine::{Act, Machine, Reply, Step};
@@ -215,12 +215,12 @@ fn makes<D: Device, A: Allocator + Copy>(
     row: &Row,
 ) -> bool {
     let (_, text, wanted, requests) = *row;
-    let Some(Step { p, act }) = step_of(global, text) else {
+    let Some(step) = step_of(global, text) else {
         return false;
     };
     let (first, second) = (machine.state(0), machine.state(1));
     let (refused, asked) = (alloc.refused(), alloc.requests());
-    let reply = reply_to(machine, p, act);
+    let reply = reply_of(machine, &step);
     if alloc.refused() == refused {
         alloc.requests().wrapping_sub(asked) == requests && is_printed(global, reply, wanted)
     } else {
@@ -228,7 +228,7 @@ fn makes<D: Device, A: Allocator + Copy>(
             && machine.state(0) == first
             && machine.state(1) == second
             && reply_to(machine, 1, Act::Change) == Reply::Nothing
-            && is_printed(global, reply_to(machine, p, act), wanted)
+            && is_printed(global, reply_of(machine, &step), wanted)
     }
 }
 

@@ -71,11 +71,19 @@ pub(crate) fn booted<D: Device + Drop, A: Allocator + Copy>(
     }
 }
 
+// The reply to a step.
+pub(crate) fn reply_of<D: Device, A: Allocator + Copy>(
+    machine: &mut Machine<D, A>,
+    step: &Step,
+) -> Reply {
+    machine.step(step)
+}
+
 // The reply to an act of a processor.
 pub(crate) fn reply_to<D: Device, A: Allocator + Copy>(
     machine: &mut Machine<D, A>,
     p: ProcessorNumber,
     act: Act,
 ) -> Reply {
-    machine.step(&Step { p, act })
+    reply_of(machine, &Step { p, act })
 }
