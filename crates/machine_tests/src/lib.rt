@@ -8,5 +8,3 @@ mod machines;
 mod memory;
 #[cfg(test)]
 mod refusals;
-#[cfg(test)]
-mod trial;

@@ -1,19 +1,48 @@
 // Machines over the files `a` of 5,000 bytes and `b` of 4,096 in layout 1. What their steps are answered is in the runs
 // as text of the same names.
-use crate::trial::{Disk, booted, layout_one, reply_to, shape};
-use device::Device;
-use machine::{Act, FewBytes, Machine, MsyncFlags, Reply, Step};
+use device::{Device, MemDisk};
+use machine::{Act, FewBytes, Machine, MsyncFlags, Reply, Shape, Step};
 use mappings::Rights;
 use page_entry::{ProcessorNumber, Refusal};
+use recovery::{Volume, format_as, open};
+use sample_volumes::SPECS;
 use shootdown::ProcState;
-use std::alloc::{Allocator, Global};
+use std::alloc::Global;
 use std::process::Abort;
+
+type Disk = MemDisk<Global>;
 
 type Trial = Machine<Disk, Global>;
 
-// A machine of two processors with 4 frames.
-fn machine(rt: &impl Abort, global: Global) -> Trial {
-    booted(rt, global, layout_one(rt, global), shape(4))
+// Two processors with TLBs of 8 entries, 4 frames and 2 copy frames.
+const TWO: Shape = Shape {
+    cpus: 2,
+    tlb: 8,
+    frames: 4,
+    copies: 2,
+};
+
+// A volume of zeros, opened.
+fn volume<R: Abort + AllocGlobal>(rt: &R) -> Volume<Disk, Global> {
+    let mut disk = MemDisk::new(rt.alloc(), 40_960).expect(rt, "a disk");
+    format_as(rt.alloc(), &mut disk, 1, &SPECS, 4).expect(rt, "a volume");
+    match open(rt.alloc(), disk) {
+        Ok(volume) => volume,
+        Err((refusal, _)) => panic!(rt; "{refusal}"),
+    }
+}
+
+// A machine of two processors over it.
+fn booted<R: Abort + AllocGlobal>(rt: &R) -> Trial {
+    match Machine::boot(rt.alloc(), volume(rt), TWO) {
+        Ok(machine) => machine,
+        Err((refusal, _)) => panic!(rt; "{refusal}"),
+    }
+}
+
+// The reply to an act of a processor.
+fn reply_to(machine: &mut Trial, p: ProcessorNumber, act: Act) -> Reply {
+    machine.step(&Step { p, act })
 }
 
 // A commit of nothing that is asked for.
@@ -23,32 +52,68 @@ const MSYNC: Act = Act::Msync {
     flags: MsyncFlags::SYNC,
 };
 
-// Acts of a processor, and what both processors do after each.
-const TOLD: [(ProcessorNumber, Act, ProcState, ProcState); 6] = [
-    (0, Act::Create, ProcState::Active, ProcState::Active),
-    (0, MSYNC, ProcState::Initiating, ProcState::Interrupted),
-    (1, Act::Ack, ProcState::Initiating, ProcState::Stalled),
-    (0, Act::Change, ProcState::Active, ProcState::Stalled),
-    (1, Act::Resume, ProcState::Active, ProcState::Active),
-    (1, Act::Idle, ProcState::Active, ProcState::Idle),
-];
+// Whether the two processors are in these states.
+fn are_states(machine: &Trial, states: [ProcState; 2]) -> bool {
+    machine.state(0) == Ok(states[0]) && machine.state(1) == Ok(states[1])
+}
 
-// Whether a machine tells so what its two processors do.
-fn tells_states<D: Device, A: Allocator + Copy>(machine: &mut Machine<D, A>) -> bool {
-    for (p, act, first, second) in TOLD {
-        reply_to(machine, p, act);
-        if machine.state(0) != Ok(first) || machine.state(1) != Ok(second) {
-            return false;
-        }
-    }
+// Whether a machine has two processors.
+fn has_two(machine: &Trial) -> bool {
     machine.processors() == 2 && machine.state(2) == Err(Refusal::Einval)
+}
+
+// Makes each step, after which the processors have to be in its states.
+fn tell_states<R: Abort>(rt: &R, machine: &mut Trial) {
+    for (p, act, wanted, states) in [
+        (
+            0,
+            Act::Create,
+            Reply::Space(1),
+            [ProcState::Active, ProcState::Active],
+        ),
+        (
+            0,
+            MSYNC,
+            Reply::Begun,
+            [ProcState::Initiating, ProcState::Interrupted],
+        ),
+        (
+            1,
+            Act::Ack,
+            Reply::Acked,
+            [ProcState::Initiating, ProcState::Stalled],
+        ),
+        (
+            0,
+            Act::Change,
+            Reply::Marked(1),
+            [ProcState::Active, ProcState::Stalled],
+        ),
+        (
+            1,
+            Act::Resume,
+            Reply::Resumed,
+            [ProcState::Active, ProcState::Active],
+        ),
+        (
+            1,
+            Act::Idle,
+            Reply::Idled,
+            [ProcState::Active, ProcState::Idle],
+        ),
+    ] {
+        assert!(rt; reply_to(machine, p, act) == wanted, "{act:?}");
+        assert!(rt; are_states(machine, states), "{act:?}");
+    }
 }
 
 // A processor tells its state.
 #[test]
 fn processors_tell_their_states(rt: HostRuntime) {
-    let told = tells_states(&mut machine(&rt, rt.alloc()));
-    assert!(rt; told);
+    let mut machine = booted(&rt);
+    tell_states(&rt, &mut machine);
+    assert!(rt; has_two(&machine));
+    let _disk = machine.into_device();
 }
 
 // An act of processor 0.
@@ -76,6 +141,26 @@ const FIX: Act = Act::Fix {
     write: true,
 };
 
+// A store of these bytes to the first page of `a`.
+fn store(bytes: FewBytes) -> Step {
+    Step {
+        p: 0,
+        act: Act::Store { va: 4096, bytes },
+    }
+}
+
+// A space that maps that page, and a store that faults, is served and is made.
+fn steps_of_a_store(bytes: FewBytes) -> [Step; 6] {
+    [
+        by_first(Act::Create),
+        by_first(MAP),
+        by_first(SWITCH),
+        store(bytes),
+        by_first(FIX),
+        store(bytes),
+    ]
+}
+
 const REPLIES: [Reply; 6] = [
     Reply::Space(1),
     Reply::Mapped,
@@ -86,47 +171,40 @@ const REPLIES: [Reply; 6] = [
 ];
 
 // The replies to these steps at once.
-fn run_at_once<D: Device, A: Allocator + Copy>(
-    machine: &mut Machine<D, A>,
-    steps: &[Step; 6],
-) -> [Reply; 6] {
+fn run_at_once(machine: &mut Trial, steps: &[Step; 6]) -> [Reply; 6] {
     let mut replies = [Reply::Nothing; 6];
     machine.run(steps, &mut replies);
     replies
 }
 
-// Whether a space that maps the first page of `a`, and a store that faults, is served and is made, are answered at once
-// as one by one, and a step after them.
-fn makes_at_once<D: Device, A: Allocator + Copy>(
-    machine: &mut Machine<D, A>,
-    bytes: FewBytes,
-) -> bool {
-    let store = by_first(Act::Store { va: 4096, bytes });
-    let steps = [
-        by_first(Act::Create),
-        by_first(MAP),
-        by_first(SWITCH),
-        store,
-        by_first(FIX),
-        store,
-    ];
-    run_at_once(machine, &steps) == REPLIES && reply_to(machine, 0, Act::Create) == Reply::Space(2)
+// Whether a machine answers these steps at once as one by one, and a step after them.
+fn is_made_at_once(machine: &mut Trial, steps: &[Step; 6]) -> bool {
+    run_at_once(machine, steps) == REPLIES && reply_to(machine, 0, Act::Create) == Reply::Space(2)
 }
 
 // A run of steps at once is answered as they are one by one.
 #[test]
 fn steps_are_made_at_once(rt: HostRuntime) {
-    let byte = FewBytes::new(&[65]).expect(&rt, "a byte");
-    let made = makes_at_once(&mut machine(&rt, rt.alloc()), byte);
-    assert!(rt; made);
+    let steps = steps_of_a_store(FewBytes::new(&[65]).expect(&rt, "a byte"));
+    let mut machine = booted(&rt);
+    assert!(rt; is_made_at_once(&mut machine, &steps));
+    let _disk = machine.into_device();
 }
 
 // Only what can be sent to a thread can be given to this.
 fn sends<T: Send>(_sent: &T) {}
 
+// Whether a machine has two processors, and can be sent.
+fn can_be_sent(machine: &Trial) -> bool {
+    sends(machine);
+    machine.processors() == 2
+}
+
 #[test]
 fn a_machine_can_be_sent_to_a_thread(rt: HostRuntime) {
-    sends(&machine(&rt, rt.alloc()));
+    let machine = booted(&rt);
+    assert!(rt; can_be_sent(&machine));
+    let _disk = machine.into_device();
 }
 
 // Steps that leave a machine as it was booted: each of them is refused, or finds nothing to do.
@@ -142,35 +220,36 @@ const FRESH: [Act; 6] = [
     Act::Evict { slot: 0 },
 ];
 
-const MARK: [(ProcessorNumber, Act); 4] = [
-    (0, MSYNC),
-    (1, Act::Ack),
-    (0, Act::Change),
-    (1, Act::Resume),
-];
-
 // Whether a machine is as it was booted after steps that leave it so, and then these.
-fn is_fresh_after<D: Device, A: Allocator + Copy>(
-    machine: &mut Machine<D, A>,
-    steps: &[(ProcessorNumber, Act)],
-) -> bool {
+fn is_fresh_after<R: Abort + AllocGlobal>(rt: &R, steps: &[(ProcessorNumber, Act)]) -> bool {
+    let mut machine = booted(rt);
     for act in FRESH {
-        reply_to(machine, 0, act);
+        reply_to(&mut machine, 0, act);
     }
     for (p, act) in steps {
-        reply_to(machine, *p, *act);
+        reply_to(&mut machine, *p, *act);
     }
-    machine.is_fresh()
+    let fresh = machine.is_fresh();
+    let _disk = machine.into_device();
+    fresh
 }
 
-// A machine tells whether it is as it was booted: until a mark, or a step that does something.
+// A machine tells whether it is as it was booted.
 #[test]
-fn a_machine_is_fresh_until_a_step_is_made(rt: HostRuntime) {
-    let unchanged = is_fresh_after(&mut machine(&rt, rt.alloc()), &[]);
-    let marked = is_fresh_after(&mut machine(&rt, rt.alloc()), &MARK);
-    assert!(rt; unchanged && !marked, "{unchanged}, {marked}");
+fn a_machine_is_fresh_until_a_mark(rt: HostRuntime) {
+    assert!(rt; is_fresh_after(&rt, &[]));
+    let mark = [
+        (0, MSYNC),
+        (1, Act::Ack),
+        (0, Act::Change),
+        (1, Act::Resume),
+    ];
+    assert!(rt; !is_fresh_after(&rt, &mark));
+}
+
+#[test]
+fn a_machine_is_not_fresh_after_one_step(rt: HostRuntime) {
     for step in [(0, Act::Create), (1, Act::Idle), (0, MSYNC)] {
-        let fresh = is_fresh_after(&mut machine(&rt, rt.alloc()), &[step]);
-        assert!(rt; !fresh, "{step:?}");
+        assert!(rt; !is_fresh_after(&rt, &[step]));
     }
 }

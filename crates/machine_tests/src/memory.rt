@@ -1,26 +1,66 @@
-// How much memory a machine takes, and what booting it, and the codecs below it, answer where memory is refused, by an
-// allocator that counts and refuses.
-use crate::trial::{Disk, boot, booted, layout_one, one_file, reply_to, shape};
+// How much memory a machine takes, and what it answers where memory is refused, by an allocator that counts and
+// refuses.
 use counting_alloc::CountingAllocator;
-use device::Device;
-use machine::{Act, Machine, Reply};
+use device::MemDisk;
+use machine::{Act, Machine, Reply, Shape, Step};
 use mappings::Rights;
-use page_entry::{Pcid, Refusal};
-use sample_volumes::FILES;
-use std::alloc::{Allocator, Global};
+use page_entry::{Pcid, ProcessorNumber, Refusal};
+use recovery::{Volume, format_as, open};
+use std::alloc::Global;
 use std::process::Abort;
-use volume_codec::{read_descriptor, read_super, write_super};
+use volume_codec::{FileSpec, read_descriptor, read_super, write_super};
 
 type Counting = CountingAllocator<Global>;
 
-// Whether so many pages of `a` can be mapped to a space from an address on.
-fn maps<D: Device, A: Allocator + Copy>(
-    machine: &mut Machine<D, A>,
-    space: Pcid,
-    va: u64,
-    pages: u32,
-) -> bool {
-    let map = Act::Map {
+type Disk = MemDisk<Global>;
+
+type Trial<'a> = Machine<Disk, &'a Counting>;
+
+const SPECS: [FileSpec; 1] = [FileSpec {
+    name: "a",
+    length: 5000,
+    capacity: 5000,
+}];
+
+// Two processors with TLBs of 8 entries, 4 frames and 2 copy frames.
+const TWO: Shape = Shape {
+    cpus: 2,
+    tlb: 8,
+    frames: 4,
+    copies: 2,
+};
+
+// A disk with a volume of zeros, whose memory isn't counted.
+fn formatted<R: Abort + AllocGlobal>(rt: &R) -> Disk {
+    let mut disk = MemDisk::new(rt.alloc(), 40_960).expect(rt, "a disk");
+    format_as(rt.alloc(), &mut disk, 1, &SPECS, 4).expect(rt, "a volume");
+    disk
+}
+
+// The volume on it, opened with memory that is counted.
+fn volume<'a, R: Abort + AllocGlobal>(rt: &R, alloc: &'a Counting) -> Volume<Disk, &'a Counting> {
+    match open(alloc, formatted(rt)) {
+        Ok(volume) => volume,
+        Err((refusal, _)) => panic!(rt; "{refusal}"),
+    }
+}
+
+// A machine over it, whose memory is counted.
+fn booted<'a, R: Abort + AllocGlobal>(rt: &R, alloc: &'a Counting) -> Trial<'a> {
+    match Machine::boot(alloc, volume(rt, alloc), TWO) {
+        Ok(machine) => machine,
+        Err((refusal, _)) => panic!(rt; "{refusal}"),
+    }
+}
+
+// The reply to an act of a processor.
+fn reply_to(machine: &mut Trial, p: ProcessorNumber, act: Act) -> Reply {
+    machine.step(&Step { p, act })
+}
+
+// A mapping of so many pages of file 0 to a space from an address on.
+fn map(space: Pcid, va: u64, pages: u32) -> Act {
+    Act::Map {
         space,
         va,
         len: 4096 * u64::from(pages),
@@ -28,19 +68,13 @@ fn maps<D: Device, A: Allocator + Copy>(
         offset: 0,
         prot: Rights::ReadWrite,
         access: Rights::ReadWrite,
-    };
-    reply_to(machine, 0, map) == Reply::Mapped
+    }
 }
 
-// Whether all spaces can be made, each with a mapping of 4 pages.
-fn makes_all_spaces<D: Device, A: Allocator + Copy>(machine: &mut Machine<D, A>) -> bool {
-    for space in 1..4096 {
-        let made = reply_to(machine, 0, Act::Create) == Reply::Space(space);
-        if !made || !maps(machine, space, 4096, 4) {
-            return false;
-        }
-    }
-    true
+// Whether this space can be made, with a mapping of 4 pages.
+fn makes_space(machine: &mut Trial, space: Pcid) -> bool {
+    reply_to(machine, 0, Act::Create) == Reply::Space(space)
+        && reply_to(machine, 0, map(space, 4096, 4)) == Reply::Mapped
 }
 
 // Each of 4,095 spaces, with a mapping of 4 pages, takes 4 nodes of its table and little more. The first node is asked
@@ -48,79 +82,87 @@ fn makes_all_spaces<D: Device, A: Allocator + Copy>(machine: &mut Machine<D, A>)
 #[test]
 fn a_machine_with_all_spaces_takes_under_80_megabytes(rt: HostRuntime) {
     let alloc = Counting::new(rt.alloc());
-    let made = makes_all_spaces(&mut booted(&rt, &alloc, layout_one(&rt, rt.alloc()), shape(4)));
-    let (most, asked) = (alloc.most_held(), alloc.asked());
-    assert!(rt;
-        made && most < 80_000_000 && asked < 90_000_000 && alloc.held() == 0,
-        "{most} bytes at most, {asked} asked"
-    );
+    let mut machine = booted(&rt, &alloc);
+    for space in 1..4096 {
+        assert!(rt; makes_space(&mut machine, space), "space {space}");
+    }
+    let most = alloc.most_held();
+    let held = alloc.held();
+    let asked = alloc.asked();
+    assert!(rt; most < 80_000_000, "{most} bytes at most, {held} held");
+    assert!(rt; asked < 90_000_000, "{asked} bytes asked");
+    let _disk = machine.into_device();
+    assert!(rt; alloc.held() == 0);
 }
 
-// The bytes that a mapping of 65,536 pages from an address on asks for, and holds at most; none if it can't be made.
-fn bytes_of_a_large_mapping<D: Device>(
-    alloc: &Counting,
-    machine: &mut Machine<D, &Counting>,
-    va: u64,
-) -> Option<(u64, u64)> {
-    if reply_to(machine, 0, Act::Create) != Reply::Space(1) {
-        return None;
-    }
+// The bytes that a mapping of 65,536 pages from an address on asks for, holds, and holds at most.
+fn bytes_of_a_large_mapping<R: Abort + AllocGlobal>(rt: &R, va: u64) -> [u64; 3] {
+    let alloc = Counting::new(rt.alloc());
+    let mut machine = booted(rt, &alloc);
+    assert!(rt; reply_to(&mut machine, 0, Act::Create) == Reply::Space(1));
     alloc.restart();
     let before = alloc.held();
-    if maps(machine, 1, va, 65_536) {
-        Some((alloc.asked(), alloc.most_held().wrapping_sub(before)))
-    } else {
-        None
-    }
+    assert!(rt; reply_to(&mut machine, 0, map(1, va, 65_536)) == Reply::Mapped);
+    let bytes = [
+        alloc.asked(),
+        alloc.held().wrapping_sub(before),
+        alloc.most_held().wrapping_sub(before),
+    ];
+    let _disk = machine.into_device();
+    bytes
 }
 
 #[test]
 fn a_mapping_of_65536_pages_takes_under_1200_kilobytes(rt: HostRuntime) {
     for va in [4096, 1 << 30] {
-        let alloc = Counting::new(rt.alloc());
-        let mut machine = booted(&rt, &alloc, layout_one(&rt, rt.alloc()), shape(4));
-        let bytes = bytes_of_a_large_mapping(&alloc, &mut machine, va);
-        assert!(rt;
-            matches!(bytes, Some((asked, most)) if asked < 1_200_000 && most < 1_200_000),
-            "{bytes:?}"
-        );
+        let [asked, held, most] = bytes_of_a_large_mapping(&rt, va);
+        assert!(rt; asked < 1_200_000, "{asked} bytes asked");
+        assert!(rt; most < 1_200_000, "{most} bytes at most, {held} held");
     }
 }
 
 // Opens the volume on a disk and boots a machine over it, if both are granted their memory, and hands the disk back.
 fn boots(alloc: &Counting, disk: Disk) -> (Result<(), Refusal>, Disk) {
-    match boot(alloc, disk, shape(4)) {
-        Ok(machine) => (Ok(()), machine.into_device()),
+    match open(alloc, disk) {
+        Ok(volume) => boots_over(alloc, volume),
         Err((refusal, disk)) => (Err(refusal), disk),
     }
 }
 
-// Boots where the `n`th request for memory is refused, and at once again where none is. How many were refused, and
-// whether both were answered so.
-fn boots_again(alloc: &Counting, disk: Disk, n: u64) -> (u64, bool, Disk) {
+fn boots_over<'a>(
+    alloc: &'a Counting,
+    volume: Volume<Disk, &'a Counting>,
+) -> (Result<(), Refusal>, Disk) {
+    match Machine::boot(alloc, volume, TWO) {
+        Ok(machine) => (Ok(()), machine.into_device()),
+        Err((refusal, volume)) => (Err(refusal), volume.into_device()),
+    }
+}
+
+// Boots where the `n`th request for memory is refused, and if it was made, at once again. Answers whether it was.
+fn is_refused_to_boot(rt: &impl Abort, alloc: &Counting, disk: Disk, n: u64) -> (bool, Disk) {
     alloc.restart();
     alloc.refuse_nth(n);
-    let (first, disk) = boots(alloc, disk);
-    let refused = alloc.refused();
-    alloc.restart();
-    let (second, disk) = boots(alloc, disk);
-    let wanted = if refused == 0 {
-        Ok(())
-    } else {
-        Err(Refusal::OutOfMemory)
-    };
-    (refused, first == wanted && second == Ok(()), disk)
+    let (booted, disk) = boots(alloc, disk);
+    if alloc.refused() == 0 {
+        assert!(rt; booted == Ok(()));
+        return (false, disk);
+    }
+    assert!(rt; booted == Err(Refusal::OutOfMemory), "request {n}");
+    let (booted, disk) = boots(alloc, disk);
+    assert!(rt; booted == Ok(()), "request {n}");
+    (true, disk)
 }
 
 // A volume is opened, and a machine booted over it, by 29 requests for memory. Each of them is refused once.
 #[test]
 fn a_refused_boot_can_be_made_at_once(rt: HostRuntime) {
     let alloc = Counting::new(rt.alloc());
-    let mut disk = one_file(&rt, rt.alloc());
-    for n in 1..=30 {
-        let (refused, fine, same) = boots_again(&alloc, disk, n);
+    let mut disk = formatted(&rt);
+    for n in 1..99 {
+        let (refused, same) = is_refused_to_boot(&rt, &alloc, disk, n);
         disk = same;
-        assert!(rt; fine && refused == u64::from(n <= 29), "request {n}");
+        assert!(rt; refused == (n <= 29), "request {n}");
     }
 }
 
@@ -134,32 +176,42 @@ fn descriptor() -> [u8; 4096] {
     block
 }
 
-// A super block is written, it is read, and a descriptor is read by it: how many requests for memory were made after
-// each.
-fn codes(alloc: &Counting) -> Result<[u64; 3], Refusal> {
-    let block = write_super(alloc, &FILES, 4)?;
-    let written = alloc.requests();
+// A super block is written; it is read, too; or a descriptor is read after that.
+fn codes(alloc: &Counting, which: u8) -> Result<(), Refusal> {
+    let files = [("a", 5000), ("b", 4096)];
+    let block = write_super(alloc, &files, 4)?;
+    if which == 0 {
+        return Ok(());
+    }
     let table = read_super(alloc, &block)?;
-    let read = alloc.requests();
+    if which == 1 {
+        return Ok(());
+    }
     read_descriptor(alloc, &table.geometry(), &descriptor())?;
-    Ok([written, read, alloc.requests()])
+    Ok(())
 }
 
-// Each of these requests is refused once, and then all succeed at once.
+// How many requests for memory that makes, where each of them is refused once, and then it succeeds at once.
+fn requests_to_code(rt: &impl Abort, alloc: &Counting, which: u8) -> u64 {
+    for n in 1..99 {
+        alloc.restart();
+        alloc.refuse_nth(n);
+        let coded = codes(alloc, which);
+        if alloc.refused() == 0 {
+            assert!(rt; coded == Ok(()));
+            return n - 1;
+        }
+        assert!(rt; coded == Err(Refusal::OutOfMemory), "request {n}");
+        assert!(rt; codes(alloc, which) == Ok(()), "request {n}");
+    }
+    99
+}
+
 #[test]
 fn a_refused_block_can_be_written_and_read_at_once(rt: HostRuntime) {
     let alloc = Counting::new(rt.alloc());
-    let ample: Result<[u64; 3], Refusal> = Ok([6, 12, 13]);
-    for n in 0..=13 {
-        alloc.restart();
-        alloc.refuse_nth(n);
-        let first = codes(&alloc);
-        alloc.restart();
-        let wanted = if n == 0 {
-            ample
-        } else {
-            Err(Refusal::OutOfMemory)
-        };
-        assert!(rt; first == wanted && codes(&alloc) == ample, "request {n}");
+    for (which, wanted) in [(0, 6), (1, 12), (2, 13)] {
+        let requests = requests_to_code(&rt, &alloc, which);
+        assert!(rt; requests == wanted, "{requests}");
     }
 }

@@ -1,17 +1,18 @@
 // A machine over the disk of a file, which takes no memory itself: which acts ask for memory, and how often; and what
 // comes of a run in which one of these requests is refused, for each of them.
-use crate::trial::{booted, layout_one, layout_three, reply_of, reply_to, shape};
 use counting_alloc::CountingAllocator;
 use device::{Device, FileDisk, MemDisk};
-use machine::{Act, Machine, Reply, Step};
+use machine::{Act, Machine, Reply, Shape, Step};
 use page_entry::Refusal;
-use recovery::open;
+use recovery::{Volume, format_as, open};
 use scripts::{parsed, read_step};
-use std::alloc::{Allocator, Global};
+use shootdown::ProcState;
+use std::alloc::Global;
 use std::fs;
 use std::fs::{File, OpenOptions};
 use std::process::Abort;
 use std::rt::Files;
+use volume_codec::FileSpec;
 
 // What the tests ask of the runtime.
 trait Host: Files<File = File> + AllocGlobal + Abort {}
@@ -19,6 +20,10 @@ trait Host: Files<File = File> + AllocGlobal + Abort {}
 impl<R: Files<File = File> + AllocGlobal + Abort> Host for R {}
 
 type Counting = CountingAllocator<Global>;
+
+type Disk = FileDisk<File>;
+
+type Trial<'a> = Machine<Disk, &'a Counting>;
 
 // How often a step is made, the step, what it is answered where memory is ample, and how many requests for memory it
 // makes.
@@ -146,202 +151,251 @@ const LAYOUT_THREE: &[Row] = &[
     (1, r#"[1,"resume"]"#, "resumed", 0),
 ];
 
-// A run: whether its volume is in layout 3 and not in layout 1, the machine's frames, the steps, and how many device
-// calls they make with those of the opening; and the length and the first bytes of `a` after it.
+// A run: the volume's layout, the capacity of its file `a` and its bytes; the machine's frames; the steps; and how many
+// device calls they make with those of the opening.
 #[derive(Clone, Copy)]
 struct Run {
-    grows: bool,
+    layout: u64,
+    capacity: u64,
+    bytes: u64,
     frames: u64,
     rows: &'static [Row],
     calls: u64,
-    length: u64,
-    first: [u8; 3],
 }
 
-// The commit has what was stored before the other processor stalled. Nothing is stored where mappings are split.
-const RUNS: [Run; 3] = [
-    Run {
-        grows: false,
-        frames: 4,
-        rows: LAYOUT_ONE,
-        calls: 15,
-        length: 5000,
-        first: [65, 66, 0],
-    },
-    Run {
-        grows: false,
-        frames: 4,
-        rows: SPLITS,
-        calls: 3,
-        length: 5000,
-        first: [0; 3],
-    },
-    Run {
-        grows: true,
-        frames: 3,
-        rows: LAYOUT_THREE,
-        calls: 22,
-        length: 9000,
-        first: [0; 3],
-    },
-];
+const FIRST: Run = Run {
+    layout: 1,
+    capacity: 5000,
+    bytes: 40_960,
+    frames: 4,
+    rows: LAYOUT_ONE,
+    calls: 15,
+};
 
-// The step that a text is.
-fn step_of(global: Global, text: &str) -> Option<Step> {
-    let Ok(value) = parsed(global, text) else {
-        return None;
-    };
-    match read_step(&value) {
-        Ok(step) => Some(step),
-        Err(_) => None,
-    }
-}
+const SPLIT: Run = Run {
+    layout: 1,
+    capacity: 5000,
+    bytes: 40_960,
+    frames: 4,
+    rows: SPLITS,
+    calls: 3,
+};
 
-// Whether a reply is printed so.
-fn is_printed(global: Global, reply: Reply, wanted: &str) -> bool {
-    match reply.to_string(global) {
-        Ok(printed) => printed.as_str() == wanted,
-        Err(_) => false,
-    }
-}
-
-// Makes a step, again where its request was refused: then its reply said so, no processor's state was another, and no
-// change was under way. (Where one is, another processor is told that the lock is held.) Whether it is answered so, and
-// by so many requests.
-fn makes<D: Device, A: Allocator + Copy>(
-    alloc: &Counting,
-    global: Global,
-    machine: &mut Machine<D, A>,
-    row: &Row,
-) -> bool {
-    let (_, text, wanted, requests) = *row;
-    let Some(step) = step_of(global, text) else {
-        return false;
-    };
-    let (first, second) = (machine.state(0), machine.state(1));
-    let (refused, asked) = (alloc.refused(), alloc.requests());
-    let reply = reply_of(machine, &step);
-    if alloc.refused() == refused {
-        alloc.requests().wrapping_sub(asked) == requests && is_printed(global, reply, wanted)
-    } else {
-        reply == Reply::Refused(Refusal::OutOfMemory)
-            && machine.state(0) == first
-            && machine.state(1) == second
-            && reply_to(machine, 1, Act::Change) == Reply::Nothing
-            && is_printed(global, reply_of(machine, &step), wanted)
-    }
-}
-
-// Whether each row's step is answered so, as often as it is made.
-fn makes_all<D: Device, A: Allocator + Copy>(
-    alloc: &Counting,
-    global: Global,
-    machine: &mut Machine<D, A>,
-    rows: &'static [Row],
-) -> bool {
-    for row in rows {
-        for _ in 0..row.0 {
-            if !makes(alloc, global, machine, row) {
-                return false;
-            }
-        }
-    }
-    true
-}
-
-// A disk over the file at a path, to which these bytes are written first.
-fn disk_over<R: Host>(rt: &R, path: &str, image: &[u8]) -> Option<FileDisk<File>> {
-    fs::write(rt, path, image).ok()?;
-    let file = OpenOptions::new()
-        .read(true)
-        .write(true)
-        .open(rt, path)
-        .ok()?;
-    match FileDisk::over(file) {
-        Ok(disk) => Some(disk),
-        Err(_) => None,
-    }
-}
+const THIRD: Run = Run {
+    layout: 3,
+    capacity: 12_288,
+    bytes: 73_728,
+    frames: 3,
+    rows: LAYOUT_THREE,
+    calls: 22,
+};
 
 impl Run {
     // The bytes of its volume, which has files of zeros.
-    fn image(&self, rt: &impl Abort, global: Global) -> Vec<u8> {
-        let disk = if self.grows {
-            layout_three(rt, global)
-        } else {
-            layout_one(rt, global)
-        };
-        disk.bytes().to_vec(global).expect(rt, "memory")
+    fn image<R: Host>(&self, rt: &R) -> Vec<u8> {
+        let specs = [
+            FileSpec {
+                name: "a",
+                length: 5000,
+                capacity: self.capacity,
+            },
+            FileSpec {
+                name: "b",
+                length: 4096,
+                capacity: 4096,
+            },
+        ];
+        let mut disk = MemDisk::new(rt.alloc(), self.bytes).expect(rt, "a disk");
+        format_as(rt.alloc(), &mut disk, self.layout, &specs, 4).expect(rt, "a volume");
+        disk.bytes().to_vec(rt.alloc()).expect(rt, "memory")
     }
 
-    // Makes its steps over a disk, where the request of this number is refused, if it isn't 0. How many requests there
-    // were, if all came so.
-    fn requests<D: Device + Drop>(
-        &self,
-        rt: &impl Abort,
-        global: Global,
-        disk: D,
-        refused: u64,
-    ) -> Option<u64> {
-        let alloc = Counting::new(global);
-        let mut machine = booted(rt, &alloc, disk, shape(self.frames));
+    // Two processors with TLBs of 8 entries, and 2 copy frames.
+    fn shape(&self) -> Shape {
+        Shape {
+            cpus: 2,
+            tlb: 8,
+            frames: self.frames,
+            copies: 2,
+        }
+    }
+
+    // How many requests for memory all its steps make; those that are made often make none.
+    fn requests(&self) -> u64 {
+        let mut sum: u64 = 0;
+        for (_, _, _, requests) in self.rows {
+            sum = sum.wrapping_add(*requests);
+        }
+        sum
+    }
+
+    // Makes its steps on a file with these bytes, where the request of this number is refused, if it isn't 0, and
+    // gives the bytes that are left.
+    fn left<R: Host>(&self, rt: &R, path: &str, image: &[u8], refused: u64) -> Vec<u8> {
+        let alloc = Counting::new(rt.alloc());
+        let volume = opened(rt, &alloc, disk_over(rt, path, image));
+        let mut machine = booted(rt, &alloc, volume, self.shape());
         alloc.restart();
         alloc.refuse_nth(refused);
-        let fine = makes_all(&alloc, global, &mut machine, self.rows)
-            && alloc.refused() == u64::from(refused > 0)
-            && machine.device().calls() == self.calls;
-        if fine { Some(alloc.requests()) } else { None }
-    }
-
-    // Makes them on a file with these bytes. How many requests there were, and the bytes that are left.
-    fn left<R: Host>(
-        &self,
-        rt: &R,
-        global: Global,
-        path: &str,
-        image: &[u8],
-        refused: u64,
-    ) -> (Option<u64>, Vec<u8>) {
-        let disk = disk_over(rt, path, image).expect(rt, "the disk");
-        let requests = self.requests(rt, global, disk, refused);
-        let left = fs::read(rt, path).ok().expect(rt, "the file");
-        (requests, left)
+        make_all(rt, &alloc, &mut machine, self.rows);
+        let calls = machine.into_device().calls();
+        assert!(rt; calls == self.calls, "{calls} device calls");
+        assert!(rt;
+            alloc.refused() == u64::from(refused > 0),
+            "request {refused}"
+        );
+        fs::read(rt, path).ok().expect(rt, "the file")
     }
 
     // Refuses each request in turn: all replies but one, and all bytes, are as where memory is ample. Gives the bytes.
-    fn refuse_each<R: Host>(&self, rt: &R, global: Global, path: &str) -> Vec<u8> {
-        let image = self.image(rt, global);
-        let (requests, ample) = self.left(rt, global, path, &image, 0);
-        let requests = requests.expect(rt, "the run with ample memory");
-        for refused in 1..=requests {
-            let (found, left) = self.left(rt, global, path, &image, refused);
-            assert!(rt; found.is_some() && left == ample, "request {refused}");
+    fn refuse_each<R: Host>(&self, rt: &R, path: &str) -> Vec<u8> {
+        let image = self.image(rt);
+        let ample = self.left(rt, path, &image, 0);
+        for refused in 1..self.requests().saturating_add(1) {
+            let left = self.left(rt, path, &image, refused);
+            assert!(rt; left == ample, "request {refused}");
         }
         assert!(rt; fs::remove_file(rt, path).is_ok());
         ample
     }
 }
 
-// Whether the first file of a volume with these bytes has this length, and begins with these.
-fn first_file_is(global: Global, image: Vec<u8>, length: u64, bytes: [u8; 3]) -> bool {
-    let Ok(disk) = MemDisk::from_bytes(global, image) else {
-        return false;
+// A disk over the file at a path, to which these bytes are written first.
+fn disk_over<R: Host>(rt: &R, path: &str, image: &[u8]) -> Disk {
+    assert!(rt; fs::write(rt, path, image).is_ok());
+    let file = OpenOptions::new()
+        .read(true)
+        .write(true)
+        .open(rt, path)
+        .ok()
+        .expect(rt, "the file");
+    match FileDisk::over(file) {
+        Ok(disk) => disk,
+        Err(_) => panic!(rt; "{path}"),
+    }
+}
+
+// The volume on it, opened with memory that is counted.
+fn opened<'a, R: Host>(rt: &R, alloc: &'a Counting, disk: Disk) -> Volume<Disk, &'a Counting> {
+    match open(alloc, disk) {
+        Ok(volume) => volume,
+        Err((refusal, _)) => panic!(rt; "{refusal}"),
+    }
+}
+
+// A machine over it, whose memory is counted.
+fn booted<'a, R: Host>(
+    rt: &R,
+    alloc: &'a Counting,
+    volume: Volume<Disk, &'a Counting>,
+    shape: Shape,
+) -> Trial<'a> {
+    match Machine::boot(alloc, volume, shape) {
+        Ok(machine) => machine,
+        Err((refusal, _)) => panic!(rt; "{refusal}"),
+    }
+}
+
+// The step that a text is.
+fn step_of<R: Host>(rt: &R, text: &str) -> Step {
+    let Ok(value) = parsed(rt.alloc(), text) else {
+        panic!(rt; "{text}");
     };
-    let Ok(mut volume) = open(global, disk) else {
-        return false;
+    match read_step(&value) {
+        Ok(step) => step,
+        Err(_) => panic!(rt; "{text}"),
+    }
+}
+
+// Whether a reply is printed so.
+fn is_printed<R: Host>(rt: &R, reply: &Reply, wanted: &str) -> bool {
+    let printed = format!(in rt.alloc(); "{reply}").expect(rt, "memory");
+    printed.as_str() == wanted
+}
+
+// What both processors are doing.
+fn states(machine: &Trial) -> [Result<ProcState, Refusal>; 2] {
+    [machine.state(0), machine.state(1)]
+}
+
+// Makes a step, again where its request was refused, and compares what it is answered.
+fn make<R: Host>(rt: &R, alloc: &Counting, machine: &mut Trial, row: &Row) {
+    let (_, text, wanted, requests) = *row;
+    let step = step_of(rt, text);
+    let before = states(machine);
+    let refused = alloc.refused();
+    let asked = alloc.requests();
+    let mut reply = reply_to(machine, &step);
+    if alloc.refused() == refused {
+        let made = alloc.requests().wrapping_sub(asked);
+        assert!(rt; made == requests, "{text}: {made} requests");
+    } else {
+        assert!(rt;
+            reply == Reply::Refused(Refusal::OutOfMemory),
+            "{text}: {reply}"
+        );
+        assert!(rt; states(machine) == before && is_unlocked(machine), "{text}");
+        reply = reply_to(machine, &step);
+    }
+    assert!(rt; is_printed(rt, &reply, wanted), "{text}: {reply}");
+}
+
+// Makes each row's step as often as it says.
+fn make_all<R: Host>(rt: &R, alloc: &Counting, machine: &mut Trial, rows: &'static [Row]) {
+    for row in rows {
+        for _ in 0..row.0 {
+            make(rt, alloc, machine, row);
+        }
+    }
+}
+
+// The reply to a step.
+fn reply_to(machine: &mut Trial, step: &Step) -> Reply {
+    machine.step(step)
+}
+
+// Whether no change is under way. Where one is, another processor is told that the lock is held.
+fn is_unlocked(machine: &mut Trial) -> bool {
+    let change = Step {
+        p: 1,
+        act: Act::Change,
+    };
+    reply_to(machine, &change) == Reply::Nothing
+}
+
+// The length of the first file of a volume with these bytes, and the file's first bytes.
+fn first_file<R: Host>(rt: &R, bytes: Vec<u8>) -> (u64, [u8; 3]) {
+    let disk = MemDisk::from_bytes(rt.alloc(), bytes).expect(rt, "memory");
+    let Ok(mut volume) = open(rt.alloc(), disk) else {
+        panic!(rt; "the volume isn't opened");
     };
     let mut first = [0xEE; 3];
-    volume.file_count() > 0
-        && volume.length(0) == length
-        && length >= 3
-        && volume.read_file(0, 0, &mut first).is_ok()
-        && first == bytes
+    if volume.file_count() == 0 {
+        return (0, first);
+    }
+    let length = volume.length(0);
+    if length >= 3 {
+        assert!(rt; volume.read_file(0, 0, &mut first).is_ok());
+    }
+    (length, first)
+}
+
+// The commit has what was stored before the other processor stalled.
+#[test]
+fn a_commit_and_splits_are_refused_memory(rt: HostRuntime) {
+    let left = FIRST.refuse_each(&rt, "a_commit_and_splits_are_refused_memory");
+    assert!(rt; first_file(&rt, left) == (5000, [65, 66, 0]));
+}
+
+// Nothing is stored where mappings are split.
+#[test]
+fn splits_of_mappings_are_refused_memory(rt: HostRuntime) {
+    let left = SPLIT.refuse_each(&rt, "splits_of_mappings_are_refused_memory");
+    assert!(rt; first_file(&rt, left) == (5000, [0, 0, 0]));
 }
 
 #[test]
-fn each_request_for_memory_can_be_refused(rt: HostRuntime) {
-    for run in RUNS {
-        let left = run.refuse_each(&rt, rt.alloc(), "each_request_for_memory_can_be_refused");
-        assert!(rt; first_file_is(rt.alloc(), left, run.length, run.first));
-    }
+fn a_length_and_its_commit_are_refused_memory(rt: HostRuntime) {
+    let left = THIRD.refuse_each(&rt, "a_length_and_its_commit_are_refused_memory");
+    assert!(rt; first_file(&rt, left) == (9000, [0, 0, 0]));
 }
