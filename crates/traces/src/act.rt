@@ -167,7 +167,7 @@ fn map_value(
     map_list(global, p, space, va, len, file, offset, prot, access)
 }
 
-fn map_list(
+fn map_list<'w>(
     global: Global,
     p: u8,
     space: u16,
@@ -175,8 +175,8 @@ fn map_list(
     len: u64,
     file: u16,
     offset: u64,
-    prot: &str,
-    access: &str,
+    prot: &'w str,
+    access: &'w str,
 ) -> Result<Value, AllocError>
     ensures { IfOk result (λ value. view value ≡ map_data p space va len file offset prot.now access.now) }
 {
