@@ -1,5 +1,5 @@
 -- Traces: a first line with the shape of the machine and the room of the trace, and a line for each entry.
-use Rattle.std.specs.Prelude.{ℕ, List, [], ◌∷◌, map, string_bytes, if◌then◌else◌, codes, Option, Some, None}
+use Rattle.std.specs.Prelude.{ℕ, List, [], ◌∷◌, if◌then◌else◌, codes, Option, Some, None}
 use Rattle.std.specs.Str.Lines.{lines}
 use Rattle.serde_json.specs.Data.{Data, object, number, unsigned, member, no_members}
 use Rattle.serde_json.specs.Read.{read}

@@ -1,2 +1,3 @@
 -- What lines are written as.
 pub mod Written
+pub mod Words

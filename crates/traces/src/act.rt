@@ -8,6 +8,8 @@ ghost use Rattle.scripts.specs.Script.{step_of};
 ghost use Rattle.machine.specs.declared.act.Act.TheVariants.{Load, Store, Fill, Evict, Switch, Idle, Wake, Fix, Create, Destroy, Map, Unmap, Protect, Reclaim, Msync, SetLength, Ack, Change, Resume, Flush};
 ghost use Rattle.traces.specs.inside.Written.{num, list, bytes_data, map_data};
 
+use crate::word::Word::{Byte, Long, Page, Short, Text};
+use crate::word::list_value;
 use bitflags::Flags;
 use machine::{Act, FewBytes, MsyncFlags, Step};
 use mappings::Rights;
@@ -61,14 +63,14 @@ pub fn step_value(global: Global, step: &Step) -> Result<Value, AllocError>
 fn alone(global: Global, p: u8, name: &str) -> Result<Value, AllocError>
     ensures { IfOk result (λ value. view value ≡ list (num p ∷ string name.now ∷ [])) }
 {
-    json!(in global; [p, name])
+    list_value(global, p, name, &[])
 }
 
 fn load(global: Global, p: u8, va: u64, count: u8) -> Result<Value, AllocError>
     ensures { IfOk result (λ value. (step_of (view value) ≡ Some (record { p = p; act = Load va count }))
         × (depth (view value) ≤ 2)) }
 {
-    json!(in global; [p, "load", va, count])
+    list_value(global, p, "load", &[Long(va), Byte(count)])
 }
 
 fn store(global: Global, p: u8, va: u64, bytes: &FewBytes) -> Result<Value, AllocError>
@@ -114,35 +116,35 @@ fn fill(global: Global, p: u8, page: u64) -> Result<Value, AllocError>
     ensures { IfOk result (λ value. (step_of (view value) ≡ Some (record { p = p; act = Fill page }))
         × (depth (view value) ≤ 2)) }
 {
-    json!(in global; [p, "fill", page])
+    list_value(global, p, "fill", &[Long(page)])
 }
 
 fn evict(global: Global, p: u8, slot: u8) -> Result<Value, AllocError>
     ensures { IfOk result (λ value. (step_of (view value) ≡ Some (record { p = p; act = Evict slot }))
         × (depth (view value) ≤ 2)) }
 {
-    json!(in global; [p, "evict", slot])
+    list_value(global, p, "evict", &[Byte(slot)])
 }
 
 fn switch(global: Global, p: u8, space: u16, keep: bool) -> Result<Value, AllocError>
     ensures { IfOk result (λ value. (step_of (view value) ≡ Some (record { p = p; act = Switch space keep }))
         × (depth (view value) ≤ 2)) }
 {
-    json!(in global; [p, "switch", space, keep_word(keep)])
+    list_value(global, p, "switch", &[Short(space), Text(keep_word(keep))])
 }
 
 fn fix(global: Global, p: u8, va: u64, write: bool) -> Result<Value, AllocError>
     ensures { IfOk result (λ value. (step_of (view value) ≡ Some (record { p = p; act = Fix va write }))
         × (depth (view value) ≤ 2)) }
 {
-    json!(in global; [p, "fix", va, write_word(write)])
+    list_value(global, p, "fix", &[Long(va), Text(write_word(write))])
 }
 
 fn destroy(global: Global, p: u8, space: u16) -> Result<Value, AllocError>
     ensures { IfOk result (λ value. (step_of (view value) ≡ Some (record { p = p; act = Destroy space }))
         × (depth (view value) ≤ 2)) }
 {
-    json!(in global; [p, "destroy", space])
+    list_value(global, p, "destroy", &[Short(space)])
 }
 
 fn map_value(
@@ -165,7 +167,7 @@ fn map_value(
     map_list(global, p, space, va, len, file, offset, prot, access)
 }
 
-fn map_list(
+fn map_list<'w>(
     global: Global,
     p: u8,
     space: u16,
@@ -173,19 +175,32 @@ fn map_list(
     len: u64,
     file: u16,
     offset: u64,
-    prot: &str,
-    access: &str,
+    prot: &'w str,
+    access: &'w str,
 ) -> Result<Value, AllocError>
     ensures { IfOk result (λ value. view value ≡ map_data p space va len file offset prot.now access.now) }
 {
-    json!(in global; [p, "map", space, va, len, file, offset, prot, access])
+    list_value(
+        global,
+        p,
+        "map",
+        &[
+            Short(space),
+            Long(va),
+            Long(len),
+            Short(file),
+            Long(offset),
+            Text(prot),
+            Text(access),
+        ],
+    )
 }
 
 fn unmap(global: Global, p: u8, space: u16, va: u64, len: u64) -> Result<Value, AllocError>
     ensures { IfOk result (λ value. (step_of (view value) ≡ Some (record { p = p; act = Unmap space va len }))
         × (depth (view value) ≤ 2)) }
 {
-    json!(in global; [p, "unmap", space, va, len])
+    list_value(global, p, "unmap", &[Short(space), Long(va), Long(len)])
 }
 
 fn protect(
@@ -199,28 +214,38 @@ fn protect(
     ensures { IfOk result (λ value. (step_of (view value) ≡ Some (record { p = p; act = Protect space va len prot }))
         × (depth (view value) ≤ 2)) }
 {
-    json!(in global; [p, "protect", space, va, len, rights_word(prot)])
+    list_value(
+        global,
+        p,
+        "protect",
+        &[Short(space), Long(va), Long(len), Text(rights_word(prot))],
+    )
 }
 
 fn reclaim(global: Global, p: u8, file: u16, page: u32) -> Result<Value, AllocError>
     ensures { IfOk result (λ value. (step_of (view value) ≡ Some (record { p = p; act = Reclaim file page }))
         × (depth (view value) ≤ 2)) }
 {
-    json!(in global; [p, "reclaim", file, page])
+    list_value(global, p, "reclaim", &[Short(file), Page(page)])
 }
 
 fn msync(global: Global, p: u8, va: u64, len: u64, flags: MsyncFlags) -> Result<Value, AllocError>
     ensures { IfOk result (λ value. (step_of (view value) ≡ Some (record { p = p; act = Msync va len flags }))
         × (depth (view value) ≤ 2)) }
 {
-    json!(in global; [p, "msync", va, len, flags.bits()])
+    list_value(
+        global,
+        p,
+        "msync",
+        &[Long(va), Long(len), Byte(flags.bits())],
+    )
 }
 
 fn set_length(global: Global, p: u8, file: u16, length: u64) -> Result<Value, AllocError>
     ensures { IfOk result (λ value. (step_of (view value) ≡ Some (record { p = p; act = SetLength file length }))
         × (depth (view value) ≤ 2)) }
 {
-    json!(in global; [p, "setlength", file, length])
+    list_value(global, p, "setlength", &[Short(file), Long(length)])
 }
 
 fn rights_word(rights: Rights) -> &'static str

@@ -5,6 +5,7 @@ mod act;
 mod line;
 mod trace;
 mod trace_fault;
+mod word;
 mod write;
 
 pub use line::Line;

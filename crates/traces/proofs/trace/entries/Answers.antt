@@ -1,7 +1,6 @@
 use Rattle.std.proofs.Common.{rules, ◌≡◌, ◌<◌, ◌++◌, ◌∷◌, [], length, map, Some, ◌∙◌, sym, ap, inl, inr, ⊎_elim}
 use Rattle.std.proofs.lemmas.List.{map-append}
 use Rattle.traces.specs.Lines.{entry_in}
-use Rattle.traces.specs.Traces.{entry_line}
 use Rattle.traces.proofs.Entries.{entry_next, entry_fails}
 use Rattle.traces.proofs.trace.entries.Goals as goal
 
