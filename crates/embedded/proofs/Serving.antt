@@ -13,7 +13,7 @@ use Rattle.session.specs.declared.ranges.Reached.{Reached}
 use Rattle.session.specs.CarriedOut.{CarriesOut}
 use Rattle.session.specs.Commits.{CommitsMark, AnswersCommit}
 use Rattle.session.specs.Ranges.{MakesStepsThat}
-use Rattle.session.specs.Sessions.{IsServing, no_notes}
+use Rattle.session.specs.Sessions.{no_notes}
 use Rattle.session.specs.Steps.{Makes}
 use Rattle.session.proofs.Public.{served_none, served_does, makes_none, makes_then}
 use Rattle.embedded.specs.Recorded.{deferred_disk, recorded_disk, recorded}

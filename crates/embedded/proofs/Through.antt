@@ -1,18 +1,17 @@
 -- A device that is seen through another: what holds of steps over the one holds of the same steps over the other.
-use Rattle.std.proofs.Common.{◌≡◌, ℕ, Bool, List, [], ◌∷◌, Result, Ok, ap, subst}
+use Rattle.std.proofs.Common.{ℕ, Bool, List, [], ◌∷◌, Ok, ap, subst}
 use Rattle.device.specs.Device.{LeavesOnly}
 use Rattle.device.specs.declared.device.Device.{Ghosts}
-use Rattle.page_entry.specs.declared.refusal.Refusal.{Refusal}
 use Rattle.fault.specs.Fixing.{ReadsOnce}
 use Rattle.volume_codec.specs.Super.{SuperValue}
 use Rattle.recovery.specs.Opening.{Opens, HasOpened}
-use Rattle.recovery.specs.Volume.{VolumeState, IsAtRest, IsWellFormed}
+use Rattle.recovery.specs.Volume.{VolumeState, IsAtRest}
 use Rattle.machine.specs.declared.act.Act.{Act}
 use Rattle.machine.specs.declared.act.Act.TheVariants as acts
 use Rattle.machine.specs.declared.act.Reply.{Reply}
 use Rattle.machine.specs.declared.act.Shape.{Shape}
 use Rattle.machine.specs.declared.act.Step.{Step}
-use Rattle.machine.specs.Devices.{DeviceAfter, DeviceAfterFix}
+use Rattle.machine.specs.Devices.{DeviceAfter}
 use Rattle.machine.specs.Runs.{StepTaken, StepsTaken}
 use Rattle.machine.specs.State.{State, Whole}
 use Rattle.machine.specs.Steps.{StepMade}

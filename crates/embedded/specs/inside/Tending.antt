@@ -1,5 +1,5 @@
 -- What is done with the disk of an embedded machine between two requests.
-use Rattle.std.specs.Prelude.{ℕ, ◌≡◌, ◌-◌, Bool, true, false}
+use Rattle.std.specs.Prelude.{◌≡◌, ◌-◌, true, false}
 use Rattle.deferred_disk.specs.Deferred.{Deferred, after_forget, with_waiting}
 use Rattle.embedded.specs.declared.tending.Supplying.{Supplying}
 use Rattle.embedded.specs.declared.tending.Forgetting.{Forgetting}

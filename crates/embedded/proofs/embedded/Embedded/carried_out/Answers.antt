@@ -1,4 +1,4 @@
-use Rattle.std.proofs.Common.{sym, ap, ◌∙◌, subst}
+use Rattle.std.proofs.Common.{ap, ◌∙◌, subst}
 use Rattle.deferred_disk.specs.Deferred.{Deferred, as_recorded, IsSuppliedWell}
 use Rattle.machine.specs.State.{Whole}
 use Rattle.embedded.specs.Embedded.{are_made, made_of}

@@ -1,4 +1,4 @@
-use Rattle.std.proofs.Common.{ℕ, ◌≤◌, Option, sym, ◌∙◌, ap, subst, arith}
+use Rattle.std.proofs.Common.{ℕ, Option, sym, ◌∙◌, ap, subst, arith}
 use Rattle.deferred_disk.specs.Deferred.{Deferred, recorded_calls}
 use Rattle.machine.specs.State.{Whole}
 use Rattle.session.specs.CarriedOut.{CarriesOut}
