@@ -4,7 +4,7 @@ use Rattle.std.proofs.Common.{Result, Ok, Err, OnOk, sym, ◌∙◌, ap, subst, 
 use Rattle.std.proofs.Common.{◌==◌}
 use Rattle.std.specs.List.{count_by}
 use Rattle.std.specs.Io.KnownBytes.{Appends}
-use Rattle.crash_table.specs.declared.row.Found.{Found}
+use Rattle.crash_states.specs.declared.row.Found.{Found}
 use Rattle.crash_report.specs.Text.{mark_text, marks_text}
 
 pub then_appends : (a b c : Option (List ℕ)) (xs ys : List ℕ) → Appends a b xs → Appends b c ys → Appends a c (xs ++ ys)

@@ -2,9 +2,9 @@
 use Rattle.std.specs.Prelude.{ℕ, zero, suc, ◌+◌, ◌==◌, if◌then◌else◌, codes, List, [], ◌∷◌, ◌++◌}
 use Rattle.std.specs.List.{count_by}
 use Rattle.std.specs.Fmt.{decimal}
-use Rattle.crash_table.specs.declared.row.Found.{Found}
-use Rattle.crash_table.specs.declared.row.Row.{Row}
-use Rattle.crash_table.specs.Rows.{newest_of}
+use Rattle.crash_states.specs.declared.row.Found.{Found}
+use Rattle.crash_states.specs.declared.row.Row.{Row}
+use Rattle.crash_states.specs.Rows.{newest_of}
 
 -- a mark, and how many states have the files at it; nothing where there is none
 abbrev pub mark_text : ℕ → ℕ → List ℕ

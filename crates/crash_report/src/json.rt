@@ -1,7 +1,7 @@
 // The table of crashes as JSON objects.
 use crate::printed::Printed;
 use crate::text::{part, word_of};
-use crash_table::{Call, Found, MOST_MIXTURES, Part, Places, Row};
+use crash_states::{Call, Found, MOST_MIXTURES, Part, Places, Row};
 use machine::Reply;
 use std::alloc::Allocator;
 use std::{fmt, io};

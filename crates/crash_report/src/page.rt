@@ -1,7 +1,7 @@
 // The table of crashes as an HTML page.
 use crate::printed::Printed;
 use crate::text::{Touched, word_of};
-use crash_table::{Call, MOST_MIXTURES, Places, Row};
+use crash_states::{Call, MOST_MIXTURES, Places, Row};
 use machine::Reply;
 use std::alloc::Allocator;
 use std::{fmt, io};

@@ -1,11 +1,11 @@
 // The table of crashes as text.
 ghost use Rattle.std.specs.Prelude.{◌+◌, ◌++◌, List, ℕ, OnOk};
 ghost use Rattle.std.specs.Io.KnownBytes.{Appends};
-ghost use Rattle.crash_table.specs.Rows.{newest_of};
+ghost use Rattle.crash_states.specs.Rows.{newest_of};
 ghost use Rattle.crash_report.specs.Text.{mark_text, marks_text, found_text};
 
 use crate::printed::Printed;
-use crash_table::{Call, CallKind, MOST_MIXTURES, Part, Places, Row};
+use crash_states::{Call, CallKind, MOST_MIXTURES, Part, Places, Row};
 use machine::Reply;
 use std::alloc::Allocator;
 use std::{fmt, io};

@@ -9,14 +9,12 @@ use Rattle.std.proofs.lemmas.List.Elements.{Contains-append_left}
 use Rattle.std.proofs.lemmas.Option.{slice_get-map, slice_get_read, slice_get_past}
 use Rattle.std.specs.List.{list_any, Contains}
 use Rattle.std.specs.Option.{option_map}
-use Rattle.crash_table.specs.declared.call.Call.{Call}
-use Rattle.crash_table.specs.declared.call.CallKind.{CallKind}
-use Rattle.crash_table.specs.declared.call.CallKind.TheVariants.{Read, Write, Sync}
-use Rattle.crash_table.specs.Calls.{DeviceCall, call_of, device_calls_of}
-use Rattle.crash_table.specs.declared.row.Found.{Found}
-use Rattle.crash_table.specs.Rows.{newest_of}
-use Rattle.crash_table.specs.Choices.{Content, with_block, with_blocks, begun_write, begun_as, call_begun}
-use Rattle.crash_table.specs.Choices.{call_ended, content_before, content_within, blocks_touched, with_copied}
+use Rattle.crash_states.specs.declared.call.Call.{Call}
+use Rattle.crash_states.specs.declared.call.CallKind.{CallKind}
+use Rattle.crash_states.specs.declared.call.CallKind.TheVariants.{Read, Write, Sync}
+use Rattle.crash_states.specs.Calls.{DeviceCall, call_of, device_calls_of}
+use Rattle.crash_states.specs.Choices.{Content, with_block, with_blocks, begun_write, begun_as, call_begun}
+use Rattle.crash_states.specs.Choices.{call_ended, content_before, content_within, blocks_touched, with_copied}
 
 -- where a block was added there is one
 with_block_some : (blocks : List ℕ) (b : ℕ) → 0 < length (with_block blocks b)
@@ -66,11 +64,6 @@ named_more f old new x ys i y below pushed is before =
     ap (map f) pushed ∙ map_push f old x ∙ ap (λ front. front ++ f x ∷ []) before
     ∙ ap (λ last. take i ys ++ last ∷ []) is ∙ sym (take_more ys i y below)
 
--- one element more keeps those before it
-pub contains_more : {X : Type 0} (old new : List X) (y x : X) → new ≡ old ++ y ∷ [] → Contains old x → Contains new x
-contains_more {X} old new y x is has =
-    subst (λ (l : List X). Contains l x) (sym is) (Contains-append_left old (y ∷ []) x has)
-
 -- the call of an index
 pub call_at : {A : Type 0} (kept : List (Call A)) (calls : List DeviceCall) (i : ℕ) (found : Option (Call A))
     → device_calls_of kept ≡ calls → slice_get kept i ≡ found
@@ -106,65 +99,3 @@ after_is image calls i content found same there =
     ap (λ (k : Content). call_ended (call_begun k found) found) same
     ∙ ap (λ (o : Option DeviceCall). call_ended (call_begun (content_before image calls i) o) o) (sym there)
     ∙ ap (content_before image calls) (sym (add-one i))
-
--- a list that is written over the whole of another
-pub written_whole : (n : ℕ) (new old : List ℕ) → length old ≡ n → length new ≡ n
-    → take n (new ++ drop (length new) old) ≡ new
-written_whole n new old is same =
-    ap (λ (l : List ℕ). take n (new ++ l)) (drop_all (length new) old (omega (arith, is, same)))
-    ∙ ap (take n) (append-nil new) ∙ take_all n new (omega (arith, same))
-
-take_none : (k : ℕ) → take {A = ℕ} k [] ≡ []
-take_none zero = refl
-take_none (suc k) = refl
-
--- bytes that are copied as far as both lists reach
-pub copied_within : (to from : List ℕ) (at n start len : ℕ) → length to ≡ length from → start ≡ min (length to) at
-    → len ≡ min (length to - start) n
-    → take start to ++ slice_range from start (start + len) ++ drop (start + len) to ≡ with_copied to from at n
-copied_within to from at n start len same is_start is_len = elim (cases_lt at (length to)) [
-  | inl within ↦
-      let here : start ≡ at = omega (arith, is_start, within) in
-      let rest : length (drop at from) ≡ length to - at = omega (arith, same, length-drop at from) in
-      let part : start + len - start ≡ min n (length (drop start from)) =
-      omega (arith, is_len, same, length-drop start from) in
-      let middle : slice_range from start (start + len) ≡ take n (drop start from) =
-      ap (λ k. take k (drop start from)) part ∙ take_min n (drop start from) in
-      let tail : drop (start + len) to ≡ drop (start + n) to =
-      past to (start + len) (start + n) (either (length to) start len n is_len) in
-      ap (λ (l : List ℕ). take start to ++ l ++ drop (start + len) to) middle
-      ∙ ap (λ (l : List ℕ). take start to ++ take n (drop start from) ++ l) tail
-      ∙ ap (λ k. with_copied to from k n) here
-  | inr beyond ↦
-      let here : start ≡ length to = omega (arith, is_start, beyond) in
-      let none : len ≡ 0 = omega (arith, is_len, here) in
-      let head : take start to ≡ take at to = take_all start to (omega (arith, here)) ∙ sym (take_all at to beyond) in
-      let gone : slice_range from start (start + len) ≡ take n (drop at from) =
-      ap (λ k. take k (drop start from)) (let e : start + len - start ≡ 0 = omega (arith, none) in e)
-      ∙ sym (ap (take n) (drop_all at from (omega (arith, same, beyond))) ∙ take_none n) in
-      let tail : drop (start + len) to ≡ drop (at + n) to =
-      drop_all (start + len) to (omega (arith, here)) ∙ sym (drop_all (at + n) to (omega (arith, beyond))) in
-      ap (λ (l : List ℕ). l ++ slice_range from start (start + len) ++ drop (start + len) to) head
-      ∙ ap (λ (l : List ℕ). take at to ++ l ++ drop (start + len) to) gone
-      ∙ ap (λ (l : List ℕ). take at to ++ take n (drop at from) ++ l) tail
-]
-  where
-    either : (all start len n : ℕ) → len ≡ min (all - start) n
-        → (start + len ≡ start + n) ⊎ ((all ≤ start + len) × (all ≤ start + n))
-    either all start len n is = elim (cases_lt n (all - start)) [
-      | inl few ↦ inl (omega (arith, is, few))
-      | inr many ↦ inr (omega (arith, is, many), omega (arith, is, many))
-    ]
-
-    past : (xs : List ℕ) (i j : ℕ) → (i ≡ j) ⊎ ((length xs ≤ i) × (length xs ≤ j)) → drop i xs ≡ drop j xs
-    past xs i j (inl e) = ap (λ k. drop k xs) e
-    past xs i j (inr (a, b)) = drop_all i xs a ∙ sym (drop_all j xs b)
-
--- the newest mark of one state more
-newest_push : (xs : List Found) (x : Found) → newest_of (xs ++ x ∷ []) ≡ max (newest_of xs) x.mark
-newest_push [] x = omega arith
-newest_push (y ∷ ys) x = omega (arith, newest_push ys x)
-
-pub newest_more : (xs : List Found) (i : ℕ) (d : Found) → i < length xs
-    → newest_of (take (i + 1) xs) ≡ max (newest_of (take i xs)) (get_or xs i d).mark
-newest_more xs i d below = ap newest_of (take_more xs i d below) ∙ newest_push (take i xs) (get_or xs i d)

@@ -13,7 +13,7 @@ use Rattle.machine.specs.History.{files_after}
 use Rattle.machine.specs.Laws.{ReadsBack}
 use Rattle.engine.specs.Engine.{HasRun, HasNotStarted}
 use Rattle.crash_table.specs.Crashes.{history_of, HasEnded}
-use Rattle.crash_table.proofs.Marks.{IsOneReading, OpensAsRecovered}
+use Rattle.crash_table.proofs.Marks.{IsOneReading}
 use Rattle.crash_table.proofs.Left.{back_after_refusal}
 
 -- after the steps that have replies
@@ -38,7 +38,7 @@ ended_at_start disk before shape steps refusal device after replies refused is =
           (subst (λ d. HasNotStarted disk before shape d refusal) (sym is.1) refused),
     )
 
-pub back_at_start : {D : Type 0} (disk : Ghosts D) → IsOneReading → OpensAsRecovered disk
+pub back_at_start : {D : Type 0} (disk : Ghosts D) → IsOneReading
     → ((files : List File) → files_after files [] ≡ files)
     → ((device : D) (t : ℕ) (c : List ℕ) → t ≤ disk.moment device → disk.may_leave device c
     → disk.left_since device t c)
@@ -50,10 +50,10 @@ pub back_at_start : {D : Type 0} (disk : Ghosts D) → IsOneReading → OpensAsR
     → RecoversTo (disk.seen before) files
     → (c : List ℕ) → disk.may_leave after c
     → ReadsBack files (history_of files shape (take (length replies) steps) replies) c
-back_at_start disk one opened unchanged now_is_since before shape steps refusal device after replies files since is
+back_at_start disk one unchanged now_is_since before shape steps refusal device after replies files since is
     honest only recovered c may =
     let all : (l : List ℕ) → disk.may_leave before l → RecoversTo l files =
     λ l left. subst (λ b. RecoversTo b files) (sym (only l left)) recovered in
     subst (λ r. ReadsBack files (history_of files shape (take (length r) steps) r) c) (sym is.2)
-    (back_after_refusal disk one opened before shape honest files recovered unchanged now_is_since device (since all) c
+    (back_after_refusal disk one before shape honest files recovered unchanged now_is_since device (since all) c
     (subst (λ d. disk.may_leave d c) is.1 may))

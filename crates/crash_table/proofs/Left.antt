@@ -23,8 +23,9 @@ use Rattle.crash_table.specs.Disks.{failing_memory}
 use Rattle.crash_table.specs.Crashes.{history_of, HasEnded, IsUpTo, LeavesMark}
 use Rattle.crash_table.specs.declared.found.MarkFiles.{MarkFiles}
 use Rattle.crash_table.specs.inside.Kept.{contents_of, AreKept, IsNewest, HasKept}
-use Rattle.crash_table.proofs.Marks.{IsOneReading, OpensAsRecovered, ReadsBackLater}
-use Rattle.crash_table.proofs.Marks.{is_reached, observed_is, taken_length}
+use Rattle.crash_table.proofs.Marks.{IsOneReading, ReadsBackLater}
+use Rattle.engine.proofs.Public.{taken_length}
+use Rattle.crash_table.proofs.Marks.{is_reached, observed_is}
 use Rattle.crash_table.proofs.Newest.{at_mark}
 
 -- as many steps were made as there are replies
@@ -37,7 +38,7 @@ few_replies disk before shape steps replies after (inr refused) =
     let none : length replies ≡ 0 = ap (λ (l : List Reply). length l) refused.0 in
     omega (arith, none)
 
-module _ {D : Type 0} (disk : Ghosts D) (one : IsOneReading) (opened : OpensAsRecovered disk) (before : D)
+module _ {D : Type 0} (disk : Ghosts D) (one : IsOneReading) (before : D)
     (shape : Shape) (honest : disk.is_honest before) (files : List File)
     (recovered : RecoversTo (disk.seen before) files) where
   -- after a run, by the law of a machine that it reached
@@ -49,7 +50,7 @@ module _ {D : Type 0} (disk : Ghosts D) (one : IsOneReading) (opened : OpensAsRe
       subst (λ (t : Observed). ReadsBack files (observe_all t steps replies).history c)
       (observed_is disk before shape start started files)
       (left files start steps replies c
-      (is_reached disk one opened before shape start started honest files recovered steps replies now taken) may)
+      (is_reached disk one before shape start started honest files recovered steps replies now taken) may)
 
   -- after a refusal nothing was stored
   pub back_after_refusal : ((files : List File) → files_after files [] ≡ files)
@@ -74,62 +75,50 @@ pub only_first : (image : List ℕ) → Only (may_leave_of (new_disk image)) ima
 only_first image c left = ext_get_or 0 c image left.same_length (λ i lt. left.synced i refl)
 
 -- a trial: what was left of it by a stop, and what was found
-pub leaves_mark : {A : Type 0} → IsOneReading → (image : List ℕ) (shape : Shape) (steps : List Step)
-    (first : List Reply) (marks : List (MarkFiles A)) (kept : HasKept image shape steps first marks)
-    → (calls fails : ℕ) (choice : List ℕ) (replies : List Reply) (after : Failing Recorded)
-    → HasEnded failing_memory (failing (new_disk image) fails) shape steps replies after
-    → ((files : List File) → RecoversTo image files → (c : List ℕ) → may_leave_of after.inner c
+module _ {A : Type 0} (one : IsOneReading) (image : List ℕ) (shape : Shape) (steps : List Step) (first : List Reply)
+    (marks : List (MarkFiles A)) (kept : HasKept image shape steps first marks) (calls fails : ℕ) (choice : List ℕ)
+    (replies : List Reply) (after : Failing Recorded)
+    (ended : HasEnded failing_memory (failing (new_disk image) fails) shape steps replies after)
+    (back : (files : List File) → RecoversTo image files → (c : List ℕ) → may_leave_of after.inner c
     → ReadsBack files (history_of files shape (take (length replies) steps) replies) c)
-    → after.inner.faults ≡ 0 → IsUpTo calls fails steps replies after
-    → (stopped : Recorded) → stopped ≡ after_stop after.inner choice → may_leave_of after.inner (seen_of stopped)
-    → (read : List (List ℕ)) → (found : List File) × RecoversTo (seen_of stopped) found × (read ≡ contents_of found)
-    → (number : ℕ) → IsNewest kept.files shape steps replies read number
-    → LeavesMark image shape steps calls fails choice number
-leaves_mark one image shape steps first marks kept calls fails choice replies after ended back sound up stopped is left
-    read opened number newest =
-    let long = few_replies failing_memory (failing (new_disk image) fails) shape steps replies after ended in
-    let P : Recorded → Type 0 = λ s. may_leave_of after.inner (seen_of s) in
-    let Q : Recorded → Type 0 = λ s. RecoversTo (seen_of s) opened.0 in
-    let N : List (List ℕ) → Type 0 = λ bytes. IsNewest kept.files shape steps replies bytes number in
-    record {
-      replies = replies;
-      after = after;
-      ended = ended;
-      sound = sound;
-      up_to_call = up;
-      left = subst P is left;
-      files = kept.files;
-      before = kept.before;
-      found = opened.0;
-      recovers = subst Q is opened.1;
-      at_mark = at_mark one kept.files shape steps replies long (seen_of stopped)
-          (back kept.files kept.before (seen_of stopped) left) opened.0 opened.1 number (subst N opened.2 newest);
-    }
+    (sound : after.inner.faults ≡ 0) (up : IsUpTo calls fails steps replies after) (stopped : Recorded)
+    (is : stopped ≡ after_stop after.inner choice) (left : may_leave_of after.inner (seen_of stopped))
+    (read : List (List ℕ))
+    (opened : (found : List File) × RecoversTo (seen_of stopped) found × (read ≡ contents_of found)) where
+  leaves_mark : (number : ℕ) → IsNewest kept.files shape steps replies read number
+      → LeavesMark image shape steps calls fails choice number
+  leaves_mark number newest =
+      let long = few_replies failing_memory (failing (new_disk image) fails) shape steps replies after ended in
+      let P : Recorded → Type 0 = λ s. may_leave_of after.inner (seen_of s) in
+      let Q : Recorded → Type 0 = λ s. RecoversTo (seen_of s) opened.0 in
+      let N : List (List ℕ) → Type 0 = λ bytes. IsNewest kept.files shape steps replies bytes number in
+      record {
+        replies = replies;
+        after = after;
+        ended = ended;
+        sound = sound;
+        up_to_call = up;
+        left = subst P is left;
+        files = kept.files;
+        before = kept.before;
+        found = opened.0;
+        recovers = subst Q is opened.1;
+        at_mark = at_mark one kept.files shape steps replies long (seen_of stopped)
+            (back kept.files kept.before (seen_of stopped) left) opened.0 opened.1 number (subst N opened.2 newest);
+      }
 
--- so it is of the newest mark that was looked for among the marks that were kept
-pub leaves_newest : {A E : Type 0} → IsOneReading → (image : List ℕ) (shape : Shape) (steps : List Step)
-    (first : List Reply) (marks : List (MarkFiles A)) (kept : HasKept image shape steps first marks)
-    → (calls fails : ℕ) (choice : List ℕ) (replies : List Reply) (after : Failing Recorded)
-    → HasEnded failing_memory (failing (new_disk image) fails) shape steps replies after
-    → ((files : List File) → RecoversTo image files → (c : List ℕ) → may_leave_of after.inner c
-    → ReadsBack files (history_of files shape (take (length replies) steps) replies) c)
-    → after.inner.faults ≡ 0 → IsUpTo calls fails steps replies after
-    → (stopped : Recorded) → stopped ≡ after_stop after.inner choice → may_leave_of after.inner (seen_of stopped)
-    → (read : List (List ℕ)) → (found : List File) × RecoversTo (seen_of stopped) found × (read ≡ contents_of found)
-    → (result : Result ℕ E) (kept_marks : List (MarkFiles A)) (replied again : List Reply) (bytes : List (List ℕ))
-    → kept_marks ≡ marks → replied ≡ first → again ≡ replies → bytes ≡ read
-    → ((files : List File) (shape : Shape) (steps : List Step) → AreKept files shape steps replied kept_marks
-    → IfOk result (IsNewest files shape steps again bytes))
-    → IfOk result (LeavesMark image shape steps calls fails choice)
-leaves_newest {A} {E} one image shape steps first marks kept calls fails choice replies after ended back sound up
-    stopped is left read opened result kept_marks replied again bytes marks_are observed_are
-    again_are bytes_are newest =
-    let M : List (MarkFiles A) → Type 0 = λ l. AreKept kept.files shape steps replied l in
-    let T : List Reply → Type 0 = λ l. AreKept kept.files shape steps l marks in
-    IfOk-weaker result _ _
-    (λ number has.
-    let R : List Reply → Type 0 = λ l. IsNewest kept.files shape steps l bytes number in
-    let B : List (List ℕ) → Type 0 = λ l. IsNewest kept.files shape steps replies l number in
-    leaves_mark one image shape steps first marks kept calls fails choice replies after ended back sound up stopped is
-    left read opened number (subst B bytes_are (subst R again_are has)))
-    (newest kept.files shape steps (subst M (sym marks_are) (subst T (sym observed_are) kept.kept)))
+  -- so it is of the newest mark that was looked for among the marks that were kept
+  pub leaves_newest : {E : Type 0} (result : Result ℕ E) (kept_marks : List (MarkFiles A)) (replied again : List Reply)
+      (bytes : List (List ℕ)) → kept_marks ≡ marks → replied ≡ first → again ≡ replies → bytes ≡ read
+      → ((files : List File) (shape : Shape) (steps : List Step) → AreKept files shape steps replied kept_marks
+      → IfOk result (IsNewest files shape steps again bytes))
+      → IfOk result (LeavesMark image shape steps calls fails choice)
+  leaves_newest {E} result kept_marks replied again bytes marks_are observed_are again_are bytes_are newest =
+      let M : List (MarkFiles A) → Type 0 = λ l. AreKept kept.files shape steps replied l in
+      let T : List Reply → Type 0 = λ l. AreKept kept.files shape steps l marks in
+      IfOk-weaker result _ _
+      (λ number has.
+      let R : List Reply → Type 0 = λ l. IsNewest kept.files shape steps l bytes number in
+      let B : List (List ℕ) → Type 0 = λ l. IsNewest kept.files shape steps replies l number in
+      leaves_mark number (subst B bytes_are (subst R again_are has)))
+      (newest kept.files shape steps (subst M (sym marks_are) (subst T (sym observed_are) kept.kept)))

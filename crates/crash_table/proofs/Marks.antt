@@ -10,10 +10,7 @@ use Rattle.std.proofs.lemmas.Option.{slice_get_within}
 use Rattle.std.proofs.lemmas.List.Elements.{Contains-append_left, Contains-append_right, Contains-push}
 use Rattle.device.specs.declared.device.Device.{Ghosts}
 use Rattle.volume_codec.specs.Files.{File}
-use Rattle.volume_codec.specs.Super.{SuperValue}
 use Rattle.volume_codec.specs.Recovery.{RecoversTo}
-use Rattle.recovery.specs.Opening.{HasOpened}
-use Rattle.recovery.specs.Volume.{VolumeState, IsAtRest, files_of}
 use Rattle.machine.specs.declared.act.Reply.{Reply}
 use Rattle.machine.specs.declared.act.Reply.TheVariants as replies
 use Rattle.machine.specs.declared.act.Shape.{Shape}
@@ -22,13 +19,12 @@ use Rattle.machine.specs.Crashes.{Begins}
 use Rattle.machine.specs.History.{Event, Mark, Acknowledge, has_unmarked, files_after, IsMarked}
 use Rattle.machine.specs.Laws.{ReadsBack, observed_at_start}
 use Rattle.machine.specs.Reached.{IsReached}
-use Rattle.machine.specs.Fresh.{IsShape, fresh}
 use Rattle.machine.specs.Runs.{StepsTaken}
 use Rattle.machine.specs.State.{Whole}
 use Rattle.machine.specs.Steps.{observed_first}
 use Rattle.machine.specs.Observed.{Observed, observe, observe_all, events_of}
 use Rattle.engine.specs.Engine.{HasStarted}
-use Rattle.engine.proofs.Runs.{taken_kept}
+use Rattle.engine.proofs.Public.{begins, taken_kept, taken_length}
 use Rattle.crash_table.specs.inside.Kept.{up_to_mark, bytes_at, unmarked_after, IsAcknowledged}
 use Rattle.crash_table.proofs.Histories.{mark_at, up_to_begins, events_of_mark}
 use Rattle.crash_table.proofs.Histories.{events_of_commit, observe_then, unmarked_observed, nothing_in}
@@ -110,12 +106,6 @@ abbrev pub IsOneReading : Type 0
 IsOneReading = (bytes : List ℕ) (files others : List File) → RecoversTo bytes files
     → RecoversTo bytes others → files ≡ others
 
--- the files of a volume that was opened are those to which the device's bytes recovered
--- (`recovery::opened_as_recovered`)
-abbrev pub OpensAsRecovered : {D : Type 0} → Ghosts D → Type 0
-OpensAsRecovered {D} disk = (before after : D) (table : SuperValue) → HasOpened disk before table after
-    → RecoversTo (disk.seen before) (files_of table (disk.seen after))
-
 -- what a crash may leave of a machine that a run reached reads back by its history (`Machine::keeps_the_laws`)
 abbrev pub ReadsBackLater : {D : Type 0} → Ghosts D → Whole D → Type 0
 ReadsBackLater {D} disk now = (files : List File) (start : Whole D) (steps : List Step) (replies : List Reply)
@@ -141,58 +131,30 @@ module _ {D : Type 0} (disk : Ghosts D) where
       ap (λ (w : Whole D). observed_first files w.state) started.booted
       ∙ ap (observed_at_start files) (length-replicate shape.cpus _)
 
-  booted_begins : (volume : VolumeState D) (shape : Shape) → IsShape volume.table shape → IsAtRest disk volume
-      → disk.is_honest volume.device
-      → Begins disk (files_of volume.table (disk.seen volume.device))
-      (record { state = fresh volume.table volume.lengths shape; device = volume.device })
-  booted_begins volume shape shaped rest honest = record {
-    fresh = record { shape = shape; fits = shaped; as_booted = refl };
-    volume = rest.holds;
-    files_are = refl;
-    fit = rest.lengths_fit;
-    lengths_are = rest.lengths_are;
-    honest = honest;
-    synced = rest.synced;
-  }
-
-  pub begun : OpensAsRecovered disk → (before : D) (shape : Shape) (start : Whole D)
-      → HasStarted disk before shape start → disk.is_honest before
-      → (files : List File) × RecoversTo (disk.seen before) files × Begins disk files start
-  begun opened before shape start started honest =
-      let volume = started.volume in
-      let here = started.opened.kept.honest.1 honest in
-      let files = files_of volume.table (disk.seen volume.device) in
-      let P : Whole D → Type 0 = λ w. Begins disk files w in (
-        files,
-        opened before volume.device volume.table (started.opened.ended honest),
-        subst P (sym started.booted)
-            (booted_begins volume shape started.shaped (started.well_formed.at_rest here) here),
-      )
-
-  pub is_reached : IsOneReading → OpensAsRecovered disk → (before : D) (shape : Shape) (start : Whole D)
+  pub is_reached : IsOneReading → (before : D) (shape : Shape) (start : Whole D)
       → HasStarted disk before shape start → disk.is_honest before → (files : List File)
       → RecoversTo (disk.seen before) files
       → (steps : List Step) (answers : List Reply) (now : Whole D) → StepsTaken disk start steps answers now
       → IsReached disk files start steps answers now
-  is_reached one opened before shape start started honest files recovered steps answers now taken =
-      let found = begun opened before shape start started honest in
+  is_reached one before shape start started honest files recovered steps answers now taken =
+      let found = begins disk before shape start started honest in
       record {
         begins = subst (λ fs. Begins disk fs start) (one (disk.seen before) found.0 files found.1 recovered) found.2;
         taken = taken;
       }
 
   -- the device stays honest while steps are made and a mark is written out
-  pub honest_after : OpensAsRecovered disk → (before : D) (shape : Shape) (start : Whole D)
+  pub honest_after : (before : D) (shape : Shape) (start : Whole D)
       → HasStarted disk before shape start → disk.is_honest before
       → (steps : List Step) (answers : List Reply) (marked : Whole D) → StepsTaken disk start steps answers marked
       → (earlier : List Reply) (n : ℕ) (now : Whole D) → IsAcknowledged disk marked earlier n now
       → disk.is_honest now.device
-  honest_after opened before shape start started honest steps answers marked made earlier n now acknowledged =
+  honest_after before shape start started honest steps answers marked made earlier n now acknowledged =
       by acknowledged
     where
       first : disk.is_honest marked.device
       first = (taken_kept disk start steps answers marked made).0.1
-          (begun opened before shape start started honest).2.honest
+          (begins disk before shape start started honest).2.honest
 
       by : IsAcknowledged disk marked earlier n now → disk.is_honest now.device
       by (inl c) = (taken_kept disk marked (c.earlier ++ c.last ∷ [])
@@ -400,14 +362,6 @@ module _ (one : IsOneReading) (files : List File) (shape : Shape)
 
 -- ---- the files that are kept of a mark
 
-pub taken_length : {D : Type 0} (disk : Ghosts D) (old : Whole D) (steps : List Step) (answers : List Reply)
-    (new : Whole D) → StepsTaken disk old steps answers new → length answers ≡ length steps
-taken_length disk old [] [] new taken = refl
-taken_length disk old (step ∷ steps) (reply ∷ answers) new (mid, first, taken) =
-    ap suc (taken_length disk mid steps answers new taken)
-taken_length disk old [] (r ∷ answers) new taken = absurd taken
-taken_length disk old (x ∷ steps) [] new taken = absurd taken
-
 -- the reply that commits is no mark either
 no_mark_more : (going : List Reply) (n : ℕ) → ((i k : ℕ) → slice_get going i ≡ Some (replies.Marked k) → ⊥) → (i k : ℕ)
     → slice_get (going ++ replies.Committed n ∷ []) i ≡ Some (replies.Marked k) → ⊥
@@ -417,7 +371,7 @@ no_mark_more (r ∷ going) n none zero k is = none 0 k is
 no_mark_more (r ∷ going) n none (suc i) k is = no_mark_more going n (λ j m at. none (suc j) m at) i k is
 
 module _ {D : Type 0} (disk : Ghosts D) (seen_is_left : (device : D) → disk.is_honest device
-    → disk.may_leave device (disk.seen device)) (one : IsOneReading) (opened : OpensAsRecovered disk)
+    → disk.may_leave device (disk.seen device)) (one : IsOneReading)
     (before : D) (shape : Shape) (start : Whole D) (started : HasStarted disk before shape start)
     (honest : disk.is_honest before) (files : List File) (recovered : RecoversTo (disk.seen before) files)
     (steps : List Step) (answers : List Reply) (at n : ℕ) (below : at < length steps)
@@ -445,7 +399,7 @@ module _ {D : Type 0} (disk : Ghosts D) (seen_is_left : (device : D) → disk.is
       (same ∙ ap (λ (i : ℕ). take i answers) next) made)
 
   honest_now : disk.is_honest now.device
-  honest_now = honest_after disk opened before shape start started honest (take (suc at) steps)
+  honest_now = honest_after disk before shape start started honest (take (suc at) steps)
       (take (suc at) answers) marked first (take at answers) n now acknowledged
 
   back : (all_steps : List Step) (all_answers : List Reply) → StepsTaken disk start all_steps all_answers now
@@ -453,7 +407,7 @@ module _ {D : Type 0} (disk : Ghosts D) (seen_is_left : (device : D) → disk.is
       (disk.seen now.device)
   back all_steps all_answers taken =
       let on =
-      is_reached disk one opened before shape start started honest files recovered all_steps all_answers now taken in
+      is_reached disk one before shape start started honest files recovered all_steps all_answers now taken in
       subst (λ (t : Observed). ReadsBack files (observe_all t all_steps all_answers).history (disk.seen now.device))
       (observed_is disk before shape start started files)
       (left files start all_steps all_answers (disk.seen now.device) on (seen_is_left now.device honest_now))

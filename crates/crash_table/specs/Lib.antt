@@ -1,6 +1,4 @@
-pub mod Parts
 pub mod Calls
-pub mod Choices
 pub mod Disks
 pub mod Crashes
 pub mod Trials

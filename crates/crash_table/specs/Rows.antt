@@ -1,24 +1,19 @@
 -- The rows of the table.
-use Rattle.std.specs.Prelude.{ℕ, ◌≡◌, ◌+◌, ◌<◌, ◌≤◌, List, [], ◌∷◌, length}
-use Rattle.std.specs.Prelude.{max, slice_get, Option, Some, None, Contains}
-use Rattle.crash_table.specs.declared.call.CallKind.TheVariants.{Write}
-use Rattle.crash_table.specs.declared.choice.Choice.{Choice}
-use Rattle.crash_table.specs.declared.choice.Choice.TheVariants.{Old, New}
-use Rattle.crash_table.specs.declared.row.Found.{Found}
-use Rattle.crash_table.specs.declared.row.Row.{Row}
-use Rattle.crash_table.specs.Calls.{DeviceCall}
-use Rattle.crash_table.specs.Choices.{content_within, left_by}
+use Rattle.std.specs.Prelude.{ℕ, ◌≡◌, ◌+◌, ◌<◌, ◌≤◌, length}
+use Rattle.std.specs.Prelude.{slice_get, Option, Some, None, Contains}
+use Rattle.crash_states.specs.declared.call.CallKind.TheVariants.{Write}
+use Rattle.crash_states.specs.declared.choice.Choice.{Choice}
+use Rattle.crash_states.specs.declared.choice.Choice.TheVariants.{Old, New}
+use Rattle.crash_states.specs.declared.row.Found.{Found}
+use Rattle.crash_states.specs.declared.row.Row.{Row}
+use Rattle.crash_states.specs.Calls.{DeviceCall}
+use Rattle.crash_states.specs.Choices.{content_within, left_by}
 use Rattle.crash_table.specs.Trials.{TrialValue, Leaves}
 
 -- rows that are made one by one: the run, and how many were made
 pub record RowsValue : Type 0 where
   pub trial : TrialValue
   pub next : ℕ
-
--- the newest mark that is found
-abbrev pub newest_of : List Found → ℕ
-newest_of [] = 0
-newest_of (found ∷ others) = max found.mark (newest_of others)
 
 -- a row has a state that this choice leaves
 abbrev pub HasState : {A : Type 0} → Row A → Choice → Type 0

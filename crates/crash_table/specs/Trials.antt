@@ -2,7 +2,8 @@
 use Rattle.std.specs.Prelude.{ℕ, List, length}
 use Rattle.machine.specs.declared.act.Shape.{Shape}
 use Rattle.machine.specs.declared.act.Step.{Step}
-use Rattle.crash_table.specs.Calls.{DeviceCall, AreCallsOf}
+use Rattle.crash_states.specs.Calls.{DeviceCall}
+use Rattle.crash_table.specs.Calls.{AreCallsOf}
 use Rattle.crash_table.specs.Crashes.{LeavesMark}
 
 -- the bytes of the disk on copies of which it is made, the shape of the machine, the steps, and its device calls

@@ -1,5 +1,2 @@
 -- What ties private code to the definitions that public clauses name.
-pub mod Codes
-pub mod Contents
 pub mod Kept
-pub mod Reading

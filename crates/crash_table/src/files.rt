@@ -3,9 +3,9 @@ ghost use Rattle.std.specs.Prelude.{◌≡◌, ◌<◌, ◌↔◌, List, Some, l
 ghost use Rattle.volume_codec.specs.Files.{File};
 ghost use Rattle.volume_codec.specs.Recovery.{RecoversTo};
 ghost use Rattle.recovery.specs.Volume.{IsWellFormed, files_of, bytes_of};
-ghost use Rattle.crash_table.specs.inside.Reading.{IsOnlyRead, HasLengthsOf};
+ghost use Rattle.recovery.specs.VolumeReading.{IsVolumeOnlyRead, HasLengthsOf};
 
-use crate::crash_fault::CrashFault;
+use crash_states::CrashFault;
 use device::Device;
 use page_entry::Refusal;
 use recovery::{Volume, opened_as_recovered};
@@ -65,7 +65,7 @@ fn read_file<D: Device + Drop, A: Allocator + Copy>(
     requires files { D.is_honest volume.old.device → HasLengthsOf volume.old (D.seen volume.old.device) }
     ensures bytes { D.is_honest volume.old.device → IfOk result (λ bytes.
         bytes.items ≡ bytes_of (files_of volume.old.table (D.seen volume.old.device)) file) }
-    ensures read { IsOnlyRead D.Device volume.old volume.new }
+    ensures read { IsVolumeOnlyRead D.Device volume.old volume.new }
 {
     let count = volume.length(file);
     let mut bytes = vec![in alloc; 0; count as usize]?;
@@ -88,7 +88,7 @@ fn read_whole<D: Device + Drop, A: Allocator + Copy>(
     requires files { D.is_honest volume.old.device → HasLengthsOf volume.old (D.seen volume.old.device) }
     ensures bytes { D.is_honest volume.old.device → OnOk result
         (buffer.new ≡ bytes_of (files_of volume.old.table (D.seen volume.old.device)) file) }
-    ensures read { IsOnlyRead D.Device volume.old volume.new }
+    ensures read { IsVolumeOnlyRead D.Device volume.old volume.new }
 {
     volume.read_file(file, 0, buffer)
 }

@@ -7,13 +7,12 @@ ghost use Rattle.volume_codec.specs.Files.{File};
 ghost use Rattle.volume_codec.specs.Recovery.{RecoversTo};
 ghost use Rattle.crash_table.specs.inside.Kept.{bytes_at, HasWrittenOut, IsKept, AreKept, IsNewest};
 
-use crate::crash_fault::CrashFault;
 use crate::files::{Files, are_same, fault_of, open_files};
 use crate::make::{acknowledge, make};
 use crate::same::are_same_replies;
+use crash_states::CrashFault;
 use device::Device;
 use machine::{Machine, Reply, Shape, Step};
-use recovery::opened_as_recovered;
 use std::alloc::Allocator;
 use volume_codec::one_reading;
 
@@ -49,7 +48,6 @@ pub fn files_at<D: Device + Drop, A: Allocator + Copy>(
     ensures kept { D.is_honest device → (files : List File) → RecoversTo (D.seen device) files → IfOk result (λ read.
         map (λ v. v.items) read.items ≡ bytes_at files shape steps.now replies.now at number) }
 {
-    opened_as_recovered(&device);
     one_reading();
     match engine::start(alloc, device, shape) {
         Ok(mut machine) => {

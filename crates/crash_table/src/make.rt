@@ -1,5 +1,5 @@
 // Making steps, and noting what they are answered.
-ghost use Rattle.std.specs.Prelude.{◌≡◌, ◌≢◌, ℕ, List, [], length, take, false, IfOk, OnOk, IsTrue, ◌↔◌};
+ghost use Rattle.std.specs.Prelude.{◌≡◌, ℕ, List, [], length, take, true, false, IfOk, IfErr, OnOk, IsTrue, ◌↔◌};
 ghost use Rattle.device.specs.Device.{Only};
 ghost use Rattle.volume_codec.specs.Files.{File};
 ghost use Rattle.volume_codec.specs.Recovery.{RecoversTo};
@@ -7,15 +7,15 @@ ghost use Rattle.machine.specs.declared.act.Reply.TheVariants as replied;
 ghost use Rattle.machine.specs.Laws.{ReadsBack};
 ghost use Rattle.machine.specs.Runs.{StepsTaken};
 ghost use Rattle.crash_table.specs.Crashes.{history_of, HasEnded};
-ghost use Rattle.crash_table.specs.inside.Kept.{unmarked_after, HasCommitted, IsAcknowledged};
+ghost use Rattle.crash_table.specs.inside.Kept.{unmarked_after, is_under_way, most_flushes, HasCommitted, HasGivenUp};
+ghost use Rattle.crash_table.specs.inside.Kept.{IsAcknowledged};
 
-use crate::crash_fault::CrashFault;
 use crate::files::fault_of;
+use crash_states::CrashFault;
 use device::Device;
 use engine::{crashed_since_refusal, ran_since_start};
 use machine::{Act, Machine, Reply, Shape, Step, nothing_stored};
 use page_entry::{ProcessorNumber, Refusal};
-use recovery::opened_as_recovered;
 use std::alloc::{AllocError, Allocator};
 use volume_codec::{Geometry, one_reading};
 
@@ -59,7 +59,6 @@ pub fn run_on<D: Device + Drop, A: Allocator + Copy>(
 {
     crashed_since_refusal(&device);
     nothing_stored();
-    opened_as_recovered(&device);
     one_reading();
     match engine::start(alloc, device, shape) {
         Ok(mut machine) => {
@@ -88,23 +87,25 @@ fn not_opened<D: Device + Drop, A: Allocator + Copy>(
     }
 }
 
-// The most steps that come up to the one that commits a write-out of a volume: a record for each slot, the blocks of
-// the descriptor, a sync, the gate, and a sync; and where write-outs share that first sync, before it the home blocks
-// of the write-out before, and the gate of the one before that.
-fn most_flushes(geometry: Geometry) -> u64 {
+// The most steps that come up to the one that commits a write-out of a volume.
+fn most_flushes(geometry: Geometry) -> u64
+    ensures { result ≡ most_flushes geometry }
+{
     2 * u64::from(geometry.slots()) + u64::from(geometry.descriptor_blocks()) + 4
 }
 
 /// Sees to it that a mark that was just made is acknowledged, where these are the replies before it: it is at once
 /// where no store was made, and no length set, since the mark before it, and else it is written out by steps of this
-/// processor.
+/// processor. There is an error only where that is given up.
 pub fn acknowledge<D: Device, A: Allocator + Copy>(
     machine: &mut Machine<D, A>,
     p: ProcessorNumber,
     number: u32,
     before: &[Reply],
 ) -> Result<(), CrashFault>
-    ensures { OnOk result (IsAcknowledged D.Device machine.old before.now number machine.new) }
+    ensures acknowledged { OnOk result (IsAcknowledged D.Device machine.old before.now number machine.new) }
+    ensures given_up { IfErr result (λ why. (unmarked_after false before.now ≡ true)
+        × HasGivenUp D.Device machine.old p number machine.new) }
 {
     if has_unmarked(before) {
         commit(machine, p, number)
@@ -119,7 +120,8 @@ fn commit<D: Device, A: Allocator + Copy>(
     p: ProcessorNumber,
     number: u32,
 ) -> Result<(), CrashFault>
-    ensures { OnOk result (HasCommitted D.Device machine.old number machine.new) }
+    ensures committed { OnOk result (HasCommitted D.Device machine.old number machine.new) }
+    ensures given_up { IfErr result (λ why. HasGivenUp D.Device machine.old p number machine.new) }
 {
     let step = Step { p, act: Act::Flush };
     let most = most_flushes(machine.table().geometry());
@@ -142,9 +144,9 @@ fn is_committed(reply: &Reply, number: u32) -> bool
     reply.is_same(&Reply::Committed(number))
 }
 
-// Whether a reply says that write-outs go on, or that an older one is done, which no mark is.
+// Whether a reply says that write-outs go on, or that an older one is done.
 fn is_going(reply: &Reply) -> bool
-    ensures { IsTrue result → (mark : ℕ) → reply.now ≢ replied.Marked mark }
+    ensures { result ≡ is_under_way reply.now }
 {
     matches!(reply, Reply::Going | Reply::Done(_))
 }

@@ -1,56 +1,16 @@
-// The rows of the table: what crashes within each device call leave.
-ghost use Rattle.std.specs.Prelude.{◌≡◌, ◌==◌, ◌+◌, ◌<◌, ◌≤◌, length, map, IfOk, OnOk, Contains};
-ghost use Rattle.std.specs.List.{count_by};
-ghost use Rattle.crash_table.specs.declared.choice.Choice.TheVariants as choices;
-ghost use Rattle.crash_table.specs.Choices.{content_before, content_within, left_by};
+// The rows of the table, one after the other: what crashes within each device call leave.
+ghost use Rattle.std.specs.Prelude.{◌≡◌, ◌+◌, ◌<◌, ◌≤◌, length, map, IfOk, OnOk, Contains};
+ghost use Rattle.crash_states.specs.declared.choice.Choice.TheVariants as choices;
+ghost use Rattle.crash_states.specs.Choices.{content_before, content_within, left_by};
 ghost use Rattle.crash_table.specs.Trials.{Leaves};
-ghost use Rattle.crash_table.specs.Rows.{newest_of, IsRowOf, IsNext};
-ghost use Rattle.crash_table.specs.declared.row.Found.{Found};
-ghost use Rattle.crash_table.specs.inside.Contents.{content_of};
+ghost use Rattle.crash_table.specs.Rows.{IsRowOf, IsNext};
+ghost use Rattle.crash_states.specs.declared.row.Found.{Found};
+ghost use Rattle.crash_states.specs.Held.{content_of};
 
-use crate::choice::{Choice, Contents};
-use crate::crash_fault::CrashFault;
 use crate::trial::Trial;
+use crash_states::{Choice, Contents, CrashFault, Found, Row};
 use std::alloc::Allocator;
 use std::marker::Model;
-
-/// A crash state, and the mark whose files an opening of it finds.
-#[derive(Clone, Copy, Debug, PartialEq, Eq)]
-pub struct Found {
-    pub choice: Choice,
-    pub mark: u32,
-}
-
-/// What crashes within a device call leave, or, after the last one, crashes at the end of the run.
-#[derive(Drop)]
-pub struct Row<A: Allocator + Copy> {
-    /// The number of the call, counted from 1.
-    pub number: u64,
-    /// How many blocks were written since the last sync, and by the call.
-    pub unsynced: u64,
-    /// The crash states that were opened.
-    pub found: Vec<Found, A>,
-}
-
-impl<A: Allocator + Copy> Row<A> {
-    /// How many crash states have the files at a mark.
-    pub fn count(&self, mark: u32) -> u64
-        ensures { result ≡ count_by (λ found. found.mark == mark) self.now.found.items }
-    {
-        self.found.iter().filter(|found| found.mark == mark).count() as u64
-    }
-
-    /// The newest mark whose files are found; 0 where there is no state.
-    pub fn newest(&self) -> u32
-        ensures { result ≡ newest_of self.now.found.items }
-    {
-        let mut newest = 0u32;
-        for found in &self.found {
-            newest = newest.max(found.mark);
-        }
-        newest
-    }
-}
 
 /// The rows, one after the other. After an `Err` there is no further one.
 #[derive(Drop)]
@@ -65,9 +25,9 @@ pub struct Rows<'a, A: Allocator + Copy> {
 
 impl<'a, A: Allocator + Copy> Model for Rows<'a, A> {
     ghost use Rattle.std.specs.Prelude.{◌≡◌, false};
-    ghost use Rattle.crash_table.specs.Choices.{content_before};
+    ghost use Rattle.crash_states.specs.Choices.{content_before};
     ghost use Rattle.crash_table.specs.Rows.{RowsValue};
-    ghost use Rattle.crash_table.specs.inside.Contents.{content_of};
+    ghost use Rattle.crash_states.specs.Held.{content_of};
 
     ghost Value = { RowsValue };
 
@@ -171,7 +131,7 @@ fn states<A: Allocator + Copy>(
     ensures each { IfOk result (λ states. (found : Found) → Contains states.items found
         → Leaves trial.now number (left_by found.choice (content_of contents.now)) found.mark) }
     ensures old { IfOk result (λ states. Contains (map (λ f. f.choice) states.items) choices.Old) }
-    ensures new { IfOk result (λ states. 0 < length contents.now.unsynced.items
+    ensures new { IfOk result (λ states. 0 < length (content_of contents.now).unsynced
         → Contains (map (λ f. f.choice) states.items) choices.New) }
 {
     let tried = contents.choices()?;

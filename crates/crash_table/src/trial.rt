@@ -1,26 +1,26 @@
 // A run, made once to learn its calls, its replies and the files at its marks, and again for each crash.
-ghost use Rattle.std.specs.Prelude.{◌≡◌, ◌≢◌, ◌↔◌, ◌<◌, ◌≤◌, IsTrue, List, length, slice_get, Some, Err};
+ghost use Rattle.std.specs.Prelude.{◌≡◌, ◌≢◌, ◌↔◌, ◌<◌, ◌≤◌, false, IsTrue, List, length, slice_get, Some, Err};
 ghost use Rattle.std.specs.Prelude.{IfOk, IfErr, OnOk, alloc_error};
 ghost use Rattle.device.specs.Memory.{Recorded, new_disk};
 ghost use Rattle.volume_codec.specs.Files.{File};
 ghost use Rattle.volume_codec.specs.Recovery.{RecoversTo};
 ghost use Rattle.machine.specs.declared.act.Reply.TheVariants.{Marked};
+ghost use Rattle.machine.specs.Runs.{StepsTaken};
 ghost use Rattle.engine.specs.Engine.{HasStarted};
 ghost use Rattle.machine.specs.declared.act.Shape.{Shape};
-ghost use Rattle.crash_table.specs.Calls.{ListedDisk, AreMade, AreCallsOf, device_calls_of, listing_memory};
+ghost use Rattle.crash_states.specs.Calls.{ListedDisk, device_calls_of};
+ghost use Rattle.crash_table.specs.Calls.{AreMade, AreCallsOf, listing_memory, listing_of};
 ghost use Rattle.crash_table.specs.Trials.{HasItsCalls, Leaves};
 ghost use Rattle.crash_table.specs.inside.Kept.{IsKept, AreKept};
 
-use crate::call::{Call, Listing};
-use crate::crash_fault::CrashFault;
 use crate::files::{fault_of, open_files};
 use crate::found::{MarkFiles, Plan, files_at, newest};
 use crate::make::run_on;
 use crate::same::are_same_replies;
+use crash_states::{Call, CrashFault, Listing};
 use device::{Device, FailingDisk, MemDisk};
 use engine::ran_since_start;
 use machine::{Machine, Reply, Shape, Step};
-use recovery::opened_as_recovered;
 use std::alloc::{AllocError, Allocator};
 use std::marker::Model;
 use volume_codec::one_reading;
@@ -46,7 +46,8 @@ struct FirstRun<A: Allocator + Copy> {
 }
 
 impl<'a, A: Allocator + Copy> Model for Trial<'a, A> {
-    ghost use Rattle.crash_table.specs.Calls.{AreCallsOf, device_calls_of};
+    ghost use Rattle.crash_states.specs.Calls.{device_calls_of};
+    ghost use Rattle.crash_table.specs.Calls.{AreCallsOf};
     ghost use Rattle.crash_table.specs.Trials.{TrialValue};
     ghost use Rattle.crash_table.specs.inside.Kept.{HasKept};
 
@@ -59,8 +60,8 @@ impl<'a, A: Allocator + Copy> Model for Trial<'a, A> {
       calls = device_calls_of t.listed.calls.items;
     } };
 
-    ghost invariant = { λ t. HasKept t.plan.image.now t.plan.shape t.plan.steps.now t.listed.replies.items
-        t.marks.items × AreCallsOf t.plan.image.now t.plan.shape t.plan.steps.now (device_calls_of t.listed.calls.items) };
+    ghost invariant = { λ t. HasKept t.plan.image.now t.plan.shape t.plan.steps.now t.listed.replies.items t.marks.items
+        × AreCallsOf t.plan.image.now t.plan.shape t.plan.steps.now (device_calls_of t.listed.calls.items) };
 }
 
 // A copy of a disk that holds these bytes.
@@ -216,11 +217,42 @@ fn list<A: Allocator + Copy>(alloc: A, plan: &Plan<'_>) -> Result<FirstRun<A>, C
 {
     let copy = copy_of(alloc, plan.image)?;
     let disk = Listing::new(alloc, copy);
-    opened_as_recovered(&disk);
     match engine::start(alloc, disk, plan.shape) {
         Ok(machine) => list_steps(alloc, machine, plan.steps),
         Err((refusal, _)) => Err(fault_of(refusal)),
     }
+}
+
+// The replies to the steps of a run, and how many device calls were made up to each, and with its step.
+fn note_steps<D: Device + Drop, A: Allocator + Copy>(
+    alloc: A,
+    machine: &mut Machine<Listing<D, A>, A>,
+    steps: &[Step],
+) -> Result<(Vec<Reply, A>, Vec<u64, A>), AllocError>
+    ensures { IfOk result (λ noted.
+        StepsTaken (listing_of D.Device) machine.old steps.now noted.0.items machine.new) }
+{
+    let mut replies = Vec::new(alloc);
+    let mut made = Vec::new(alloc);
+    for step in steps {
+        replies.push(machine.enter(step))?;
+        made.push(machine.device().count())?;
+    }
+    Ok((replies, made))
+}
+
+// The calls that a disk lists, where none of them failed. A disk in memory fails where memory is refused.
+fn calls_of<D: Device + Drop, A: Allocator + Copy>(
+    device: Listing<D, A>,
+) -> Result<Vec<Call<A>, A>, CrashFault>
+    ensures complete { IfOk result (λ calls. (device.refused ≡ false)
+        × (device_calls_of calls.items ≡ device.calls)) }
+    ensures sound { IfOk result (λ calls. D.faults_met device.inner ≡ 0) }
+{
+    if device.faults() > 0 {
+        return Err(CrashFault::Memory(AllocError));
+    }
+    Ok(device.into_calls()?)
 }
 
 // Makes the steps of a run, and lists the device calls that opened the volume and those that the steps made.
@@ -233,18 +265,11 @@ fn list_steps<A: Allocator + Copy>(
         → IfOk result (λ listed. AreMade before shape steps.now (device_calls_of listed.calls.items)) }
 {
     let opening = machine.device().count();
-    let mut replies = Vec::new(alloc);
-    let mut made = Vec::new(alloc);
-    for step in steps {
-        replies.push(machine.enter(step))?;
-        made.push(machine.device().count())?;
-    }
+    let noted = note_steps(alloc, &mut machine, steps);
     ran_since_start(&machine);
-    let device = machine.into_device();
-    if device.faults() > 0 {
-        return Err(CrashFault::Memory(AllocError));
-    }
-    let calls = device.into_calls()?;
+    let calls = calls_of(machine.into_device());
+    let (replies, made) = noted?;
+    let calls = calls?;
     Ok(FirstRun {
         replies,
         made,

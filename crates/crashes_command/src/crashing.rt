@@ -5,7 +5,8 @@ use crash_report::{
     Printed, begin_page, end_page, json_end, json_row, reply_on_page, row_on_page, text_end,
     text_reply, text_row,
 };
-use crash_table::{Call, CrashFault, Places, Row, Rows, Trial};
+use crash_states::{Call, CrashFault, Places, Row};
+use crash_table::{Rows, Trial};
 use device::Device;
 use machine::Reply;
 use page_entry::{PAGE, Refusal};

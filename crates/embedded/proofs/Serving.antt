@@ -1,5 +1,5 @@
 -- What an embedded machine has served, seen over the disk in memory that made the calls.
-use Rattle.std.proofs.Common.{◌≡◌, ℕ, List, [], ◌++◌, Option, Some, None, IfSome, Result, Ok, Err}
+use Rattle.std.proofs.Common.{◌≡◌, ℕ, List, [], ◌++◌, Option, Some, None, IfSome, Result, Ok, Err, sym, subst}
 use Rattle.deferred_disk.specs.Deferred.{Deferred, as_recorded, IsSuppliedWell, recorded_calls}
 use Rattle.device.specs.Memory.{Recorded}
 use Rattle.machine.specs.declared.act.Reply.{Reply}
@@ -9,13 +9,16 @@ use Rattle.machine.specs.Runs.{StepTaken}
 use Rattle.machine.specs.State.{Whole}
 use Rattle.engine.specs.Engine.{HasStarted}
 use Rattle.session.specs.declared.notes.Notes.{Notes}
+use Rattle.session.specs.declared.ranges.Reached.{Reached}
+use Rattle.session.specs.CarriedOut.{CarriesOut}
 use Rattle.session.specs.Commits.{CommitsMark, AnswersCommit}
 use Rattle.session.specs.Ranges.{MakesStepsThat}
 use Rattle.session.specs.Sessions.{IsServing, no_notes}
 use Rattle.session.specs.Steps.{Makes}
 use Rattle.session.proofs.Public.{served_none, served_does, makes_none, makes_then}
 use Rattle.embedded.specs.Recorded.{deferred_disk, recorded_disk, recorded}
-use Rattle.embedded.specs.Embedded.{last_committed, last_needed, HasCommitted, HasNeeded, HasMade, ServesWell}
+use Rattle.embedded.specs.Embedded.{EmbeddedState, last_committed, last_needed, HasCommitted, HasNeeded, HasMade}
+use Rattle.embedded.specs.Embedded.{ServesWell}
 use Rattle.embedded.proofs.Counting.{counted_moments}
 use Rattle.embedded.proofs.Through.{step_through, makes_through, makes_honest}
 use Rattle.embedded.proofs.Through.{does_through, started_through, started_honest}
@@ -112,6 +115,17 @@ serves_more committed needed made acknowledged old new before after what served 
       durable = made_more (recorded old)
           (recorded new) before after seen.steps seen.replies seen.makes made acknowledged had.durable;
     }
+
+-- how far a range was loaded or stored, of the volume and in the words of its users
+pub reached_said : {A : Type 0} (old same : EmbeddedState A) (new : Whole Deferred) (after : Notes)
+    (what : Reached → List Step → List Reply → Type 0) (reached said : Reached) → same ≡ old → said ≡ reached
+    → CarriesOut deferred_disk same.machine same.notes (what reached) new after
+    → CarriesOut deferred_disk old.machine old.notes (what said) new after
+reached_said {A} old same new after what reached said is says done =
+    let P : EmbeddedState A → Type 0 =
+    λ s. CarriesOut deferred_disk s.machine s.notes (what said) new after in
+    subst P is (subst (λ (r : Reached). CarriesOut deferred_disk same.machine same.notes (what r) new after)
+    (sym says) done)
 
 -- a start
 pub serves_none : (before : Deferred) (shape : Shape) (start : Whole Deferred) (needed made : ℕ)

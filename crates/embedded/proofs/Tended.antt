@@ -1,7 +1,8 @@
 -- A disk that was tended between two requests is the same disk in memory.
 use Rattle.std.proofs.Common.{◌≡◌, ◌≤◌, ◌<◌, ℕ, ◌+◌, ◌-◌, ◌^◌, ◌==◌, ◌∷◌, get_or, Bool, true, false, if◌then◌else◌}
 use Rattle.std.proofs.Common.{List, length, Option, Some, None, IfSome, refl, sym, ◌∙◌, ap, subst, arith}
-use Rattle.deferred_disk.specs.Deferred.{Deferred, as_recorded, after_supply, with_known, block_of, IsSuppliedWell}
+use Rattle.deferred_disk.specs.Deferred.{Deferred, as_recorded, after_forget, after_supply, with_known, block_of}
+use Rattle.deferred_disk.specs.Deferred.{IsSuppliedWell}
 use Rattle.device.specs.Memory.{Recorded, seen_of, moment_of}
 use Rattle.machine.specs.State.{Whole}
 use Rattle.session.specs.declared.notes.Notes.{Notes}
@@ -13,25 +14,25 @@ use Rattle.embedded.specs.declared.tending.Forgetting.{Forgetting}
 use Rattle.embedded.specs.inside.Tending.{HasSupplied, HasForgotten}
 use Rattle.embedded.proofs.Counting.{steps_later, still_made, needs_made}
 
-either_as : (b : Bool) (x y : Deferred) → as_recorded x ≡ as_recorded y
-    → as_recorded (if b then x else y) ≡ as_recorded y
-either_as true x y same = same
-either_as false x y same = refl
+-- the same disk in memory, and supplied well only if the other one was
+abbrev pub IsLike : Deferred → Deferred → Type 0
+IsLike after before = (as_recorded after ≡ as_recorded before) × (IsSuppliedWell after → IsSuppliedWell before)
 
-either_well : (b : Bool) (x y : Deferred) → (IsSuppliedWell x → IsSuppliedWell y) → IsSuppliedWell (if b then x else y)
-    → IsSuppliedWell y
-either_well true x y keeps well = keeps well
-either_well false x y keeps well = well
+like_itself : (disk : Deferred) → IsLike disk disk
+like_itself disk = (refl, λ well. well)
 
-known_as : (b : Bool) (x y : Deferred) → as_recorded y ≡ as_recorded x
-    → as_recorded (if b then x else y) ≡ as_recorded x
-known_as true x y same = refl
-known_as false x y same = same
+either_like : (b : Bool) (x y before : Deferred) → IsLike x before → IsLike y before
+    → IsLike (if b then x else y) before
+either_like true x y before first other = first
+either_like false x y before first other = other
 
-known_well : (b : Bool) (x y : Deferred) → (IsSuppliedWell y → IsSuppliedWell x) → IsSuppliedWell (if b then x else y)
-    → IsSuppliedWell x
-known_well true x y keeps well = well
-known_well false x y keeps well = keeps well
+-- one of two, by whether something was done
+like_one : (done : Bool) (after first other before : Deferred) → (done ≡ true → after ≡ first)
+    → (done ≡ false → after ≡ other) → IsLike first before → IsLike other before → IsLike after before
+like_one true after first other before is not like other_like =
+    subst (λ (d : Deferred). IsLike d before) (sym (is refl)) like
+like_one false after first other before is not like other_like =
+    subst (λ (d : Deferred). IsLike d before) (sym (not refl)) other_like
 
 -- a block more was supplied
 abbrev added : Deferred → ℕ → List ℕ → Deferred
@@ -40,42 +41,26 @@ added disk block bytes = record disk {
   supplied = (bytes, block_of (seen_of (as_recorded disk)) block) ∷ disk.supplied;
 }
 
-added_well : (disk : Deferred) (block : ℕ) (bytes : List ℕ) → IsSuppliedWell (added disk block bytes)
-    → IsSuppliedWell disk
-added_well disk block bytes well = well.1
-
-pub supplied_as : (disk : Deferred) (block : ℕ) (bytes : List ℕ)
-    → as_recorded (with_supplied disk block bytes) ≡ as_recorded disk
-supplied_as disk block bytes = either_as (is_of_disk disk block) (after_supply disk block bytes) disk
-    (known_as (get_or disk.known block false) disk (added disk block bytes) refl)
-
-pub supplied_well : (disk : Deferred) (block : ℕ) (bytes : List ℕ) → IsSuppliedWell (with_supplied disk block bytes)
-    → IsSuppliedWell disk
-supplied_well disk block bytes = either_well (is_of_disk disk block) (after_supply disk block bytes) disk
-    (known_well (get_or disk.known block false) disk (added disk block bytes) (added_well disk block bytes))
+supplied_like : (disk : Deferred) (block : ℕ) (bytes : List ℕ) → IsLike (with_supplied disk block bytes) disk
+supplied_like disk block bytes =
+    let more : IsLike (added disk block bytes) disk = (refl, λ well. well.1) in
+    either_like (is_of_disk disk block) (after_supply disk block bytes) disk disk
+    (either_like (get_or disk.known block false) disk (added disk block bytes) disk (like_itself disk) more)
+    (like_itself disk)
 
 -- whatever came of it
 pub tended_supply : (old new : Supplying) (before after : Deferred) → HasSupplied old before after new
-    → (as_recorded after ≡ as_recorded before) × (IsSuppliedWell after → IsSuppliedWell before)
-tended_supply old new before after it = by new.refused refl
-  where
-    by : (b : Bool) → new.refused ≡ b
-        → (as_recorded after ≡ as_recorded before) × (IsSuppliedWell after → IsSuppliedWell before)
-    by true is = (ap as_recorded (it.err is), subst IsSuppliedWell (it.err is))
-    by false is = (
-      ap as_recorded (it.ok is) ∙ supplied_as before old.block old.bytes.now,
-      λ well. supplied_well before old.block old.bytes.now (subst IsSuppliedWell (it.ok is) well),
-    )
+    → IsLike after before
+tended_supply old new before after it =
+    like_one new.refused after before (with_supplied before old.block old.bytes.now) before it.err it.ok
+    (like_itself before) (supplied_like before old.block old.bytes.now)
 
 -- a block was forgotten, or not
 pub tended_forget : (old new : Forgetting) (before after : Deferred) → HasForgotten old before after new
-    → (as_recorded after ≡ as_recorded before) × (IsSuppliedWell after → IsSuppliedWell before)
-tended_forget old new before after it = by new.done refl
-  where
-    by : (b : Bool) → new.done ≡ b
-        → (as_recorded after ≡ as_recorded before) × (IsSuppliedWell after → IsSuppliedWell before)
-    by true is = (ap as_recorded (it.forgotten is), λ well. subst IsSuppliedWell (it.forgotten is) well)
-    by false is = (ap as_recorded (it.kept is), subst IsSuppliedWell (it.kept is))
+    → IsLike after before
+tended_forget old new before after it =
+    like_one new.done after (after_forget before old.block) before before it.forgotten it.kept
+    (refl, λ well. well) (like_itself before)
 
 -- the machine with its device
 pub machine_is : (old new : Whole Deferred) (device : Deferred) → new.state ≡ old.state → new.device ≡ device
@@ -101,8 +86,7 @@ module _ (committed : Option ℕ) (needed made : ℕ) (acknowledged : Option ℕ
       let Q : Whole Recorded → Type 0 = λ m. HasServed m after committed needed made acknowledged in
       subst Q (sym same) (subst P (sym notes) (served (keeps well)))
 
-  pub serves_over : new.state ≡ old.state → after ≡ before
-      → (as_recorded new.device ≡ as_recorded old.device) × (IsSuppliedWell new.device → IsSuppliedWell old.device)
+  pub serves_over : new.state ≡ old.state → after ≡ before → IsLike new.device old.device
       → ServesWell old before committed needed made acknowledged
       → ServesWell new after committed needed made acknowledged
   serves_over state notes tended served = serves_tended (same_recorded old new state tended.0) notes tended.1 served

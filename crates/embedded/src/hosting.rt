@@ -3,8 +3,8 @@ ghost use Rattle.std.specs.Prelude.{◌≡◌, ◌+◌, ◌-◌, ◌^◌, min, t
 ghost use Rattle.deferred_disk.specs.Deferred.{after_forget, waits_behind, with_waiting};
 ghost use Rattle.deferred_disk.specs.Lent.{change_lent};
 ghost use Rattle.embedded.specs.Embedded.{are_made, made_of};
-ghost use Rattle.embedded.specs.Recorded.{recorded};
 ghost use Rattle.embedded.specs.Supplying.{may_forget, with_supplied, with_device};
+ghost use Rattle.embedded.specs.Tended.{IsTended};
 
 use crate::embedded::Embedded;
 use crate::requesting::{confirmed, is_made, made_now};
@@ -19,15 +19,9 @@ impl<A: Allocator + Copy> Embedded<A> {
         ensures ok { OnOk result (self.new.machine
             ≡ with_device self.old.machine (with_supplied self.old.machine.device block bytes.now)) }
         ensures err { OnErr result (self.new.machine ≡ self.old.machine) }
-        ensures notes { self.new.notes ≡ self.old.notes }
-        ensures files { self.new.files ≡ self.old.files }
-        ensures committed { self.new.committed ≡ self.old.committed }
-        ensures needed { self.new.needed ≡ self.old.needed }
+        ensures rest { IsTended self.old self.new }
         ensures made { self.new.made ≡ self.old.made }
         ensures acknowledged { self.new.acknowledged ≡ self.old.acknowledged }
-
-        // What a read gives, and what a crash may leave, stays.
-        ensures recorded { recorded self.new.machine ≡ recorded self.old.machine }
     {
         let mut supplying = Supplying {
             block,
@@ -50,15 +44,9 @@ impl<A: Allocator + Copy> Embedded<A> {
         ensures forgotten { result ≡ true → self.new.machine
             ≡ with_device self.old.machine (after_forget self.old.machine.device block) }
         ensures kept { result ≡ false → self.new.machine ≡ self.old.machine }
-        ensures notes { self.new.notes ≡ self.old.notes }
-        ensures files { self.new.files ≡ self.old.files }
-        ensures committed { self.new.committed ≡ self.old.committed }
-        ensures needed { self.new.needed ≡ self.old.needed }
+        ensures rest { IsTended self.old self.new }
         ensures made { self.new.made ≡ self.old.made }
         ensures acknowledged { self.new.acknowledged ≡ self.old.acknowledged }
-
-        // What a read gives, and what a crash may leave, stays.
-        ensures recorded { recorded self.new.machine ≡ recorded self.old.machine }
     {
         if block < self.requests.machine().table().geometry().first_file_home() {
             return false;
@@ -95,17 +83,11 @@ impl<A: Allocator + Copy> Embedded<A> {
     pub fn carried_out(&mut self)
         ensures carried { self.new.machine ≡ with_device self.old.machine
             (with_waiting self.old.machine.device (self.old.machine.device.waiting - 1)) }
-        ensures notes { self.new.notes ≡ self.old.notes }
-        ensures files { self.new.files ≡ self.old.files }
-        ensures committed { self.new.committed ≡ self.old.committed }
-        ensures needed { self.new.needed ≡ self.old.needed }
+        ensures rest { IsTended self.old self.new }
         ensures made { self.new.made ≡ made_of self.new.machine.device (min (self.old.made + 1) (2 ^ 64 - 1)) }
         ensures acknowledged { self.new.acknowledged
             ≡ (if are_made self.new.machine.device.waiting self.old.needed self.new.made
             then self.old.committed else self.old.acknowledged) }
-
-        // What a read gives, and what a crash may leave, stays.
-        ensures recorded { recorded self.new.machine ≡ recorded self.old.machine }
     {
         self.requests.tend(&mut Carrying);
         let waiting = self.requests.machine().device().waiting();

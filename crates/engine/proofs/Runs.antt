@@ -73,9 +73,8 @@ pub length_more : (replies : List Reply) (reply : Reply) (i : ℕ) → length re
 length_more replies reply i same = length-append replies (reply ∷ []) ∙ ap (λ n. n + 1) same
 
 -- as many replies as steps
-taken_length : {D : Type 0} (disk : Ghosts D) (old : Whole D) (steps : List Step) (replies : List Reply) (new : Whole D)
-    → StepsTaken disk old steps replies new
-    → length replies ≡ length steps
+pub taken_length : {D : Type 0} (disk : Ghosts D) (old : Whole D) (steps : List Step) (replies : List Reply)
+    (new : Whole D) → StepsTaken disk old steps replies new → length replies ≡ length steps
 taken_length disk old [] [] new taken = refl
 taken_length disk old (step ∷ steps) (reply ∷ replies) new (mid, first, taken) =
     ap suc (taken_length disk mid steps replies new taken)

@@ -1,4 +1,4 @@
 mod Appending
 mod Files
-mod Pages
+mod PageText
 pub mod Public

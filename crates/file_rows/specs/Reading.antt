@@ -1,21 +1,23 @@
--- Volumes that are only read, and the pages of their files.
-use Rattle.std.specs.Prelude.{ℕ, ◌≡◌, ◌↔◌, ◌*◌, List, length, map, take, drop}
-use Rattle.device.specs.declared.device.Device.{Ghosts}
+-- The pages of a volume's files.
+use Rattle.std.specs.Prelude.{ℕ, zero, suc, ◌≡◌, ◌+◌, ◌*◌, ◌/◌, List, [], ◌++◌, map, take, drop}
 use Rattle.recovery.specs.Volume.{VolumeState, files_of}
+use Rattle.recovery.specs.VolumeReading.{HasLengthsOf}
 use Rattle.volume_codec.specs.Super.{names_in}
 
 -- the part of these bytes that is page n, or what there is of it
 abbrev pub part_of : List ℕ → ℕ → List ℕ
 part_of bytes n = take 4096 (drop (4096 * n) bytes)
 
--- a volume that was only read: its table and lengths stay, and so does what an honest device gives
-pub record IsReadVolume {D : Type 0} (disk : Ghosts D) (old new : VolumeState D) : Type 0 where
-  pub table : new.table ≡ old.table
-  pub lengths : new.lengths ≡ old.lengths
-  pub honest : disk.is_honest new.device ↔ disk.is_honest old.device
-  pub same : disk.is_honest old.device → disk.seen new.device ≡ disk.seen old.device
+-- the pages before page n in a form of their offsets and bytes, one after the other
+abbrev pub pages_text : (ℕ → List ℕ → List ℕ) → List ℕ → ℕ → List ℕ
+pages_text page bytes zero = []
+pages_text page bytes (suc n) = pages_text page bytes n ++ page (4096 * n) (part_of bytes n)
+
+-- how many pages n bytes have; the last one may be shorter
+abbrev pub page_count : ℕ → ℕ
+page_count n = (n + 4095) / 4096
 
 -- the files of a volume whose device has these bytes, as its table and its lengths say
 pub record AreFilesOf {D : Type 0} (volume : VolumeState D) (bytes : List ℕ) : Type 0 where
   pub names : map (λ f. f.name) (files_of volume.table bytes) ≡ names_in volume.table
-  pub lengths : map (λ f. length f.bytes) (files_of volume.table bytes) ≡ volume.lengths
+  pub lengths : HasLengthsOf volume bytes

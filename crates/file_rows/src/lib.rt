@@ -1,10 +1,12 @@
-//! The files of an opened volume, read a page at a time, and written as rows of 16 bytes in a form of the caller's.
+//! The files of an opened volume, read a page at a time, and written in a form of the caller's, as rows of 16 bytes
+//! or page by page.
 #![tactic(auto)]
 
 mod form;
 mod listing;
+mod pages;
 mod reading;
 
 pub use form::{Form, ListFault};
 pub use listing::list_files;
-pub use reading::read_page;
+pub use pages::{PageForm, write_pages};

@@ -5,15 +5,16 @@ ghost use Rattle.std.specs.List.{list_all};
 ghost use Rattle.volume_codec.specs.Files.{File};
 ghost use Rattle.volume_codec.specs.Recovery.{RecoversTo};
 ghost use Rattle.recovery.specs.Opening.{Opens};
-ghost use Rattle.recovery.specs.Volume.{files_of, bytes_of};
-ghost use Rattle.file_rows.specs.Rows.{shown, rows_text, row_count, file_listing, files_listing};
-ghost use Rattle.file_rows.specs.Reading.{IsReadVolume, AreFilesOf};
+ghost use Rattle.recovery.specs.Volume.{files_of};
+ghost use Rattle.recovery.specs.VolumeReading.{IsVolumeOnlyRead};
+ghost use Rattle.file_rows.specs.Rows.{shown, row_count, file_listing, files_listing};
+ghost use Rattle.file_rows.specs.Reading.{AreFilesOf};
 ghost use Rattle.file_rows.specs.inside.Pages.{rows_at};
 
 use crate::form::{Form, ListFault};
-use crate::reading::read_page;
+use crate::pages::{PageForm, write_pages};
 use device::Device;
-use page_entry::{PAGE, Refusal};
+use page_entry::Refusal;
 use recovery::Volume;
 use std::alloc::Allocator;
 use std::io;
@@ -74,40 +75,26 @@ fn write_file<D: Device + Drop, A: Allocator + Copy, F: Form, W: io::Write>(
         → slice_get (files_of volume.old.table (D.seen volume.old.device)) file ≡ Some f
         → OnOk result (Appends (W.contents out.old) (W.contents out.new)
         (file_listing (F.head_text form.now) (F.row_text form.now) f)) }
-    ensures read { IsReadVolume D.Device volume.old volume.new }
+    ensures read { IsVolumeOnlyRead D.Device volume.old volume.new }
 {
     let bytes = volume.length(file);
     let name = volume.name(file);
     form.write_head(name, bytes, out)?;
-    write_pages(volume, file, bytes, form, out)
+    write_pages(volume, file, bytes, &Rows { form }, out)
 }
 
-// Writes the rows of a file of this length, and reads it a page at a time.
-fn write_pages<D: Device + Drop, A: Allocator + Copy, F: Form, W: io::Write>(
-    volume: &mut Volume<D, A>,
-    file: usize,
-    bytes: u64,
-    form: &F,
-    out: &mut W,
-) -> Result<(), ListFault>
-    requires there { file < length volume.old.table.files }
-    requires long { slice_get volume.old.lengths file ≡ Some bytes }
-    requires files { D.is_honest volume.old.device → AreFilesOf volume.old (D.seen volume.old.device) }
-    ensures printed { D.is_honest volume.old.device → OnOk result (Appends (W.contents out.old) (W.contents out.new)
-        (rows_text (F.row_text form.now) (bytes_of (files_of volume.old.table (D.seen volume.old.device)) file)
-        (row_count bytes))) }
-    ensures read { IsReadVolume D.Device volume.old volume.new }
-{
-    for page in 0..bytes.div_ceil(PAGE) {
-        let at = PAGE * page;
-        let mut buffer = [0; PAGE as usize];
-        let part = &mut buffer[..(bytes - at).min(PAGE) as usize];
-        if let Err(refusal) = read_page(volume, file, bytes, page, part) {
-            return Err(ListFault::Unreadable(refusal));
-        }
-        write_rows(at, part, form, out)?;
+// The pages of a file as their rows.
+#[derive(Clone, Copy)]
+struct Rows<'a, F> {
+    form: &'a F,
+}
+
+impl<F: Form> PageForm for Rows<'_, F> {
+    ghost page_text = { λ rows at page. rows_at (F.row_text rows.form.now) at page (row_count (length page)) };
+
+    fn write_page<W: io::Write>(&self, at: u64, page: &[u8], out: &mut W) -> Result<(), ListFault> {
+        write_rows(at, page, self.form, out)
     }
-    Ok(())
 }
 
 // Writes the rows of bytes that begin at this offset of a file.

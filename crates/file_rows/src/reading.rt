@@ -1,7 +1,8 @@
 // A page of a file.
 ghost use Rattle.std.specs.Prelude.{◌≡◌, ◌<◌, ◌-◌, ◌*◌, length, min, slice_get, Some, OnOk};
 ghost use Rattle.recovery.specs.Volume.{files_of, bytes_of};
-ghost use Rattle.file_rows.specs.Reading.{part_of, IsReadVolume, AreFilesOf};
+ghost use Rattle.recovery.specs.VolumeReading.{IsVolumeOnlyRead};
+ghost use Rattle.file_rows.specs.Reading.{part_of, AreFilesOf};
 
 use device::Device;
 use page_entry::{PAGE, Refusal};
@@ -23,7 +24,7 @@ pub fn read_page<D: Device + Drop, A: Allocator + Copy>(
     requires files { D.is_honest volume.old.device → AreFilesOf volume.old (D.seen volume.old.device) }
     ensures page { D.is_honest volume.old.device → OnOk result
         (part.new ≡ part_of (bytes_of (files_of volume.old.table (D.seen volume.old.device)) file) page) }
-    ensures read { IsReadVolume D.Device volume.old volume.new }
+    ensures read { IsVolumeOnlyRead D.Device volume.old volume.new }
 {
     volume.read_file(file, PAGE * page, part)
 }

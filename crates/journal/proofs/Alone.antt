@@ -37,7 +37,7 @@ use Rattle.journal.specs.inside.Queued.{QueuedWriteOut, queued_after}
 use Rattle.journal.specs.inside.Alone.{unless_done, alone_of}
 use Rattle.journal.proofs.Stages.{stage_at-is, stage_from, next_in}
 use Rattle.journal.proofs.Tying.{stage_of}
-use Rattle.journal.proofs.Sounding.{next_from, first_stage}
+use Rattle.journal.proofs.Sounding.{next_from, first_stage, sound_without}
 use Rattle.journal.proofs.Leaving.{is_last}
 use Rattle.journal.proofs.Moving.{lone_moves}
 use Rattle.journal.proofs.KeptConsistent.{tied_first, consistent_going, consistent_begun}
@@ -179,15 +179,7 @@ begun_alone v batch room new seen may is_batch volume only outside =
 
     rests : IsConsistent v empty (block_at seen) (block_at seen) seen may
     rests = consistent_going v (block_at seen) (block_at seen) empty seen may refl
-        (record {
-          geometry = fits_geometry v volume.super_block.fits;
-          there = is_batch.there;
-          few = omega arith;
-          each = tt;
-          ordered = tt;
-          spaced = λ e. tt;
-          turn = tt;
-        }) refl
+        (sound_without (geometry_of v) batch.journal (fits_geometry v volume.super_block.fits) is_batch.there) refl
         (tied_first v seen may volume only)
 
     same : begun empty batch.mark batch.homes ≡ alone_of (flush_of (geometry_of v) batch room)

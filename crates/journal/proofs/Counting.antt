@@ -23,8 +23,8 @@ use Rattle.journal.specs.inside.Tied.{is_applying, is_applied, is_recorded}
 use Rattle.journal.proofs.Alls.{all_map, all_back}
 use Rattle.journal.proofs.Stages.{next_in}
 use Rattle.journal.proofs.Batches.{committed-at, at-is}
-use Rattle.journal.proofs.Tying.{false_true, stage_of}
-use Rattle.journal.proofs.Sounding.{next_from, each_committed, not_busy, next_is_batch, begun_sound}
+use Rattle.journal.proofs.Tying.{false_true, late_stage, late_next, stage_of}
+use Rattle.journal.proofs.Sounding.{next_from, each_committed, not_busy, next_is_batch, begun_sound, sound_without}
 use Rattle.journal.proofs.Moving.{AreSyncing, None_syncs, Homes_syncs, Records_syncs, Both_sync}
 use Rattle.journal.proofs.Moving.{Moves, By_newest, By_one, By_all, moves_of}
 use Rattle.journal.proofs.Answering.{AreSound, work_in, answer_in, after_in, work_is, answer_is, early_answer}
@@ -43,19 +43,8 @@ abbrev owed : List WriteOut → ℕ
 owed batches = cond (list_any (is_at is_between) batches) 1 0
 
 late_owes_none : (w : WriteOut) → has_committed w ≡ true → is_at is_between w ≡ false
-late_owes_none w committed = by (next_stage w) committed
-  where
-    by : (o : Option Stage) → option_map_or is_committed o true ≡ true → option_map_or is_between o false ≡ false
-    by None late = refl
-    by (Some (Recording i)) late = false_true late
-    by (Some (Describing i)) late = false_true late
-    by (Some SyncingRecords) late = false_true late
-    by (Some Opening) late = false_true late
-    by (Some Committing) late = false_true late
-    by (Some (Applying i)) late = refl
-    by (Some SyncingHomes) late = refl
-    by (Some Closing) late = refl
-    by (Some Finishing) late = refl
+late_owes_none w committed =
+    late_next (λ o. option_map_or is_between o false ≡ false) refl (λ i. refl) refl refl refl w committed
 
 any_newest : (others : List WriteOut) (w : WriteOut) → AllByRecursion (λ x. has_committed x ≡ true) others
     → list_any (is_at is_between) (others ++ w ∷ []) ≡ is_at is_between w
@@ -258,15 +247,7 @@ pub counted : (g : GeometryValue) → IsGeometry g → shares_syncs g.layout ≡
 counted g is_geometry shared NoneYet = record {
   geometry = refl;
   whole = refl;
-  sound = record {
-    geometry = is_geometry;
-    there = (few_journals g.layout).0;
-    few = omega arith;
-    each = tt;
-    ordered = tt;
-    spaced = λ e. tt;
-    turn = tt;
-  };
+  sound = sound_without g 0 is_geometry (few_journals g.layout).0;
   count = refl;
 }
 counted g is_geometry shared (OneBegun outs commits syncs mark homes may run) =
@@ -336,15 +317,7 @@ not_both (Some Closing) applying applied = both_ways false refl applying
 not_both (Some Finishing) applying applied = both_ways false refl applying
 
 late_recorded : (s : Stage) → is_committed s ≡ true → is_recorded s ≡ true
-late_recorded (Recording i) late = false_true late
-late_recorded (Describing i) late = false_true late
-late_recorded SyncingRecords late = false_true late
-late_recorded Opening late = false_true late
-late_recorded Committing late = false_true late
-late_recorded (Applying i) late = refl
-late_recorded SyncingHomes late = refl
-late_recorded Closing late = refl
-late_recorded Finishing late = refl
+late_recorded s late = late_stage (λ s. is_recorded s ≡ true) (λ i. refl) refl refl refl s late
 
 two_at_most : (g : GeometryValue) (batches : List WriteOut) → AllByRecursion (IsWriteOut g) batches
     → AreInOrder batches → AreSpaced batches → AllByRecursion (λ w. has_committed w ≡ true) batches

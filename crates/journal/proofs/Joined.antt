@@ -1,6 +1,6 @@
 -- The list of write-outs that the code keeps, while each of them makes its step.
 use Rattle.std.proofs.Common.{◌≡◌, ℕ, zero, suc, ◌<◌, ◌≤◌, Bool, true, false, cond, List, [], ◌∷◌, length}
-use Rattle.std.proofs.Common.{get_or, set, map, Option, Some, None, refl, sym, ap, ◌∙◌, arith}
+use Rattle.std.proofs.Common.{get_or, set, map, Option, Some, None, refl, sym, ap, subst, ◌∙◌, arith}
 use Rattle.std.specs.Prelude.{IsSome, IfNone}
 use Rattle.std.specs.List.{AllByRecursion}
 use Rattle.std.specs.Option.{option_map, option_map_or, option_and_then}
@@ -15,7 +15,8 @@ use Rattle.journal.specs.WriteOut.{WriteOut, next_stage, advanced_of, record_at,
 use Rattle.journal.specs.WriteOuts.{WriteOutsValue, shares_syncs, is_at, moving, moved, outs_moving}
 use Rattle.journal.specs.WriteOuts.{outs_record, outs_home}
 use Rattle.journal.specs.inside.Queued.{QueuedWriteOut, queued_advanced}
-use Rattle.journal.specs.inside.Room.{write_outs_in, rooms_in, IsJoint}
+use Rattle.journal.specs.inside.Room.{write_outs_in, rooms_in, outs_of, IsLone, IsJoint}
+use Rattle.journal.proofs.Rooms.{lone_mover}
 use Rattle.journal.proofs.Tying.{false_true}
 
 -- the first n have made it
@@ -130,17 +131,18 @@ joint_home w joins = ap (option_map (λ k. get_or w.batch.homes k 0)) (joint_rec
 
 -- ---- the record that the next step writes
 
+-- what is said of the one at a place of the code's list, which makes the step alone
+pub of_lone : (f : WriteOut → Option ℕ) (geometry : GeometryValue) (next : ℕ) (queued : List QueuedWriteOut)
+    (broken : Bool) (outs : WriteOutsValue) (at : ℕ) (one : QueuedWriteOut) → outs_of geometry next queued broken ≡ outs
+    → broken ≡ false → one ≡ get_or queued at one → IsLone (shares_syncs outs.geometry.layout) outs.batches at
+    → cond outs.broken None (option_and_then f (outs_moving outs)) ≡ f one.write_out
+of_lone f geometry next queued broken outs at one is whole here lone =
+    subst (λ (o : WriteOutsValue). cond o.broken None (option_and_then f (outs_moving o)) ≡ f one.write_out) is
+    (cond-false broken None (option_and_then f (outs_moving (outs_of geometry next queued broken))) whole
+    ∙ ap (option_and_then f) (lone_mover (shares_syncs geometry.layout) queued (Some at) at one refl here
+    (subst (λ (o : WriteOutsValue). IsLone (shares_syncs o.geometry.layout) o.batches at) (sym is) lone)))
+
 module _ (outs : WriteOutsValue) where
-  pub record_of : (w : WriteOut) → outs.broken ≡ false → outs_moving outs ≡ Some w → outs_record outs ≡ next_record w
-  record_of w whole mover =
-      cond-false outs.broken None (option_and_then next_record (outs_moving outs)) whole
-      ∙ ap (option_and_then next_record) mover
-
-  pub home_of : (w : WriteOut) → outs.broken ≡ false → outs_moving outs ≡ Some w → outs_home outs ≡ next_home w
-  home_of w whole mover =
-      cond-false outs.broken None (option_and_then next_home (outs_moving outs)) whole
-      ∙ ap (option_and_then next_home) mover
-
   -- where none makes the step alone
   module _ (joint : (outs.batches ≡ [] → ⊥) → IsJoint (shares_syncs outs.geometry.layout) outs.batches) where
     abbrev none_of_them : (WriteOut → Option ℕ) → List WriteOut → Type 0

@@ -40,7 +40,7 @@ use Rattle.journal.proofs.Tying.{false_true, progress-newest, progress_all, unde
 use Rattle.journal.proofs.Firm.{durable_all}
 use Rattle.journal.proofs.Leaving.{under_way}
 use Rattle.journal.proofs.Stepping.{durable_push, left_same, all_committed, before_within}
-use Rattle.journal.proofs.Sounding.{turn_free, first_stage, not_busy, next_is_batch, begun_sound}
+use Rattle.journal.proofs.Sounding.{turn_free, first_stage, not_busy, next_is_batch, begun_sound, sound_without}
 use Rattle.journal.proofs.Answering.{AreSound, stage_committed, work_in, answer_in, after_in, sound_of}
 use Rattle.journal.proofs.Answering.{outs_after-is, step_sound, failed_sound, sound_after, answer_same}
 use Rattle.journal.proofs.Keeping.{sharing, IsWithin, GoesOn, steps_of, tied_of, left_before}
@@ -251,15 +251,7 @@ pub consistent_first : (v : SuperValue) (seen : List ℕ) (may : List ℕ → Ty
     → IsConsistent v (none_of (geometry_of v)) (block_at seen) (block_at seen) seen may
 consistent_first v seen may is_geometry volume only =
     consistent_going v (block_at seen) (block_at seen) (none_of (geometry_of v)) seen may refl
-    (record {
-      geometry = is_geometry;
-      there = (few_journals v.layout).0;
-      few = omega arith;
-      each = tt;
-      ordered = tt;
-      spaced = λ e. tt;
-      turn = tt;
-    }) refl
+    (sound_without (geometry_of v) 0 is_geometry (few_journals v.layout).0) refl
     (tied_first v seen may volume only)
 
 -- ---- a batch begins

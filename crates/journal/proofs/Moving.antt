@@ -16,9 +16,9 @@ use Rattle.journal.specs.WriteOuts.{has_uncommitted, is_at, gives_way, moving, j
 use Rattle.journal.specs.inside.Sound.{IsWriteOut, IsOlder, AreInOrder, IsSpaced, AreSpaced}
 use Rattle.journal.specs.inside.Tied.{is_applying, is_applied, is_recorded}
 use Rattle.journal.proofs.Alls.{all_map, all-append, all_back}
-use Rattle.journal.proofs.Batches.{newest_of, current-newest, current-oldest, advanced-newest, advanced-oldest}
-use Rattle.journal.proofs.Batches.{committed_parts, committed-at, at-is}
-use Rattle.journal.proofs.Tying.{false_true, stage_of}
+use Rattle.journal.proofs.Batches.{HasNewest, newest_of, current-newest, current-oldest, advanced-newest}
+use Rattle.journal.proofs.Batches.{advanced-oldest, committed_parts, committed-at, at-is}
+use Rattle.journal.proofs.Tying.{false_true, late_next, stage_of}
 use Rattle.journal.proofs.Sounding.{IsOneOf, each_committed}
 
 -- ---- some of them have this
@@ -138,19 +138,8 @@ all_move w newer joins none_ahead none_writes = steps_first true w newer (map ad
 -- ---- stages
 
 pub not_ahead : (w : WriteOut) → has_committed w ≡ true → is_at is_ahead w ≡ false
-not_ahead w committed = by (next_stage w) committed
-  where
-    by : (o : Option Stage) → option_map_or is_committed o true ≡ true → option_map_or is_ahead o false ≡ false
-    by None late = refl
-    by (Some (Recording i)) late = false_true late
-    by (Some (Describing i)) late = false_true late
-    by (Some SyncingRecords) late = false_true late
-    by (Some Opening) late = false_true late
-    by (Some Committing) late = false_true late
-    by (Some (Applying i)) late = refl
-    by (Some SyncingHomes) late = refl
-    by (Some Closing) late = refl
-    by (Some Finishing) late = refl
+not_ahead w committed =
+    late_next (λ o. option_map_or is_ahead o false ≡ false) refl (λ i. refl) refl refl refl w committed
 
 -- one that writes, and isn't ahead
 record IsWriter (s : Stage) : Type 0 where
@@ -376,6 +365,28 @@ pub data Moves (shares : Bool) (batches : List WriteOut) : Type 0 where
   By_all : AllMove shares batches → Moves shares batches
 
 module _ (g : GeometryValue) where
+  -- the newest, which isn't committed
+  by_newest : (shares : Bool) (batches : List WriteOut) → AllByRecursion (IsWriteOut g) batches
+      → (n : HasNewest batches) → (shares ≡ true → is_at is_ahead n.newest ≡ true)
+      → moving shares (n.others ++ n.newest ∷ []) ≡ Some n.newest
+      → moved shares (n.others ++ n.newest ∷ []) ≡ n.others ++ advanced_of n.newest ∷ [] → Moves shares batches
+  by_newest shares batches each n ahead mover after =
+      let own = (all_back (IsWriteOut g) n.others (n.newest ∷ [])
+      (subst (AllByRecursion (IsWriteOut g)) n.are each)).0 in
+      let s = stage_of n.newest own.going in
+      By_newest (record {
+        others = n.others;
+        newest = n.newest;
+        stage = s.0;
+        are = n.are;
+        at = s.1;
+        early = sym (committed-at n.newest s.0 s.1) ∙ n.uncommitted;
+        ahead = λ e. sym (at-is is_ahead n.newest s.0 s.1) ∙ ahead e;
+        older = n.older;
+        mover = ap (moving shares) n.are ∙ mover;
+        after = ap (moved shares) n.are ∙ after;
+      })
+
   -- where no sync is shared
   moves_alone : (batches : List WriteOut) → (batches ≡ [] → ⊥) → AllByRecursion (IsWriteOut g) batches
       → AreInOrder batches → Moves false batches
@@ -383,21 +394,8 @@ module _ (g : GeometryValue) where
   moves_alone (w ∷ newer) some each ordered = elim (cases_Bool (has_uncommitted (w ∷ newer))) [
     | inl has ↦
         (let n = newest_of (w ∷ newer) ordered has in
-        let own = (all_back (IsWriteOut g) n.others (n.newest ∷ [])
-        (subst (AllByRecursion (IsWriteOut g)) n.are each)).0 in
-        let s = stage_of n.newest own.going in
-        By_newest (record {
-          others = n.others;
-          newest = n.newest;
-          stage = s.0;
-          are = n.are;
-          at = s.1;
-          early = sym (committed-at n.newest s.0 s.1) ∙ n.uncommitted;
-          ahead = λ e. false_true e;
-          older = n.older;
-          mover = ap (moving false) n.are ∙ current-newest n.others n.newest n.uncommitted;
-          after = ap (moved false) n.are ∙ advanced-newest n.others n.newest n.uncommitted;
-        }))
+        by_newest false (w ∷ newer) each n (λ e. false_true e) (current-newest n.others n.newest n.uncommitted)
+        (advanced-newest n.others n.newest n.uncommitted))
     | inr none ↦
         (let parts = committed_parts w newer none in
         let s = stage_of w each.0.going in
@@ -503,30 +501,16 @@ module _ (g : GeometryValue) where
         (each_committed batches none))
     | inl has ↦
         (let n = newest_of batches ordered has in
-        let own = (all_back (IsWriteOut g) n.others (n.newest ∷ [])
-        (subst (AllByRecursion (IsWriteOut g)) n.are each)).0 in
-        let s = stage_of n.newest own.going in
-        elim (cases_Bool (is_ahead s.0)) [
+        elim (cases_Bool (is_at is_ahead n.newest)) [
           | inl ahead ↦
-              (let moves = ahead_moves n.others n.newest (at-is is_ahead n.newest s.0 s.1 ∙ ahead) in
-              By_newest (record {
-                others = n.others;
-                newest = n.newest;
-                stage = s.0;
-                are = n.are;
-                at = s.1;
-                early = sym (committed-at n.newest s.0 s.1) ∙ n.uncommitted;
-                ahead = λ e. ahead;
-                older = n.older;
-                mover = ap (moving true) n.are ∙ moves.0;
-                after = ap (moved true) n.are ∙ moves.1;
-              }))
+              (let moves = ahead_moves n.others n.newest ahead in
+              by_newest true batches each n (λ e. ahead) moves.0 moves.1)
           | inr behind ↦ moves_behind batches some each ordered spaced
               (subst (AllByRecursion (λ w. is_at is_ahead w ≡ false)) (sym n.are)
               (all-append (λ w. is_at is_ahead w ≡ false) n.others (n.newest ∷ [])
               (all_map {P = λ w. IsOlder w n.newest} {Q = λ w. is_at is_ahead w ≡ false}
               (λ w old. not_ahead w old.committed) n.others n.older)
-              (at-is is_ahead n.newest s.0 s.1 ∙ behind, tt)))
+              (behind, tt)))
         ])
   ]
 

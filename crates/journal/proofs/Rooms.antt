@@ -87,44 +87,47 @@ newest_tells (w ∷ x ∷ newer) (suc n) d e ordered =
     ap (λ b. not b || has_uncommitted (x ∷ newer)) ordered.0.0.committed
     ∙ newest_tells (x ∷ newer) n d (omega arith) ordered.1
 
-last_current : (batches : List WriteOut) (n : ℕ) (d : WriteOut)
-    → suc n ≡ length batches → AreInOrder batches → has_uncommitted batches ≡ true
-    → current batches ≡ Some (get_or batches n d)
-last_current [] n d e ordered has = absurd (omega arith)
-last_current (w ∷ []) zero d e ordered has = refl
-last_current (w ∷ []) (suc n) d e ordered has = absurd (omega arith)
-last_current (w ∷ x ∷ newer) zero d e ordered has = absurd (omega arith)
-last_current (w ∷ x ∷ newer) (suc n) d e ordered has =
+-- of the last, which isn't committed, holds what holds of one alone, and of one more before it
+from_last : (P : List WriteOut → ℕ → Type 0) → ((w : WriteOut) → P (w ∷ []) 0)
+    → ((w x : WriteOut) (newer : List WriteOut) (n : ℕ) → has_uncommitted (x ∷ newer) ≡ true → P (x ∷ newer) n
+    → P (w ∷ x ∷ newer) (suc n))
+    → (batches : List WriteOut) (n : ℕ) (d : WriteOut) → suc n ≡ length batches → AreInOrder batches
+    → has_uncommitted batches ≡ true → P batches n
+from_last P alone before [] n d e ordered has = absurd (omega arith)
+from_last P alone before (w ∷ []) zero d e ordered has = alone w
+from_last P alone before (w ∷ []) (suc n) d e ordered has = absurd (omega arith)
+from_last P alone before (w ∷ x ∷ newer) zero d e ordered has = absurd (omega arith)
+from_last P alone before (w ∷ x ∷ newer) (suc n) d e ordered has =
     let rest : has_uncommitted (x ∷ newer) ≡ true =
     newest_tells (x ∷ newer) n d (omega arith) ordered.1
     ∙ sym (newest_tells (w ∷ x ∷ newer) (suc n) d e ordered)
     ∙ has in
-    cond-true (has_uncommitted (x ∷ newer)) (current (x ∷ newer)) (Some w) rest
-    ∙ last_current (x ∷ newer) n d (omega arith) ordered.1 rest
+    before w x newer n rest (from_last P alone before (x ∷ newer) n d (omega arith) ordered.1 rest)
+
+last_current : (batches : List WriteOut) (n : ℕ) (d : WriteOut)
+    → suc n ≡ length batches → AreInOrder batches → has_uncommitted batches ≡ true
+    → current batches ≡ Some (get_or batches n d)
+last_current batches n d e ordered has = from_last (λ l n. current l ≡ Some (get_or l n d)) (λ w. refl)
+    (λ w x newer n rest is. cond-true (has_uncommitted (x ∷ newer)) (current (x ∷ newer)) (Some w) rest ∙ is)
+    batches n d e ordered has
 
 last_advanced : (batches : List WriteOut) (n : ℕ) (d : WriteOut)
     → suc n ≡ length batches → AreInOrder batches → has_uncommitted batches ≡ true
     → advanced batches ≡ set batches n (advanced_of (get_or batches n d))
-last_advanced [] n d e ordered has = absurd (omega arith)
-last_advanced (w ∷ []) zero d e ordered has = refl
-last_advanced (w ∷ []) (suc n) d e ordered has = absurd (omega arith)
-last_advanced (w ∷ x ∷ newer) zero d e ordered has = absurd (omega arith)
-last_advanced (w ∷ x ∷ newer) (suc n) d e ordered has =
-    let rest : has_uncommitted (x ∷ newer) ≡ true =
-    newest_tells (x ∷ newer) n d (omega arith) ordered.1
-    ∙ sym (newest_tells (w ∷ x ∷ newer) (suc n) d e ordered)
-    ∙ has in
+last_advanced batches n d e ordered has =
+    from_last (λ l n. advanced l ≡ set l n (advanced_of (get_or l n d))) (λ w. refl)
+    (λ w x newer n rest is.
     cond-true (has_uncommitted (x ∷ newer)) (w ∷ advanced (x ∷ newer)) (advanced_of w ∷ x ∷ newer) rest
-    ∙ ap (λ (l : List WriteOut). w ∷ l) (last_advanced (x ∷ newer) n d (omega arith) ordered.1 rest)
+    ∙ ap (λ (l : List WriteOut). w ∷ l) is) batches n d e ordered has
 
-pub last_is_current : (batches : List WriteOut) (n : ℕ) → suc n ≡ length batches
+last_is_current : (batches : List WriteOut) (n : ℕ) → suc n ≡ length batches
     → AreInOrder batches → has_uncommitted batches ≡ true
     → IsCurrent batches n
 last_is_current batches n e ordered has =
     record { within = omega arith; current = λ d. last_current batches n d e ordered has }
 
 -- without shared syncs it makes the next step
-pub last_is_lone : (batches : List WriteOut) (n : ℕ) → suc n ≡ length batches
+last_is_lone : (batches : List WriteOut) (n : ℕ) → suc n ≡ length batches
     → AreInOrder batches → has_uncommitted batches ≡ true
     → IsLone false batches n
 last_is_lone batches n e ordered has = record {
@@ -132,6 +135,14 @@ last_is_lone batches n e ordered has = record {
   mover = λ d. last_current batches n d e ordered has;
   after = λ d. last_advanced batches n d e ordered has;
 }
+
+-- the last, which isn't committed, is the one whose stage decides, and without shared syncs it makes the next step
+pub last_place : (queued : List QueuedWriteOut) (n : ℕ) → suc n ≡ length queued → AreInOrder (write_outs_in queued)
+    → has_uncommitted (write_outs_in queued) ≡ true
+    → IsCurrent (write_outs_in queued) n × IsLone false (write_outs_in queued) n
+last_place queued n e ordered has =
+    let end : suc n ≡ length (write_outs_in queued) = omega (arith, e, length-write_outs queued) in
+    (last_is_current (write_outs_in queued) n end ordered has, last_is_lone (write_outs_in queued) n end ordered has)
 
 pub first_is_lone : (batches : List WriteOut) → (batches ≡ [] → ⊥) → has_uncommitted batches ≡ false
     → IsLone false batches 0

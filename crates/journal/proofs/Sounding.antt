@@ -5,7 +5,7 @@ use Rattle.std.specs.Prelude.{IsSome}
 use Rattle.std.specs.List.{AllByRecursion}
 use Rattle.std.proofs.lemmas.Bool.{both_ways, cond_both, eqb-true, eqb-false, or_parts}
 use Rattle.volume_codec.specs.declared.layout.Layout.{Layout}
-use Rattle.volume_codec.specs.Layout.{GeometryValue, journals_of, descriptor_blocks}
+use Rattle.volume_codec.specs.Layout.{GeometryValue, IsGeometry, journals_of, descriptor_blocks}
 use Rattle.volume_codec.specs.Descriptor.{AreHomes}
 use Rattle.volume_codec.specs.Recovery.{Batch}
 use Rattle.journal.specs.declared.stage.Stage.{Stage}
@@ -13,7 +13,8 @@ use Rattle.journal.specs.declared.stage.Stage.TheVariants.{Recording, Describing
 use Rattle.journal.specs.declared.stage.Stage.TheVariants.{Committing, Applying, SyncingHomes, Closing, Finishing}
 use Rattle.journal.specs.Stage.{is_committed, has_writes, is_ahead}
 use Rattle.journal.specs.WriteOut.{WriteOut, next_stage, has_committed, advanced_of, begun_of}
-use Rattle.journal.specs.WriteOuts.{WriteOutsValue, has_uncommitted, is_at, following, is_busy, next_batch, begun}
+use Rattle.journal.specs.WriteOuts.{WriteOutsValue, none_of, has_uncommitted, is_at, following, is_busy}
+use Rattle.journal.specs.WriteOuts.{next_batch, begun}
 use Rattle.journal.specs.WriteOut.{IsBatch}
 use Rattle.journal.specs.inside.Sound.{IsWriteOut, IsOlder, AreInOrder, IsSpaced, AreSpaced}
 use Rattle.journal.specs.inside.Sound.{AreInTurn, IsTurn, IsSound}
@@ -22,7 +23,7 @@ use Rattle.journal.proofs.Alls.{all_map, all_both, all-append, all_front, all_ba
 use Rattle.journal.proofs.Places.{descriptor_some}
 use Rattle.journal.proofs.Stages.{stage_from, next_of, next_in, next_is}
 use Rattle.journal.proofs.Batches.{committed-at, at-is, committed_parts}
-use Rattle.journal.proofs.Tying.{false_true}
+use Rattle.journal.proofs.Tying.{false_true, late_stage}
 
 pub some_stage : {o : Option Stage} {stage : Stage} → o ≡ Some stage → IsSome o
 some_stage e = subst IsSome (sym e) refl
@@ -251,18 +252,9 @@ module _ (g : GeometryValue) (older : List WriteOut) (w : WriteOut) (newer : Lis
 
   pub one_spaced : AreSpaced (older ++ w ∷ newer) → AreSpaced (older ++ advanced_of w ∷ newer)
   one_spaced spaced = spaced_replaced older w (advanced_of w) newer
-      (λ e. at-is is_recorded w stage is.at ∙ by stage is.late) next.keeps spaced
-    where
-      by : (s : Stage) → is_committed s ≡ true → is_recorded s ≡ true
-      by (Recording i) late = false_true late
-      by (Describing i) late = false_true late
-      by SyncingRecords late = false_true late
-      by Opening late = false_true late
-      by Committing late = false_true late
-      by (Applying i) late = refl
-      by SyncingHomes late = refl
-      by Closing late = refl
-      by Finishing late = refl
+      (λ e. at-is is_recorded w stage is.at
+      ∙ late_stage (λ s. is_recorded s ≡ true) (λ i. refl) refl refl refl stage is.late)
+      next.keeps spaced
 
   pub one_each : AllByRecursion (IsWriteOut g) (older ++ w ∷ newer)
       → AllByRecursion (IsWriteOut g) (older ++ advanced_of w ∷ newer)
@@ -379,6 +371,19 @@ turn_free layout next [] turn few = tt
 turn_free layout next (w ∷ newer) turn few = free_after layout next w.batch.journal (w ∷ newer) (refl, turn) few
 
 -- ---- a batch begins
+
+-- where there is none yet
+pub sound_without : (g : GeometryValue) (next : ℕ) → IsGeometry g → next < journals_of g.layout
+    → IsSound (record (none_of g) { next = next })
+sound_without g next is_geometry there = record {
+  geometry = is_geometry;
+  there = there;
+  few = omega arith;
+  each = tt;
+  ordered = tt;
+  spaced = λ e. tt;
+  turn = tt;
+}
 
 -- where none isn't committed, each is
 pub each_committed : (batches : List WriteOut) → has_uncommitted batches ≡ false

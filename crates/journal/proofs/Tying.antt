@@ -1,5 +1,5 @@
 -- Write-outs by the stages of their next steps, and their order.
-use Rattle.std.proofs.Common.{◌≡◌, ◌≢◌, ◌<◌, ◌⊎◌, inl, inr, true, false, not, ◌||◌, List}
+use Rattle.std.proofs.Common.{◌≡◌, ◌≢◌, ℕ, ◌<◌, ◌⊎◌, inl, inr, true, false, not, ◌||◌, List}
 use Rattle.std.proofs.Common.{[], ◌∷◌, ◌++◌, Option, Some, None, refl, sym, ap, ◌∙◌, subst}
 use Rattle.std.specs.Prelude.{IsSome}
 use Rattle.std.specs.List.{AllByRecursion}
@@ -7,7 +7,8 @@ use Rattle.std.specs.Option.{option_map_or}
 use Rattle.std.proofs.lemmas.Bool.{both_ways}
 use Rattle.volume_codec.specs.Layout.{GeometryValue}
 use Rattle.journal.specs.declared.stage.Stage.{Stage}
-use Rattle.journal.specs.declared.stage.Stage.TheVariants.{Applying, Finishing}
+use Rattle.journal.specs.declared.stage.Stage.TheVariants.{Recording, Describing, SyncingRecords, Opening}
+use Rattle.journal.specs.declared.stage.Stage.TheVariants.{Committing, Applying, SyncingHomes, Closing, Finishing}
 use Rattle.journal.specs.Stage.{is_committed}
 use Rattle.journal.specs.WriteOut.{WriteOut, IsBatch, next_stage, has_committed}
 use Rattle.journal.specs.WriteOuts.{has_uncommitted}
@@ -18,6 +19,27 @@ use Rattle.journal.proofs.Batches.{committed-at, at-is}
 
 pub false_true : {A : Type 0} → false ≡ true → A
 false_true e = absurd (both_ways false refl e)
+
+-- what holds of each stage of a committed batch, and once it is done
+pub late_stage : (P : Stage → Type 0) → ((i : ℕ) → P (Applying i)) → P SyncingHomes → P Closing → P Finishing
+    → (s : Stage) → is_committed s ≡ true → P s
+late_stage P applying syncing closing finishing (Recording i) late = false_true late
+late_stage P applying syncing closing finishing (Describing i) late = false_true late
+late_stage P applying syncing closing finishing SyncingRecords late = false_true late
+late_stage P applying syncing closing finishing Opening late = false_true late
+late_stage P applying syncing closing finishing Committing late = false_true late
+late_stage P applying syncing closing finishing (Applying i) late = applying i
+late_stage P applying syncing closing finishing SyncingHomes late = syncing
+late_stage P applying syncing closing finishing Closing late = closing
+late_stage P applying syncing closing finishing Finishing late = finishing
+
+pub late_next : (P : Option Stage → Type 0) → P None → ((i : ℕ) → P (Some (Applying i))) → P (Some SyncingHomes)
+    → P (Some Closing) → P (Some Finishing) → (w : WriteOut) → has_committed w ≡ true → P (next_stage w)
+late_next P none applying syncing closing finishing w late = by (next_stage w) late
+  where
+    by : (o : Option Stage) → option_map_or is_committed o true ≡ true → P o
+    by None late = none
+    by (Some s) late = late_stage (λ s. P (Some s)) applying syncing closing finishing s late
 
 -- the stage of a write-out that isn't done
 pub stage_of : (w : WriteOut) → IsSome (next_stage w) → (stage : Stage) × (next_stage w ≡ Some stage)

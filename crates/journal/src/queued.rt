@@ -11,12 +11,12 @@ ghost use Rattle.journal.specs.inside.Sound.{IsFlush};
 ghost use Rattle.journal.specs.inside.Queued.{queued_of, committed_queued, queued_advanced, queued_after};
 
 use crate::copying::apply_record;
-use crate::gate::{close_gate, open_gate};
+use crate::gate::write_gate;
 use crate::{Flushed, Stage, stage_at};
 use device::{Device, DeviceFault, make_durable, write_at};
 use std::alloc::Allocator;
 use std::marker::Model;
-use volume_codec::{Geometry, write_descriptor};
+use volume_codec::{CLOSED_GATE, Geometry, OPEN_GATE, write_descriptor};
 
 /// A batch and how many steps of its write-out were made.
 #[derive(Drop)]
@@ -216,12 +216,12 @@ impl<A: Allocator + Copy> Queued<A> {
                 let bytes = write_descriptor(geometry, self.mark, &self.homes, index);
                 write_at(device, 4096 * u64::from(block), &bytes)
             }
-            Stage::Opening => open_gate(device, geometry, self.journal),
+            Stage::Opening => write_gate(device, geometry, self.journal, OPEN_GATE),
             Stage::Applying(slot) => {
                 let home = self.home_at(slot);
                 apply_record(device, geometry, self.journal, slot, home, buffer)
             }
-            Stage::Closing => close_gate(device, geometry, self.journal),
+            Stage::Closing => write_gate(device, geometry, self.journal, CLOSED_GATE),
             Stage::SyncingRecords | Stage::Committing | Stage::SyncingHomes | Stage::Finishing =>
                 make_durable(device),
         }

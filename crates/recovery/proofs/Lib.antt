@@ -13,3 +13,6 @@ pub mod Carrying
 pub mod Copied
 pub mod Migrated
 pub mod Writing
+pub mod Parts
+pub mod VolumeReading
+pub mod Public

@@ -6,7 +6,7 @@ use std::alloc::Global;
 use std::fmt;
 
 /// What a crash leaves at the places that were written since the last sync.
-#[derive(Clone, Copy, Debug)]
+#[derive(Clone, Copy)]
 pub enum Choice {
     /// What the disk had when the run began, or the opening that is cut.
     Old,

@@ -1,10 +1,10 @@
 // Why a file isn't as it says.
 use std::alloc::{AllocError, Global};
-use std::fmt::Display;
+use std::fmt::{self, Display};
 use thiserror::Error;
 
-/// Why a line of a file is refused, or what came otherwise.
-#[derive(Debug, Drop, Error)]
+/// Why a line of a file is refused, or what came otherwise. What it is shown as for debugging is its text.
+#[derive(Drop, Error)]
 pub enum Failure {
     /// The line isn't of the grammar, or asks for what can't be made.
     #[error("{0}")]
@@ -25,6 +25,14 @@ impl Failure {
         }
     }
 
+    /// A member that isn't of its kind: a number, a text or a list.
+    pub fn is_no(alloc: Global, what: &str, kind: &str) -> Self {
+        match format!(in alloc; "{what} is no {kind}") {
+            Ok(text) => Failure::Line(text),
+            Err(fault) => Failure::Memory(fault),
+        }
+    }
+
     /// Something else came than what is wanted.
     pub fn differs<W: Display, C: Display>(
         alloc: Global,
@@ -36,5 +44,11 @@ impl Failure {
             Ok(text) => Failure::Differs(text),
             Err(fault) => Failure::Memory(fault),
         }
+    }
+}
+
+impl fmt::Debug for Failure {
+    fn fmt<W: fmt::Write>(&self, f: &mut fmt::Formatter<W>) -> fmt::Result {
+        fmt::Display::fmt(self, f)
     }
 }

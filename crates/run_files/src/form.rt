@@ -29,7 +29,7 @@ pub fn only(alloc: Global, members: &Map<String, Value>, names: &[&str]) -> Resu
 pub fn number(alloc: Global, value: &Value, what: &str) -> Result<u64, Failure> {
     match value.as_u64() {
         Some(number) => Ok(number),
-        None => Err(Failure::Line(format!(in alloc; "{what} is no whole number")?)),
+        None => Err(Failure::is_no(alloc, what, "whole number")),
     }
 }
 
@@ -58,7 +58,7 @@ pub fn member<'a>(alloc: Global, value: &'a Value, name: &str) -> Result<&'a Val
 pub fn text<'a>(alloc: Global, value: &'a Value, what: &str) -> Result<&'a str, Failure> {
     match value.as_str() {
         Some(text) => Ok(text),
-        None => Err(Failure::Line(format!(in alloc; "{what} is no text")?)),
+        None => Err(Failure::is_no(alloc, what, "text")),
     }
 }
 
@@ -66,7 +66,7 @@ pub fn text<'a>(alloc: Global, value: &'a Value, what: &str) -> Result<&'a str, 
 pub fn list<'a>(alloc: Global, value: &'a Value, what: &str) -> Result<&'a [Value], Failure> {
     match value.as_array() {
         Some(items) => Ok(items),
-        None => Err(Failure::Line(format!(in alloc; "{what} is no list")?)),
+        None => Err(Failure::is_no(alloc, what, "list")),
     }
 }
 

@@ -1,9 +1,10 @@
 // The bytes of a disk, with a volume or none.
 use crate::failure::Failure;
 use crate::form::{bytes, list, number, text};
-use device::MemDisk;
+use device::{Device, MemDisk};
+use page_entry::Refusal;
 use serde_json::Value;
-use std::alloc::Global;
+use std::alloc::{AllocError, Global};
 use volume_codec::FileSpec;
 
 /// A file of a volume.
@@ -56,11 +57,11 @@ pub fn read_put(alloc: Global, items: &[Value]) -> Result<Put, Failure> {
 }
 
 fn put_times(alloc: Global, at: &Value, digits: &Value, times: u64) -> Result<Put, Failure> {
-    Ok(Put {
-        at: number(alloc, at, "the offset")?,
-        bytes: bytes(alloc, text(alloc, digits, "the bytes")?)?,
-        times,
-    })
+    let at = number(alloc, at, "the offset")?;
+    match bytes(alloc, text(alloc, digits, "the bytes")?) {
+        Ok(bytes) => Ok(Put { at, bytes, times }),
+        Err(failure) => Err(failure),
+    }
 }
 
 /// A list of such lists.
@@ -90,10 +91,12 @@ fn read_file(alloc: Global, items: &[Value]) -> Result<File, Failure> {
 }
 
 fn file_of(alloc: Global, name: &Value, length: &Value, capacity: &Value) -> Result<File, Failure> {
+    let length = number(alloc, length, "the length")?;
+    let capacity = number(alloc, capacity, "the capacity")?;
     Ok(File {
         name: String::from_str(alloc, text(alloc, name, "the name")?)?,
-        length: number(alloc, length, "the length")?,
-        capacity: number(alloc, capacity, "the capacity")?,
+        length,
+        capacity,
     })
 }
 
@@ -110,25 +113,58 @@ pub struct Plan<'a> {
 
 /// The disk's bytes then.
 pub fn formatted(alloc: Global, plan: Plan<'_>) -> Result<Vec<u8>, Failure> {
+    let specs = specs_of(alloc, plan.files)?;
+    let mut disk = filled_disk(alloc, plan, &specs)?;
+    match format_on(alloc, plan, &specs, &mut disk) {
+        Ok(()) => Ok(disk.bytes().to_vec(alloc)?),
+        Err(failure) => Err(failure),
+    }
+}
+
+// What the files are to be.
+fn specs_of(alloc: Global, files: &[File]) -> Result<Vec<FileSpec<'_>>, AllocError> {
     let mut specs = Vec::new(alloc);
-    for file in plan.files {
+    for file in files {
         specs.push(FileSpec {
             name: file.name.as_str(),
             length: file.length,
             capacity: file.capacity,
         })?;
     }
-    let blocks = match recovery::blocks_as(plan.layout, &specs, plan.slots) {
-        Ok(blocks) => blocks,
-        Err(refusal) => return Err(Failure::differs(alloc, "the volume", &"one", &refusal)),
-    };
-    let length = plan.length.unwrap_or(blocks.saturating_mul(4096));
-    let bytes = vec![in alloc; plan.over; length as usize]?;
-    let mut disk = MemDisk::from_bytes(alloc, bytes)?;
-    match recovery::format_as(alloc, &mut disk, plan.layout, &specs, plan.slots) {
-        Ok(()) => Ok(disk.bytes().to_vec(alloc)?),
-        Err(refusal) => Err(Failure::differs(alloc, "the volume", &"one", &refusal)),
+    Ok(specs)
+}
+
+// A disk for the volume, filled with one byte.
+fn filled_disk(
+    alloc: Global,
+    plan: Plan<'_>,
+    specs: &[FileSpec<'_>],
+) -> Result<MemDisk<Global>, Failure> {
+    match recovery::blocks_as(plan.layout, specs, plan.slots) {
+        Ok(blocks) => {
+            let length = plan.length.unwrap_or(blocks.saturating_mul(4096));
+            let bytes = vec![in alloc; plan.over; length as usize]?;
+            Ok(MemDisk::from_bytes(alloc, bytes)?)
+        }
+        Err(refusal) => Err(no_volume(alloc, refusal)),
     }
+}
+
+// Makes the volume on a device.
+fn format_on<D: Device>(
+    alloc: Global,
+    plan: Plan<'_>,
+    specs: &[FileSpec<'_>],
+    disk: &mut D,
+) -> Result<(), Failure> {
+    match recovery::format_as(alloc, disk, plan.layout, specs, plan.slots) {
+        Ok(()) => Ok(()),
+        Err(refusal) => Err(no_volume(alloc, refusal)),
+    }
+}
+
+fn no_volume(alloc: Global, refusal: Refusal) -> Failure {
+    Failure::differs(alloc, "the volume", &"one", &refusal)
 }
 
 /// The offset of the first place where bytes aren't those that are wanted.

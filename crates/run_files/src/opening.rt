@@ -12,7 +12,7 @@ use std::alloc::Global;
 pub type Disk = FailingDisk<MemDisk<Global>>;
 
 /// How many calls an opening makes: so many where each gate is closed, and so many more for each open one.
-#[derive(Clone, Copy, Debug)]
+#[derive(Clone, Copy)]
 pub struct Calls {
     closed: u64,
     open: u64,
@@ -58,25 +58,37 @@ pub enum Wanted {
 
 /// What a line wants of an opening.
 pub fn read_wanted(alloc: Global, value: &Value) -> Result<Wanted, Failure> {
-    if let Some(word) = value.get("refuses") {
-        let calls = match value.get("calls") {
-            Some(calls) => Some(number(alloc, calls, "calls")?),
-            None => None,
-        };
-        return Ok(Wanted::Refuses {
-            word: String::from_str(alloc, text(alloc, word, "the refusal")?)?,
-            calls,
-        });
+    match value.get("refuses") {
+        Some(word) => read_refused(alloc, word, value.get("calls")),
+        None => read_opened(alloc, value),
     }
-    let calls = read_calls(alloc, member(alloc, value, "opens")?)?;
-    let lengths = read_lengths(alloc, value)?;
-    let bytes = all_bytes(alloc, list_of(alloc, value, "bytes")?)?;
-    Ok(Wanted::Opens {
+}
+
+fn read_refused(alloc: Global, word: &Value, calls: Option<&Value>) -> Result<Wanted, Failure> {
+    let calls = match calls {
+        Some(calls) => Some(number(alloc, calls, "calls")?),
+        None => None,
+    };
+    Ok(Wanted::Refuses {
+        word: String::from_str(alloc, text(alloc, word, "the refusal")?)?,
         calls,
-        lengths,
-        bytes,
-        writes: read_writes(alloc, value)?,
     })
+}
+
+fn read_opened(alloc: Global, value: &Value) -> Result<Wanted, Failure> {
+    let calls = read_calls(alloc, member(alloc, value, "opens")?)?;
+    let parts = list_of(alloc, value, "bytes")?;
+    let lengths = read_lengths(alloc, value)?;
+    let bytes = all_bytes(alloc, parts)?;
+    match read_writes(alloc, value) {
+        Ok(writes) => Ok(Wanted::Opens {
+            calls,
+            lengths,
+            bytes,
+            writes,
+        }),
+        Err(failure) => Err(failure),
+    }
 }
 
 // What the opening changes on the disk, where that is said.
@@ -149,6 +161,11 @@ pub fn crash(alloc: Global, disk: &mut MemDisk<Global>, choice: &[u8]) -> Result
     Ok(())
 }
 
+// Opens the volume of a disk. A refusal hands it back.
+fn opened<D: Device>(alloc: Global, disk: D) -> Result<Volume<D, Global>, (Refusal, D)> {
+    open(alloc, disk)
+}
+
 /// What an opening of a disk leaves whose call of this number fails. It is refused for that, or as the whole opening is
 /// to be refused.
 pub fn cut(
@@ -157,7 +174,7 @@ pub fn cut(
     call: u64,
     wanted: &Wanted,
 ) -> Result<MemDisk<Global>, Failure> {
-    let (refusal, disk) = match open(alloc, FailingDisk::new(disk, call)) {
+    let (refusal, disk) = match opened(alloc, FailingDisk::new(disk, call)) {
         Ok(volume) => (None, volume.into_device()),
         Err((refusal, disk)) => (Some(refusal), disk),
     };
@@ -166,11 +183,11 @@ pub fn cut(
 }
 
 // Compares how an opening ended whose call of this number fails.
-fn compare_cut(
+fn compare_cut<D: Device>(
     alloc: Global,
     refusal: Option<Refusal>,
     call: u64,
-    disk: &Disk,
+    disk: &D,
     wanted: &Wanted,
 ) -> Result<(), Failure> {
     let what = "the opening that is cut";
@@ -203,7 +220,7 @@ pub fn compare(
     wanted: &Wanted,
 ) -> Result<(), Failure> {
     let before = disk.bytes().to_vec(alloc)?;
-    match open(alloc, FailingDisk::new(disk, 0)) {
+    match opened(alloc, FailingDisk::new(disk, 0)) {
         Ok(volume) => compare_opened(alloc, volume, &before, files, gates, wanted),
         Err((refusal, disk)) => compare_refused(alloc, refusal, disk, &before, wanted),
     }
@@ -212,34 +229,67 @@ pub fn compare(
 // Compares a volume that was opened.
 fn compare_opened(
     alloc: Global,
-    mut volume: Volume<Disk, Global>,
+    volume: Volume<Disk, Global>,
     before: &[u8],
     files: &[File],
     gates: &[u64],
+    wanted: &Wanted,
+) -> Result<(), Failure> {
+    let mut volume = volume;
+    let found = compare_found(alloc, &mut volume, files, wanted);
+    let disk = volume.into_device();
+    let made = disk.calls();
+    let left = disk.into_inner();
+    match found {
+        Ok(()) => compare_left(alloc, before, files, gates, wanted, made, left.bytes()),
+        Err(failure) => Err(failure),
+    }
+}
+
+// Compares the files of a volume that was opened.
+fn compare_found<D: Device>(
+    alloc: Global,
+    volume: &mut Volume<D, Global>,
+    files: &[File],
     wanted: &Wanted,
 ) -> Result<(), Failure> {
     match wanted {
         Wanted::Refuses { word, .. } => {
             Err(Failure::differs(alloc, "the opening", word, &"a volume"))
         }
-        Wanted::Opens {
-            calls,
-            lengths,
-            bytes,
-            writes,
-        } => {
-            compare_files(alloc, &mut volume, files, lengths, bytes)?;
-            let disk = volume.into_device();
-            let made = disk.calls().saturating_sub(reads_of(files, lengths));
-            if let Some(calls) = calls {
-                let wanted = calls.with(open_gates(before, gates));
-                compare_count(alloc, "calls of the opening", wanted, made)?;
-            }
-            match writes {
-                Some(writes) => compare_image(alloc, before, writes, disk.into_inner().bytes()),
-                None => Ok(()),
-            }
+        Wanted::Opens { lengths, bytes, .. } => {
+            compare_files(alloc, volume, files, lengths, bytes)
         }
+    }
+}
+
+// Compares how many calls an opening and reading all files made, and what they left.
+fn compare_left(
+    alloc: Global,
+    before: &[u8],
+    files: &[File],
+    gates: &[u64],
+    wanted: &Wanted,
+    made: u64,
+    left: &[u8],
+) -> Result<(), Failure> {
+    let Wanted::Opens {
+        calls,
+        lengths,
+        writes,
+        ..
+    } = wanted
+    else {
+        return Ok(());
+    };
+    if let Some(calls) = calls {
+        let wanted = calls.with(open_gates(before, gates));
+        let made = made.saturating_sub(reads_of(files, lengths));
+        compare_count(alloc, "calls of the opening", wanted, made)?;
+    }
+    match writes {
+        Some(writes) => compare_image(alloc, before, writes, left),
+        None => Ok(()),
     }
 }
 
@@ -251,12 +301,25 @@ fn compare_refused(
     before: &[u8],
     wanted: &Wanted,
 ) -> Result<(), Failure> {
+    let made = disk.calls();
+    let mut left = disk.into_inner();
+    match compare_refusals(alloc, refusal, made, wanted) {
+        Ok(()) => is_untouched(alloc, &mut left, before),
+        Err(failure) => Err(failure),
+    }
+}
+
+// Compares why an opening was refused, and after how many calls.
+fn compare_refusals(
+    alloc: Global,
+    refusal: Refusal,
+    made: u64,
+    wanted: &Wanted,
+) -> Result<(), Failure> {
     match wanted {
         Wanted::Refuses { word, calls } => {
-            let made = disk.calls();
             compare_refusal(alloc, refusal, word.as_str())?;
-            compare_count(alloc, "calls of the opening", calls.unwrap_or(made), made)?;
-            is_untouched(alloc, &mut disk.into_inner(), before)
+            compare_count(alloc, "calls of the opening", calls.unwrap_or(made), made)
         }
         Wanted::Opens { .. } => {
             Err(Failure::differs(alloc, "the opening", &"a volume", &refusal))
@@ -342,9 +405,9 @@ fn reads_of(files: &[File], lengths: &[FileLength]) -> u64 {
 }
 
 // Compares names, lengths and bytes of all files. Each that has a byte is read by one call.
-fn compare_files(
+fn compare_files<D: Device>(
     alloc: Global,
-    volume: &mut Volume<Disk, Global>,
+    volume: &mut Volume<D, Global>,
     files: &[File],
     lengths: &[FileLength],
     bytes: &[FileBytes],
@@ -361,9 +424,9 @@ fn compare_files(
     Ok(())
 }
 
-fn compare_file(
+fn compare_file<D: Device>(
     alloc: Global,
-    volume: &mut Volume<Disk, Global>,
+    volume: &mut Volume<D, Global>,
     number: usize,
     file: &File,
     lengths: &[FileLength],
@@ -384,9 +447,9 @@ fn compare_file(
 }
 
 // The bytes of a file.
-fn read_whole(
+fn read_whole<D: Device>(
     alloc: Global,
-    volume: &mut Volume<Disk, Global>,
+    volume: &mut Volume<D, Global>,
     number: usize,
 ) -> Result<Vec<u8>, Failure> {
     if number >= volume.file_count() {

@@ -11,7 +11,7 @@ use std::alloc::Global;
 use std::fmt;
 
 /// What an object is meant to be, which says what members it has.
-#[derive(Clone, Copy, Debug, PartialEq, Eq)]
+#[derive(Clone, Copy)]
 pub enum Form {
     /// A script of steps.
     Script,

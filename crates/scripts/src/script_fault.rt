@@ -1,10 +1,11 @@
 // Why a script is refused.
 use crate::form::Form;
 use std::alloc::AllocError;
+use std::fmt;
 use thiserror::Error;
 
-/// Why a script is refused, or a trace's first line.
-#[derive(Debug, Drop, Error)]
+/// Why a script is refused, or a trace's first line. What it is shown as for debugging is its text.
+#[derive(Drop, Error)]
 pub enum ScriptFault {
     #[error("it isn't UTF-8")]
     NotUtf8,
@@ -58,8 +59,14 @@ pub enum ScriptFault {
     Memory(#[from(alloc)] AllocError),
 }
 
-/// Why a step or a command is refused.
-#[derive(Clone, Copy, Debug, Error)]
+impl fmt::Debug for ScriptFault {
+    fn fmt<W: fmt::Write>(&self, f: &mut fmt::Formatter<W>) -> fmt::Result {
+        fmt::Display::fmt(self, f)
+    }
+}
+
+/// Why a step or a command is refused. What it is shown as for debugging is its text.
+#[derive(Clone, Copy, Error)]
 pub enum StepFault {
     #[error("it isn't a list of a processor, the name of an act, and arguments")]
     Form,
@@ -86,4 +93,10 @@ pub enum StepFault {
     },
     #[error("the bytes aren't a list of at most 8 whole numbers up to 255")]
     Bytes,
+}
+
+impl fmt::Debug for StepFault {
+    fn fmt<W: fmt::Write>(&self, f: &mut fmt::Formatter<W>) -> fmt::Result {
+        fmt::Display::fmt(self, f)
+    }
 }

@@ -75,6 +75,39 @@ has_entered disk old entry machine progress room counted taken longer safe = rec
   safe = λ files start is begins. safe files start (record { begins = begins; taken = is.legal });
 }
 
+-- What `enter` leaves of a machine with its trace, where that isn't full: one entry more, however this and the longer
+-- trace are written.
+pub enters : {D : Type 0} (disk : Ghosts D) (old seen : SharedState D) (full : Bool) → old ≡ seen
+    → full ≡ (length seen.trace == seen.capacity) → full ≡ false → length old.trace ≤ old.capacity
+    → (entry put : Entry) → put ≡ entry → (trace : List Entry) → trace ≡ old.trace ++ put ∷ []
+    → (machine : Whole D) (progress : ℕ)
+    → progress ≡ old.progress + (if is_progress entry.step.act entry.reply then 1 else 0)
+    → StepTaken disk old.machine entry.step entry.reply machine
+    → ((start : Whole D) (steps : List Step) (replies : List Reply) → StepsTaken disk start steps replies old.machine
+    → StepsTaken disk start (steps ++ entry.step ∷ []) (replies ++ entry.reply ∷ []) machine)
+    → ((files : List File) (start : Whole D) → IsReached disk files start (steps_of old.trace) (replies_of old.trace)
+    old.machine → StepIsSafe disk files (observed_by files start old.trace) old.machine entry.step entry.reply machine)
+    → HasEntered disk old entry.step entry.reply
+    (record { machine = machine; trace = trace; capacity = old.capacity; progress = progress })
+enters {D} disk old seen full is asked answer few entry put same trace longer machine progress counted taken on safe =
+    let other : (length old.trace == old.capacity) ≡ false =
+    ap (λ (s : SharedState D). length s.trace == s.capacity) is ∙ sym asked ∙ answer in
+    let one = has_entered disk old entry machine progress (not_full (length old.trace) old.capacity few other) counted
+    taken on safe in
+    let items : trace ≡ old.trace ++ entry ∷ [] = longer ∙ ap (λ (e : Entry). old.trace ++ e ∷ []) same in
+    let P : List Entry → Type 0 = λ l. HasEntered disk old entry.step entry.reply
+    (record { machine = machine; trace = l; capacity = old.capacity; progress = progress }) in
+    subst P (sym items) one
+
+-- the same of what the machine with its trace is seen as, and of an equal step
+pub seen_entered : {D : Type 0} (disk : Ghosts D) (old seen : SharedState D) (step same : Step) (reply : Reply)
+    (new : SharedState D) → old ≡ seen → step ≡ same → HasEntered disk old step reply new
+    → HasEntered disk seen same reply new
+seen_entered {D} disk old seen step same reply new is step_is entered =
+    let P : SharedState D → Type 0 = λ s. HasEntered disk s same reply new in
+    let Q : Step → Type 0 = λ s. HasEntered disk old s reply new in
+    subst P is (subst Q step_is entered)
+
 pub one_longer : {D : Type 0} (disk : Ghosts D) (old : SharedState D) (step : Step) (reply : Reply)
     (new : SharedState D) → HasEntered disk old step reply new → length new.trace ≡ length old.trace + 1
 one_longer disk old step reply new entered =

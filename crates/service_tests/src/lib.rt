@@ -1,8 +1,20 @@
-//! Services as threads see them, in one thread: what each call answers where memory is ample, a trace that is full,
-//! `Cpu` values that are missing, and loads whose instructions are counted.
+//! Services as threads see them: what each call answers where memory is ample, a trace that is full, `Cpu` values that
+//! are missing, threads that run at once, starts that are refused, and loads whose instructions are counted.
 #![tactic(auto)]
 
 #[cfg(test)]
+mod acts;
+#[cfg(test)]
 mod calls;
 #[cfg(test)]
+mod horizons;
+#[cfg(test)]
 mod loads;
+#[cfg(test)]
+mod machines;
+#[cfg(test)]
+mod memory;
+#[cfg(test)]
+mod threads;
+#[cfg(test)]
+mod trials;

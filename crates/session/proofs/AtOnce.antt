@@ -5,18 +5,20 @@ use Rattle.device.specs.declared.device.Device.{Ghosts}
 use Rattle.cpu.specs.AtOnce.{count_at_once}
 use Rattle.machine.specs.AtOnce.{load_steps, load_replies, store_steps, store_replies}
 use Rattle.machine.specs.declared.act.Act.TheVariants.{Load, Store}
+use Rattle.machine.specs.declared.act.Reply.{Reply}
 use Rattle.machine.specs.declared.act.Reply.TheVariants.{Stored}
+use Rattle.machine.specs.declared.act.Step.{Step}
 use Rattle.machine.specs.Runs.{StepsTaken}
 use Rattle.machine.specs.State.{Whole}
 use Rattle.session.specs.declared.notes.Notes.{Notes}
+use Rattle.session.specs.CarriedOut.{CarriesOut}
 use Rattle.session.specs.Locks.{KeepsPhases}
 use Rattle.session.specs.Notes.{noted_after, noted_all}
-use Rattle.session.specs.Ranges.{MakesStepsThat, LoadsRange, StoresRange}
+use Rattle.session.specs.Ranges.{LoadsRange}
 use Rattle.session.specs.Steps.{Makes, behind, AreLoads, AreStores}
 use Rattle.session.specs.inside.Paging.{LoadsOn}
-use Rattle.session.proofs.Phases.{keeps_none, keeps_then, store_keeps}
-use Rattle.session.proofs.Pieces.{loads_then, stores_then}
-use Rattle.session.proofs.Stretches.{makes_then}
+use Rattle.session.proofs.Phases.{act_keeps, keeps_none, keeps_then}
+use Rattle.session.proofs.Pieces.{loads_then}
 
 -- ---- how many
 
@@ -92,63 +94,37 @@ module _ {D : Type 0} (disk : Ghosts D) where
   run_keeps p at [] old new taken =
       subst (λ (m : Whole D). KeepsPhases old.state m.state) (sym taken) (keeps_none old.state)
   run_keeps p at (byte ∷ bytes) old new (mid, here, rest) =
-      keeps_then old.state mid.state new.state (store_keeps old.state here.answered.0 p at
-      (byte ∷ []) Stored mid.state here.answered.1 here.answered.2) (run_keeps p (at + 1) bytes mid new rest)
+      keeps_then old.state mid.state new.state (act_keeps old.state here.answered.0 p
+      (Store at (byte ∷ [])) Stored mid.state here.answered.1 tt here.answered.2)
+      (run_keeps p (at + 1) bytes mid new rest)
 
   module _ (old new : Whole D) (before after : Notes) (p at : ℕ) (bytes : List ℕ) where
-    pub stores_run_keep : Makes disk old before (store_steps p at bytes) (store_replies bytes) new after
-        → KeepsPhases old.state new.state
-    stores_run_keep makes = run_keeps p at bytes old new makes.taken
-
-  -- ---- more of a range
-
-  pub loads_on : (machine : Whole D) (notes : Notes) (p va done at more : ℕ) (run old new : List ℕ)
-      → at ≡ behind va done → at + length run ≤ 2 ^ 64 → more ≡ length run → new ≡ old ++ run
-      → Makes disk machine notes (load_steps p at run) (load_replies run) machine notes
-      → LoadsOn disk machine notes p va done more old new
-  loads_on machine notes p va done at more run old new is below long grown makes =
-      let P : ℕ → Type 0 = λ n. AreLoads p va done (done + n) (load_steps p at run) (load_replies run) run in
-      record {
-        steps = load_steps p at run;
-        replies = load_replies run;
+    pub stores_run_carries : (va done : ℕ) → at ≡ behind va done → at + length bytes ≤ 2 ^ 64
+        → Makes disk old before (store_steps p at bytes) (store_replies bytes) new after
+        → CarriesOut disk old before (λ steps replies. AreStores p va done steps replies bytes) new after
+    stores_run_carries va done is below makes = record {
+      makes = record {
+        steps = store_steps p at bytes;
+        replies = store_replies bytes;
         makes = makes;
-        bytes = run;
-        loads = subst P (sym long) (loads_run p va done at run is below);
-        new_is = grown;
-      }
+        holds = stores_run p va done at bytes is below;
+      };
+      phases = run_keeps p at bytes old new makes.taken;
+    }
 
-  pub loads_on_more : (old mid : Whole D) (before between : Notes) (p va done more : ℕ) (bytes now : List ℕ)
-      → MakesStepsThat disk old before (LoadsRange p va done bytes) mid between
-      → LoadsOn disk mid between p va done more bytes now
-      → MakesStepsThat disk old before (LoadsRange p va (done + more) now) mid between
-  loads_on_more old mid before between p va done more bytes now first on =
-      let P : List ℕ → Type 0 =
-      λ b. AreLoads p va 0 (done + more) (first.steps ++ on.steps) (first.replies ++ on.replies) b in
-      record {
-        steps = first.steps ++ on.steps;
-        replies = first.replies ++ on.replies;
-        makes = makes_then disk old mid mid before between between first.steps first.replies on.steps
-            on.replies first.makes on.makes;
-        holds = subst P (sym on.new_is) (loads_then p va 0 done
-            (done + more) first.steps first.replies bytes on.steps on.replies on.bytes first.holds on.loads);
-      }
+-- ---- more of a range
 
-  pub stores_run_more : (old mid new : Whole D) (before between after : Notes) (p va done at : ℕ)
-      (bytes run now : List ℕ) → length bytes ≡ done → at ≡ behind va done → at + length run ≤ 2 ^ 64
-      → bytes ++ run ≡ now
-      → MakesStepsThat disk old before (StoresRange p va bytes) mid between
-      → Makes disk mid between (store_steps p at run) (store_replies run) new after
-      → MakesStepsThat disk old before (StoresRange p va now) new after
-  stores_run_more old mid new before between after p va done at bytes run now long is below all first makes =
-      let P : ℕ → Type 0 = λ n. AreStores p va n (store_steps p at run) (store_replies run) run in
-      let Q : List ℕ → Type 0 =
-      λ b. AreStores p va 0 (first.steps ++ store_steps p at run) (first.replies ++ store_replies run) b in
-      let here : done ≡ 0 + length bytes = omega (arith, long) in
-      record {
-        steps = first.steps ++ store_steps p at run;
-        replies = first.replies ++ store_replies run;
-        makes = makes_then disk old mid new before between after first.steps first.replies (store_steps p at run)
-            (store_replies run) first.makes makes;
-        holds = subst Q all (stores_then p va 0 first.steps first.replies bytes (store_steps p at run)
-            (store_replies run) run first.holds (subst P here (stores_run p va done at run is below)));
-      }
+pub loads_on : (p va done at more : ℕ) (run old new : List ℕ) → at ≡ behind va done → at + length run ≤ 2 ^ 64
+    → more ≡ length run → new ≡ old ++ run
+    → LoadsOn p va done more old new (load_steps p at run) (load_replies run)
+loads_on p va done at more run old new is below long grown =
+    let P : ℕ → Type 0 = λ n. AreLoads p va done (done + n) (load_steps p at run) (load_replies run) run in
+    (run, subst P (sym long) (loads_run p va done at run is below), grown)
+
+pub loads_on_more : (p va done more : ℕ) (bytes now : List ℕ)
+    (steps : List Step) (replies : List Reply) (steps' : List Step) (replies' : List Reply)
+    → LoadsRange p va done bytes steps replies → LoadsOn p va done more bytes now steps' replies'
+    → LoadsRange p va (done + more) now (steps ++ steps') (replies ++ replies')
+loads_on_more p va done more bytes now steps replies steps' replies' first (run, loads, is) =
+    subst (λ b. AreLoads p va 0 (done + more) (steps ++ steps') (replies ++ replies') b) (sym is)
+    (loads_then p va 0 done (done + more) steps replies bytes steps' replies' run first loads)

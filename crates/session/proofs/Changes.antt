@@ -5,15 +5,11 @@ use Rattle.machine.specs.declared.act.Act.TheVariants as acts
 use Rattle.machine.specs.declared.act.Reply.{Reply}
 use Rattle.machine.specs.declared.act.Reply.TheVariants as reports
 use Rattle.machine.specs.declared.act.Step.{Step}
-use Rattle.machine.specs.Rules.{Acts}
-use Rattle.machine.specs.State.{State, Whole}
+use Rattle.machine.specs.State.{Whole}
 use Rattle.session.specs.declared.notes.Notes.{Notes}
-use Rattle.session.specs.Ends.{MakesRoom, reports_reclaimed}
-use Rattle.session.specs.Lengths.{reports_begun, reports_changed, AnswersChange}
+use Rattle.session.specs.Lengths.{reports_changed, AnswersChange}
 use Rattle.session.specs.Ranges.{MakesStepsThat}
-use Rattle.session.specs.Steps.{Makes, reports_reclaim}
-use Rattle.session.proofs.Phases.{begun_is}
-use Rattle.session.proofs.Rooms.{reclaim_room}
+use Rattle.session.specs.Steps.{Makes}
 use Rattle.session.proofs.Stretches.{makes_then}
 
 -- ---- who stalls goes on
@@ -34,22 +30,6 @@ answers_around p other differs answer steps replies it = record {
       record { p = other; act = acts.Ack } ∷ (l ++ record { p = other; act = acts.Resume } ∷ [])) it.steps_are;
   replies_are = ap (λ (l : List Reply). reports.Acked ∷ (l ++ reports.Resumed ∷ [])) it.replies_are;
 }
-
--- ---- what was begun
-
--- a step of a write-out begins no change
-flush_begins : (s : State) (d : List ℕ) (p : ℕ) (new : State) (d' : List ℕ) → Acts s d p acts.Flush reports.Begun new d'
-    → ⊥
-flush_begins s d p new d' ((reason, it), same) = it
-
-pub flush_is_other : {A : Type 0} {D : Type 0} (disk : Ghosts D) (old new : Whole D) (before after : Notes) (p : ℕ)
-    (reply : Reply) → Makes disk old before (record { p = p; act = acts.Flush } ∷ []) (reply ∷ []) new after
-    → reports_begun reply ≡ true → A
-flush_is_other disk old new before after p reply makes is =
-    let here = makes.taken.1 in
-    let P : Reply → Type 0 = λ r. Acts old.state here.answered.0 p acts.Flush r makes.taken.0.state here.answered.1 in
-    absurd (flush_begins old.state here.answered.0 p makes.taken.0.state here.answered.1
-    (subst P (begun_is reply is) here.answered.2))
 
 module _ {D : Type 0} (disk : Ghosts D) where
   -- one that is interrupted stalls before the change, and goes on after it
@@ -76,16 +56,3 @@ module _ {D : Type 0} (disk : Ghosts D) where
             (subst (λ (r : Reply). Makes disk last next (resume ∷ []) (r ∷ []) new after) on goes));
         holds = answers_around p other differs answer made.steps made.replies made.holds;
       }
-
-  -- a page that is taken out of memory
-  pub reclaim_changes : (old mid new : Whole D) (before between after : Notes) (p file page : ℕ) (begun reply : Reply)
-      → Makes disk old before (record { p = p; act = acts.Reclaim file page } ∷ []) (begun ∷ []) mid between
-      → MakesStepsThat disk mid between (AnswersChange p reply) new after
-      → reports_reclaim reply ≡ true → MakesStepsThat disk old before (MakesRoom p (reports_reclaimed reply)) new after
-  reclaim_changes old mid new before between after p file page begun reply made changes is = record {
-    steps = record { p = p; act = acts.Reclaim file page } ∷ changes.steps;
-    replies = begun ∷ changes.replies;
-    makes = makes_then disk old mid new before between after (record { p = p; act = acts.Reclaim file page } ∷ [])
-        (begun ∷ []) changes.steps changes.replies made changes.makes;
-    holds = reclaim_room p file page begun reply changes.steps changes.replies is changes.holds;
-  }

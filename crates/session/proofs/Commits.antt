@@ -1,9 +1,10 @@
 -- Steps by which a processor commits.
-use Rattle.std.proofs.Common.{◌≡◌, ◌≢◌, inl, inr, ℕ, true, false, List, [], ◌∷◌, ◌++◌, append-nil}
-use Rattle.std.proofs.Common.{Result, Ok, Err, IfOk, IfErr, refl, sym, ◌∙◌, ap, subst}
+use Rattle.std.proofs.Common.{◌≡◌, ◌≢◌, ◌⊎◌, inl, inr, ℕ, true, false, List, [], ◌∷◌, ◌++◌}
+use Rattle.std.proofs.Common.{Result, Ok, Err, refl, sym, ◌∙◌, ap, subst}
 use Rattle.std.proofs.lemmas.Bool.{false≢true}
 use Rattle.device.specs.declared.device.Device.{Ghosts}
 use Rattle.page_entry.specs.declared.refusal.Refusal.TheVariants.{Busy}
+use Rattle.spaces.specs.declared.change.Change.TheVariants.{Checkpoint}
 use Rattle.machine.specs.declared.act.Act.TheVariants as acts
 use Rattle.machine.specs.declared.act.Reply.{Reply}
 use Rattle.machine.specs.declared.act.Reply.TheVariants as replies
@@ -12,15 +13,19 @@ use Rattle.machine.specs.declared.msync_flags.MsyncFlags.{MsyncFlags}
 use Rattle.machine.specs.Rules.{Acts}
 use Rattle.machine.specs.State.{State, Whole}
 use Rattle.session.specs.declared.notes.Notes.{Notes}
+use Rattle.session.specs.CarriedOut.{CarriesOut}
 use Rattle.session.specs.Commits.{AreWaits, BeginsMark, RefusesMark, IsLastAttempt, IsOfOther, IsWritten}
-use Rattle.session.specs.Commits.{WritesUntil, CommitsMark, StopsCommit, AnswersCommit, msync_by, reports_unmade}
-use Rattle.session.specs.Lengths.{AnswersChange, AreOthers, change_steps, change_replies}
+use Rattle.session.specs.Commits.{IsLeftUnwritten, WritesUntil, MarksAnd, CommitsMark, StopsCommit, AnswersCommit}
+use Rattle.session.specs.Commits.{msync_by, reports_unmade}
+use Rattle.session.specs.Lengths.{AnswersChange, AreOthers, EndsWaiting, change_steps, change_replies}
 use Rattle.session.specs.Lengths.{flush_by, reports_begun, reports_flushed, reports_refused}
 use Rattle.session.specs.Notes.{noted_all}
 use Rattle.session.specs.Ranges.{MakesStepsThat}
 use Rattle.session.specs.Steps.{Makes, is_of_commit, Passes, AreOfCommit, reports_mark}
+use Rattle.session.specs.inside.Changing.{BeginsChange, IsOver}
+use Rattle.session.specs.inside.Made.{Waits}
 use Rattle.session.proofs.Each.{each_of_change, each_then}
-use Rattle.session.proofs.Phases.{begun_is}
+use Rattle.session.proofs.Phases.{begun_is, begun_over, keeps_then}
 use Rattle.session.proofs.Rooms.{change_has}
 use Rattle.session.proofs.Stretches.{makes_then}
 
@@ -49,7 +54,11 @@ refused_is replies.Nothing is some = absurd (some refl)
 refused_is (replies.Refused why) is some = refl
 refused_is reply is some = absurd (false≢true is)
 
-pub unmade_refused : (reply : Reply) → reports_refused reply ≡ true → reports_unmade reply ≡ true
+pub refused_unbegun : (reply : Reply) → reports_refused reply ≡ true → reports_begun reply ≡ false
+refused_unbegun (replies.Refused why) is = refl
+refused_unbegun reply is = absurd (false≢true is)
+
+unmade_refused : (reply : Reply) → reports_refused reply ≡ true → reports_unmade reply ≡ true
 unmade_refused (replies.Refused why) is = refl
 unmade_refused reply is = absurd (false≢true is)
 
@@ -82,9 +91,12 @@ module _ (p : ℕ) where
   waits_then (attempt ∷ step ∷ steps) (reply ∷ []) steps' replied' first later = absurd first
 
   -- one more attempt that was busy, and the step that was made for it
-  pub waits_one : (busy reply : Reply) → busy ≡ replies.Refused Busy → reports_flushed reply ≡ true
-      → AreWaits p (msync_by p ∷ flush_by p ∷ []) (busy ∷ reply ∷ [])
-  waits_one busy reply is made = (refl, is, refl, made, tt)
+  pub waits_one : (busy : Reply) → busy ≡ replies.Refused Busy → (steps : List Step) (replied : List Reply)
+      → Waits p steps replied → AreWaits p (msync_by p ∷ steps) (busy ∷ replied)
+  waits_one busy is steps replied it =
+      subst (λ l. AreWaits p (msync_by p ∷ l) (busy ∷ replied)) (sym it.steps_are)
+      (subst (λ l. AreWaits p (msync_by p ∷ flush_by p ∷ []) (busy ∷ l)) (sym it.replies_are)
+      (refl, is, refl, it.made, tt))
 
   pub begins_later : (reply : Reply) → reports_begun reply ≡ true
       → (steps : List Step) (replied : List Reply) (last : List Step) (now : List Reply) → AreWaits p steps replied
@@ -196,40 +208,47 @@ begins_of_commit p steps replied it =
     (msync_by p ∷ []) (replies.Begun ∷ []) (waits_of_commit p it.waits it.waited it.busy) ((refl, refl), tt))
 
 last_of_commit : (p : ℕ) (answer : Reply) (steps : List Step) (replied : List Reply)
-    → IsLastAttempt p answer steps replied
-    → AreOfCommit p steps replied
-last_of_commit p answer steps replied (inl (s, r, refused, other)) = are p steps _ replied _ s r ((refl, refl), tt)
-last_of_commit p answer steps replied (inr (inl (s, r, busy))) =
-    are p steps _ replied _ s r ((refl, refl), ((refl, refl), tt))
-last_of_commit p answer steps replied (inr (inr (s, r, refused))) =
-    are p steps _ replied _ s r ((refl, refl), ((refl, refl), tt))
+    → IsLastAttempt p answer steps replied → AreOfCommit p steps replied
+last_of_commit p answer (step ∷ steps) (reply ∷ replied) (is, inl (same, refused, other, none, silent)) =
+    (of_step p step (msync_by p) reply is (refl, refl), are p steps [] replied [] none silent tt)
+last_of_commit p answer (step ∷ steps) (reply ∷ replied) (is, inr (busy, ends)) = (
+  of_step p step (msync_by p) reply is (refl, refl),
+  are p steps _ replied _ ends.steps_are ends.replies_are ((refl, refl), tt),
+)
+last_of_commit p answer [] [] it = absurd it
+last_of_commit p answer [] (reply ∷ replied) it = absurd it
+last_of_commit p answer (step ∷ steps) [] it = absurd it
 
-written_of_commit : (p : ℕ) (before : Notes) (mark : ℕ) (steps : List Step) (replied : List Reply)
-    → IsWritten p before mark steps replied → AreOfCommit p steps replied
-written_of_commit p before mark steps replied (inl (none, s, r)) = are p steps [] replied [] s r tt
-written_of_commit p before mark steps replied (inr (some, writes)) =
+written_of_commit : (p mark : ℕ) (noted : Notes) (steps : List Step) (replied : List Reply)
+    → IsWritten p mark noted steps replied → AreOfCommit p steps replied
+written_of_commit p mark noted steps replied (inl (none, s, r)) = are p steps [] replied [] s r tt
+written_of_commit p mark noted steps replied (inr (some, writes)) =
     writes_of_commit p mark (replies.Committed mark) steps replied writes
 
-pub commits_of_commit : (p : ℕ) (before : Notes) (mark : ℕ) (steps : List Step) (replied : List Reply)
-    → CommitsMark p before mark steps replied → AreOfCommit p steps replied
-commits_of_commit p before mark steps replied it = are p steps _ replied _ it.steps_are it.replies_are
+marks_of_commit : (p : ℕ) (before : Notes) (mark : ℕ) (what : Notes → List Step → List Reply → Type 0)
+    → ((noted : Notes) (steps : List Step) (replied : List Reply) → what noted steps replied
+    → AreOfCommit p steps replied)
+    → (steps : List Step) (replied : List Reply) → MarksAnd p before mark what steps replied
+    → AreOfCommit p steps replied
+marks_of_commit p before mark what of steps replied it = are p steps _ replied _ it.steps_are it.replies_are
     (each_then (Passes is_of_commit p) it.beginning it.begun (it.marking ++ it.writing) (it.marked ++ it.written)
     (begins_of_commit p it.beginning it.begun it.begins)
     (each_then (Passes is_of_commit p) it.marking it.marked it.writing it.written
     (change_of_commit p (replies.Marked mark) refl it.marking it.marked it.makes)
-    (written_of_commit p (noted_all before it.begun) mark it.writing it.written it.durable)))
+    (of (noted_all before it.begun) it.writing it.written it.writes)))
+
+pub commits_of_commit : (p : ℕ) (before : Notes) (mark : ℕ) (steps : List Step) (replied : List Reply)
+    → CommitsMark p before mark steps replied → AreOfCommit p steps replied
+commits_of_commit p before mark = marks_of_commit p before mark (IsWritten p mark) (written_of_commit p mark)
 
 pub stops_of_commit : (p : ℕ) (before : Notes) (answer : Reply) (steps : List Step) (replied : List Reply)
     → StopsCommit p before answer steps replied → AreOfCommit p steps replied
 stops_of_commit p before answer steps replied (inl it) =
     are p steps _ replied _ it.steps_are it.replies_are (each_then (Passes is_of_commit p) it.waits it.waited it.last
     it.replied (waits_of_commit p it.waits it.waited it.busy) (last_of_commit p answer it.last it.replied it.refused))
-stops_of_commit p before answer steps replied (inr it) = are p steps _ replied _ it.steps_are it.replies_are
-    (each_then (Passes is_of_commit p) it.beginning it.begun (it.marking ++ it.writing) (it.marked ++ it.written)
-    (begins_of_commit p it.beginning it.begun it.begins)
-    (each_then (Passes is_of_commit p) it.marking it.marked it.writing it.written
-    (change_of_commit p (replies.Marked it.mark) refl it.marking it.marked it.makes)
-    (writes_of_commit p it.mark answer it.writing it.written it.writes)))
+stops_of_commit p before answer steps replied (inr (mark, it)) =
+    marks_of_commit p before mark (IsLeftUnwritten p mark answer)
+    (λ noted steps replied stopped. writes_of_commit p mark answer steps replied stopped.1) steps replied it
 
 pub answers_of_commit : (p : ℕ) (before : Notes) (committed : Result ℕ Reply) (steps : List Step) (replied : List Reply)
     → AnswersCommit p before committed steps replied → AreOfCommit p steps replied
@@ -244,133 +263,63 @@ pub mark_replied : {A : Type 0} (reply : Reply) → reports_mark reply ≡ true 
 mark_replied (replies.Marked mark) is other = absurd (other mark refl)
 mark_replied reply is other = absurd (false≢true is)
 
-module _ {D : Type 0} (disk : Ghosts D) where
-  pub came_to : (old new : Whole D) (before after : Notes) (p : ℕ) (committed : Result ℕ Reply)
-      → IfOk committed (λ mark. MakesStepsThat disk old before (CommitsMark p before mark) new after)
-      → IfErr committed (λ reply. MakesStepsThat disk old before (StopsCommit p before reply) new after)
-      → IfErr committed (λ reply. reports_unmade reply ≡ true)
-      → MakesStepsThat disk old before (AnswersCommit p before committed) new after
-  came_to old new before after p (Ok mark) ok err unmade = ok
-  came_to old new before after p (Err reply) ok err unmade =
-      record { steps = err.steps; replies = err.replies; makes = err.makes; holds = (err.holds, unmade) }
-
-  -- the mark was begun and made, and then written
-  module _ (old begun marked : Whole D) (before between next : Notes) (p : ℕ)
-      (begins : MakesStepsThat disk old before (BeginsMark p) begun between) where
-    pub commits_at_once : (mark : ℕ)
-        → MakesStepsThat disk begun between (AnswersChange p (replies.Marked mark)) marked next
-        → between.has_unmarked ≡ false → MakesStepsThat disk old before (CommitsMark p before mark) marked next
-    commits_at_once mark it none = record {
-      steps = begins.steps ++ it.steps;
-      replies = begins.replies ++ it.replies;
-      makes = makes_then disk old begun marked before between next begins.steps begins.replies it.steps
-          it.replies begins.makes it.makes;
-      holds = record {
-        beginning = begins.steps;
-        begun = begins.replies;
-        begins = begins.holds;
-        marking = it.steps;
-        marked = it.replies;
-        makes = it.holds;
-        writing = [];
-        written = [];
-        durable = inl (ap (λ (n : Notes). n.has_unmarked) (sym begins.makes.notes) ∙ none, refl, refl);
-        steps_are = ap (λ l. begins.steps ++ l) (sym (append-nil it.steps));
-        replies_are = ap (λ l. begins.replies ++ l) (sym (append-nil it.replies));
-      };
-    }
-
-    module _ (mark : ℕ) (it : MakesStepsThat disk begun between (AnswersChange p (replies.Marked mark)) marked next)
-        (some : between.has_unmarked ≡ true) (new : Whole D) (after : Notes) where
-      both : (writes : List Step → List Reply → Type 0) (last : MakesStepsThat disk marked next writes new after)
-          → Makes disk old before (begins.steps ++ (it.steps ++ last.steps))
-          (begins.replies ++ (it.replies ++ last.replies)) new after
-      both writes last = makes_then disk old begun new before between after begins.steps begins.replies
-          (it.steps ++ last.steps) (it.replies ++ last.replies) begins.makes
-          (makes_then disk begun marked new between next after it.steps it.replies last.steps
-          last.replies it.makes last.makes)
-
-      unmarked : (noted_all before begins.replies).has_unmarked ≡ true
-      unmarked = ap (λ (n : Notes). n.has_unmarked) (sym begins.makes.notes) ∙ some
-
-      pub commits_later : MakesStepsThat disk marked next (WritesUntil p mark (replies.Committed mark)) new after
-          → MakesStepsThat disk old before (CommitsMark p before mark) new after
-      commits_later last = record {
-        steps = begins.steps ++ (it.steps ++ last.steps);
-        replies = begins.replies ++ (it.replies ++ last.replies);
-        makes = both (WritesUntil p mark (replies.Committed mark)) last;
+-- the mark was begun and made, and then it was written
+pub marks_and : {D : Type 0} (disk : Ghosts D) (old begun marked new : Whole D) (before between next after : Notes)
+    (p mark : ℕ) (reply : Reply) (what : Notes → List Step → List Reply → Type 0) → reply ≡ replies.Marked mark
+    → BeginsChange disk old before (BeginsMark p) p Checkpoint begun between
+    → MakesStepsThat disk begun between (AnswersChange p reply) marked next → IsOver begun.state marked.state
+    → CarriesOut disk marked next (what between) new after
+    → CarriesOut disk old before (MarksAnd p before mark what) new after
+marks_and disk old begun marked new before between next after p mark reply what is begins changes over writes =
+    let first = begins.makes in
+    let last = writes.makes in
+    record {
+      makes = record {
+        steps = first.steps ++ (changes.steps ++ last.steps);
+        replies = first.replies ++ (changes.replies ++ last.replies);
+        makes = makes_then disk old begun new before between after first.steps first.replies
+            (changes.steps ++ last.steps) (changes.replies ++ last.replies) first.makes
+            (makes_then disk begun marked new between next after changes.steps changes.replies last.steps
+            last.replies changes.makes last.makes);
         holds = record {
-          beginning = begins.steps;
-          begun = begins.replies;
-          begins = begins.holds;
-          marking = it.steps;
-          marked = it.replies;
-          makes = it.holds;
+          beginning = first.steps;
+          begun = first.replies;
+          begins = first.holds;
+          marking = changes.steps;
+          marked = changes.replies;
+          makes = subst (λ (r : Reply). AnswersChange p r changes.steps changes.replies) is changes.holds;
           writing = last.steps;
           written = last.replies;
-          durable = inr (unmarked, last.holds);
+          writes = subst (λ (n : Notes). what n last.steps last.replies) first.makes.notes last.holds;
           steps_are = refl;
           replies_are = refl;
         };
-      }
+      };
+      phases = keeps_then old.state marked.state new.state
+          (begun_over old.state begun.state marked.state p Checkpoint begins.begins over) writes.phases;
+    }
 
-      pub stops_writing : (answer : Reply) → MakesStepsThat disk marked next (WritesUntil p mark answer) new after
-          → reports_unmade answer ≡ true → MakesStepsThat disk old before (StopsCommit p before answer) new after
-      stops_writing answer last unmade = record {
-        steps = begins.steps ++ (it.steps ++ last.steps);
-        replies = begins.replies ++ (it.replies ++ last.replies);
-        makes = both (WritesUntil p mark answer) last;
-        holds = inr (record {
-          mark = mark;
-          beginning = begins.steps;
-          begun = begins.replies;
-          begins = begins.holds;
-          marking = it.steps;
-          marked = it.replies;
-          makes = it.holds;
-          unmarked = unmarked;
-          writing = last.steps;
-          written = last.replies;
-          writes = last.holds;
-          unmade = unmade;
-          steps_are = refl;
-          replies_are = refl;
-        });
-      }
-
--- ---- an attempt, and the step of the write-outs after it
-
-pub both_replied : {a b c d : Reply} → a ≡ b → c ≡ d → (a ∷ c ∷ []) ≡ (b ∷ d ∷ [])
-both_replied {a} {b} {c} {d} first last = ap (λ r. r ∷ c ∷ []) first ∙ ap (λ r. b ∷ r ∷ []) last
-
-pub attempt_then : {D : Type 0} (disk : Ghosts D) (old mid new : Whole D) (before between after : Notes) (p : ℕ)
-    (busy reply : Reply) (what : List Step → List Reply → Type 0)
-    → what (msync_by p ∷ flush_by p ∷ []) (busy ∷ reply ∷ [])
-    → Makes disk old before (msync_by p ∷ []) (busy ∷ []) mid between
-    → Makes disk mid between (flush_by p ∷ []) (reply ∷ []) new after
-    → MakesStepsThat disk old before what new after
-attempt_then disk old mid new before between after p busy reply what holds first last = record {
-  steps = msync_by p ∷ flush_by p ∷ [];
-  replies = busy ∷ reply ∷ [];
-  makes = makes_then disk old mid new before between after (msync_by p ∷ []) (busy ∷ []) (flush_by p ∷ [])
-      (reply ∷ []) first last;
-  holds = holds;
-}
+-- why another attempt isn't made
+ends_refused : (p : ℕ) (answer : Reply) (steps : List Step) (replied : List Reply)
+    → EndsWaiting p answer steps replied → reports_refused answer ≡ true
+ends_refused p answer steps replied it = go it.why
+  where
+    go : ((it.reply ≡ replies.Nothing) × (answer ≡ replies.Refused Busy))
+        ⊎ ((it.reply ≡ answer) × (reports_refused answer ≡ true)) → reports_refused answer ≡ true
+    go (inl (nothing, busy)) = ap reports_refused busy
+    go (inr (same, refused)) = refused
 
 last_refused : (p : ℕ) (answer : Reply) (steps : List Step) (replied : List Reply)
-    → IsLastAttempt p answer steps replied
-    → reports_refused answer ≡ true
-last_refused p answer steps replied (inl (s, r, refused, other)) = refused
-last_refused p answer steps replied (inr (inl (s, r, busy))) = ap reports_refused busy
-last_refused p answer steps replied (inr (inr (s, r, refused))) = refused
+    → IsLastAttempt p answer steps replied → reports_refused answer ≡ true
+last_refused p answer (step ∷ steps) (reply ∷ replied) (is, inl (same, refused, other, none, silent)) = refused
+last_refused p answer (step ∷ steps) (reply ∷ replied) (is, inr (busy, ends)) =
+    ends_refused p answer steps replied ends
+last_refused p answer [] [] it = absurd it
+last_refused p answer [] (reply ∷ replied) it = absurd it
+last_refused p answer (step ∷ steps) [] it = absurd it
 
-pub mark_refuses_is : (p : ℕ) (answer : Reply) (steps : List Step) (replied : List Reply)
-    → RefusesMark p answer steps replied
-    → reports_refused answer ≡ true
-mark_refuses_is p answer steps replied it = last_refused p answer it.last it.replied it.refused
-
-pub mark_stops : {D : Type 0} (disk : Ghosts D) (old new : Whole D) (before after : Notes) (p : ℕ) (answer : Reply)
-    → MakesStepsThat disk old before (RefusesMark p answer) new after
-    → MakesStepsThat disk old before (StopsCommit p before answer) new after
-mark_stops disk old new before after p answer it =
-    record { steps = it.steps; replies = it.replies; makes = it.makes; holds = inl it.holds }
+-- a commit that a mark was refused to stops
+pub mark_stops : (p : ℕ) (before : Notes) (answer : Reply) (steps : List Step) (replied : List Reply)
+    → RefusesMark p answer steps replied → AnswersCommit p before (Err answer) steps replied
+mark_stops p before answer steps replied it =
+    (inl it, unmade_refused answer (last_refused p answer it.last it.replied it.refused))

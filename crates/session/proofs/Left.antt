@@ -28,7 +28,7 @@ use Rattle.session.specs.Commits.{msync_by}
 use Rattle.session.specs.Lengths.{reports_flushed, reports_later, flush_by, set_length_by, IsTry}
 use Rattle.session.specs.Ranges.{MakesStepsThat}
 use Rattle.session.specs.Steps.{Makes, is_paging, reports_reclaim}
-use Rattle.session.specs.inside.Made.{AttemptsLength}
+use Rattle.session.specs.inside.Made.{AttemptsLength, Waits}
 
 -- one more than the steps that a write-out has left
 abbrev pub steps_left : WriteOut → ℕ
@@ -214,12 +214,22 @@ module _ {D : Type 0} (disk : Ghosts D) where
       subst (λ (m : Whole D). left_of m.state < left_of old.state) (sym ends)
       (flush_fewer old.state here.answered.0 p mid.state here.answered.1 reply here.answered.2 is)
 
+  pub waited_fewer : (old new : Whole D) (before after : Notes) (p : ℕ)
+      → MakesStepsThat disk old before (Waits p) new after → left_of new.state < left_of old.state
+  waited_fewer old new before after p it =
+      flushed_fewer old new before after p it.holds.reply
+      (subst (λ l. Makes disk old before (flush_by p ∷ []) l new after) it.holds.replies_are
+      (subst (λ l. Makes disk old before l it.replies new after) it.holds.steps_are it.makes)) it.holds.made
+
   -- an attempt to begin a mark that is busy
-  pub busy_keeps : (old new : Whole D) (before after : Notes) (p : ℕ)
-      → Makes disk old before (msync_by p ∷ []) (replies.Refused refusals.Busy ∷ []) new after → LeftAfter old new
-  busy_keeps old new before after p makes =
+  pub busy_keeps : (old new : Whole D) (before after : Notes) (p : ℕ) (reply : Reply)
+      → reply ≡ replies.Refused refusals.Busy
+      → Makes disk old before (msync_by p ∷ []) (reply ∷ []) new after → LeftAfter old new
+  busy_keeps old new before after p reply busy makes =
       let (mid, here, ends) = makes.taken in
-      omega (arith, ap (λ (m : Whole D). left_of m.state) ends, ap left_of here.answered.2.0.1)
+      let P : Reply → Type 0 =
+      λ r. Acts old.state here.answered.0 p (msync_by p).act r mid.state here.answered.1 in
+      omega (arith, ap (λ (m : Whole D). left_of m.state) ends, ap left_of (subst P busy here.answered.2).0.1)
 
   paging_taken : (old mid : Whole D) (step : Step) (reply : Reply) → is_paging step.act reply ≡ true
       → StepTaken disk old step reply mid → LeftAfter old mid
@@ -238,16 +248,16 @@ module _ {D : Type 0} (disk : Ghosts D) where
   try_taken old mid p file to step reply (inr paging) here = paging_taken old mid step reply paging.0 here
 
   -- attempts to begin to set a length, the last of which is busy
-  attempts_keep : (old new : Whole D) (p file to : ℕ) (steps : List Step) (replied : List Reply)
-      → AttemptsLength p file to (replies.Refused refusals.Busy) steps replied → StepsTaken disk old steps replied new
-      → LeftAfter old new
-  attempts_keep old new p file to (step ∷ steps) (reply ∷ replied) (inl (try, more)) (mid, here, rest) =
+  attempts_keep : (old new : Whole D) (p file to : ℕ) (tried : Reply) → tried ≡ replies.Refused refusals.Busy
+      → (steps : List Step) (replied : List Reply) → AttemptsLength p file to tried steps replied
+      → StepsTaken disk old steps replied new → LeftAfter old new
+  attempts_keep old new p file to tried was (step ∷ steps) (reply ∷ replied) (inl (try, more)) (mid, here, rest) =
       omega (
         arith,
         try_taken old mid p file to step reply try here,
-        attempts_keep mid new p file to steps replied more rest,
+        attempts_keep mid new p file to tried was steps replied more rest,
       )
-  attempts_keep old new p file to (step ∷ steps) (reply ∷ replied)
+  attempts_keep old new p file to tried was (step ∷ steps) (reply ∷ replied)
       (inr (is, busy, inl (none, silent))) (mid, here, rest) =
       let S : List Step → Type 0 = λ l. StepsTaken disk mid l replied new in
       let T : List Reply → Type 0 = λ l. StepsTaken disk mid [] l new in
@@ -255,16 +265,17 @@ module _ {D : Type 0} (disk : Ghosts D) where
       omega (
         arith,
         ap (λ (m : Whole D). left_of m.state) ends,
-        later_taken old mid p file to step reply is (ap reports_later busy) here,
+        later_taken old mid p file to step reply is (ap reports_later (busy ∙ was)) here,
       )
-  attempts_keep old new p file to (step ∷ steps) (reply ∷ replied)
+  attempts_keep old new p file to tried was (step ∷ steps) (reply ∷ replied)
       (inr (is, busy, inr (other, vain))) taken = absurd (cc)
-  attempts_keep old new p file to [] [] it taken = absurd it
-  attempts_keep old new p file to [] (reply ∷ replied) it taken = absurd it
-  attempts_keep old new p file to (step ∷ steps) [] it taken = absurd it
+  attempts_keep old new p file to tried was [] [] it taken = absurd it
+  attempts_keep old new p file to tried was [] (reply ∷ replied) it taken = absurd it
+  attempts_keep old new p file to tried was (step ∷ steps) [] it taken = absurd it
 
-  pub attempts_left : (old new : Whole D) (before after : Notes) (p file to : ℕ)
-      → MakesStepsThat disk old before (AttemptsLength p file to (replies.Refused refusals.Busy)) new after
+  pub attempts_left : (old new : Whole D) (before after : Notes) (p file to : ℕ) (tried : Reply)
+      → tried ≡ replies.Refused refusals.Busy
+      → MakesStepsThat disk old before (AttemptsLength p file to tried) new after
       → LeftAfter old new
-  attempts_left old new before after p file to it =
-      attempts_keep old new p file to it.steps it.replies it.holds it.makes.taken
+  attempts_left old new before after p file to tried was it =
+      attempts_keep old new p file to tried was it.steps it.replies it.holds it.makes.taken

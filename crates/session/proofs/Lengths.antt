@@ -1,22 +1,18 @@
 -- Steps by which the length of a file is set.
-use Rattle.std.proofs.Common.{◌≡◌, ◌≢◌, ◌⊎◌, inl, inr, ℕ, true, false, List, [], ◌∷◌, ◌++◌, refl, sym, ◌∙◌, ap, subst}
+use Rattle.std.proofs.Common.{◌≡◌, ◌≢◌, inl, inr, ℕ, true, false, List, [], ◌∷◌, ◌++◌, refl, sym, ◌∙◌, ap, subst}
 use Rattle.std.proofs.lemmas.Bool.{false≢true}
 use Rattle.page_entry.specs.declared.refusal.Refusal.TheVariants.{Busy, NoFrame}
 use Rattle.machine.specs.declared.act.Reply.{Reply}
-use Rattle.machine.specs.declared.act.Reply.TheVariants.{Begun, Nothing, Refused}
+use Rattle.machine.specs.declared.act.Reply.TheVariants.{Begun, Refused}
 use Rattle.machine.specs.declared.act.Step.{Step}
 use Rattle.session.specs.Ends.{AreFruitless}
-use Rattle.session.specs.Lengths.{reports_begun, reports_later, reports_refused, flush_by, set_length_by}
-use Rattle.session.specs.Lengths.{AnswersChange, IsTry, IsLeft, ChangesLength, RefusesLength}
+use Rattle.session.specs.Lengths.{reports_begun, reports_later, flush_by, set_length_by}
+use Rattle.session.specs.Lengths.{AnswersChange, EndsWaiting, IsTry, IsLeft, ChangesLength, RefusesLength}
 use Rattle.session.specs.Steps.{IsPaging, ArePaging}
-use Rattle.session.specs.inside.Made.{AreTries, BeginsLength, AttemptsLength}
+use Rattle.session.specs.inside.Made.{AreTries, Waits, BeginsLength, AttemptsLength}
 use Rattle.session.proofs.Phases.{begun_is}
 use Rattle.session.proofs.Each.{each_so}
 use Rattle.session.proofs.Rooms.{vain_paging}
-
--- one step of the write-outs alone
-abbrev pub IsNext : ℕ → Reply → List Step → List Reply → Type 0
-IsNext p reply steps replies = (steps ≡ flush_by p ∷ []) × (replies ≡ reply ∷ [])
 
 module _ (p file to : ℕ) where
   -- ---- tries
@@ -64,19 +60,10 @@ module _ (p file to : ℕ) where
   pub attempts_one : (answer : Reply) → AttemptsLength p file to answer (set_length_by p file to ∷ []) (answer ∷ [])
   attempts_one answer = inr (refl, refl, inl (refl, refl))
 
-  -- one attempt alone
-  abbrev pub IsAttempt : Reply → List Step → List Reply → Type 0
-  IsAttempt answer steps replies = (steps ≡ set_length_by p file to ∷ []) × (replies ≡ answer ∷ [])
-
-  pub attempts_first : (answer : Reply) → answer ≡ Refused NoFrame
-      → (steps : List Step) (replies : List Reply) (steps' : List Step) (replies' : List Reply)
-      → IsAttempt answer steps replies → AreFruitless p steps' replies'
-      → AttemptsLength p file to answer (steps ++ steps') (replies ++ replies')
-  attempts_first answer is steps replies steps' replies' first vain =
-      let S : List Step → Type 0 = λ l. AttemptsLength p file to answer (l ++ steps') (replies ++ replies') in
-      let T : List Reply → Type 0 =
-      λ l. AttemptsLength p file to answer (set_length_by p file to ∷ steps') (l ++ replies') in
-      subst S (sym first.0) (subst T (sym first.1) (inr (refl, refl, inr (is, vain))))
+  pub attempts_first : (answer : Reply) → answer ≡ Refused NoFrame → (steps : List Step) (replies : List Reply)
+      → AreFruitless p steps replies
+      → AttemptsLength p file to answer (set_length_by p file to ∷ steps) (answer ∷ replies)
+  attempts_first answer is steps replies vain = inr (refl, refl, inr (is, vain))
 
   -- an attempt that is refused for a while is made again
   pub tries_one : (reply : Reply) → reports_later reply ≡ true
@@ -84,8 +71,10 @@ module _ (p file to : ℕ) where
   tries_one reply later = (inl (refl, later), tt)
 
   -- a step of the write-outs
-  pub tries_flush : (reply : Reply) → AreTries p file to (flush_by p ∷ []) (reply ∷ [])
-  tries_flush reply = (inr (refl, refl), tt)
+  pub tries_waited : (steps : List Step) (replies : List Reply) → Waits p steps replies
+      → AreTries p file to steps replies
+  tries_waited steps replies it = subst (λ l. AreTries p file to l replies) (sym it.steps_are)
+      (subst (λ l. AreTries p file to (flush_by p ∷ []) l) (sym it.replies_are) (inr (refl, refl), tt))
 
   tries_step : (step : Step) (reply : Reply) → step ≡ set_length_by p file to → reports_later reply ≡ true
       → IsTry p file to step reply
@@ -148,48 +137,23 @@ module _ (p file to : ℕ) where
   refuses_attempted answer vain other [] (reply ∷ replies) it = absurd it
   refuses_attempted answer vain other (step ∷ steps) [] it = absurd it
 
-  -- the write-outs have no step left, or the next one is refused
-  ends_busy : (answer reply : Reply)
-      → ((reply ≡ Nothing) × (answer ≡ Refused Busy)) ⊎ ((reply ≡ answer) × (reports_refused answer ≡ true))
-      → (steps : List Step) (replies : List Reply) → AttemptsLength p file to (Refused Busy) steps replies
-      → RefusesLength p file to answer (steps ++ flush_by p ∷ []) (replies ++ reply ∷ [])
-  ends_busy answer reply why (step ∷ steps) (busy ∷ replies) (inl (try, more)) =
-      inl (try, ends_busy answer reply why steps replies more)
-  ends_busy answer reply (inl (nothing, is-busy)) (step ∷ steps) (busy ∷ replies)
-      (inr (is, replied, inl (none, silent))) =
-      inr (
-        is,
-        inr (inr (inl (
-          replied,
-          is-busy,
-          ap (λ l. l ++ flush_by p ∷ []) none,
-          ap (λ l. l ++ reply ∷ []) silent ∙ ap (λ r. r ∷ []) nothing,
-        ))),
-      )
-  ends_busy answer reply (inr (same, refused)) (step ∷ steps) (busy ∷ replies) (inr (is, replied, inl (none, silent))) =
-      inr (
-        is,
-        inr (inr (inr (
-          replied,
-          refused,
-          ap (λ l. l ++ flush_by p ∷ []) none,
-          ap (λ l. l ++ reply ∷ []) silent ∙ ap (λ r. r ∷ []) same,
-        ))),
-      )
-  ends_busy answer reply why (step ∷ steps) (busy ∷ replies) (inr (is, replied, inr (no-frame, vain))) = absurd (cc)
-  ends_busy answer reply why [] [] it = absurd it
-  ends_busy answer reply why [] (busy ∷ replies) it = absurd it
-  ends_busy answer reply why (step ∷ steps) [] it = absurd it
-
-  pub refuses_busy : (answer reply : Reply)
-      → ((reply ≡ Nothing) × (answer ≡ Refused Busy)) ⊎ ((reply ≡ answer) × (reports_refused answer ≡ true))
+  -- it is busy, and no other attempt is made
+  pub refuses_waiting : (answer tried : Reply) → tried ≡ Refused Busy
       → (steps : List Step) (replies : List Reply) (steps' : List Step) (replies' : List Reply)
-      → AttemptsLength p file to (Refused Busy) steps replies → IsNext p reply steps' replies'
+      → AttemptsLength p file to tried steps replies → EndsWaiting p answer steps' replies'
       → RefusesLength p file to answer (steps ++ steps') (replies ++ replies')
-  refuses_busy answer reply why steps replies steps' replies' busy next =
-      let S : List Step → Type 0 = λ l. RefusesLength p file to answer (steps ++ l) (replies ++ replies') in
-      let T : List Reply → Type 0 = λ l. RefusesLength p file to answer (steps ++ flush_by p ∷ []) (replies ++ l) in
-      subst S (sym next.0) (subst T (sym next.1) (ends_busy answer reply why steps replies busy))
+  refuses_waiting answer tried busy (step ∷ steps) (reply ∷ replies) steps' replies' (inl (try, more)) ends =
+      inl (try, refuses_waiting answer tried busy steps replies steps' replies' more ends)
+  refuses_waiting answer tried busy (step ∷ steps) (reply ∷ replies) steps' replies'
+      (inr (is, replied, inl (none, silent))) ends =
+      let S : List Step → Type 0 = λ l. EndsWaiting p answer (l ++ steps') (replies ++ replies') in
+      let T : List Reply → Type 0 = λ l. EndsWaiting p answer steps' (l ++ replies') in
+      inr (is, inr (inr (replied ∙ busy, subst S (sym none) (subst T (sym silent) ends))))
+  refuses_waiting answer tried busy (step ∷ steps) (reply ∷ replies) steps' replies'
+      (inr (is, replied, inr (no-frame, vain))) ends = absurd (cc)
+  refuses_waiting answer tried busy [] [] steps' replies' it ends = absurd it
+  refuses_waiting answer tried busy [] (reply ∷ replies) steps' replies' it ends = absurd it
+  refuses_waiting answer tried busy (step ∷ steps) [] steps' replies' it ends = absurd it
 
   pub refuses_later : (answer : Reply) (steps : List Step) (replies : List Reply) (steps' : List Step)
       (replies' : List Reply) → AreTries p file to steps replies → RefusesLength p file to answer steps' replies'

@@ -1,6 +1,7 @@
 pub mod Phases
 pub mod Stretches
 pub mod Each
+pub mod Carried
 pub mod Pieces
 pub mod AtOnce
 pub mod Rooms

@@ -7,6 +7,7 @@ use Rattle.std.proofs.lemmas.List.Elements.{All-nil, All-cons, All-append}
 use Rattle.std.proofs.KnownBytes.{Consumes-nil, Consumes-trans}
 use Rattle.std.specs.Io.KnownBytes.{Consumes, IsAtEnd}
 use Rattle.std.specs.Io.BufRead.{drop_through, DropsThrough}
+use Rattle.session.specs.declared.line.Line.{Line}
 use Rattle.session.specs.declared.line.Line.TheVariants.{Whole, Long, End}
 use Rattle.session.specs.Lines.{HasNoFeed, BeginsWith, ReadsLine, AreLines, ReadsLines}
 use Rattle.session.specs.inside.Reading.{IsPart, ReadsPart}
@@ -234,19 +235,31 @@ pub reads_same : (a : Option (List ℕ)) → ReadsLines a a []
 reads_same None = tt
 reads_same (Some x) = refl
 
-pub reads_none : (a b : Option (List ℕ)) (given : List ℕ) → ReadsLine a b End given
+pub reads_none : (a b : Option (List ℕ)) (found : Line) (given : List ℕ) → found ≡ End → ReadsLine a b found given
     → ReadsLines a b [] × OnSome a (IsAtEnd b)
-reads_none None b given read = (tt, tt)
-reads_none (Some x) None given read = absurd read
-reads_none (Some x) (Some y) given (none, end) = (end ∙ sym none, end)
+reads_none a b found given is read = go a b (subst (λ (f : Line). ReadsLine a b f given) is read)
+  where
+    go : (a b : Option (List ℕ)) → ReadsLine a b End given → ReadsLines a b [] × OnSome a (IsAtEnd b)
+    go None b read = (tt, tt)
+    go (Some x) None read = absurd read
+    go (Some x) (Some y) (none, end) = (end ∙ sym none, end)
 
 -- one was
-pub reads_one : (a b : Option (List ℕ)) (given : List ℕ) → ReadsLine a b Whole given → ReadsLines a b (Some given ∷ [])
-reads_one None b given read = tt
-reads_one (Some x) None given read = absurd read
-reads_one (Some x) (Some y) given (is, few) = (given, y, is, (refl, few), refl)
+pub reads_one : (a b : Option (List ℕ)) (found : Line) (given line : List ℕ) → found ≡ Whole → line ≡ given
+    → ReadsLine a b found given → ReadsLines a b (Some line ∷ [])
+reads_one a b found given line is same read = subst (λ (l : List ℕ). ReadsLines a b (Some l ∷ [])) (sym same)
+    (go a b (subst (λ (f : Line). ReadsLine a b f given) is read))
+  where
+    go : (a b : Option (List ℕ)) → ReadsLine a b Whole given → ReadsLines a b (Some given ∷ [])
+    go None b read = tt
+    go (Some x) None read = absurd read
+    go (Some x) (Some y) (is, few) = (given, y, is, (refl, few), refl)
 
-pub reads_too_long : (a b : Option (List ℕ)) (given : List ℕ) → ReadsLine a b Long given → ReadsLines a b (None ∷ [])
-reads_too_long None b given read = tt
-reads_too_long (Some x) None given read = absurd read
-reads_too_long (Some x) (Some y) given (line, is, many) = (line, y, is, many, refl)
+pub reads_too_long : (a b : Option (List ℕ)) (found : Line) (given : List ℕ) → found ≡ Long
+    → ReadsLine a b found given → ReadsLines a b (None ∷ [])
+reads_too_long a b found given is read = go a b (subst (λ (f : Line). ReadsLine a b f given) is read)
+  where
+    go : (a b : Option (List ℕ)) → ReadsLine a b Long given → ReadsLines a b (None ∷ [])
+    go None b read = tt
+    go (Some x) None read = absurd read
+    go (Some x) (Some y) (line, is, many) = (line, y, is, many, refl)

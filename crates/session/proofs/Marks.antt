@@ -207,9 +207,9 @@ module _ {D : Type 0} (disk : Ghosts D) (p mark : ℕ) where
       ∙ observed_then t it.beginning it.begun (it.marking ++ it.writing) (it.marked ++ it.written) begun
       ∙ observed_then there it.marking it.marked it.writing it.written marked in
       let agreed = agree_all t n it.beginning it.begun begun agree in
-      subst (λ (x : Observed). Contains x.history (Acknowledge mark)) (sym is) (go it.durable there agreed)
+      subst (λ (x : Observed). Contains x.history (Acknowledge mark)) (sym is) (go it.writes there agreed)
     where
-      go : IsWritten p (noted_all n it.begun) mark it.writing it.written → (there : Observed)
+      go : IsWritten p mark (noted_all n it.begun) it.writing it.written → (there : Observed)
           → Agree there (noted_all n it.begun)
           → Contains (observe_all (observe_all there it.marking it.marked) it.writing it.written).history
           (Acknowledge mark)

@@ -33,45 +33,19 @@ use Rattle.machine.specs.declared.act.Act.TheVariants as acts
 use Rattle.machine.specs.declared.act.Reply.{Reply}
 use Rattle.machine.specs.declared.act.Reply.TheVariants as replies
 use Rattle.machine.specs.declared.act.Step.{Step}
-use Rattle.machine.specs.declared.msync_flags.MsyncFlags.{MsyncFlags}
-use Rattle.machine.specs.Rules.{Accesses, Acts, begin_change, after_record, is_page_next}
+use Rattle.machine.specs.Rules.{Accesses, Acts, Reaches, begin_change, after_record, is_page_next}
 use Rattle.machine.specs.State.{State, Whole}
 use Rattle.session.specs.declared.notes.Notes.{Notes}
 use Rattle.session.specs.Lengths.{reports_begun, reports_changed}
 use Rattle.session.specs.Locks.{KeepsPhases}
 use Rattle.session.specs.Steps.{Makes}
-use Rattle.session.specs.inside.Paging.{LoadsOrStores}
 use Rattle.session.specs.inside.Changing.{phase_after, HoldsLock, HasBegun, AreCalm, IsOver, reports_made}
 
 -- ---- what was begun
 
 pub begun_is : (reply : Reply) → reports_begun reply ≡ true → reply ≡ replies.Begun
 begun_is replies.Begun is = refl
-begun_is (replies.Bytes bytes) is = absurd (false≢true is)
-begun_is replies.Stored is = absurd (false≢true is)
-begun_is replies.Filled is = absurd (false≢true is)
-begun_is replies.Evicted is = absurd (false≢true is)
-begun_is replies.Switched is = absurd (false≢true is)
-begun_is replies.Idled is = absurd (false≢true is)
-begun_is replies.Woken is = absurd (false≢true is)
-begun_is replies.Fixed is = absurd (false≢true is)
-begun_is (replies.Space space) is = absurd (false≢true is)
-begun_is replies.Destroyed is = absurd (false≢true is)
-begun_is replies.Mapped is = absurd (false≢true is)
-begun_is replies.Fine is = absurd (false≢true is)
-begun_is replies.Unmapped is = absurd (false≢true is)
-begun_is replies.Protected is = absurd (false≢true is)
-begun_is replies.Resized is = absurd (false≢true is)
-begun_is replies.Reclaimed is = absurd (false≢true is)
-begun_is replies.Kept is = absurd (false≢true is)
-begun_is (replies.Marked mark) is = absurd (false≢true is)
-begun_is replies.Acked is = absurd (false≢true is)
-begun_is replies.Resumed is = absurd (false≢true is)
-begun_is replies.Going is = absurd (false≢true is)
-begun_is (replies.Committed mark) is = absurd (false≢true is)
-begun_is (replies.Done mark) is = absurd (false≢true is)
-begun_is replies.Nothing is = absurd (false≢true is)
-begun_is (replies.Refused why) is = absurd (false≢true is)
+begun_is reply is = absurd (false≢true is)
 
 -- ---- the same lock and the same phases
 
@@ -89,6 +63,9 @@ keeps_same old new same = record { lock = same.0; phases = same.1 }
 
 keeps_is : (old new : State) → new.hardware.shootdown ≡ old.hardware.shootdown → KeepsPhases old new
 keeps_is old new is = keeps_same old new (same_is old.hardware.shootdown new.hardware.shootdown is)
+
+shootdown_is : {old new : State} → new ≡ old → new.hardware.shootdown ≡ old.hardware.shootdown
+shootdown_is done = ap (λ (t : State). t.hardware.shootdown) done
 
 -- nothing is done
 pub keeps_none : (s : State) → KeepsPhases s s
@@ -175,374 +152,72 @@ record_same s = go (is_page_next s)
     go true = refl
     go false = refl
 
--- a load or a store of the hardware
-loads_same : (h : Hardware) (p va count : ℕ) (reply : Reply) (new : Hardware)
-    → Accesses h p (acts.Load va count) reply new → Same h.shootdown new.shootdown
-loads_same h p va count (replies.Bytes few) new made =
-    translated_same h p (va / 4096) false made.frame new made.translation
-loads_same h p va count replies.Stored new it = absurd it
-loads_same h p va count replies.Filled new it = absurd it
-loads_same h p va count replies.Evicted new it = absurd it
-loads_same h p va count replies.Switched new it = absurd it
-loads_same h p va count replies.Idled new it = absurd it
-loads_same h p va count replies.Woken new it = absurd it
-loads_same h p va count replies.Fixed new it = absurd it
-loads_same h p va count (replies.Space space) new it = absurd it
-loads_same h p va count replies.Destroyed new it = absurd it
-loads_same h p va count replies.Mapped new it = absurd it
-loads_same h p va count replies.Begun new it = absurd it
-loads_same h p va count replies.Fine new it = absurd it
-loads_same h p va count replies.Unmapped new it = absurd it
-loads_same h p va count replies.Protected new it = absurd it
-loads_same h p va count replies.Resized new it = absurd it
-loads_same h p va count replies.Reclaimed new it = absurd it
-loads_same h p va count replies.Kept new it = absurd it
-loads_same h p va count (replies.Marked mark) new it = absurd it
-loads_same h p va count replies.Acked new it = absurd it
-loads_same h p va count replies.Resumed new it = absurd it
-loads_same h p va count replies.Going new it = absurd it
-loads_same h p va count (replies.Committed mark) new it = absurd it
-loads_same h p va count (replies.Done mark) new it = absurd it
-loads_same h p va count replies.Nothing new it = absurd it
-loads_same h p va count (replies.Refused refusals.Stalled) new made =
-    same_is h.shootdown new.shootdown (ap (λ (x : Hardware). x.shootdown) made.1)
-loads_same h p va count (replies.Refused refusals.Locked) new made =
-    same_is h.shootdown new.shootdown (ap (λ (x : Hardware). x.shootdown) made.1)
-loads_same h p va count (replies.Refused (refusals.NotYet waiting)) new made =
-    same_is h.shootdown new.shootdown (ap (λ (x : Hardware). x.shootdown) made.1)
-loads_same h p va count (replies.Refused (refusals.Fault code)) new made = faulted_same h p (va / 4096) new made.dropped
-loads_same h p va count (replies.Refused refusals.SegvMapErr) new made =
-    same_is h.shootdown new.shootdown (ap (λ (x : Hardware). x.shootdown) made.1)
-loads_same h p va count (replies.Refused refusals.SegvAccErr) new made =
-    same_is h.shootdown new.shootdown (ap (λ (x : Hardware). x.shootdown) made.1)
-loads_same h p va count (replies.Refused refusals.BusAdrErr) new made =
-    same_is h.shootdown new.shootdown (ap (λ (x : Hardware). x.shootdown) made.1)
-loads_same h p va count (replies.Refused refusals.Held) new made =
-    same_is h.shootdown new.shootdown (ap (λ (x : Hardware). x.shootdown) made.1)
-loads_same h p va count (replies.Refused refusals.NoFrame) new made =
-    same_is h.shootdown new.shootdown (ap (λ (x : Hardware). x.shootdown) made.1)
-loads_same h p va count (replies.Refused refusals.Device) new made =
-    same_is h.shootdown new.shootdown (ap (λ (x : Hardware). x.shootdown) made.1)
-loads_same h p va count (replies.Refused refusals.Broken) new made =
-    same_is h.shootdown new.shootdown (ap (λ (x : Hardware). x.shootdown) made.1)
-loads_same h p va count (replies.Refused refusals.Einval) new made =
-    same_is h.shootdown new.shootdown (ap (λ (x : Hardware). x.shootdown) made.1)
-loads_same h p va count (replies.Refused refusals.Enomem) new made =
-    same_is h.shootdown new.shootdown (ap (λ (x : Hardware). x.shootdown) made.1)
-loads_same h p va count (replies.Refused refusals.Eacces) new made =
-    same_is h.shootdown new.shootdown (ap (λ (x : Hardware). x.shootdown) made.1)
-loads_same h p va count (replies.Refused refusals.Overlap) new made =
-    same_is h.shootdown new.shootdown (ap (λ (x : Hardware). x.shootdown) made.1)
-loads_same h p va count (replies.Refused refusals.NoFile) new made =
-    same_is h.shootdown new.shootdown (ap (λ (x : Hardware). x.shootdown) made.1)
-loads_same h p va count (replies.Refused refusals.Busy) new made =
-    same_is h.shootdown new.shootdown (ap (λ (x : Hardware). x.shootdown) made.1)
-loads_same h p va count (replies.Refused refusals.NotResident) new made =
-    same_is h.shootdown new.shootdown (ap (λ (x : Hardware). x.shootdown) made.1)
-loads_same h p va count (replies.Refused refusals.TraceFull) new made =
-    same_is h.shootdown new.shootdown (ap (λ (x : Hardware). x.shootdown) made.1)
-loads_same h p va count (replies.Refused refusals.OutOfMemory) new made =
-    same_is h.shootdown new.shootdown (ap (λ (x : Hardware). x.shootdown) made.1)
-loads_same h p va count (replies.Refused refusals.NotAVolume) new made =
-    same_is h.shootdown new.shootdown (ap (λ (x : Hardware). x.shootdown) made.1)
-loads_same h p va count (replies.Refused refusals.Damaged) new made =
-    same_is h.shootdown new.shootdown (ap (λ (x : Hardware). x.shootdown) made.1)
-loads_same h p va count (replies.Refused refusals.BadShape) new made =
-    same_is h.shootdown new.shootdown (ap (λ (x : Hardware). x.shootdown) made.1)
-
-stores_same : (h : Hardware) (p va : ℕ) (bytes : List ℕ) (reply : Reply) (new : Hardware)
-    → Accesses h p (acts.Store va bytes) reply new → Same h.shootdown new.shootdown
-stores_same h p va bytes (replies.Bytes few) new it = absurd it
-stores_same h p va bytes replies.Stored new made = same_then h.shootdown made.mid.shootdown new.shootdown
-    (translated_same h p (va / 4096) true made.frame made.mid made.translation)
-    (same_is made.mid.shootdown new.shootdown (ap (λ (x : Hardware). x.shootdown) made.written))
-stores_same h p va bytes replies.Filled new it = absurd it
-stores_same h p va bytes replies.Evicted new it = absurd it
-stores_same h p va bytes replies.Switched new it = absurd it
-stores_same h p va bytes replies.Idled new it = absurd it
-stores_same h p va bytes replies.Woken new it = absurd it
-stores_same h p va bytes replies.Fixed new it = absurd it
-stores_same h p va bytes (replies.Space space) new it = absurd it
-stores_same h p va bytes replies.Destroyed new it = absurd it
-stores_same h p va bytes replies.Mapped new it = absurd it
-stores_same h p va bytes replies.Begun new it = absurd it
-stores_same h p va bytes replies.Fine new it = absurd it
-stores_same h p va bytes replies.Unmapped new it = absurd it
-stores_same h p va bytes replies.Protected new it = absurd it
-stores_same h p va bytes replies.Resized new it = absurd it
-stores_same h p va bytes replies.Reclaimed new it = absurd it
-stores_same h p va bytes replies.Kept new it = absurd it
-stores_same h p va bytes (replies.Marked mark) new it = absurd it
-stores_same h p va bytes replies.Acked new it = absurd it
-stores_same h p va bytes replies.Resumed new it = absurd it
-stores_same h p va bytes replies.Going new it = absurd it
-stores_same h p va bytes (replies.Committed mark) new it = absurd it
-stores_same h p va bytes (replies.Done mark) new it = absurd it
-stores_same h p va bytes replies.Nothing new it = absurd it
-stores_same h p va bytes (replies.Refused refusals.Stalled) new made =
-    same_is h.shootdown new.shootdown (ap (λ (x : Hardware). x.shootdown) made.1)
-stores_same h p va bytes (replies.Refused refusals.Locked) new made =
-    same_is h.shootdown new.shootdown (ap (λ (x : Hardware). x.shootdown) made.1)
-stores_same h p va bytes (replies.Refused (refusals.NotYet waiting)) new made =
-    same_is h.shootdown new.shootdown (ap (λ (x : Hardware). x.shootdown) made.1)
-stores_same h p va bytes (replies.Refused (refusals.Fault code)) new made =
-    faulted_same h p (va / 4096) new made.dropped
-stores_same h p va bytes (replies.Refused refusals.SegvMapErr) new made =
-    same_is h.shootdown new.shootdown (ap (λ (x : Hardware). x.shootdown) made.1)
-stores_same h p va bytes (replies.Refused refusals.SegvAccErr) new made =
-    same_is h.shootdown new.shootdown (ap (λ (x : Hardware). x.shootdown) made.1)
-stores_same h p va bytes (replies.Refused refusals.BusAdrErr) new made =
-    same_is h.shootdown new.shootdown (ap (λ (x : Hardware). x.shootdown) made.1)
-stores_same h p va bytes (replies.Refused refusals.Held) new made =
-    same_is h.shootdown new.shootdown (ap (λ (x : Hardware). x.shootdown) made.1)
-stores_same h p va bytes (replies.Refused refusals.NoFrame) new made =
-    same_is h.shootdown new.shootdown (ap (λ (x : Hardware). x.shootdown) made.1)
-stores_same h p va bytes (replies.Refused refusals.Device) new made =
-    same_is h.shootdown new.shootdown (ap (λ (x : Hardware). x.shootdown) made.1)
-stores_same h p va bytes (replies.Refused refusals.Broken) new made =
-    same_is h.shootdown new.shootdown (ap (λ (x : Hardware). x.shootdown) made.1)
-stores_same h p va bytes (replies.Refused refusals.Einval) new made =
-    same_is h.shootdown new.shootdown (ap (λ (x : Hardware). x.shootdown) made.1)
-stores_same h p va bytes (replies.Refused refusals.Enomem) new made =
-    same_is h.shootdown new.shootdown (ap (λ (x : Hardware). x.shootdown) made.1)
-stores_same h p va bytes (replies.Refused refusals.Eacces) new made =
-    same_is h.shootdown new.shootdown (ap (λ (x : Hardware). x.shootdown) made.1)
-stores_same h p va bytes (replies.Refused refusals.Overlap) new made =
-    same_is h.shootdown new.shootdown (ap (λ (x : Hardware). x.shootdown) made.1)
-stores_same h p va bytes (replies.Refused refusals.NoFile) new made =
-    same_is h.shootdown new.shootdown (ap (λ (x : Hardware). x.shootdown) made.1)
-stores_same h p va bytes (replies.Refused refusals.Busy) new made =
-    same_is h.shootdown new.shootdown (ap (λ (x : Hardware). x.shootdown) made.1)
-stores_same h p va bytes (replies.Refused refusals.NotResident) new made =
-    same_is h.shootdown new.shootdown (ap (λ (x : Hardware). x.shootdown) made.1)
-stores_same h p va bytes (replies.Refused refusals.TraceFull) new made =
-    same_is h.shootdown new.shootdown (ap (λ (x : Hardware). x.shootdown) made.1)
-stores_same h p va bytes (replies.Refused refusals.OutOfMemory) new made =
-    same_is h.shootdown new.shootdown (ap (λ (x : Hardware). x.shootdown) made.1)
-stores_same h p va bytes (replies.Refused refusals.NotAVolume) new made =
-    same_is h.shootdown new.shootdown (ap (λ (x : Hardware). x.shootdown) made.1)
-stores_same h p va bytes (replies.Refused refusals.Damaged) new made =
-    same_is h.shootdown new.shootdown (ap (λ (x : Hardware). x.shootdown) made.1)
-stores_same h p va bytes (replies.Refused refusals.BadShape) new made =
-    same_is h.shootdown new.shootdown (ap (λ (x : Hardware). x.shootdown) made.1)
-
 -- ---- single acts
 
-load_keeps : (s : State) (d : List ℕ) (p va count : ℕ) (reply : Reply) (new : State) (d' : List ℕ)
-    → Acts s d p (acts.Load va count) reply new d' → KeepsPhases s new
-load_keeps s d p va count reply new d' ((hw, did, done), same) =
+-- an act that leaves the lock and the phases as they are, unless it begins a change
+abbrev pub IsQuiet : Act → Reply → Type 0
+IsQuiet (acts.Load va count) reply = Unit {0}
+IsQuiet (acts.Store va bytes) reply = Unit {0}
+IsQuiet (acts.Fix va write) reply = Unit {0}
+IsQuiet acts.Flush reply = Unit {0}
+IsQuiet (acts.Reclaim file page) reply = reports_begun reply ≡ false
+IsQuiet (acts.SetLength file to) reply = reports_begun reply ≡ false
+IsQuiet (acts.Msync va len flags) reply = reports_begun reply ≡ false
+IsQuiet act reply = ⊥
+
+-- a load or a store of the hardware
+accesses_same : (h : Hardware) (p : ℕ) (act : Act) (reply : Reply) (new : Hardware) → IsQuiet act reply
+    → Accesses h p act reply new → Same h.shootdown new.shootdown
+accesses_same h p (acts.Load va count) (replies.Bytes few) new is made =
+    translated_same h p (va / 4096) false made.frame new made.translation
+accesses_same h p (acts.Load va count) (replies.Refused (refusals.Fault code)) new is made =
+    faulted_same h p (va / 4096) new made.dropped
+accesses_same h p (acts.Load va count) (replies.Refused why) new is made =
+    same_is h.shootdown new.shootdown (ap (λ (x : Hardware). x.shootdown) made.1)
+accesses_same h p (acts.Store va bytes) replies.Stored new is made =
+    same_then h.shootdown made.mid.shootdown new.shootdown
+    (translated_same h p (va / 4096) true made.frame made.mid made.translation)
+    (same_is made.mid.shootdown new.shootdown (ap (λ (x : Hardware). x.shootdown) made.written))
+accesses_same h p (acts.Store va bytes) (replies.Refused (refusals.Fault code)) new is made =
+    faulted_same h p (va / 4096) new made.dropped
+accesses_same h p (acts.Store va bytes) (replies.Refused why) new is made =
+    same_is h.shootdown new.shootdown (ap (λ (x : Hardware). x.shootdown) made.1)
+accesses_same h p (acts.Fill page) reply new is made = absurd is
+accesses_same h p (acts.Evict slot) reply new is made = absurd is
+accesses_same h p act reply new is made = absurd made
+
+reaches_keep : (s : State) (p : ℕ) (act : Act) (reply : Reply) (new : State) → IsQuiet act reply
+    → Reaches s p act reply new → KeepsPhases s new
+reaches_keep s p act reply new is (hw, did, done) =
     keeps_same s new (same_then s.hardware.shootdown hw.shootdown new.hardware.shootdown
-    (loads_same s.hardware p va count reply hw did)
+    (accesses_same s.hardware p act reply hw is did)
     (same_is hw.shootdown new.hardware.shootdown (ap (λ (t : State). t.hardware.shootdown) done)))
 
-pub store_keeps : (s : State) (d : List ℕ) (p va : ℕ) (bytes : List ℕ) (reply : Reply) (new : State) (d' : List ℕ)
-    → Acts s d p (acts.Store va bytes) reply new d' → KeepsPhases s new
-store_keeps s d p va bytes reply new d' ((hw, did, done), same) =
-    keeps_same s new (same_then s.hardware.shootdown hw.shootdown new.hardware.shootdown
-    (stores_same s.hardware p va bytes reply hw did)
-    (same_is hw.shootdown new.hardware.shootdown (ap (λ (t : State). t.hardware.shootdown) done)))
-
-fix_keeps : (s : State) (d : List ℕ) (p va : ℕ) (write : Bool) (reply : Reply) (new : State) (d' : List ℕ)
-    → Acts s d p (acts.Fix va write) reply new d' → KeepsPhases s new
-fix_keeps s d p va write (replies.Bytes few) new d' ((reason, it), same) = absurd it
-fix_keeps s d p va write replies.Stored new d' ((reason, it), same) = absurd it
-fix_keeps s d p va write replies.Filled new d' ((reason, it), same) = absurd it
-fix_keeps s d p va write replies.Evicted new d' ((reason, it), same) = absurd it
-fix_keeps s d p va write replies.Switched new d' ((reason, it), same) = absurd it
-fix_keeps s d p va write replies.Idled new d' ((reason, it), same) = absurd it
-fix_keeps s d p va write replies.Woken new d' ((reason, it), same) = absurd it
-fix_keeps s d p va write replies.Fixed new d' ((reason, made), same) =
-    keeps_is s new (ap (λ (t : State). t.hardware.shootdown) made.done)
-fix_keeps s d p va write (replies.Space space) new d' ((reason, it), same) = absurd it
-fix_keeps s d p va write replies.Destroyed new d' ((reason, it), same) = absurd it
-fix_keeps s d p va write replies.Mapped new d' ((reason, it), same) = absurd it
-fix_keeps s d p va write replies.Begun new d' ((reason, it), same) = absurd it
-fix_keeps s d p va write replies.Fine new d' ((reason, it), same) = absurd it
-fix_keeps s d p va write replies.Unmapped new d' ((reason, it), same) = absurd it
-fix_keeps s d p va write replies.Protected new d' ((reason, it), same) = absurd it
-fix_keeps s d p va write replies.Resized new d' ((reason, it), same) = absurd it
-fix_keeps s d p va write replies.Reclaimed new d' ((reason, it), same) = absurd it
-fix_keeps s d p va write replies.Kept new d' ((reason, it), same) = absurd it
-fix_keeps s d p va write (replies.Marked mark) new d' ((reason, it), same) = absurd it
-fix_keeps s d p va write replies.Acked new d' ((reason, it), same) = absurd it
-fix_keeps s d p va write replies.Resumed new d' ((reason, it), same) = absurd it
-fix_keeps s d p va write replies.Going new d' ((reason, it), same) = absurd it
-fix_keeps s d p va write (replies.Committed mark) new d' ((reason, it), same) = absurd it
-fix_keeps s d p va write (replies.Done mark) new d' ((reason, it), same) = absurd it
-fix_keeps s d p va write replies.Nothing new d' ((reason, it), same) = absurd it
-fix_keeps s d p va write (replies.Refused why) new d' ((reason, done), same) =
-    keeps_is s new (ap (λ (t : State). t.hardware.shootdown) done)
-
-flush_keeps : (s : State) (d : List ℕ) (p : ℕ) (reply : Reply) (new : State) (d' : List ℕ)
-    → Acts s d p acts.Flush reply new d' → KeepsPhases s new
-flush_keeps s d p (replies.Bytes few) new d' ((reason, it), same) = absurd it
-flush_keeps s d p replies.Stored new d' ((reason, it), same) = absurd it
-flush_keeps s d p replies.Filled new d' ((reason, it), same) = absurd it
-flush_keeps s d p replies.Evicted new d' ((reason, it), same) = absurd it
-flush_keeps s d p replies.Switched new d' ((reason, it), same) = absurd it
-flush_keeps s d p replies.Idled new d' ((reason, it), same) = absurd it
-flush_keeps s d p replies.Woken new d' ((reason, it), same) = absurd it
-flush_keeps s d p replies.Fixed new d' ((reason, it), same) = absurd it
-flush_keeps s d p (replies.Space space) new d' ((reason, it), same) = absurd it
-flush_keeps s d p replies.Destroyed new d' ((reason, it), same) = absurd it
-flush_keeps s d p replies.Mapped new d' ((reason, it), same) = absurd it
-flush_keeps s d p replies.Begun new d' ((reason, it), same) = absurd it
-flush_keeps s d p replies.Fine new d' ((reason, it), same) = absurd it
-flush_keeps s d p replies.Unmapped new d' ((reason, it), same) = absurd it
-flush_keeps s d p replies.Protected new d' ((reason, it), same) = absurd it
-flush_keeps s d p replies.Resized new d' ((reason, it), same) = absurd it
-flush_keeps s d p replies.Reclaimed new d' ((reason, it), same) = absurd it
-flush_keeps s d p replies.Kept new d' ((reason, it), same) = absurd it
-flush_keeps s d p (replies.Marked mark) new d' ((reason, it), same) = absurd it
-flush_keeps s d p replies.Acked new d' ((reason, it), same) = absurd it
-flush_keeps s d p replies.Resumed new d' ((reason, it), same) = absurd it
-flush_keeps s d p replies.Going new d' made =
-    keeps_is s new (ap (λ (t : State). t.hardware.shootdown) made.done ∙ record_same s)
-flush_keeps s d p (replies.Committed mark) new d' made =
-    keeps_is s new (ap (λ (t : State). t.hardware.shootdown) made.done ∙ record_same s)
-flush_keeps s d p (replies.Done mark) new d' made =
-    keeps_is s new (ap (λ (t : State). t.hardware.shootdown) made.done ∙ record_same s)
-flush_keeps s d p replies.Nothing new d' ((reason, (none, done)), same) =
-    keeps_is s new (ap (λ (t : State). t.hardware.shootdown) done)
-flush_keeps s d p (replies.Refused refusals.Stalled) new d' ((reason, done), same) =
-    keeps_is s new (ap (λ (t : State). t.hardware.shootdown) done)
-flush_keeps s d p (replies.Refused refusals.Locked) new d' ((reason, done), same) =
-    keeps_is s new (ap (λ (t : State). t.hardware.shootdown) done)
-flush_keeps s d p (replies.Refused (refusals.NotYet waiting)) new d' ((reason, done), same) =
-    keeps_is s new (ap (λ (t : State). t.hardware.shootdown) done)
-flush_keeps s d p (replies.Refused (refusals.Fault code)) new d' ((reason, done), same) =
-    keeps_is s new (ap (λ (t : State). t.hardware.shootdown) done)
-flush_keeps s d p (replies.Refused refusals.SegvMapErr) new d' ((reason, done), same) =
-    keeps_is s new (ap (λ (t : State). t.hardware.shootdown) done)
-flush_keeps s d p (replies.Refused refusals.SegvAccErr) new d' ((reason, done), same) =
-    keeps_is s new (ap (λ (t : State). t.hardware.shootdown) done)
-flush_keeps s d p (replies.Refused refusals.BusAdrErr) new d' ((reason, done), same) =
-    keeps_is s new (ap (λ (t : State). t.hardware.shootdown) done)
-flush_keeps s d p (replies.Refused refusals.Held) new d' ((reason, done), same) =
-    keeps_is s new (ap (λ (t : State). t.hardware.shootdown) done)
-flush_keeps s d p (replies.Refused refusals.NoFrame) new d' ((reason, done), same) =
-    keeps_is s new (ap (λ (t : State). t.hardware.shootdown) done)
-flush_keeps s d p (replies.Refused refusals.Device) new d' made =
-    keeps_is s new (ap (λ (t : State). t.hardware.shootdown) made.done)
-flush_keeps s d p (replies.Refused refusals.Broken) new d' ((reason, done), same) =
-    keeps_is s new (ap (λ (t : State). t.hardware.shootdown) done)
-flush_keeps s d p (replies.Refused refusals.Einval) new d' ((reason, done), same) =
-    keeps_is s new (ap (λ (t : State). t.hardware.shootdown) done)
-flush_keeps s d p (replies.Refused refusals.Enomem) new d' ((reason, done), same) =
-    keeps_is s new (ap (λ (t : State). t.hardware.shootdown) done)
-flush_keeps s d p (replies.Refused refusals.Eacces) new d' ((reason, done), same) =
-    keeps_is s new (ap (λ (t : State). t.hardware.shootdown) done)
-flush_keeps s d p (replies.Refused refusals.Overlap) new d' ((reason, done), same) =
-    keeps_is s new (ap (λ (t : State). t.hardware.shootdown) done)
-flush_keeps s d p (replies.Refused refusals.NoFile) new d' ((reason, done), same) =
-    keeps_is s new (ap (λ (t : State). t.hardware.shootdown) done)
-flush_keeps s d p (replies.Refused refusals.Busy) new d' ((reason, done), same) =
-    keeps_is s new (ap (λ (t : State). t.hardware.shootdown) done)
-flush_keeps s d p (replies.Refused refusals.NotResident) new d' ((reason, done), same) =
-    keeps_is s new (ap (λ (t : State). t.hardware.shootdown) done)
-flush_keeps s d p (replies.Refused refusals.TraceFull) new d' ((reason, done), same) =
-    keeps_is s new (ap (λ (t : State). t.hardware.shootdown) done)
-flush_keeps s d p (replies.Refused refusals.OutOfMemory) new d' ((reason, done), same) =
-    keeps_is s new (ap (λ (t : State). t.hardware.shootdown) done)
-flush_keeps s d p (replies.Refused refusals.NotAVolume) new d' ((reason, done), same) =
-    keeps_is s new (ap (λ (t : State). t.hardware.shootdown) done)
-flush_keeps s d p (replies.Refused refusals.Damaged) new d' ((reason, done), same) =
-    keeps_is s new (ap (λ (t : State). t.hardware.shootdown) done)
-flush_keeps s d p (replies.Refused refusals.BadShape) new d' ((reason, done), same) =
-    keeps_is s new (ap (λ (t : State). t.hardware.shootdown) done)
-
--- a change that isn't begun
-reclaim_keeps : (s : State) (d : List ℕ) (p file page : ℕ) (reply : Reply) (new : State) (d' : List ℕ)
-    → Acts s d p (acts.Reclaim file page) reply new d' → reports_begun reply ≡ false → KeepsPhases s new
-reclaim_keeps s d p file page (replies.Bytes few) new d' ((reason, it), same) not = absurd it
-reclaim_keeps s d p file page replies.Stored new d' ((reason, it), same) not = absurd it
-reclaim_keeps s d p file page replies.Filled new d' ((reason, it), same) not = absurd it
-reclaim_keeps s d p file page replies.Evicted new d' ((reason, it), same) not = absurd it
-reclaim_keeps s d p file page replies.Switched new d' ((reason, it), same) not = absurd it
-reclaim_keeps s d p file page replies.Idled new d' ((reason, it), same) not = absurd it
-reclaim_keeps s d p file page replies.Woken new d' ((reason, it), same) not = absurd it
-reclaim_keeps s d p file page replies.Fixed new d' ((reason, it), same) not = absurd it
-reclaim_keeps s d p file page (replies.Space space) new d' ((reason, it), same) not = absurd it
-reclaim_keeps s d p file page replies.Destroyed new d' ((reason, it), same) not = absurd it
-reclaim_keeps s d p file page replies.Mapped new d' ((reason, it), same) not = absurd it
-reclaim_keeps s d p file page replies.Begun new d' it not = absurd (true≢false not)
-reclaim_keeps s d p file page replies.Fine new d' ((reason, it), same) not = absurd it
-reclaim_keeps s d p file page replies.Unmapped new d' ((reason, it), same) not = absurd it
-reclaim_keeps s d p file page replies.Protected new d' ((reason, it), same) not = absurd it
-reclaim_keeps s d p file page replies.Resized new d' ((reason, it), same) not = absurd it
-reclaim_keeps s d p file page replies.Reclaimed new d' ((reason, it), same) not = absurd it
-reclaim_keeps s d p file page replies.Kept new d' ((reason, it), same) not = absurd it
-reclaim_keeps s d p file page (replies.Marked mark) new d' ((reason, it), same) not = absurd it
-reclaim_keeps s d p file page replies.Acked new d' ((reason, it), same) not = absurd it
-reclaim_keeps s d p file page replies.Resumed new d' ((reason, it), same) not = absurd it
-reclaim_keeps s d p file page replies.Going new d' ((reason, it), same) not = absurd it
-reclaim_keeps s d p file page (replies.Committed mark) new d' ((reason, it), same) not = absurd it
-reclaim_keeps s d p file page (replies.Done mark) new d' ((reason, it), same) not = absurd it
-reclaim_keeps s d p file page replies.Nothing new d' ((reason, (none, done)), same) not =
-    keeps_is s new (ap (λ (t : State). t.hardware.shootdown) done)
-reclaim_keeps s d p file page (replies.Refused why) new d' ((reason, done), same) not =
-    keeps_is s new (ap (λ (t : State). t.hardware.shootdown) done)
-
-length_keeps : (s : State) (d : List ℕ) (p file to : ℕ) (reply : Reply) (new : State) (d' : List ℕ)
-    → Acts s d p (acts.SetLength file to) reply new d' → reports_begun reply ≡ false → KeepsPhases s new
-length_keeps s d p file to (replies.Bytes few) new d' ((reason, it), same) not = absurd it
-length_keeps s d p file to replies.Stored new d' ((reason, it), same) not = absurd it
-length_keeps s d p file to replies.Filled new d' ((reason, it), same) not = absurd it
-length_keeps s d p file to replies.Evicted new d' ((reason, it), same) not = absurd it
-length_keeps s d p file to replies.Switched new d' ((reason, it), same) not = absurd it
-length_keeps s d p file to replies.Idled new d' ((reason, it), same) not = absurd it
-length_keeps s d p file to replies.Woken new d' ((reason, it), same) not = absurd it
-length_keeps s d p file to replies.Fixed new d' ((reason, it), same) not = absurd it
-length_keeps s d p file to (replies.Space space) new d' ((reason, it), same) not = absurd it
-length_keeps s d p file to replies.Destroyed new d' ((reason, it), same) not = absurd it
-length_keeps s d p file to replies.Mapped new d' ((reason, it), same) not = absurd it
-length_keeps s d p file to replies.Begun new d' it not = absurd (true≢false not)
-length_keeps s d p file to replies.Fine new d' ((reason, (fits, done)), same) not =
-    keeps_is s new (ap (λ (t : State). t.hardware.shootdown) done)
-length_keeps s d p file to replies.Unmapped new d' ((reason, it), same) not = absurd it
-length_keeps s d p file to replies.Protected new d' ((reason, it), same) not = absurd it
-length_keeps s d p file to replies.Resized new d' ((reason, it), same) not = absurd it
-length_keeps s d p file to replies.Reclaimed new d' ((reason, it), same) not = absurd it
-length_keeps s d p file to replies.Kept new d' ((reason, it), same) not = absurd it
-length_keeps s d p file to (replies.Marked mark) new d' ((reason, it), same) not = absurd it
-length_keeps s d p file to replies.Acked new d' ((reason, it), same) not = absurd it
-length_keeps s d p file to replies.Resumed new d' ((reason, it), same) not = absurd it
-length_keeps s d p file to replies.Going new d' ((reason, it), same) not = absurd it
-length_keeps s d p file to (replies.Committed mark) new d' ((reason, it), same) not = absurd it
-length_keeps s d p file to (replies.Done mark) new d' ((reason, it), same) not = absurd it
-length_keeps s d p file to replies.Nothing new d' ((reason, it), same) not = absurd it
-length_keeps s d p file to (replies.Refused why) new d' ((reason, done), same) not =
-    keeps_is s new (ap (λ (t : State). t.hardware.shootdown) done)
-
-mark_keeps : (s : State) (d : List ℕ) (p va len : ℕ) (flags : MsyncFlags) (reply : Reply) (new : State) (d' : List ℕ)
-    → Acts s d p (acts.Msync va len flags) reply new d' → reports_begun reply ≡ false → KeepsPhases s new
-mark_keeps s d p va len flags (replies.Bytes few) new d' ((reason, it), same) not = absurd it
-mark_keeps s d p va len flags replies.Stored new d' ((reason, it), same) not = absurd it
-mark_keeps s d p va len flags replies.Filled new d' ((reason, it), same) not = absurd it
-mark_keeps s d p va len flags replies.Evicted new d' ((reason, it), same) not = absurd it
-mark_keeps s d p va len flags replies.Switched new d' ((reason, it), same) not = absurd it
-mark_keeps s d p va len flags replies.Idled new d' ((reason, it), same) not = absurd it
-mark_keeps s d p va len flags replies.Woken new d' ((reason, it), same) not = absurd it
-mark_keeps s d p va len flags replies.Fixed new d' ((reason, it), same) not = absurd it
-mark_keeps s d p va len flags (replies.Space space) new d' ((reason, it), same) not = absurd it
-mark_keeps s d p va len flags replies.Destroyed new d' ((reason, it), same) not = absurd it
-mark_keeps s d p va len flags replies.Mapped new d' ((reason, it), same) not = absurd it
-mark_keeps s d p va len flags replies.Begun new d' it not = absurd (true≢false not)
-mark_keeps s d p va len flags replies.Fine new d' ((reason, it), same) not = absurd it
-mark_keeps s d p va len flags replies.Unmapped new d' ((reason, it), same) not = absurd it
-mark_keeps s d p va len flags replies.Protected new d' ((reason, it), same) not = absurd it
-mark_keeps s d p va len flags replies.Resized new d' ((reason, it), same) not = absurd it
-mark_keeps s d p va len flags replies.Reclaimed new d' ((reason, it), same) not = absurd it
-mark_keeps s d p va len flags replies.Kept new d' ((reason, it), same) not = absurd it
-mark_keeps s d p va len flags (replies.Marked mark) new d' ((reason, it), same) not = absurd it
-mark_keeps s d p va len flags replies.Acked new d' ((reason, it), same) not = absurd it
-mark_keeps s d p va len flags replies.Resumed new d' ((reason, it), same) not = absurd it
-mark_keeps s d p va len flags replies.Going new d' ((reason, it), same) not = absurd it
-mark_keeps s d p va len flags (replies.Committed mark) new d' ((reason, it), same) not = absurd it
-mark_keeps s d p va len flags (replies.Done mark) new d' ((reason, it), same) not = absurd it
-mark_keeps s d p va len flags replies.Nothing new d' ((reason, it), same) not = absurd it
-mark_keeps s d p va len flags (replies.Refused why) new d' ((reason, done), same) not =
-    keeps_is s new (ap (λ (t : State). t.hardware.shootdown) done)
+pub act_keeps : (s : State) (d : List ℕ) (p : ℕ) (act : Act) (reply : Reply) (new : State) (d' : List ℕ)
+    → IsQuiet act reply → Acts s d p act reply new d' → KeepsPhases s new
+act_keeps s d p (acts.Load va count) reply new d' is rule = reaches_keep s p (acts.Load va count) reply new is rule.0
+act_keeps s d p (acts.Store va bytes) reply new d' is rule = reaches_keep s p (acts.Store va bytes) reply new is rule.0
+act_keeps s d p (acts.Fix va write) replies.Fixed new d' is rule = keeps_is s new (shootdown_is rule.0.1.done)
+act_keeps s d p acts.Flush replies.Going new d' is made = keeps_is s new (shootdown_is made.done ∙ record_same s)
+act_keeps s d p acts.Flush (replies.Committed mark) new d' is made =
+    keeps_is s new (shootdown_is made.done ∙ record_same s)
+act_keeps s d p acts.Flush (replies.Done mark) new d' is made = keeps_is s new (shootdown_is made.done ∙ record_same s)
+act_keeps s d p acts.Flush replies.Nothing new d' is rule = keeps_is s new (shootdown_is rule.0.1.1)
+act_keeps s d p acts.Flush (replies.Refused refusals.Device) new d' is made = keeps_is s new (shootdown_is made.done)
+act_keeps s d p (acts.Reclaim file page) replies.Begun new d' is rule = absurd (true≢false is)
+act_keeps s d p (acts.Reclaim file page) replies.Nothing new d' is rule = keeps_is s new (shootdown_is rule.0.1.1)
+act_keeps s d p (acts.SetLength file to) replies.Begun new d' is rule = absurd (true≢false is)
+act_keeps s d p (acts.SetLength file to) replies.Fine new d' is rule = keeps_is s new (shootdown_is rule.0.1.1)
+act_keeps s d p (acts.Msync va len flags) replies.Begun new d' is rule = absurd (true≢false is)
+act_keeps s d p (acts.Fill page) reply new d' is rule = absurd is
+act_keeps s d p (acts.Evict slot) reply new d' is rule = absurd is
+act_keeps s d p act (replies.Refused why) new d' is rule = keeps_is s new (shootdown_is rule.0.1)
+act_keeps s d p (acts.Fix va write) reply new d' is rule = absurd rule.0.1
+act_keeps s d p acts.Flush reply new d' is rule = absurd rule.0.1
+act_keeps s d p (acts.Reclaim file page) reply new d' is rule = absurd rule.0.1
+act_keeps s d p (acts.SetLength file to) reply new d' is rule = absurd rule.0.1
+act_keeps s d p (acts.Msync va len flags) reply new d' is rule = absurd rule.0.1
+act_keeps s d p act reply new d' is rule = absurd is
 
 -- ---- why nothing is refused
 
@@ -622,67 +297,21 @@ made_for s p first second reply is also reports = subst (λ (c : Change). report
 ack_made : (s : State) (d : List ℕ) (p : ℕ) (reply : Reply) (new : State) (d' : List ℕ)
     → state_of s.hardware.shootdown p ≡ Interrupted → Acts s d p acts.Ack reply new d'
     → (reply ≡ replies.Acked) × (new.hardware.shootdown ≡ stalled s.hardware.shootdown p)
-ack_made s d p (replies.Bytes few) new d' is ((reason, it), same) = absurd it
-ack_made s d p replies.Stored new d' is ((reason, it), same) = absurd it
-ack_made s d p replies.Filled new d' is ((reason, it), same) = absurd it
-ack_made s d p replies.Evicted new d' is ((reason, it), same) = absurd it
-ack_made s d p replies.Switched new d' is ((reason, it), same) = absurd it
-ack_made s d p replies.Idled new d' is ((reason, it), same) = absurd it
-ack_made s d p replies.Woken new d' is ((reason, it), same) = absurd it
-ack_made s d p replies.Fixed new d' is ((reason, it), same) = absurd it
-ack_made s d p (replies.Space space) new d' is ((reason, it), same) = absurd it
-ack_made s d p replies.Destroyed new d' is ((reason, it), same) = absurd it
-ack_made s d p replies.Mapped new d' is ((reason, it), same) = absurd it
-ack_made s d p replies.Begun new d' is ((reason, it), same) = absurd it
-ack_made s d p replies.Fine new d' is ((reason, it), same) = absurd it
-ack_made s d p replies.Unmapped new d' is ((reason, it), same) = absurd it
-ack_made s d p replies.Protected new d' is ((reason, it), same) = absurd it
-ack_made s d p replies.Resized new d' is ((reason, it), same) = absurd it
-ack_made s d p replies.Reclaimed new d' is ((reason, it), same) = absurd it
-ack_made s d p replies.Kept new d' is ((reason, it), same) = absurd it
-ack_made s d p (replies.Marked mark) new d' is ((reason, it), same) = absurd it
-ack_made s d p replies.Acked new d' is ((reason, (was, done)), same) =
-    (refl, ap (λ (t : State). t.hardware.shootdown) done)
-ack_made s d p replies.Resumed new d' is ((reason, it), same) = absurd it
-ack_made s d p replies.Going new d' is ((reason, it), same) = absurd it
-ack_made s d p (replies.Committed mark) new d' is ((reason, it), same) = absurd it
-ack_made s d p (replies.Done mark) new d' is ((reason, it), same) = absurd it
-ack_made s d p replies.Nothing new d' is ((reason, (other, done)), same) = absurd (other is)
-ack_made s d p (replies.Refused why) new d' is ((reason, done), same) = absurd (none≢some why (sym (not_there_none
-    s.hardware.shootdown p (there_unless_active s.hardware.shootdown p (interrupted_not_active _ is))) ∙ reason))
+ack_made s d p replies.Acked new d' is rule = (refl, shootdown_is rule.0.1.1)
+ack_made s d p replies.Nothing new d' is rule = absurd (rule.0.1.0 is)
+ack_made s d p (replies.Refused why) new d' is rule = absurd (none≢some why (sym (not_there_none
+    s.hardware.shootdown p (there_unless_active s.hardware.shootdown p (interrupted_not_active _ is))) ∙ rule.0.0))
+ack_made s d p reply new d' is rule = absurd rule.0.1
 
 -- a stalled one goes on while the lock is free
 resume_made : (s : State) (d : List ℕ) (p : ℕ) (reply : Reply) (new : State) (d' : List ℕ)
     → s.hardware.shootdown.lock ≡ None → state_of s.hardware.shootdown p ≡ Stalled → Acts s d p acts.Resume reply new d'
     → (reply ≡ replies.Resumed) × (new.hardware.shootdown ≡ resumed s.hardware.shootdown p)
-resume_made s d p (replies.Bytes few) new d' free is ((reason, it), same) = absurd it
-resume_made s d p replies.Stored new d' free is ((reason, it), same) = absurd it
-resume_made s d p replies.Filled new d' free is ((reason, it), same) = absurd it
-resume_made s d p replies.Evicted new d' free is ((reason, it), same) = absurd it
-resume_made s d p replies.Switched new d' free is ((reason, it), same) = absurd it
-resume_made s d p replies.Idled new d' free is ((reason, it), same) = absurd it
-resume_made s d p replies.Woken new d' free is ((reason, it), same) = absurd it
-resume_made s d p replies.Fixed new d' free is ((reason, it), same) = absurd it
-resume_made s d p (replies.Space space) new d' free is ((reason, it), same) = absurd it
-resume_made s d p replies.Destroyed new d' free is ((reason, it), same) = absurd it
-resume_made s d p replies.Mapped new d' free is ((reason, it), same) = absurd it
-resume_made s d p replies.Begun new d' free is ((reason, it), same) = absurd it
-resume_made s d p replies.Fine new d' free is ((reason, it), same) = absurd it
-resume_made s d p replies.Unmapped new d' free is ((reason, it), same) = absurd it
-resume_made s d p replies.Protected new d' free is ((reason, it), same) = absurd it
-resume_made s d p replies.Resized new d' free is ((reason, it), same) = absurd it
-resume_made s d p replies.Reclaimed new d' free is ((reason, it), same) = absurd it
-resume_made s d p replies.Kept new d' free is ((reason, it), same) = absurd it
-resume_made s d p (replies.Marked mark) new d' free is ((reason, it), same) = absurd it
-resume_made s d p replies.Acked new d' free is ((reason, it), same) = absurd it
-resume_made s d p replies.Resumed new d' free is ((reason, (was, done)), same) =
-    (refl, ap (λ (t : State). t.hardware.shootdown) done)
-resume_made s d p replies.Going new d' free is ((reason, it), same) = absurd it
-resume_made s d p (replies.Committed mark) new d' free is ((reason, it), same) = absurd it
-resume_made s d p (replies.Done mark) new d' free is ((reason, it), same) = absurd it
-resume_made s d p replies.Nothing new d' free is ((reason, (other, done)), same) = absurd (other is)
-resume_made s d p (replies.Refused why) new d' free is ((reason, done), same) = absurd (none≢some why (sym (wait_none
-    s.hardware.shootdown p (there_unless_active s.hardware.shootdown p (stalled_not_active _ is)) free) ∙ reason))
+resume_made s d p replies.Resumed new d' free is rule = (refl, shootdown_is rule.0.1.1)
+resume_made s d p replies.Nothing new d' free is rule = absurd (rule.0.1.0 is)
+resume_made s d p (replies.Refused why) new d' free is rule = absurd (none≢some why (sym (wait_none
+    s.hardware.shootdown p (there_unless_active s.hardware.shootdown p (stalled_not_active _ is)) free) ∙ rule.0.0))
+resume_made s d p reply new d' free is rule = absurd rule.0.1
 
 -- the change is made once nobody is interrupted
 change_made : (s : State) (d : List ℕ) (p : ℕ) (reply : Reply) (new : State) (d' : List ℕ) (change : Change)
@@ -690,58 +319,40 @@ change_made : (s : State) (d : List ℕ) (p : ℕ) (reply : Reply) (new : State)
     → Acts s d p acts.Change reply new d'
     → (reports_changed reply ≡ true) × (reports_made change reply ≡ true)
     × (new.hardware.shootdown ≡ finished s.hardware.shootdown p)
-change_made s d p (replies.Bytes few) new d' change is held calm ((reason, it), same) = absurd it
-change_made s d p replies.Stored new d' change is held calm ((reason, it), same) = absurd it
-change_made s d p replies.Filled new d' change is held calm ((reason, it), same) = absurd it
-change_made s d p replies.Evicted new d' change is held calm ((reason, it), same) = absurd it
-change_made s d p replies.Switched new d' change is held calm ((reason, it), same) = absurd it
-change_made s d p replies.Idled new d' change is held calm ((reason, it), same) = absurd it
-change_made s d p replies.Woken new d' change is held calm ((reason, it), same) = absurd it
-change_made s d p replies.Fixed new d' change is held calm ((reason, it), same) = absurd it
-change_made s d p (replies.Space space) new d' change is held calm ((reason, it), same) = absurd it
-change_made s d p replies.Destroyed new d' change is held calm ((reason, it), same) = absurd it
-change_made s d p replies.Mapped new d' change is held calm ((reason, it), same) = absurd it
-change_made s d p replies.Begun new d' change is held calm ((reason, it), same) = absurd it
-change_made s d p replies.Fine new d' change is held calm ((reason, it), same) = absurd it
-change_made s d p replies.Unmapped new d' change is held calm ((reason, made), same) = (
+change_made s d p replies.Unmapped new d' change is held calm rule = let made = rule.0.1 in (
   refl,
   made_for s p (changes.Unmap made.pcid made.range) change replies.Unmapped made.may.lock held refl,
-  ap (λ (t : State). t.hardware.shootdown) made.done,
+  shootdown_is made.done,
 )
-change_made s d p replies.Protected new d' change is held calm ((reason, made), same) = (
+change_made s d p replies.Protected new d' change is held calm rule = let made = rule.0.1 in (
   refl,
   made_for s p (changes.Protect made.pcid made.range made.rights) change replies.Protected made.may.lock held refl,
-  ap (λ (t : State). t.hardware.shootdown) made.done,
+  shootdown_is made.done,
 )
-change_made s d p replies.Resized new d' change is held calm ((reason, made), same) = (
+change_made s d p replies.Resized new d' change is held calm rule = let made = rule.0.1 in (
   refl,
   made_for s p (changes.SetLength made.file made.to) change replies.Resized made.may.lock held refl,
-  ap (λ (t : State). t.hardware.shootdown) made.done,
+  shootdown_is made.done,
 )
-change_made s d p replies.Reclaimed new d' change is held calm ((reason, made), same) = (
+change_made s d p replies.Reclaimed new d' change is held calm rule = let made = rule.0.1 in (
   refl,
   made_for s p (changes.Reclaim made.owner) change replies.Reclaimed made.may.lock held refl,
-  ap (λ (t : State). t.hardware.shootdown) made.done,
+  shootdown_is made.done,
 )
-change_made s d p replies.Kept new d' change is held calm ((reason, made), same) = (
+change_made s d p replies.Kept new d' change is held calm rule = let made = rule.0.1 in (
   refl,
   made_for s p (changes.Reclaim made.owner) change replies.Kept made.may.lock held refl,
-  ap (λ (t : State). t.hardware.shootdown) made.done,
+  shootdown_is made.done,
 )
-change_made s d p (replies.Marked mark) new d' change is held calm ((reason, made), same) = (
+change_made s d p (replies.Marked mark) new d' change is held calm rule = let made = rule.0.1 in (
   refl,
   made_for s p changes.Checkpoint change (replies.Marked mark) made.may.lock held refl,
-  ap (λ (t : State). t.hardware.shootdown) made.done,
+  shootdown_is made.done,
 )
-change_made s d p replies.Acked new d' change is held calm ((reason, it), same) = absurd it
-change_made s d p replies.Resumed new d' change is held calm ((reason, it), same) = absurd it
-change_made s d p replies.Going new d' change is held calm ((reason, it), same) = absurd it
-change_made s d p (replies.Committed mark) new d' change is held calm ((reason, it), same) = absurd it
-change_made s d p (replies.Done mark) new d' change is held calm ((reason, it), same) = absurd it
-change_made s d p replies.Nothing new d' change is held calm ((reason, (free, done)), same) =
-    absurd (none≢some _ (sym free ∙ held))
-change_made s d p (replies.Refused why) new d' change is held calm ((reason, done), same) =
-    absurd (none≢some why (sym (change_none s.hardware.shootdown p is change held calm) ∙ reason))
+change_made s d p replies.Nothing new d' change is held calm rule = absurd (none≢some _ (sym rule.0.1.0 ∙ held))
+change_made s d p (replies.Refused why) new d' change is held calm rule =
+    absurd (none≢some why (sym (change_none s.hardware.shootdown p is change held calm) ∙ rule.0.0))
+change_made s d p reply new d' change is held calm rule = absurd rule.0.1
 
 -- ---- a change is begun
 
@@ -809,22 +420,23 @@ change_begun s p change new is free done = record {
         (omega (arith, past, length-begun sd p s.hardware.spaces change)))
         ∙ sym (state_past sd q past)
 
-reclaim_has : (s : State) (d : List ℕ) (p file page : ℕ) (new : State) (d' : List ℕ) → IsShootdown s.hardware.shootdown
-    → Acts s d p (acts.Reclaim file page) replies.Begun new d'
-    → HasBegun p (changes.Reclaim (record { file = file; page = page })) s new
-reclaim_has s d p file page new d' is ((reason, (there, done)), same) = change_begun s p (changes.Reclaim
-    (record { file = file; page = page })) new is (first_none (not_free s.hardware.shootdown p) _ reason) done
+-- the change that an act begins
+abbrev pub Begins : Act → Change → Type 0
+Begins (acts.Reclaim file page) change = change ≡ changes.Reclaim (record { file = file; page = page })
+Begins (acts.SetLength file to) change = change ≡ changes.SetLength file to
+Begins (acts.Msync va len flags) change = change ≡ changes.Checkpoint
+Begins act change = ⊥
 
-length_has : (s : State) (d : List ℕ) (p file to : ℕ) (new : State) (d' : List ℕ) → IsShootdown s.hardware.shootdown
-    → Acts s d p (acts.SetLength file to) replies.Begun new d' → HasBegun p (changes.SetLength file to) s new
-length_has s d p file to new d' is ((reason, (other, done)), same) =
-    change_begun s p (changes.SetLength file to) new is (first_none (not_free s.hardware.shootdown p) _ reason) done
-
-mark_has : (s : State) (d : List ℕ) (p va len : ℕ) (flags : MsyncFlags) (new : State) (d' : List ℕ)
-    → IsShootdown s.hardware.shootdown → Acts s d p (acts.Msync va len flags) replies.Begun new d'
-    → HasBegun p changes.Checkpoint s new
-mark_has s d p va len flags new d' is ((reason, done), same) =
-    change_begun s p changes.Checkpoint new is (first_none (not_free s.hardware.shootdown p) _ reason) done
+act_begins : (s : State) (d : List ℕ) (p : ℕ) (act : Act) (change : Change) (new : State) (d' : List ℕ)
+    → IsShootdown s.hardware.shootdown → Begins act change → Acts s d p act replies.Begun new d'
+    → HasBegun p change s new
+act_begins s d p (acts.Reclaim file page) change new d' is begins rule = change_begun s p change new is
+    (first_none (not_free s.hardware.shootdown p) _ rule.0.0) (rule.0.1.1 ∙ ap (begin_change s p) (sym begins))
+act_begins s d p (acts.SetLength file to) change new d' is begins rule = change_begun s p change new is
+    (first_none (not_free s.hardware.shootdown p) _ rule.0.0) (rule.0.1.1 ∙ ap (begin_change s p) (sym begins))
+act_begins s d p (acts.Msync va len flags) change new d' is begins rule = change_begun s p change new is
+    (first_none (not_free s.hardware.shootdown p) _ rule.0.0) (rule.0.1 ∙ ap (begin_change s p) (sym begins))
+act_begins s d p act change new d' is begins rule = absurd begins
 
 -- ---- a change goes on
 
@@ -873,13 +485,13 @@ stalled_now s mid p was acked =
     ∙ state_there s.hardware.shootdown p (record (processor_at s.hardware.shootdown p) { state = Stalled })
     (there_unless_active s.hardware.shootdown p (interrupted_not_active _ was))
 
-pub waits_then : (s mid last : State) (p : ℕ) → state_of s.hardware.shootdown p ≡ Interrupted
+waits_then : (s mid last : State) (p : ℕ) → state_of s.hardware.shootdown p ≡ Interrupted
     → mid.hardware.shootdown ≡ stalled s.hardware.shootdown p → IsOver mid last
     → state_of last.hardware.shootdown p ≡ Stalled
 waits_then s mid last p was acked over = over.phases p ∙ ap phase_after (stalled_now s mid p was acked)
 
 -- one that is interrupted stalls before it and goes on after it
-pub over_around : (s mid last new : State) (p : ℕ) → state_of s.hardware.shootdown p ≡ Interrupted
+over_around : (s mid last new : State) (p : ℕ) → state_of s.hardware.shootdown p ≡ Interrupted
     → mid.hardware.shootdown ≡ stalled s.hardware.shootdown p → IsOver mid last
     → new.hardware.shootdown ≡ resumed last.hardware.shootdown p → IsOver s new
 over_around s mid last new p was acked over went = record {
@@ -948,112 +560,26 @@ module _ {D : Type 0} (disk : Ghosts D) (old new : Whole D) (before after : Note
             (sym makes.taken.2) here.answered.2,
       )
 
-  pub loads_keep : (p va count : ℕ) (reply : Reply)
-      → Makes disk old before (record { p = p; act = acts.Load va count } ∷ []) (reply ∷ []) new after
-      → KeepsPhases old.state new.state
-  loads_keep p va count reply makes = let r = rules_of _ reply makes in
-      load_keeps old.state r.0 p va count reply new.state r.1 r.2
-
-  pub stores_keep : (p va : ℕ) (bytes : List ℕ) (reply : Reply)
-      → Makes disk old before (record { p = p; act = acts.Store va bytes } ∷ []) (reply ∷ []) new after
-      → KeepsPhases old.state new.state
-  stores_keep p va bytes reply makes = let r = rules_of _ reply makes in
-      store_keeps old.state r.0 p va bytes reply new.state r.1 r.2
-
-  pub access_keeps : (step : Step) (reply : Reply) → LoadsOrStores step.act
-      → Makes disk old before (step ∷ []) (reply ∷ []) new after → KeepsPhases old.state new.state
-  access_keeps step reply is makes = let r = rules_of step reply makes in go step.act is r.0 r.1 r.2
-    where
-      go : (act : Act) → LoadsOrStores act → (d d' : List ℕ) → Acts old.state d step.p act reply new.state d'
-          → KeepsPhases old.state new.state
-      go (acts.Load va count) it d d' did = load_keeps old.state d step.p va count reply new.state d' did
-      go (acts.Store va bytes) it d d' did = store_keeps old.state d step.p va bytes reply new.state d' did
-      go (acts.Fill page) it d d' did = absurd it
-      go (acts.Evict slot) it d d' did = absurd it
-      go (acts.Switch space keep) it d d' did = absurd it
-      go acts.Idle it d d' did = absurd it
-      go acts.Wake it d d' did = absurd it
-      go (acts.Fix va write) it d d' did = absurd it
-      go acts.Create it d d' did = absurd it
-      go (acts.Destroy space) it d d' did = absurd it
-      go (acts.Map space va len file offset prot access) it d d' did = absurd it
-      go (acts.Unmap space va len) it d d' did = absurd it
-      go (acts.Protect space va len prot) it d d' did = absurd it
-      go (acts.Reclaim file page) it d d' did = absurd it
-      go (acts.SetLength file to) it d d' did = absurd it
-      go (acts.Msync va len flags) it d d' did = absurd it
-      go acts.Ack it d d' did = absurd it
-      go acts.Change it d d' did = absurd it
-      go acts.Resume it d d' did = absurd it
-      go acts.Flush it d d' did = absurd it
-
-  pub fixes_keep : (p va : ℕ) (write : Bool) (reply : Reply)
-      → Makes disk old before (record { p = p; act = acts.Fix va write } ∷ []) (reply ∷ []) new after
-      → KeepsPhases old.state new.state
-  fixes_keep p va write reply makes = let r = rules_of _ reply makes in
-      fix_keeps old.state r.0 p va write reply new.state r.1 r.2
-
-  pub flushes_keep : (p : ℕ) (reply : Reply)
-      → Makes disk old before (record { p = p; act = acts.Flush } ∷ []) (reply ∷ []) new after
-      → KeepsPhases old.state new.state
-  flushes_keep p reply makes = let r = rules_of _ reply makes in flush_keeps old.state r.0 p reply new.state r.1 r.2
-
-  pub reclaims_keep : (p file page : ℕ) (reply : Reply) → reports_begun reply ≡ false
-      → Makes disk old before (record { p = p; act = acts.Reclaim file page } ∷ []) (reply ∷ []) new after
-      → KeepsPhases old.state new.state
-  reclaims_keep p file page reply not makes = let r = rules_of _ reply makes in
-      reclaim_keeps old.state r.0 p file page reply new.state r.1 r.2 not
-
-  pub lengths_keep : (p file to : ℕ) (reply : Reply) → reports_begun reply ≡ false
-      → Makes disk old before (record { p = p; act = acts.SetLength file to } ∷ []) (reply ∷ []) new after
-      → KeepsPhases old.state new.state
-  lengths_keep p file to reply not makes = let r = rules_of _ reply makes in
-      length_keeps old.state r.0 p file to reply new.state r.1 r.2 not
-
-  pub marks_keep : (p va len : ℕ) (flags : MsyncFlags) (reply : Reply) → reports_begun reply ≡ false
-      → Makes disk old before (record { p = p; act = acts.Msync va len flags } ∷ []) (reply ∷ []) new after
-      → KeepsPhases old.state new.state
-  marks_keep p va len flags reply not makes = let r = rules_of _ reply makes in
-      mark_keeps old.state r.0 p va len flags reply new.state r.1 r.2 not
+  pub step_keeps : (step : Step) (reply : Reply) → Makes disk old before (step ∷ []) (reply ∷ []) new after
+      → IsQuiet step.act reply → KeepsPhases old.state new.state
+  step_keeps step reply makes is = let r = rules_of step reply makes in
+      act_keeps old.state r.0 step.p step.act reply new.state r.1 is r.2
 
   -- a change is begun
-  begun_rules : (step : Step) (reply : Reply) → reports_begun reply ≡ true
-      → Makes disk old before (step ∷ []) (reply ∷ []) new after
-      → (d d' : List ℕ) × Acts old.state d step.p step.act replies.Begun new.state d'
-  begun_rules step reply is makes =
-      let r = rules_of step reply makes in (
-        r.0,
-        r.1,
-        subst (λ (replied : Reply). Acts old.state r.0 step.p step.act replied new.state r.1) (begun_is reply is) r.2,
-      )
-
-  pub reclaim_begins : (p file page : ℕ) (reply : Reply) → IsShootdown old.state.hardware.shootdown
-      → reports_begun reply
-      ≡ true → Makes disk old before (record { p = p; act = acts.Reclaim file page } ∷ []) (reply ∷ []) new after
-      → HasBegun p (changes.Reclaim (record { file = file; page = page })) old.state new.state
-  reclaim_begins p file page reply sound is makes = let r = begun_rules _ reply is makes in
-      reclaim_has old.state r.0 p file page new.state r.1 sound r.2
-
-  pub length_begins : (p file to : ℕ) (reply : Reply) → IsShootdown old.state.hardware.shootdown → reports_begun reply
-      ≡ true → Makes disk old before (record { p = p; act = acts.SetLength file to } ∷ []) (reply ∷ []) new after
-      → HasBegun p (changes.SetLength file to) old.state new.state
-  length_begins p file to reply sound is makes = let r = begun_rules _ reply is makes in
-      length_has old.state r.0 p file to new.state r.1 sound r.2
-
-  pub mark_begins : (p va len : ℕ) (flags : MsyncFlags) (reply : Reply) → IsShootdown old.state.hardware.shootdown
-      → reports_begun reply ≡ true
-      → Makes disk old before (record { p = p; act = acts.Msync va len flags } ∷ []) (reply ∷ []) new after
-      → HasBegun p changes.Checkpoint old.state new.state
-  mark_begins p va len flags reply sound is makes = let r = begun_rules _ reply is makes in
-      mark_has old.state r.0 p va len flags new.state r.1 sound r.2
+  pub step_begins : (step : Step) (reply : Reply) (change : Change) → IsShootdown old.state.hardware.shootdown
+      → reports_begun reply ≡ true → Makes disk old before (step ∷ []) (reply ∷ []) new after
+      → Begins step.act change → HasBegun step.p change old.state new.state
+  step_begins step reply change sound is makes begins = let r = rules_of step reply makes in
+      act_begins old.state r.0 step.p step.act change new.state r.1 sound begins
+      (subst (λ (replied : Reply). Acts old.state r.0 step.p step.act replied new.state r.1) (begun_is reply is) r.2)
 
   -- and made
-  pub ack_is : (p : ℕ) (reply : Reply) → state_of old.state.hardware.shootdown p ≡ Interrupted
+  ack_is : (p : ℕ) (reply : Reply) → state_of old.state.hardware.shootdown p ≡ Interrupted
       → Makes disk old before (record { p = p; act = acts.Ack } ∷ []) (reply ∷ []) new after
       → (reply ≡ replies.Acked) × (new.state.hardware.shootdown ≡ stalled old.state.hardware.shootdown p)
   ack_is p reply is makes = let r = rules_of _ reply makes in ack_made old.state r.0 p reply new.state r.1 is r.2
 
-  pub resume_is : (p : ℕ) (reply : Reply) → old.state.hardware.shootdown.lock ≡ None
+  resume_is : (p : ℕ) (reply : Reply) → old.state.hardware.shootdown.lock ≡ None
       → state_of old.state.hardware.shootdown p ≡ Stalled
       → Makes disk old before (record { p = p; act = acts.Resume } ∷ []) (reply ∷ []) new after
       → (reply ≡ replies.Resumed) × (new.state.hardware.shootdown ≡ resumed old.state.hardware.shootdown p)
@@ -1096,3 +622,19 @@ interrupted_other s p next change is held was same =
 pub held_stalled : (s mid : State) (p q : ℕ) (change : Change) → HoldsLock p change s
     → mid.hardware.shootdown ≡ stalled s.hardware.shootdown q → HoldsLock p change mid
 held_stalled s mid p q change held acked = ap (λ (t : ShootdownState). t.lock) acked ∙ held
+
+-- one that is interrupted stalls before a change and goes on after it
+pub changes_around : {D : Type 0} (disk : Ghosts D) (old mid last new : Whole D) (before between next after : Notes)
+    (p : ℕ) (acked resumed : Reply) → state_of old.state.hardware.shootdown p ≡ Interrupted
+    → Makes disk old before (record { p = p; act = acts.Ack } ∷ []) (acked ∷ []) mid between
+    → IsOver mid.state last.state
+    → Makes disk last next (record { p = p; act = acts.Resume } ∷ []) (resumed ∷ []) new after
+    → (acked ≡ replies.Acked) × (resumed ≡ replies.Resumed) × IsOver old.state new.state
+changes_around disk old mid last new before between next after p acked resumed was stalls over goes =
+    let stalled-is = ack_is disk old mid before between p acked was stalls in
+    let waits = waits_then old.state mid.state last.state p was stalled-is.1 over in
+    let goes-is = resume_is disk last new next after p resumed over.lock waits goes in (
+      stalled-is.0,
+      goes-is.0,
+      over_around old.state mid.state last.state new.state p was stalled-is.1 over goes-is.1,
+    )

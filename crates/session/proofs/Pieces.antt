@@ -13,9 +13,9 @@ use Rattle.session.specs.declared.ranges.Reached.TheVariants.{All, Refused, NoMe
 use Rattle.session.specs.Ends.{EndsRange}
 use Rattle.session.specs.Ranges.{MakesStepsThat, LoadsRange, LoadsReached, StoresRange, StoresReached}
 use Rattle.session.specs.Steps.{Makes, ArePaging, behind, AreLoads, AreStores}
-use Rattle.session.specs.inside.Paging.{AnswersAfter, StopsAt}
-use Rattle.session.specs.inside.Made.{HasMade}
-use Rattle.session.proofs.Stretches.{makes_none, makes_then}
+use Rattle.session.specs.inside.Paging.{EndsBy, StopsAt}
+use Rattle.session.proofs.Each.{ended_by}
+use Rattle.session.proofs.Stretches.{makes_then}
 
 -- steps that read and store nothing
 pub loads_none : (p va at : ℕ) (steps : List Step) (replies : List Reply) → ArePaging p steps replies
@@ -24,11 +24,6 @@ loads_none p va at [] [] paging = (refl, refl)
 loads_none p va at (step ∷ steps) (reply ∷ replies) paging = inl (paging.0, loads_none p va at steps replies paging.1)
 loads_none p va at [] (reply ∷ replies) paging = absurd paging
 loads_none p va at (step ∷ steps) [] paging = absurd paging
-
--- one piece
-pub loads_one : (p va from count : ℕ) (few : List ℕ)
-    → AreLoads p va from (from + count) (record { p = p; act = Load (behind va from) count } ∷ []) (Bytes few ∷ []) few
-loads_one p va from count few = inr (count, few, [], refl, refl, sym (append-nil few), (refl, refl))
 
 pub loads_then : (p va from mid to : ℕ) (steps : List Step) (replies : List Reply) (bytes : List ℕ) (steps' : List Step)
     (replies' : List Reply) (bytes' : List ℕ)
@@ -54,6 +49,35 @@ loads_then p va from mid to (step ∷ steps) (reply ∷ replies) bytes steps' re
 loads_then p va from mid to [] (reply ∷ replies) bytes steps' replies' bytes' first later = absurd first
 loads_then p va from mid to (step ∷ steps) [] bytes steps' replies' bytes' first later = absurd first
 
+-- one piece, after steps that read and store nothing
+loads_piece : (p va from at count : ℕ) (few : List ℕ) → at ≡ behind va from
+    → (steps : List Step) (replies : List Reply)
+    → EndsBy (record { p = p; act = Load at count }) (Bytes few) steps replies
+    → AreLoads p va from (from + count) steps replies few
+loads_piece p va from at count few is steps replies last =
+    let step : Step = record { p = p; act = Load at count } in
+    let alone : AreLoads p va from (from + count) (step ∷ []) (Bytes few ∷ []) few = inr (
+      count,
+      few,
+      [],
+      ap (λ n. record { p = p; act = Load n count }) is,
+      refl,
+      sym (append-nil few),
+      (refl, refl),
+    ) in
+    ended_by (λ s r. AreLoads p va from (from + count) s r few) step (Bytes few) steps replies last
+    (loads_then p va from from (from + count) last.front last.replied [] (step ∷ []) (Bytes few ∷ []) few
+    (loads_none p va from last.front last.replied last.paging) alone)
+
+pub loads_more : (p va done at count : ℕ) (bytes few : List ℕ) → at ≡ behind va done
+    → (steps : List Step) (replies : List Reply) (steps' : List Step) (replies' : List Reply)
+    → LoadsRange p va done bytes steps replies
+    → EndsBy (record { p = p; act = Load at count }) (Bytes few) steps' replies'
+    → LoadsRange p va (done + count) (bytes ++ few) (steps ++ steps') (replies ++ replies')
+loads_more p va done at count bytes few is steps replies steps' replies' first last =
+    loads_then p va 0 done (done + count) steps replies bytes steps' replies' few first
+    (loads_piece p va done at count few is steps' replies' last)
+
 -- steps that read and store nothing
 pub stores_none : (p va at : ℕ) (steps : List Step) (replies : List Reply) → ArePaging p steps replies
     → AreStores p va at steps replies []
@@ -61,11 +85,6 @@ stores_none p va at [] [] paging = refl
 stores_none p va at (step ∷ steps) (reply ∷ replies) paging = inl (paging.0, stores_none p va at steps replies paging.1)
 stores_none p va at [] (reply ∷ replies) paging = absurd paging
 stores_none p va at (step ∷ steps) [] paging = absurd paging
-
--- one piece
-pub stores_one : (p va from : ℕ) (few : List ℕ)
-    → AreStores p va from (record { p = p; act = Store (behind va from) few } ∷ []) (Stored ∷ []) few
-stores_one p va from few = inr (few, [], refl, refl, sym (append-nil few), refl)
 
 pub stores_then : (p va from : ℕ) (steps : List Step) (replies : List Reply) (bytes : List ℕ) (steps' : List Step)
     (replies' : List Reply) (bytes' : List ℕ)
@@ -121,145 +140,72 @@ stores_ended p va from (step ∷ steps) (other ∷ replies) bytes at reply steps
 stores_ended p va from [] (other ∷ replies) bytes at reply steps' replies' first ended = absurd first
 stores_ended p va from (step ∷ steps) [] bytes at reply steps' replies' first ended = absurd first
 
--- a piece more was loaded
-pub loads_more : {D : Type 0} (disk : Ghosts D) (old mid new : Whole D) (before between after : Notes)
-    (p va done count : ℕ) (bytes few : List ℕ) → MakesStepsThat disk old before (LoadsRange p va done bytes) mid between
-    → AnswersAfter disk mid between (record { p = p; act = Load (behind va done) count }) (Bytes few) new after
-    → MakesStepsThat disk old before (LoadsRange p va (done + count) (bytes ++ few)) new after
-loads_more disk old mid new before between after p va done count bytes few first answer =
-    let step : Step = record { p = p; act = Load (behind va done) count } in
-    record {
-      steps = first.steps ++ (answer.steps ++ step ∷ []);
-      replies = first.replies ++ (answer.replies ++ Bytes few ∷ []);
-      makes = makes_then disk old mid new before between after first.steps first.replies (answer.steps ++ step ∷ [])
-          (answer.replies ++ Bytes few ∷ []) first.makes answer.makes;
-      holds = loads_then p va 0 done (done + count) first.steps first.replies bytes (answer.steps ++ step ∷ [])
-          (answer.replies ++ Bytes few ∷ []) few first.holds
-          (loads_then p va done done (done + count) answer.steps answer.replies [] (step ∷ []) (Bytes few ∷ []) few
-          (loads_none p va done answer.steps answer.replies answer.paging) (loads_one p va done count few));
-    }
-
 -- and no further one
-pub loads_refused : {D : Type 0} (disk : Ghosts D) (old mid new : Whole D) (before between after : Notes)
-    (p va count done : ℕ) (bytes : List ℕ) (reply : Reply) → done < count
-    → MakesStepsThat disk old before (LoadsRange p va done bytes) mid between
-    → StopsAt disk mid between p (behind va done) reply new after
-    → MakesStepsThat disk old before (LoadsReached p va count bytes (Refused done reply)) new after
-loads_refused disk old mid new before between after p va count done bytes reply fewer first replied =
-    let P : List ℕ → Type 0 =
-    λ b. AreLoads p va 0 done (first.steps ++ replied.steps) (first.replies ++ replied.replies) b in
-    record {
-      steps = first.steps ++ replied.steps;
-      replies = first.replies ++ replied.replies;
-      makes = makes_then disk old mid new before between after first.steps first.replies replied.steps
-          replied.replies first.makes replied.makes;
-      holds = (
-        fewer,
-        subst P (append-nil bytes)
-            (loads_then p va 0 done done first.steps first.replies bytes replied.steps replied.replies
-            [] first.holds (loads_none p va done replied.steps replied.replies replied.paging)),
-        loads_ended p va 0 done first.steps first.replies bytes
-            (behind va done) reply replied.steps replied.replies first.holds replied.ends,
-      );
-    }
+pub loads_refused : (p va count done at : ℕ) (bytes : List ℕ) (reply : Reply) → done < count → at ≡ behind va done
+    → (steps : List Step) (replies : List Reply) (steps' : List Step) (replies' : List Reply)
+    → LoadsRange p va done bytes steps replies → StopsAt p at reply steps' replies'
+    → LoadsReached p va count bytes (Refused done reply) (steps ++ steps') (replies ++ replies')
+loads_refused p va count done at bytes reply fewer is steps replies steps' replies' first (paging, ends) = (
+  fewer,
+  subst (λ b. AreLoads p va 0 done (steps ++ steps') (replies ++ replies') b) (append-nil bytes)
+      (loads_then p va 0 done done steps replies bytes steps' replies' [] first
+      (loads_none p va done steps' replies' paging)),
+  loads_ended p va 0 done steps replies bytes (behind va done) reply steps' replies' first
+      (subst (λ n. EndsRange p n reply steps' replies') is ends),
+)
 
--- a piece more was stored
-pub stores_more : {D : Type 0} (disk : Ghosts D) (old mid new : Whole D) (before between after : Notes) (p va done : ℕ)
-    (bytes few now : List ℕ) → length bytes ≡ done → bytes ++ few ≡ now
-    → MakesStepsThat disk old before (StoresRange p va bytes) mid between
-    → AnswersAfter disk mid between (record { p = p; act = Store (behind va done) few }) Stored new after
-    → MakesStepsThat disk old before (StoresRange p va now) new after
-stores_more disk old mid new before between after p va done bytes few now long all first answer =
-    let step : Step = record { p = p; act = Store (behind va done) few } in
-    let P : ℕ → Type 0 = λ n. AreStores p va n (answer.steps ++ step ∷ []) (answer.replies ++ Stored ∷ []) few in
-    let Q : List ℕ → Type 0 = λ b. AreStores p va 0 (first.steps ++ (answer.steps ++ step ∷ []))
-    (first.replies ++ (answer.replies ++ Stored ∷ [])) b in
-    let nothing : done + 0 ≡ done = omega arith in
+-- a piece that is stored, after steps that read and store nothing
+pub stores_piece : (p va from at : ℕ) (few : List ℕ) → at ≡ behind va from → (steps : List Step) (replies : List Reply)
+    → EndsBy (record { p = p; act = Store at few }) Stored steps replies → AreStores p va from steps replies few
+stores_piece p va from at few is steps replies last =
+    let step : Step = record { p = p; act = Store at few } in
+    let nothing : from + 0 ≡ from = omega arith in
+    let alone : AreStores p va from (step ∷ []) (Stored ∷ []) few =
+    inr (few, [], ap (λ n. record { p = p; act = Store n few }) is, refl, sym (append-nil few), refl) in
+    ended_by (λ s r. AreStores p va from s r few) step Stored steps replies last
+    (stores_then p va from last.front last.replied [] (step ∷ []) (Stored ∷ []) few
+    (stores_none p va from last.front last.replied last.paging)
+    (subst (λ n. AreStores p va n (step ∷ []) (Stored ∷ []) few) (sym nothing) alone))
+
+-- more was stored
+pub stores_more : (p va done : ℕ) (bytes few now : List ℕ) → length bytes ≡ done → bytes ++ few ≡ now
+    → (steps : List Step) (replies : List Reply) (steps' : List Step) (replies' : List Reply)
+    → StoresRange p va bytes steps replies → AreStores p va done steps' replies' few
+    → StoresRange p va now (steps ++ steps') (replies ++ replies')
+stores_more p va done bytes few now long all steps replies steps' replies' first later =
     let here : done ≡ 0 + length bytes = omega (arith, long) in
-    let R : ℕ → Type 0 = λ n. AreStores p va n (step ∷ []) (Stored ∷ []) few in
-    let piece : AreStores p va done (answer.steps ++ step ∷ []) (answer.replies ++ Stored ∷ []) few =
-    stores_then p va done answer.steps answer.replies [] (step ∷ []) (Stored ∷ []) few (stores_none p va done
-    answer.steps answer.replies answer.paging) (subst R (sym nothing) (stores_one p va done few)) in
-    record {
-      steps = first.steps ++ (answer.steps ++ step ∷ []);
-      replies = first.replies ++ (answer.replies ++ Stored ∷ []);
-      makes = makes_then disk old mid new before between after first.steps first.replies (answer.steps ++ step ∷ [])
-          (answer.replies ++ Stored ∷ []) first.makes answer.makes;
-      holds = subst Q all (stores_then p va 0 first.steps first.replies bytes (answer.steps ++ step ∷ [])
-          (answer.replies ++ Stored ∷ []) few first.holds (subst P here piece));
-    }
+    subst (λ b. AreStores p va 0 (steps ++ steps') (replies ++ replies') b) all
+    (stores_then p va 0 steps replies bytes steps' replies' few first
+    (subst (λ n. AreStores p va n steps' replies' few) here later))
 
 -- and no further one
-pub stores_refused : {D : Type 0} (disk : Ghosts D) (old mid new : Whole D) (before between after : Notes)
-    (p va done : ℕ) (bytes : List ℕ) (reply : Reply) → done < length bytes
-    → MakesStepsThat disk old before (StoresRange p va (take done bytes)) mid between
-    → StopsAt disk mid between p (behind va done) reply new after
-    → MakesStepsThat disk old before (StoresReached p va bytes (Refused done reply)) new after
-stores_refused disk old mid new before between after p va done bytes reply fewer first replied =
-    let P : List ℕ → Type 0 =
-    λ b. AreStores p va 0 (first.steps ++ replied.steps) (first.replies ++ replied.replies) b in
-    record {
-      steps = first.steps ++ replied.steps;
-      replies = first.replies ++ replied.replies;
-      makes = makes_then disk old mid new before between after first.steps first.replies replied.steps
-          replied.replies first.makes replied.makes;
-      holds = (
-        fewer,
-        subst P (append-nil (take done bytes))
-            (stores_then p va 0 first.steps first.replies (take done bytes) replied.steps replied.replies [] first.holds
-            (stores_none p va (0 + length (take done bytes)) replied.steps replied.replies replied.paging)),
-        stores_ended p va 0 first.steps first.replies (take done bytes)
-            (behind va done) reply replied.steps replied.replies first.holds replied.ends,
-      );
-    }
+pub stores_refused : (p va done at : ℕ) (bytes : List ℕ) (reply : Reply) → done < length bytes → at ≡ behind va done
+    → (steps : List Step) (replies : List Reply) (steps' : List Step) (replies' : List Reply)
+    → StoresRange p va (take done bytes) steps replies → StopsAt p at reply steps' replies'
+    → StoresReached p va bytes (Refused done reply) (steps ++ steps') (replies ++ replies')
+stores_refused p va done at bytes reply fewer is steps replies steps' replies' first (paging, ends) = (
+  fewer,
+  subst (λ b. AreStores p va 0 (steps ++ steps') (replies ++ replies') b) (append-nil (take done bytes))
+      (stores_then p va 0 steps replies (take done bytes) steps' replies' [] first
+      (stores_none p va (0 + length (take done bytes)) steps' replies' paging)),
+  stores_ended p va 0 steps replies (take done bytes) (behind va done) reply steps' replies' first
+      (subst (λ n. EndsRange p n reply steps' replies') is ends),
+)
 
--- where memory is refused, the piece was loaded all the same
-pub loads_cut : {D : Type 0} (disk : Ghosts D) (old new : Whole D) (before after : Notes) (p va count done : ℕ)
-    (bytes bytes' : List ℕ) → done ≤ count → MakesStepsThat disk old before (LoadsRange p va done bytes) new after
-    → MakesStepsThat disk old before (LoadsReached p va count bytes' NoMemory) new after
-loads_cut disk old new before after p va count done bytes bytes' fits it =
-    record { steps = it.steps; replies = it.replies; makes = it.makes; holds = (done, bytes, fits, it.holds) }
+-- where memory is refused, what was loaded was loaded all the same
+pub loads_cut : (p va count done : ℕ) (bytes bytes' : List ℕ) → done ≤ count
+    → (steps : List Step) (replies : List Reply) → LoadsRange p va done bytes steps replies
+    → LoadsReached p va count bytes' NoMemory steps replies
+loads_cut p va count done bytes bytes' fits steps replies it = (done, bytes, fits, it)
 
-pub loads_all : {D : Type 0} (disk : Ghosts D) (old new : Whole D) (before after : Notes) (p va count done : ℕ)
-    (bytes : List ℕ) → done ≡ count → MakesStepsThat disk old before (LoadsRange p va done bytes) new after
-    → MakesStepsThat disk old before (LoadsReached p va count bytes All) new after
-loads_all disk old new before after p va count done bytes whole it =
-    let P : ℕ → Type 0 = λ n. AreLoads p va 0 n it.steps it.replies bytes in
-    record { steps = it.steps; replies = it.replies; makes = it.makes; holds = subst P whole it.holds }
+pub loads_all : (p va count done : ℕ) (bytes : List ℕ) → done ≡ count → (steps : List Step) (replies : List Reply)
+    → LoadsRange p va done bytes steps replies → LoadsReached p va count bytes All steps replies
+loads_all p va count done bytes whole steps replies it =
+    subst (λ n. AreLoads p va 0 n steps replies bytes) whole it
 
-pub stores_all : {D : Type 0} (disk : Ghosts D) (old new : Whole D) (before after : Notes) (p va : ℕ)
-    (some bytes : List ℕ) → some ≡ bytes → MakesStepsThat disk old before (StoresRange p va some) new after
-    → MakesStepsThat disk old before (StoresReached p va bytes All) new after
-stores_all disk old new before after p va some bytes whole it =
-    let P : List ℕ → Type 0 = λ b. AreStores p va 0 it.steps it.replies b in
-    record { steps = it.steps; replies = it.replies; makes = it.makes; holds = subst P whole it.holds }
-
-pub made_does : {D : Type 0} (disk : Ghosts D) (old new : Whole D) (before after : Notes)
-    (what : List Step → List Reply → Type 0) → MakesStepsThat disk old before what new after
-    → HasMade disk old before new after
-made_does disk old new before after what it = record { steps = it.steps; replies = it.replies; makes = it.makes }
-
-pub does_nothing : {D : Type 0} (disk : Ghosts D) (old : Whole D) (before : Notes)
-    (what : List Step → List Reply → Type 0) → what [] [] → MakesStepsThat disk old before what old before
-does_nothing disk old before what holds =
-    record { steps = []; replies = []; makes = makes_none disk old before; holds = holds }
-
--- from the same machine
-pub does_from : {D : Type 0} (disk : Ghosts D) (old same new : Whole D) (before noted after : Notes)
-    (what : List Step → List Reply → Type 0) → same ≡ old → noted ≡ before
-    → MakesStepsThat disk same noted what new after → MakesStepsThat disk old before what new after
-does_from disk old same new before noted after what is are it =
-    subst (λ m. MakesStepsThat disk m before what new after) is
-    (subst (λ n. MakesStepsThat disk same n what new after) are it)
-
--- what was done is more than was asked
-pub does_more : {D : Type 0} (disk : Ghosts D) (old new : Whole D) (before after : Notes)
-    (what more : List Step → List Reply → Type 0)
-    → ((steps : List Step) (replies : List Reply) → what steps replies → more steps replies)
-    → MakesStepsThat disk old before what new after
-    → MakesStepsThat disk old before more new after
-does_more disk old new before after what more all it =
-    record { steps = it.steps; replies = it.replies; makes = it.makes; holds = all it.steps it.replies it.holds }
+pub stores_all : (p va : ℕ) (some bytes : List ℕ) → some ≡ bytes → (steps : List Step) (replies : List Reply)
+    → StoresRange p va some steps replies → StoresReached p va bytes All steps replies
+stores_all p va some bytes whole steps replies it = subst (λ b. AreStores p va 0 steps replies b) whole it
 
 -- one more of the steps that were asked for
 pub first_more : {D : Type 0} (disk : Ghosts D) (old mid new : Whole D) (before between after : Notes)

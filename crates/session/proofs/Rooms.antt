@@ -1,5 +1,5 @@
 -- Steps that may make a frame free, and how faults are served and ranges end.
-use Rattle.std.proofs.Common.{◌≡◌, inl, inr, ℕ, ◌/◌, ◌==◌, arith, Bool, true, false, not}
+use Rattle.std.proofs.Common.{◌≡◌, ◌≢◌, inl, inr, ℕ, ◌/◌, ◌==◌, append_assoc, arith, Bool, true, false}
 use Rattle.std.proofs.Common.{List, [], ◌∷◌, ◌++◌, refl, sym, ◌∙◌, ap, subst, Contains}
 use Rattle.std.proofs.lemmas.Bool.{false≢true}
 use Rattle.std.proofs.lemmas.Bool.Decides.{nat_tests}
@@ -16,24 +16,25 @@ use Rattle.machine.specs.Rules.{Acts}
 use Rattle.machine.specs.Runs.{StepsTaken}
 use Rattle.machine.specs.State.{State, Whole}
 use Rattle.session.specs.declared.notes.Notes.{Notes}
-use Rattle.session.specs.Ends.{reports_fault, reports_kept, reports_reclaimed, is_access, is_access_at, is_served}
-use Rattle.session.specs.Ends.{is_for_room, AreForRoom, is_fruitless, AreFruitless, MakesRoom, IsUnserved, EndsRange}
+use Rattle.session.specs.Ends.{reports_fault, reports_reclaimed, is_access, is_access_at, is_served}
+use Rattle.session.specs.Ends.{AreForRoom, is_fruitless, AreFruitless, MakesRoom, IsUnserved, EndsRange}
 use Rattle.session.specs.Lengths.{AnswersChange, AreOthers, change_steps, change_replies, flush_by}
 use Rattle.session.specs.Ranges.{MakesStepsThat}
-use Rattle.session.specs.Steps.{Makes, is_paging, Passes, IsPaging, IsMadeFor, ArePaging}
-use Rattle.session.specs.Steps.{reports_bytes, reports_stored, reports_fixed, reports_reclaim}
-use Rattle.session.specs.inside.Paging.{IsAccessFor, LoadsOrStores, Serves, IsUnservedPaging, AnswersAfter, StopsAt}
-use Rattle.session.proofs.Each.{each_of_change, each_so, each_then}
+use Rattle.session.specs.Steps.{Makes, is_for_room, is_paging, Passes, IsPaging, IsMadeFor, ArePaging}
+use Rattle.session.specs.Steps.{reports_fixed, reports_reclaim}
+use Rattle.session.specs.inside.Paging.{fix_by, IsAccessFor, EndsBy, Serves, IsUnservedPaging, StopsAt}
+use Rattle.session.proofs.Each.{each_of_change, each_so, each_then, ended_by, ends_one}
+use Rattle.session.proofs.Phases.{IsQuiet}
 use Rattle.session.proofs.Stretches.{makes_then}
 
 -- ---- single steps
 
-kept_reclaim : (reply : Reply) → reports_kept reply ≡ true → reports_reclaim reply ≡ true
+kept_reclaim : (reply : Reply) → is_fruitless acts.Change reply ≡ true → reports_reclaim reply ≡ true
 kept_reclaim replies.Kept is = refl
 kept_reclaim reply is = absurd (false≢true is)
 
 reclaim_kept : (reply : Reply) → reports_reclaim reply ≡ true → reports_reclaimed reply ≡ false
-    → reports_kept reply ≡ true
+    → is_fruitless acts.Change reply ≡ true
 reclaim_kept replies.Reclaimed is other = absurd (false≢true (sym other))
 reclaim_kept replies.Kept is other = refl
 reclaim_kept reply is other = absurd (false≢true is)
@@ -51,12 +52,10 @@ fruitless_room acts.Change reply is = kept_reclaim reply is
 fruitless_room act reply is = is
 
 room_paging : (act : Act) (reply : Reply) → is_for_room act reply ≡ true → is_paging act reply ≡ true
-room_paging (acts.Reclaim file page) reply is = refl
-room_paging acts.Ack reply is = is
-room_paging acts.Change reply is = is
-room_paging acts.Resume reply is = is
-room_paging acts.Flush reply is = refl
-room_paging act reply is = absurd (false≢true is)
+room_paging (acts.Load va count) reply is = absurd (false≢true is)
+room_paging (acts.Store va bytes) reply is = absurd (false≢true is)
+room_paging (acts.Fix va write) reply is = refl
+room_paging act reply is = is
 
 room_no_access : (act : Act) (reply : Reply) → is_for_room act reply ≡ true → is_access act ≡ false
 room_no_access (acts.Load va count) reply is = absurd (false≢true is)
@@ -67,10 +66,16 @@ room_not_served : (act : Act) (reply : Reply) → is_for_room act reply ≡ true
 room_not_served (acts.Fix va write) reply is = absurd (false≢true is)
 room_not_served act reply is = refl
 
-pub not_fault : (reply : Reply) → reports_fault reply ≡ true
-    → (reports_bytes reply ≡ false) × (reports_stored reply ≡ false)
-not_fault (replies.Refused why) is = (refl, refl)
-not_fault reply is = absurd (false≢true is)
+-- a load or a store that isn't made
+pub load_unmade : (va count : ℕ) (reply : Reply) → ((bytes : List ℕ) → reply ≢ replies.Bytes bytes)
+    → is_paging (acts.Load va count) reply ≡ true
+load_unmade va count (replies.Bytes bytes) other = absurd (other bytes refl)
+load_unmade va count reply other = refl
+
+pub store_unmade : (va : ℕ) (bytes : List ℕ) (reply : Reply) → reply ≢ replies.Stored
+    → is_paging (acts.Store va bytes) reply ≡ true
+store_unmade va bytes replies.Stored other = absurd (other refl)
+store_unmade va bytes reply other = refl
 
 -- ---- one after the other
 
@@ -115,7 +120,8 @@ change_has P p answer steps replies it holds = subst (P steps) (sym it.replies_a
     (subst (λ (l : List Step). P l (change_replies answer it.others)) (sym it.steps_are) holds)
 
 -- the change of a reclaim, which is answered so
-change_vain : (p : ℕ) (answer : Reply) (others : List ℕ) → AreOthers p others → reports_kept answer ≡ true
+change_vain : (p : ℕ) (answer : Reply) (others : List ℕ) → AreOthers p others
+    → is_fruitless acts.Change answer ≡ true
     → AreFruitless p (change_steps p others) (change_replies answer others)
 change_vain p answer others differ is = each_of_change (Passes is_fruitless p) p answer others differ (is, refl)
     (λ other not. (refl, not)) (λ other not. (refl, not))
@@ -162,31 +168,32 @@ reclaim_room p file page begun answer steps replied is change = go (reports_recl
 pub same : (n : ℕ) → (n == n) ≡ true
 same n = grind (arith, nat_tests)
 
+pub ends_later : (step : Step) (reply : Reply) (steps : List Step) (replied : List Reply) (steps' : List Step)
+    (replied' : List Reply) → ArePaging step.p steps replied → EndsBy step reply steps' replied'
+    → EndsBy step reply (steps ++ steps') (replied ++ replied')
+ends_later step reply steps replied steps' replied' first it = record {
+  front = steps ++ it.front;
+  replied = replied ++ it.replied;
+  paging = each_then (IsPaging step.p) steps replied it.front it.replied first it.paging;
+  steps_are = ap (λ l. steps ++ l) it.steps_are ∙ sym (append_assoc steps it.front (step ∷ []));
+  replies_are = ap (λ l. replied ++ l) it.replies_are ∙ sym (append_assoc replied it.replied (reply ∷ []));
+}
+
 module _ (p at : ℕ) (write : Bool) where
-  abbrev pub fix_by : Step
-  fix_by = record { p = p; act = acts.Fix at write }
+  pub serves_one : (reply : Reply) → reports_fixed reply ≡ true
+      → Serves p at write (fix_by p at write ∷ []) (reply ∷ [])
+  serves_one reply is = subst (λ (r : Reply). Serves p at write (fix_by p at write ∷ []) (r ∷ []))
+      (sym (fixed_is reply is)) (ends_one (fix_by p at write) replies.Fixed)
 
-  pub serves_one : (reply : Reply) → reports_fixed reply ≡ true → Serves p at write (fix_by ∷ []) (reply ∷ [])
-  serves_one reply is = record {
-    front = [];
-    replied = [];
-    paging = tt;
-    steps_are = refl;
-    replies_are = ap (λ r. r ∷ []) (fixed_is reply is);
-  }
-
-  pub serves_later : (reply : Reply) → reports_fixed reply ≡ true → (steps : List Step) (replied : List Reply)
-      → ArePaging p steps replied → Serves p at write (steps ++ fix_by ∷ []) (replied ++ reply ∷ [])
-  serves_later reply is steps replied paging = record {
-    front = steps;
-    replied = replied;
-    paging = paging;
-    steps_are = refl;
-    replies_are = ap (λ r. replied ++ r ∷ []) (fixed_is reply is);
-  }
+  -- its steps read and store nothing
+  pub serves_paging : (steps : List Step) (replied : List Reply) → Serves p at write steps replied
+      → ArePaging p steps replied
+  serves_paging steps replied it =
+      ended_by (ArePaging p) (fix_by p at write) replies.Fixed steps replied it (each_then (IsPaging p) it.front
+      it.replied (fix_by p at write ∷ []) (replies.Fixed ∷ []) it.paging ((refl, refl), tt))
 
   pub unserved_one : (answer : Reply) → reports_fixed answer ≡ false → (steps : List Step) (replied : List Reply)
-      → AreFruitless p steps replied → IsUnservedPaging p at answer (fix_by ∷ steps) (answer ∷ replied)
+      → AreFruitless p steps replied → IsUnservedPaging p at answer (fix_by p at write ∷ steps) (answer ∷ replied)
   unserved_one answer not steps replied vain =
       (((refl, refl), vain_paging p steps replied vain), inr (refl, same at, refl, not, vain))
 
@@ -204,24 +211,27 @@ module _ (p at : ℕ) (write : Bool) where
   unserved_after answer (step ∷ steps) [] steps' replied' room later = absurd room
 
   -- a second attempt, after a frame was made free
-  pub unserved_again : (first answer : Reply) → reports_fixed first ≡ false → reports_fixed answer ≡ false
-      → (steps : List Step) (replied : List Reply) → AreForRoom p steps replied
-      → IsUnservedPaging p at answer (fix_by ∷ (steps ++ fix_by ∷ [])) (first ∷ (replied ++ answer ∷ []))
-  unserved_again first answer one not steps replied room =
-      let last = unserved_one answer not [] [] tt in (
-        (
-          (refl, refl),
-          each_then (IsPaging p) steps replied (fix_by ∷ []) (answer ∷ []) (are_paging p steps replied room) last.0,
-        ),
-        inl (refl, one, unserved_after answer steps replied (fix_by ∷ []) (answer ∷ []) room last.1),
-      )
+  pub unserved_first : (first answer : Reply) → reports_fixed first ≡ false → (steps : List Step) (replied : List Reply)
+      → IsUnservedPaging p at answer steps replied
+      → IsUnservedPaging p at answer (fix_by p at write ∷ steps) (first ∷ replied)
+  unserved_first first answer one steps replied later = (((refl, refl), later.0), inl (refl, one, later.1))
+
+  pub unserved_later : (answer : Reply) (steps : List Step) (replied : List Reply) (steps' : List Step)
+      (replied' : List Reply) → MakesRoom p true steps replied → IsUnservedPaging p at answer steps' replied'
+      → IsUnservedPaging p at answer (steps ++ steps') (replied ++ replied')
+  unserved_later answer steps replied steps' replied' room later = (
+    each_then (IsPaging p) steps replied steps' replied' (are_paging p steps replied room.0) later.0,
+    unserved_after answer steps replied steps' replied' room.0 later.1,
+  )
 
 -- ---- accesses
 
 pub access_paging : (at : ℕ) (write : Bool) (act : Act) (reply : Reply) → IsAccessFor at write act
     → reports_fault reply ≡ true → is_paging act reply ≡ true
-access_paging at write (acts.Load va count) reply is fault = ap not (not_fault reply fault).0
-access_paging at write (acts.Store va bytes) reply is fault = ap not (not_fault reply fault).1
+access_paging at write (acts.Load va count) (replies.Refused why) is fault = refl
+access_paging at write (acts.Load va count) reply is fault = absurd (false≢true fault)
+access_paging at write (acts.Store va bytes) (replies.Refused why) is fault = refl
+access_paging at write (acts.Store va bytes) reply is fault = absurd (false≢true fault)
 access_paging at write act reply is fault = absurd is
 
 -- whose it is
@@ -235,10 +245,10 @@ access_at at write (acts.Load va count) is = ap (λ n. n == at) is ∙ same at
 access_at at write (acts.Store va bytes) is = ap (λ n. n == at) is.0 ∙ same at
 access_at at write act is = absurd is
 
-pub access_loads : (at : ℕ) (write : Bool) (act : Act) → IsAccessFor at write act → LoadsOrStores act
-access_loads at write (acts.Load va count) is = tt
-access_loads at write (acts.Store va bytes) is = tt
-access_loads at write act is = absurd is
+pub access_quiet : (at : ℕ) (write : Bool) (act : Act) (reply : Reply) → IsAccessFor at write act → IsQuiet act reply
+access_quiet at write (acts.Load va count) reply is = tt
+access_quiet at write (acts.Store va bytes) reply is = tt
+access_quiet at write act reply is = absurd is
 
 -- what ends a range comes after other steps
 pub ends_after : (p at : ℕ) (answer : Reply) (steps : List Step) (replied : List Reply) (steps' : List Step)
@@ -250,34 +260,23 @@ ends_after p at answer (step ∷ steps) (reply ∷ replied) steps' replied' pagi
 ends_after p at answer [] (reply ∷ replied) steps' replied' paging ended = absurd paging
 ends_after p at answer (step ∷ steps) [] steps' replied' paging ended = absurd paging
 
-module _ {D : Type 0} (disk : Ghosts D) (old mid new : Whole D) (before between after : Notes) where
-  -- an access that met a fault, which isn't served
-  pub stops_unserved : (step : Step) (at : ℕ) (fault answer : Reply) → IsPaging step.p step fault
-      → is_access_at at step.act ≡ true → reports_fault fault ≡ true
-      → Makes disk old before (step ∷ []) (fault ∷ []) mid between
-      → MakesStepsThat disk mid between (IsUnservedPaging step.p at answer) new after
-      → StopsAt disk old before step.p at answer new after
-  stops_unserved step at fault answer (paging, mine) here met first later = record {
-    steps = step ∷ later.steps;
-    replies = fault ∷ later.replies;
-    makes = makes_then disk old mid new before between after (step ∷ [])
-        (fault ∷ []) later.steps later.replies first later.makes;
-    paging = ((paging, mine), later.holds.0);
-    ends = inr (inr (refl, here, met, later.holds.1));
-  }
+-- an access that met a fault, which isn't served
+pub stops_unserved : (step : Step) (at : ℕ) (fault answer : Reply) → IsPaging step.p step fault
+    → is_access_at at step.act ≡ true → reports_fault fault ≡ true → (steps : List Step) (replied : List Reply)
+    → IsUnservedPaging step.p at answer steps replied → StopsAt step.p at answer (step ∷ steps) (fault ∷ replied)
+stops_unserved step at fault answer paging here met steps replied later =
+    ((paging, later.0), inr (inr (refl, here, met, later.1)))
 
 -- an access that isn't made, and meets no fault
-pub stops_answered : {D : Type 0} (disk : Ghosts D) (old new : Whole D) (before after : Notes) (step : Step) (at : ℕ)
-    (answer : Reply) → IsPaging step.p step answer → is_access_at at step.act ≡ true → reports_fault answer ≡ false
-    → AnswersAfter disk old before step answer new after → StopsAt disk old before step.p at answer new after
-stops_answered disk old new before after step at answer (paging, mine) here no-fault it = record {
-  steps = it.steps ++ step ∷ [];
-  replies = it.replies ++ answer ∷ [];
-  makes = it.makes;
-  paging = each_then (IsPaging step.p) it.steps it.replies (step ∷ []) (answer ∷ []) it.paging ((paging, mine), tt);
-  ends = ends_after step.p at answer it.steps it.replies (step ∷ []) (answer ∷ []) it.paging
-      (inr (inl (refl, here, paging, refl, no-fault, refl, refl)));
-}
+pub stops_answered : (step : Step) (at : ℕ) (answer : Reply) → IsPaging step.p step answer
+    → is_access_at at step.act ≡ true → reports_fault answer ≡ false → (steps : List Step) (replied : List Reply)
+    → EndsBy step answer steps replied → StopsAt step.p at answer steps replied
+stops_answered step at answer paging here no-fault steps replied it =
+    ended_by (StopsAt step.p at answer) step answer steps replied it (
+      each_then (IsPaging step.p) it.front it.replied (step ∷ []) (answer ∷ []) it.paging (paging, tt),
+      ends_after step.p at answer it.front it.replied (step ∷ []) (answer ∷ []) it.paging
+          (inr (inl (refl, here, paging.0, refl, no-fault, refl, refl))),
+    )
 
 -- ---- a fault that was served doesn't come again
 
@@ -326,82 +325,3 @@ module _ {D : Type 0} (disk : Ghosts D) where
       let taken = subst T it.holds.replies_are (subst S it.holds.steps_are all.taken) in
       served_last step.p at write step reply refl is old new it.holds.front it.holds.replied it.holds.paging
       taken (law old new _ _ taken)
-
-  -- an access after its fault was served
-  pub answers_served : (old mid last new : Whole D) (before between next after : Notes) (at : ℕ) (write : Bool)
-      (step : Step) (fault reply : Reply) → IsPaging step.p step fault
-      → Makes disk old before (step ∷ []) (fault ∷ []) mid between
-      → MakesStepsThat disk mid between (Serves step.p at write) last next
-      → Makes disk last next (step ∷ []) (reply ∷ []) new after → AnswersAfter disk old before step reply new after
-  answers_served old mid last new before between next after at write step fault reply paging first it made =
-      let S : List Step → Type 0 = λ l. ArePaging step.p l it.replies in
-      let T : List Reply → Type 0 =
-      λ l. ArePaging step.p (it.holds.front ++ record { p = step.p; act = acts.Fix at write } ∷ []) l in
-      let front = each_then (IsPaging step.p) it.holds.front it.holds.replied (record {
-        p = step.p;
-        act = acts.Fix at write;
-      } ∷ []) (replies.Fixed ∷ []) it.holds.paging ((refl, refl), tt) in
-      record {
-        steps = step ∷ it.steps;
-        replies = fault ∷ it.replies;
-        makes = makes_then disk old last new before next after (step ∷ it.steps) (fault ∷ it.replies)
-            (step ∷ []) (reply ∷ [])
-            (makes_then disk old mid last before between next (step ∷ [])
-            (fault ∷ []) it.steps it.replies first it.makes) made;
-        paging = (paging, subst S (sym it.holds.steps_are) (subst T (sym it.holds.replies_are) front));
-      }
-
--- ---- attempts to serve a fault
-
-module _ {D : Type 0} (disk : Ghosts D) where
-  -- no frame could be made free for it
-  pub unserved_vain : (old mid new : Whole D) (before between after : Notes) (p at : ℕ) (write : Bool) (answer : Reply)
-      → reports_fixed answer ≡ false → Makes disk old before (fix_by p at write ∷ []) (answer ∷ []) mid between
-      → MakesStepsThat disk mid between (MakesRoom p false) new after
-      → MakesStepsThat disk old before (IsUnservedPaging p at answer) new after
-  unserved_vain old mid new before between after p at write answer not made room = record {
-    steps = fix_by p at write ∷ room.steps;
-    replies = answer ∷ room.replies;
-    makes = makes_then disk old mid new before between after (fix_by p at write ∷ [])
-        (answer ∷ []) room.steps room.replies made room.makes;
-    holds = unserved_one p at write answer not room.steps room.replies room.holds;
-  }
-
-  module _ (old mid last new : Whole D) (before between next after : Notes) (p at : ℕ) (write : Bool)
-      (first answer : Reply) where
-    all_made : Makes disk old before (fix_by p at write ∷ []) (first ∷ []) mid between
-        → (room : MakesStepsThat disk mid between (MakesRoom p true) last next)
-        → Makes disk last next (fix_by p at write ∷ []) (answer ∷ []) new after
-        → Makes disk old before (fix_by p at write ∷ (room.steps ++ fix_by p at write ∷ []))
-        (first ∷ (room.replies ++ answer ∷ [])) new after
-    all_made made room again = makes_then disk old mid new before between after (fix_by p at write ∷ []) (first ∷ [])
-        (room.steps ++ fix_by p at write ∷ []) (room.replies ++ answer ∷ []) made
-        (makes_then disk mid last new between next after room.steps room.replies (fix_by p at write ∷ [])
-        (answer ∷ []) room.makes again)
-
-    -- one was, and it was served
-    pub serves_again : reports_fixed answer ≡ true
-        → Makes disk old before (fix_by p at write ∷ []) (first ∷ []) mid between
-        → MakesStepsThat disk mid between (MakesRoom p true) last next
-        → Makes disk last next (fix_by p at write ∷ []) (answer ∷ []) new after
-        → MakesStepsThat disk old before (Serves p at write) new after
-    serves_again is made room again = record {
-      steps = fix_by p at write ∷ (room.steps ++ fix_by p at write ∷ []);
-      replies = first ∷ (room.replies ++ answer ∷ []);
-      makes = all_made made room again;
-      holds = serves_later p at write answer is (fix_by p at write ∷ room.steps) (first ∷ room.replies)
-          ((refl, refl), are_paging p room.steps room.replies room.holds.0);
-    }
-
-    -- and it wasn't
-    pub unserved_after_room : reports_fixed first ≡ false → reports_fixed answer ≡ false
-        → Makes disk old before (fix_by p at write ∷ []) (first ∷ []) mid between
-        → MakesStepsThat disk mid between (MakesRoom p true) last next
-        → Makes disk last next (fix_by p at write ∷ []) (answer ∷ []) new after
-        → MakesStepsThat disk old before (IsUnservedPaging p at answer) new after
-    unserved_after_room one not made room again = record {
-      steps = fix_by p at write ∷ (room.steps ++ fix_by p at write ∷ []);
-      replies = first ∷ (room.replies ++ answer ∷ []);
-      makes = all_made made room again;
-      holds = unserved_again p at write first answer one not room.steps room.replies room.holds.0;
-    }

@@ -9,7 +9,6 @@ use Rattle.session.specs.declared.notes.Notes.{Notes}
 use Rattle.session.specs.Notes.{noted_after, noted_all}
 use Rattle.session.specs.Ranges.{MakesStepsThat}
 use Rattle.session.specs.Steps.{Makes}
-use Rattle.session.specs.inside.Paging.{AnswersAfter}
 use Rattle.session.specs.inside.Made.{HasMade}
 
 noted_then : (before : Notes) (replies more : List Reply)
@@ -65,11 +64,33 @@ does_then disk old mid new before between after what then both holds first later
   holds = holds first.steps first.replies later.steps later.replies first.holds later.holds;
 }
 
--- one step, made first
-pub answers_one : {D : Type 0} (disk : Ghosts D) (old new : Whole D) (before after : Notes) (step : Step)
-    (reply : Reply) → Makes disk old before (step ∷ []) (reply ∷ []) new after
-    → AnswersAfter disk old before step reply new after
-answers_one disk old new before after step reply made = record { steps = []; replies = []; makes = made; paging = tt }
+-- a step first
+pub does_first : {D : Type 0} (disk : Ghosts D) (old mid new : Whole D) (before between after : Notes)
+    (what both : List Step → List Reply → Type 0) (step : Step) (reply : Reply)
+    → ((steps : List Step) (replies : List Reply) → what steps replies → both (step ∷ steps) (reply ∷ replies))
+    → Makes disk old before (step ∷ []) (reply ∷ []) mid between → MakesStepsThat disk mid between what new after
+    → MakesStepsThat disk old before both new after
+does_first disk old mid new before between after what both step reply holds first later = record {
+  steps = step ∷ later.steps;
+  replies = reply ∷ later.replies;
+  makes = makes_then disk old mid new before between after (step ∷ []) (reply ∷ []) later.steps later.replies
+      first later.makes;
+  holds = holds later.steps later.replies later.holds;
+}
+
+pub does_nothing : {D : Type 0} (disk : Ghosts D) (old : Whole D) (before : Notes)
+    (what : List Step → List Reply → Type 0) → what [] [] → MakesStepsThat disk old before what old before
+does_nothing disk old before what holds =
+    record { steps = []; replies = []; makes = makes_none disk old before; holds = holds }
+
+-- what was done is more than was asked
+pub does_more : {D : Type 0} (disk : Ghosts D) (old new : Whole D) (before after : Notes)
+    (what more : List Step → List Reply → Type 0)
+    → ((steps : List Step) (replies : List Reply) → what steps replies → more steps replies)
+    → MakesStepsThat disk old before what new after
+    → MakesStepsThat disk old before more new after
+does_more disk old new before after what more all it =
+    record { steps = it.steps; replies = it.replies; makes = it.makes; holds = all it.steps it.replies it.holds }
 
 -- whatever was made
 pub made_none : {D : Type 0} (disk : Ghosts D) (old : Whole D) (before : Notes) → HasMade disk old before old before
@@ -87,6 +108,11 @@ made_then disk old mid new before between after first later = record {
 pub made_one : {D : Type 0} (disk : Ghosts D) (old new : Whole D) (before after : Notes) (step : Step) (reply : Reply)
     → Makes disk old before (step ∷ []) (reply ∷ []) new after → HasMade disk old before new after
 made_one disk old new before after step reply makes = record { steps = step ∷ []; replies = reply ∷ []; makes = makes }
+
+pub made_does : {D : Type 0} (disk : Ghosts D) (old new : Whole D) (before after : Notes)
+    (what : List Step → List Reply → Type 0) → MakesStepsThat disk old before what new after
+    → HasMade disk old before new after
+made_does disk old new before after what it = record { steps = it.steps; replies = it.replies; makes = it.makes }
 
 pub not_true : (b : Bool) → not b ≡ true → b ≡ false
 not_true false is = refl

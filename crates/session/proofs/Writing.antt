@@ -18,14 +18,12 @@ use Rattle.session.specs.declared.request_fault.RequestFault.{RequestFault}
 use Rattle.session.specs.declared.request_fault.RequestFault.TheVariants as fault
 use Rattle.session.specs.Notes.{noted_after, noted_all}
 use Rattle.session.specs.Answers.{steps_text, reply_after, refusal_text, reached_text, text_after_space}
-use Rattle.session.specs.Answers.{digits_text, ReportsLoaded, stored_text, committed_text, AsksNothing}
+use Rattle.session.specs.Answers.{digits_text, ReportsLoaded, AsksNothing}
 use Rattle.session.specs.Answers.{WritesAnswer, WritesAnswerOf, AnswersLines, WritesAnswers, AnswersInput}
-use Rattle.session.specs.Commits.{AnswersCommit}
 use Rattle.session.specs.Lines.{HasNoFeed, ReadsLines}
 use Rattle.session.specs.Asked.{AreFirst, IsMemory}
-use Rattle.session.specs.Lengths.{AnswersLength}
-use Rattle.session.specs.Ranges.{MakesStepsThat, LoadsReached, StoresReached}
-use Rattle.session.specs.Requests.{Asked, asks_steps, asks_load, asks_store, asks_commit, asks_length, request_in}
+use Rattle.session.specs.Ranges.{MakesStepsThat, LoadsReached}
+use Rattle.session.specs.Requests.{Asked, asks_steps, asks_load, request_in}
 use Rattle.session.specs.Steps.{Makes}
 use Rattle.session.proofs.Lines.{reads_both, end_after_lines}
 use Rattle.session.proofs.Stretches.{makes_none, makes_then}
@@ -171,47 +169,6 @@ load_answered disk old new before after p va count bytes reached a b it wrote =
       replies = it.replies;
       makes = it.makes;
       holds = (wrote.0, (bytes, reached, it.holds, wrote.1), wrote.2);
-    }
-
--- a range was stored
-pub store_answered : {D : Type 0} (disk : Ghosts D) (old new : Whole D) (before after : Notes) (p va : ℕ)
-    (bytes : List ℕ) (reached : Reached) (a b : Option (List ℕ))
-    → MakesStepsThat disk old before (StoresReached p va bytes reached) new after
-    → Appends a b (stored_text reached (length bytes) ++ 10 ∷ [])
-    → MakesStepsThat disk old before (WritesAnswer before (asks_store p va bytes) a b) new after
-store_answered disk old new before after p va bytes reached a b it wrote =
-    record {
-      steps = it.steps;
-      replies = it.replies;
-      makes = it.makes;
-      holds = (stored_text reached (length bytes), (reached, it.holds, refl), wrote);
-    }
-
--- a commit came to this
-pub commit_answered : {D : Type 0} (disk : Ghosts D) (old new : Whole D) (before after : Notes) (p : ℕ)
-    (committed : Result ℕ Reply) (a b : Option (List ℕ))
-    → MakesStepsThat disk old before (AnswersCommit p before committed) new after
-    → Appends a b (committed_text committed ++ 10 ∷ [])
-    → MakesStepsThat disk old before (WritesAnswer before (asks_commit p) a b) new after
-commit_answered disk old new before after p committed a b it wrote =
-    record {
-      steps = it.steps;
-      replies = it.replies;
-      makes = it.makes;
-      holds = (committed_text committed, (committed, it.holds, refl), wrote);
-    }
-
--- a length was set, or refused
-pub length_answered : {D : Type 0} (disk : Ghosts D) (old new : Whole D) (before after : Notes) (p file to : ℕ)
-    (reply : Reply) (a b : Option (List ℕ)) → MakesStepsThat disk old before (AnswersLength p file to reply) new after
-    → Appends a b (reply_text reply ++ 10 ∷ [])
-    → MakesStepsThat disk old before (WritesAnswer before (asks_length p file to) a b) new after
-length_answered disk old new before after p file to reply a b it wrote =
-    record {
-      steps = it.steps;
-      replies = it.replies;
-      makes = it.makes;
-      holds = (reply_text reply, (reply, it.holds, refl), wrote);
     }
 
 -- a line that asks for this
@@ -372,7 +329,7 @@ answers_bad disk old before input rest a b c read (text, plain, wrote) kept =
     }
 
 -- the number of lines that were answered: one if there was one
-abbrev pub WritesNext : {D : Type 0} → Ghosts D → Whole D → Whole D → Notes → Notes → Option (List ℕ) → Option (List ℕ)
+abbrev WritesNext : {D : Type 0} → Ghosts D → Whole D → Whole D → Notes → Notes → Option (List ℕ) → Option (List ℕ)
     → Option (List ℕ) → Option (List ℕ) → Bool → Type 0
 WritesNext disk old new before after input rest a c more =
     MakesStepsThat disk old before (WritesAnswers before (if more then 1 else 0) input rest a c) new after
@@ -409,7 +366,7 @@ flushed_line b c written (Ok true) is none = absurd (cc)
 flushed_line b c written (Ok false) is none = absurd (true≢false (sym is.0))
 
 -- lines after lines
-pub answers_then : {D : Type 0} (disk : Ghosts D) (old mid new : Whole D) (before between after : Notes)
+answers_then : {D : Type 0} (disk : Ghosts D) (old mid new : Whole D) (before between after : Notes)
     (count more : ℕ) (input part rest a b c : Option (List ℕ))
     → MakesStepsThat disk old before (WritesAnswers before count input part a b) mid between
     → MakesStepsThat disk mid between (WritesAnswers between more part rest b c) new after
@@ -443,11 +400,22 @@ answers_input disk old new before after count input rest a b it end =
 
 -- lines, and then the end of the input
 pub answers_to_end : {D : Type 0} (disk : Ghosts D) (old mid new : Whole D) (before between after : Notes) (count : ℕ)
-    (input part rest a b c : Option (List ℕ))
+    (more : Bool) (input part rest a b c : Option (List ℕ)) → more ≡ false
     → MakesStepsThat disk old before (WritesAnswers before count input part a b) mid between
-    → MakesStepsThat disk mid between (WritesAnswers between 0 part rest b c) new after → OnSome part (IsAtEnd rest)
+    → WritesNext disk mid new between after part rest b c more → OnSome part (IsAtEnd rest)
     → MakesStepsThat disk old before (AnswersInput before input rest a c) new after
-answers_to_end disk old mid new before between after count input part rest a b c first later end =
+answers_to_end disk old mid new before between after count more input part rest a b c none first later end =
     answers_input disk old new before after (count + 0) input rest a c
-    (answers_then disk old mid new before between after count 0 input part rest a b c first later)
+    (answers_then disk old mid new before between after count 0 input part rest a b c first
+    (subst (WritesNext disk mid new between after part rest b c) none later))
     (λ _. end_after_lines input part rest first.holds.0 first.holds.3 end)
+
+-- one more line
+pub answers_next : {D : Type 0} (disk : Ghosts D) (old mid new : Whole D) (before between after : Notes) (count : ℕ)
+    (more : Bool) (input part rest a b c : Option (List ℕ)) → more ≡ true
+    → MakesStepsThat disk old before (WritesAnswers before count input part a b) mid between
+    → WritesNext disk mid new between after part rest b c more
+    → MakesStepsThat disk old before (WritesAnswers before (count + 1) input rest a c) new after
+answers_next disk old mid new before between after count more input part rest a b c one first later =
+    answers_then disk old mid new before between after count 1 input part rest a b c first
+    (subst (WritesNext disk mid new between after part rest b c) one later)

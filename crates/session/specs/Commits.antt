@@ -6,7 +6,7 @@ use Rattle.machine.specs.declared.act.Reply.{Reply}
 use Rattle.machine.specs.declared.act.Reply.TheVariants.{Begun, Marked, Committed, Nothing, Refused}
 use Rattle.machine.specs.declared.act.Step.{Step}
 use Rattle.session.specs.declared.notes.Notes.{Notes}
-use Rattle.session.specs.Lengths.{flush_by, reports_flushed, reports_refused, AnswersChange}
+use Rattle.session.specs.Lengths.{flush_by, reports_flushed, reports_refused, AnswersChange, EndsWaiting}
 use Rattle.session.specs.Notes.{noted_all}
 
 -- the step by which processor p begins a commit of all stores
@@ -34,14 +34,13 @@ pub record BeginsMark (p : ℕ) (steps : List Step) (replies : List Reply) : Typ
   pub steps_are : steps ≡ waits ++ msync_by p ∷ []
   pub replies_are : replies ≡ waited ++ Begun ∷ []
 
--- The last attempt to begin a mark, and why no other one is made: it is refused, but not as busy; or it is busy, and
--- the write-outs have no step left; or it is busy, and the step of the write-outs that would be made for it is refused.
+-- The last attempt to begin a mark, and why no other one is made: it is refused, but not as busy; or it is busy.
 abbrev pub IsLastAttempt : ℕ → Reply → List Step → List Reply → Type 0
-IsLastAttempt p answer steps replies =
-    ((steps ≡ msync_by p ∷ []) × (replies ≡ answer ∷ []) × (reports_refused answer ≡ true) × (answer ≢ Refused Busy))
-    ⊎ ((steps ≡ msync_by p ∷ flush_by p ∷ []) × (replies ≡ Refused Busy ∷ Nothing ∷ []) × (answer ≡ Refused Busy))
-    ⊎ ((steps ≡ msync_by p ∷ flush_by p ∷ []) × (replies ≡ Refused Busy ∷ answer ∷ [])
-    × (reports_refused answer ≡ true))
+IsLastAttempt p answer (step ∷ steps) (reply ∷ replies) =
+    (step ≡ msync_by p)
+    × (((reply ≡ answer) × (reports_refused answer ≡ true) × (answer ≢ Refused Busy) × (steps ≡ []) × (replies ≡ []))
+    ⊎ ((reply ≡ Refused Busy) × EndsWaiting p answer steps replies))
+IsLastAttempt p answer steps replies = ⊥
 
 -- Processor p was refused a mark, and this is the answer.
 pub record RefusesMark (p : ℕ) (answer : Reply) (steps : List Step) (replies : List Reply) : Type 0 where
@@ -65,50 +64,44 @@ WritesUntil p mark answer (step ∷ steps) (reply ∷ replies) =
     ⊎ (IsOfOther mark reply × WritesUntil p mark answer steps replies))
 WritesUntil p mark answer steps replies = ⊥
 
+-- Processor p began a mark and made it, and this holds of the other steps and of what was noted before the mark was
+-- made.
+pub record MarksAnd (p : ℕ) (before : Notes) (mark : ℕ) (what : Notes → List Step → List Reply → Type 0)
+    (steps : List Step) (replies : List Reply) : Type 0 where
+  pub beginning : List Step
+  pub begun : List Reply
+  pub begins : BeginsMark p beginning begun
+  pub marking : List Step
+  pub marked : List Reply
+  pub makes : AnswersChange p (Marked mark) marking marked
+  pub writing : List Step
+  pub written : List Reply
+  pub writes : what (noted_all before begun) writing written
+  pub steps_are : steps ≡ beginning ++ (marking ++ writing)
+  pub replies_are : replies ≡ begun ++ (marked ++ written)
+
 -- What makes a mark durable: nothing more, where before it no store was made, and no length set, that no mark has; else
 -- the steps of the write-outs up to the one that commits it.
-abbrev pub IsWritten : ℕ → Notes → ℕ → List Step → List Reply → Type 0
-IsWritten p before mark steps replies =
-    ((before.has_unmarked ≡ false) × (steps ≡ []) × (replies ≡ []))
-    ⊎ ((before.has_unmarked ≡ true) × WritesUntil p mark (Committed mark) steps replies)
+abbrev pub IsWritten : ℕ → ℕ → Notes → List Step → List Reply → Type 0
+IsWritten p mark noted steps replies =
+    ((noted.has_unmarked ≡ false) × (steps ≡ []) × (replies ≡ []))
+    ⊎ ((noted.has_unmarked ≡ true) × WritesUntil p mark (Committed mark) steps replies)
 
 -- Processor p began a mark, made it and wrote it, where that is needed: so the mark is durable.
-pub record CommitsMark (p : ℕ) (before : Notes) (mark : ℕ) (steps : List Step) (replies : List Reply) : Type 0 where
-  pub beginning : List Step
-  pub begun : List Reply
-  pub begins : BeginsMark p beginning begun
-  pub marking : List Step
-  pub marked : List Reply
-  pub makes : AnswersChange p (Marked mark) marking marked
-  pub writing : List Step
-  pub written : List Reply
-  pub durable : IsWritten p (noted_all before begun) mark writing written
-  pub steps_are : steps ≡ beginning ++ (marking ++ writing)
-  pub replies_are : replies ≡ begun ++ (marked ++ written)
+abbrev pub CommitsMark : ℕ → Notes → ℕ → List Step → List Reply → Type 0
+CommitsMark p before mark steps replies = MarksAnd p before mark (IsWritten p mark) steps replies
 
--- The mark was made, and a step of the write-outs that was to write it wasn't made, which is the answer.
-pub record StopsWriting (p : ℕ) (before : Notes) (answer : Reply) (steps : List Step) (replies : List Reply)
-    : Type 0 where
-  pub mark : ℕ
-  pub beginning : List Step
-  pub begun : List Reply
-  pub begins : BeginsMark p beginning begun
-  pub marking : List Step
-  pub marked : List Reply
-  pub makes : AnswersChange p (Marked mark) marking marked
-  pub unmarked : (noted_all before begun).has_unmarked ≡ true
-  pub writing : List Step
-  pub written : List Reply
-  pub writes : WritesUntil p mark answer writing written
-  pub unmade : reports_unmade answer ≡ true
-  pub steps_are : steps ≡ beginning ++ (marking ++ writing)
-  pub replies_are : replies ≡ begun ++ (marked ++ written)
+-- A step of the write-outs that was to write a mark wasn't made, which is the answer.
+abbrev pub IsLeftUnwritten : ℕ → ℕ → Reply → Notes → List Step → List Reply → Type 0
+IsLeftUnwritten p mark answer noted steps replies =
+    (noted.has_unmarked ≡ true) × WritesUntil p mark answer steps replies × (reports_unmade answer ≡ true)
 
 -- The answer is that of the step that stopped the commit: an attempt to begin its mark, or a step of the write-outs
 -- that it waits for; or a step of the write-outs that was to write it. The change that makes the mark is never refused.
 abbrev pub StopsCommit : ℕ → Notes → Reply → List Step → List Reply → Type 0
 StopsCommit p before answer steps replies =
-    RefusesMark p answer steps replies ⊎ StopsWriting p before answer steps replies
+    RefusesMark p answer steps replies
+    ⊎ ((mark : ℕ) × MarksAnd p before mark (IsLeftUnwritten p mark answer) steps replies)
 
 -- Steps of a commit by processor p that came to this: a mark that is durable, or what the step that stopped it was
 -- answered, which wasn't made.

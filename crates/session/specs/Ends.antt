@@ -2,22 +2,16 @@
 use Rattle.std.specs.Prelude.{ℕ, ◌≡◌, ◌⊎◌, ◌==◌, Bool, true, false, List, [], ◌∷◌, Contains}
 use Rattle.page_entry.specs.declared.refusal.Refusal.TheVariants.{Fault}
 use Rattle.machine.specs.declared.act.Act.{Act}
-use Rattle.machine.specs.declared.act.Act.TheVariants.{Load, Store, Fix, Reclaim, Ack, Change, Resume, Flush}
+use Rattle.machine.specs.declared.act.Act.TheVariants.{Load, Store, Fix, Change}
 use Rattle.machine.specs.declared.act.Reply.{Reply}
 use Rattle.machine.specs.declared.act.Reply.TheVariants.{Reclaimed, Kept, Refused}
 use Rattle.machine.specs.declared.act.Step.{Step}
-use Rattle.session.specs.Steps.{is_paging, Passes, AreEach, reports_acked}
-use Rattle.session.specs.Steps.{reports_fixed, reports_reclaim, reports_resumed}
+use Rattle.session.specs.Steps.{is_for_room, is_paging, Passes, AreEach, reports_fixed}
 
 -- that an access met a page fault
 abbrev pub reports_fault : Reply → Bool
 reports_fault (Refused (Fault code)) = true
 reports_fault _ = false
-
--- that a page stays in memory
-abbrev pub reports_kept : Reply → Bool
-reports_kept Kept = true
-reports_kept _ = false
 
 -- that a page left memory, so that a frame is free
 abbrev pub reports_reclaimed : Reply → Bool
@@ -46,22 +40,14 @@ abbrev pub is_served : Act → Reply → Bool
 is_served (Fix va write) reply = reports_fixed reply
 is_served _ reply = false
 
--- a step that may make a frame free: a page is taken out of memory, where the others stall before it and go on after
--- it, or a step of the write-outs is made first
-abbrev pub is_for_room : Act → Reply → Bool
-is_for_room (Reclaim file page) reply = true
-is_for_room Ack reply = reports_acked reply
-is_for_room Change reply = reports_reclaim reply
-is_for_room Resume reply = reports_resumed reply
-is_for_room Flush reply = true
-is_for_room _ reply = false
-
+-- steps that may make a frame free
 abbrev pub AreForRoom : ℕ → List Step → List Reply → Type 0
 AreForRoom p = AreEach (Passes is_for_room p)
 
--- such a step, by which none became free
+-- such a step, by which none became free: the page stays in memory
 abbrev pub is_fruitless : Act → Reply → Bool
-is_fruitless Change reply = reports_kept reply
+is_fruitless Change Kept = true
+is_fruitless Change reply = false
 is_fruitless act reply = is_for_room act reply
 
 abbrev pub AreFruitless : ℕ → List Step → List Reply → Type 0

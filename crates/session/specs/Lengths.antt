@@ -87,16 +87,21 @@ ChangesLength p file to answer (step ∷ steps) (reply ∷ replies) =
     ⊎ ((step ≡ set_length_by p file to) × (reply ≡ Begun) × AnswersChange p answer steps replies)
 ChangesLength p file to answer steps replies = ⊥
 
+-- An attempt was busy, and no other one is made: the write-outs have no step left, and it is answered so; or the step
+-- of the write-outs that would be made for it is refused, which is the answer.
+pub record EndsWaiting (p : ℕ) (answer : Reply) (steps : List Step) (replies : List Reply) : Type 0 where
+  pub reply : Reply
+  pub why : ((reply ≡ Nothing) × (answer ≡ Refused Busy)) ⊎ ((reply ≡ answer) × (reports_refused answer ≡ true))
+  pub steps_are : steps ≡ flush_by p ∷ []
+  pub replies_are : replies ≡ reply ∷ []
+
 -- What comes after the last attempt, which was answered so, and why no other one is made: it is for good; or too few
--- frames are free, and none became free; or it is busy, and the write-outs have no step left; or it is busy, and the
--- step of the write-outs that would be made for it is refused, which is the answer.
+-- frames are free, and none became free; or it is busy.
 abbrev pub IsLeft : ℕ → Reply → Reply → List Step → List Reply → Type 0
 IsLeft p answer reply steps replies =
     ((reply ≡ answer) × (reports_begun answer ≡ false) × (reports_later answer ≡ false) × (steps ≡ []) × (replies ≡ []))
     ⊎ ((reply ≡ Refused NoFrame) × (answer ≡ Refused NoFrame) × AreFruitless p steps replies)
-    ⊎ ((reply ≡ Refused Busy) × (answer ≡ Refused Busy) × (steps ≡ flush_by p ∷ []) × (replies ≡ Nothing ∷ []))
-    ⊎ ((reply ≡ Refused Busy) × (reports_refused answer ≡ true) × (steps ≡ flush_by p ∷ [])
-    × (replies ≡ answer ∷ []))
+    ⊎ ((reply ≡ Refused Busy) × EndsWaiting p answer steps replies)
 
 -- It isn't begun, and the answer is that of the last attempt, or of the step of the write-outs that it waits for.
 abbrev pub RefusesLength : ℕ → ℕ → ℕ → Reply → List Step → List Reply → Type 0

@@ -1,6 +1,6 @@
 -- What steps a request makes, and what they are answered.
 use Rattle.std.specs.Prelude.{ℕ, ◌≡◌, ◌≢◌, ◌⊎◌, ◌+◌, ◌-◌, ◌^◌, min, Bool, true}
-use Rattle.std.specs.Prelude.{false, not, ⊤, List, [], ◌∷◌, ◌++◌, length}
+use Rattle.std.specs.Prelude.{false, ⊤, List, [], ◌∷◌, ◌++◌, length}
 use Rattle.device.specs.declared.device.Device.{Ghosts}
 use Rattle.machine.specs.declared.act.Act.{Act}
 use Rattle.machine.specs.declared.act.Act.TheVariants.{Load, Store, Fix, Reclaim, Msync, Ack, Change, Resume, Flush}
@@ -18,31 +18,11 @@ pub record Makes {D : Type 0} (disk : Ghosts D) (old : Whole D) (before : Notes)
   pub taken : StepsTaken disk old steps replies new
   pub notes : after ≡ noted_all before replies
 
--- what was loaded
-abbrev pub reports_bytes : Reply → Bool
-reports_bytes (Bytes bytes) = true
-reports_bytes _ = false
-
--- that something was stored
-abbrev pub reports_stored : Reply → Bool
-reports_stored Stored = true
-reports_stored _ = false
-
 -- that a page left memory, or was kept there
 abbrev pub reports_reclaim : Reply → Bool
 reports_reclaim Reclaimed = true
 reports_reclaim Kept = true
 reports_reclaim _ = false
-
--- that an interrupted processor stalled
-abbrev pub reports_acked : Reply → Bool
-reports_acked Acked = true
-reports_acked _ = false
-
--- that a stalled processor went on
-abbrev pub reports_resumed : Reply → Bool
-reports_resumed Resumed = true
-reports_resumed _ = false
 
 -- Who makes a step of what processor p does: the processors that a change of p interrupts stall before it and go on
 -- after it, and they are others than p; every other step is p's own.
@@ -51,20 +31,26 @@ IsMadeFor p maker Ack = maker ≢ p
 IsMadeFor p maker Resume = maker ≢ p
 IsMadeFor p maker act = maker ≡ p
 
+-- A step that may make a frame free: a page is taken out of memory, where the others stall before its change and go on
+-- after it, or a step of the write-outs is made first. (Where such a page's change is begun, it is made among the same
+-- steps: it holds the lock until it is made, and a request leaves the lock as it was, `KeepsPhases`.)
+abbrev pub is_for_room : Act → Reply → Bool
+is_for_room (Reclaim file page) reply = true
+is_for_room Ack Acked = true
+is_for_room Change reply = reports_reclaim reply
+is_for_room Resume Resumed = true
+is_for_room Flush reply = true
+is_for_room act reply = false
+
 -- A step that reads and stores nothing: a load or a store that isn't made, or what makes one possible. It changes no
--- mapping and no length, and makes no mark. A change is that of a page that was to leave memory; the others stall
--- before it and go on after it. (Where such a page's change is begun, it is made among the same steps: it holds the
--- lock until it is made, and a request leaves the lock as it was, `KeepsPhases`.)
+-- mapping and no length, and makes no mark.
 abbrev pub is_paging : Act → Reply → Bool
-is_paging (Load va count) reply = not (reports_bytes reply)
-is_paging (Store va bytes) reply = not (reports_stored reply)
+is_paging (Load va count) (Bytes bytes) = false
+is_paging (Load va count) reply = true
+is_paging (Store va bytes) Stored = false
+is_paging (Store va bytes) reply = true
 is_paging (Fix va write) reply = true
-is_paging (Reclaim file page) reply = true
-is_paging Ack reply = reports_acked reply
-is_paging Change reply = reports_reclaim reply
-is_paging Resume reply = reports_resumed reply
-is_paging Flush reply = true
-is_paging act reply = false
+is_paging act reply = is_for_room act reply
 
 -- that a mark was made
 abbrev pub reports_mark : Reply → Bool

@@ -5,10 +5,9 @@ ghost use Rattle.spaces.specs.declared.change.Change.TheVariants.{Checkpoint};
 ghost use Rattle.machine.specs.declared.act.Reply.TheVariants as replied;
 ghost use Rattle.session.specs.CarriedOut.{CarriesOut};
 ghost use Rattle.session.specs.Commits.{BeginsMark, RefusesMark, WritesUntil, AnswersCommit, reports_unmade};
-ghost use Rattle.session.specs.Lengths.{reports_begun};
-ghost use Rattle.session.specs.Locks.{KeepsPhases};
-ghost use Rattle.session.specs.Ranges.{MakesStepsThat};
-ghost use Rattle.session.specs.inside.Changing.{HasBegun};
+ghost use Rattle.session.specs.Lengths.{reports_begun, EndsWaiting};
+ghost use Rattle.session.specs.inside.Changing.{BeginsChange};
+ghost use Rattle.session.specs.inside.Made.{Waits};
 
 use crate::paging::{is_begun, is_flushed};
 use crate::requests::Requests;
@@ -45,13 +44,10 @@ impl<D: Device, A: Allocator + Copy> Requests<D, A> {
 
     // Begins a mark. Where write-outs have to be done first, it makes steps of them.
     fn begin_mark(&mut self, p: ProcessorNumber) -> Reply
-        ensures begins { reports_begun result ≡ true → MakesStepsThat D.Device self.old.machine self.old.notes
-            (BeginsMark p) self.new.machine self.new.notes }
-        ensures refuses { reports_begun result ≡ false → MakesStepsThat D.Device self.old.machine self.old.notes
+        ensures begins { reports_begun result ≡ true → BeginsChange D.Device self.old.machine self.old.notes
+            (BeginsMark p) p Checkpoint self.new.machine self.new.notes }
+        ensures refuses { reports_begun result ≡ false → CarriesOut D.Device self.old.machine self.old.notes
             (RefusesMark p result) self.new.machine self.new.notes }
-        ensures held { reports_begun result ≡ true → HasBegun p Checkpoint self.old.machine.state
-            self.new.machine.state }
-        ensures phases { reports_begun result ≡ false → KeepsPhases self.old.machine.state self.new.machine.state }
     {
         let msync = Step {
             p,
@@ -67,22 +63,36 @@ impl<D: Device, A: Allocator + Copy> Requests<D, A> {
             if !is_busy(&begun) {
                 return begun;
             }
-            let flushed = self.flush(p);
-            if is_nothing(&flushed) {
-                return begun;
-            }
-            if !is_flushed(&flushed) {
-                return flushed;
+            if let Some(answer) = self.wait(p) {
+                return answer;
             }
         }
     }
 
+    /// After an attempt that was busy, makes the step of the write-outs that it waits for. Answers what comes of the
+    /// attempt where no other one is to be made: that it was busy, or the refusal of that step.
+    pub(crate) fn wait(&mut self, p: ProcessorNumber) -> Option<Reply>
+        ensures ends { IfSome result (λ answer. CarriesOut D.Device self.old.machine self.old.notes
+            (EndsWaiting p answer) self.new.machine self.new.notes) }
+        ensures unbegun { IfSome result (λ answer. reports_begun answer ≡ false) }
+        ensures waits { IfNone result (CarriesOut D.Device self.old.machine self.old.notes (Waits p)
+            self.new.machine self.new.notes) }
+    {
+        let flushed = self.flush(p);
+        if is_flushed(&flushed) {
+            return None;
+        }
+        if is_nothing(&flushed) {
+            return Some(Reply::Refused(Refusal::Busy));
+        }
+        Some(flushed)
+    }
+
     // Makes steps of the write-outs until one commits the mark, or isn't made. Answers what the last one was answered.
     fn write_out(&mut self, p: ProcessorNumber, mark: u32) -> Reply
-        ensures writes { MakesStepsThat D.Device self.old.machine self.old.notes (WritesUntil p mark result)
+        ensures writes { CarriesOut D.Device self.old.machine self.old.notes (WritesUntil p mark result)
             self.new.machine self.new.notes }
         ensures ends { result ≢ replied.Committed mark → reports_unmade result ≡ true }
-        ensures phases { KeepsPhases self.old.machine.state self.new.machine.state }
     {
         loop {
             let flushed = self.flush(p);
@@ -122,8 +132,8 @@ pub(crate) fn is_busy(reply: &Reply) -> bool
     matches!(reply, Reply::Refused(Refusal::Busy))
 }
 
-/// Whether there was nothing to do.
-pub(crate) fn is_nothing(reply: &Reply) -> bool
+// Whether there was nothing to do.
+fn is_nothing(reply: &Reply) -> bool
     ensures { IsTrue result ↔ (reply.now ≡ replied.Nothing) }
 {
     matches!(reply, Reply::Nothing)

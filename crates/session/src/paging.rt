@@ -6,9 +6,9 @@ ghost use Rattle.shootdown.specs.declared.proc_state.ProcState.TheVariants.{Inte
 ghost use Rattle.shootdown.specs.Shootdown.{state_of};
 ghost use Rattle.machine.specs.declared.act.Act.TheVariants as acts;
 ghost use Rattle.machine.specs.declared.act.Reply.TheVariants as replied;
+ghost use Rattle.session.specs.CarriedOut.{CarriesOut};
 ghost use Rattle.session.specs.Ends.{MakesRoom, AreFruitless, reports_reclaimed, IsUnserved};
 ghost use Rattle.session.specs.Lengths.{reports_begun, reports_flushed, AnswersChange};
-ghost use Rattle.session.specs.Locks.{KeepsPhases};
 ghost use Rattle.session.specs.Ranges.{MakesStepsThat};
 ghost use Rattle.session.specs.Steps.{Makes, reports_fixed};
 ghost use Rattle.session.specs.inside.Paging.{Serves, IsUnservedPaging};
@@ -27,11 +27,10 @@ impl<D: Device, A: Allocator + Copy> Requests<D, A> {
     /// Serves a fault of a processor, and makes a frame free for it where none is. Answers `Fixed`, or why it isn't
     /// served.
     pub(crate) fn fix(&mut self, p: ProcessorNumber, va: u64, write: bool) -> Reply
-        ensures served { reports_fixed result ≡ true → MakesStepsThat D.Device self.old.machine self.old.notes
+        ensures served { reports_fixed result ≡ true → CarriesOut D.Device self.old.machine self.old.notes
             (Serves p va write) self.new.machine self.new.notes }
-        ensures ends { reports_fixed result ≡ false → MakesStepsThat D.Device self.old.machine self.old.notes
+        ensures ends { reports_fixed result ≡ false → CarriesOut D.Device self.old.machine self.old.notes
             (IsUnservedPaging p va result) self.new.machine self.new.notes }
-        ensures phases { KeepsPhases self.old.machine.state self.new.machine.state }
     {
         let fix = Step {
             p,
@@ -49,9 +48,8 @@ impl<D: Device, A: Allocator + Copy> Requests<D, A> {
 
     /// Makes a frame free, if that can be done. Answers whether one is.
     pub(crate) fn make_room(&mut self, p: ProcessorNumber) -> bool
-        ensures room { MakesStepsThat D.Device self.old.machine self.old.notes (MakesRoom p result)
+        ensures { CarriesOut D.Device self.old.machine self.old.notes (MakesRoom p result)
             self.new.machine self.new.notes }
-        ensures phases { KeepsPhases self.old.machine.state self.new.machine.state }
     {
         if self.take_next_out(p) {
             return true;
@@ -61,9 +59,8 @@ impl<D: Device, A: Allocator + Copy> Requests<D, A> {
 
     // Makes a frame free, once the write-outs are done: a page that belongs to one stays in memory until then.
     fn make_room_later(&mut self, p: ProcessorNumber) -> bool
-        ensures room { MakesStepsThat D.Device self.old.machine self.old.notes (MakesRoom p result)
+        ensures { CarriesOut D.Device self.old.machine self.old.notes (MakesRoom p result)
             self.new.machine self.new.notes }
-        ensures phases { KeepsPhases self.old.machine.state self.new.machine.state }
     {
         if !self.write_home(p) {
             return false;
@@ -73,9 +70,8 @@ impl<D: Device, A: Allocator + Copy> Requests<D, A> {
 
     // Takes the next page that is clean out of memory. Answers whether there was one.
     fn take_next_out(&mut self, p: ProcessorNumber) -> bool
-        ensures room { MakesStepsThat D.Device self.old.machine self.old.notes (MakesRoom p result)
+        ensures { CarriesOut D.Device self.old.machine self.old.notes (MakesRoom p result)
             self.new.machine self.new.notes }
-        ensures phases { KeepsPhases self.old.machine.state self.new.machine.state }
     {
         for _ in 0..self.files().pages() {
             let page = self.turn();
@@ -88,9 +84,8 @@ impl<D: Device, A: Allocator + Copy> Requests<D, A> {
 
     // Makes all steps of the write-outs that are left. Answers whether there was one.
     fn write_home(&mut self, p: ProcessorNumber) -> bool
-        ensures fruitless { MakesStepsThat D.Device self.old.machine self.old.notes (AreFruitless p)
+        ensures { CarriesOut D.Device self.old.machine self.old.notes (AreFruitless p)
             self.new.machine self.new.notes }
-        ensures phases { KeepsPhases self.old.machine.state self.new.machine.state }
     {
         let mut has_made = false;
         for _ in 0..u64::MAX {
@@ -114,9 +109,8 @@ impl<D: Device, A: Allocator + Copy> Requests<D, A> {
 
     // Takes a page out of memory, if it is there and clean. Answers whether it was.
     fn take_out(&mut self, p: ProcessorNumber, page: FilePage) -> bool
-        ensures room { MakesStepsThat D.Device self.old.machine self.old.notes (MakesRoom p result)
+        ensures { CarriesOut D.Device self.old.machine self.old.notes (MakesRoom p result)
             self.new.machine self.new.notes }
-        ensures phases { KeepsPhases self.old.machine.state self.new.machine.state }
     {
         let reclaim = Step {
             p,

@@ -1,13 +1,13 @@
 // Ranges of addresses, loaded and stored: of each page a piece of up to eight bytes, for which its fault is served, and
 // then the rest at once, as far as that serves it.
-ghost use Rattle.std.specs.Prelude.{◌≡◌, ◌<◌, ◌≤◌, length, [], true, false, IfOk, IfErr, IfSome, IfNone, IsTrue};
+ghost use Rattle.std.specs.Prelude.{◌≡◌, ◌↔◌, ◌<◌, ◌≤◌, ◌++◌, length, [], false, IfOk, IfErr, IsTrue};
+ghost use Rattle.machine.specs.declared.act.Act.TheVariants as acts;
 ghost use Rattle.machine.specs.declared.act.Reply.TheVariants as replied;
 ghost use Rattle.session.specs.CarriedOut.{CarriesOut};
 ghost use Rattle.session.specs.Ends.{reports_fault};
-ghost use Rattle.session.specs.Locks.{KeepsPhases};
-ghost use Rattle.session.specs.Steps.{reports_bytes, reports_stored, reports_fixed};
-ghost use Rattle.session.specs.inside.Paging.{StopsAt, AnswersAfter, IsAccessFor, LoadsOn};
-ghost use Rattle.session.specs.Ranges.{LoadsReached, StoresReached};
+ghost use Rattle.session.specs.Ranges.{MakesStepsThat, LoadsReached, StoresReached};
+ghost use Rattle.session.specs.Steps.{reports_fixed};
+ghost use Rattle.session.specs.inside.Paging.{EndsBy, StopsAt, IsAccessFor, LoadsOn};
 
 use crate::requests::Requests;
 use device::Device;
@@ -43,28 +43,12 @@ impl<D: Device, A: Allocator + Copy> Requests<D, A> {
         while done < count {
             let from = va.saturating_add(done as u64);
             let few = piece(from, count - done);
-            let step = Step {
-                p,
-                act: Act::Load {
-                    va: from,
-                    count: few as u8,
-                },
-            };
-            let answer = match self.access(&step, from, false) {
-                Ok(answer) => answer,
+            let read = match self.load_piece(p, from, few) {
+                Ok(read) => read,
                 Err(reply) => return Reached::Refused { count: done, reply },
             };
-            let Some(read) = bytes_of(&answer) else {
-                return Reached::Refused {
-                    count: done,
-                    reply: answer,
-                };
-            };
-            if bytes.extend_from_slice(read.as_slice()).is_err() {
-                return Reached::NoMemory;
-            }
             done += few;
-            match self.load_on(p, va, done, count - done, bytes) {
+            match self.load_on(p, va, done, count - done, &read, bytes) {
                 Ok(more) => done += more,
                 Err(_) => return Reached::NoMemory,
             }
@@ -81,22 +65,8 @@ impl<D: Device, A: Allocator + Copy> Requests<D, A> {
         while done < bytes.len() {
             let from = va.saturating_add(done as u64);
             let few = piece(from, bytes.len() - done);
-            let step = Step {
-                p,
-                act: Act::Store {
-                    va: from,
-                    bytes: part(&bytes[done..done + few]),
-                },
-            };
-            let answer = match self.access(&step, from, true) {
-                Ok(answer) => answer,
-                Err(reply) => return Reached::Refused { count: done, reply },
-            };
-            if !is_stored(&answer) {
-                return Reached::Refused {
-                    count: done,
-                    reply: answer,
-                };
+            if let Err(reply) = self.store_piece(p, from, &bytes[done..done + few]) {
+                return Reached::Refused { count: done, reply };
             }
             done += few;
             let next = va.saturating_add(done as u64);
@@ -106,36 +76,85 @@ impl<D: Device, A: Allocator + Copy> Requests<D, A> {
         Reached::All
     }
 
-    // Loads on at once, from the byte of this number of a range, of which so many are left. Answers how many were
-    // loaded.
+    // Appends a piece that was loaded, and loads on at once, from the byte of this number of a range, of which so many
+    // are left. Answers how many were loaded.
     fn load_on(
         &self,
         p: ProcessorNumber,
         va: u64,
         done: usize,
         left: usize,
+        piece: &FewBytes,
         bytes: &mut Vec<u8, A>,
     ) -> Result<usize, AllocError>
-        ensures loads { IfOk result (λ more. LoadsOn D.Device self.now.machine self.now.notes p va done more
-            bytes.old.items bytes.new.items) }
+        ensures loads { IfOk result (λ more. MakesStepsThat D.Device self.now.machine self.now.notes
+            (LoadsOn p va done more (bytes.old.items ++ piece.now) bytes.new.items) self.now.machine self.now.notes) }
         ensures few { IfOk result (λ more. more ≤ left) }
     {
+        bytes.extend_from_slice(piece.as_slice())?;
         let from = va.saturating_add(done as u64);
         let run = self.load_run(p, from, left);
         bytes.extend_from_slice(run)?;
         Ok(run.len())
     }
 
+    // Loads a piece from an address on. Answers its bytes, or the reply that ends the range before it.
+    fn load_piece(&mut self, p: ProcessorNumber, va: u64, count: usize) -> Result<FewBytes, Reply>
+        requires { count ≤ 8 }
+        ensures ok { IfOk result (λ bytes. CarriesOut D.Device self.old.machine self.old.notes
+            (EndsBy (record { p = p; act = acts.Load va count }) (replied.Bytes bytes))
+            self.new.machine self.new.notes) }
+        ensures err { IfErr result (λ reply. CarriesOut D.Device self.old.machine self.old.notes (StopsAt p va reply)
+            self.new.machine self.new.notes) }
+    {
+        let load = Step {
+            p,
+            act: Act::Load {
+                va,
+                count: count as u8,
+            },
+        };
+        let answer = self.access(&load, va, false)?;
+        if let Reply::Bytes(bytes) = answer {
+            Ok(bytes)
+        } else {
+            Err(answer)
+        }
+    }
+
+    // Stores a piece from an address on. Where it isn't stored, answers the reply that ends the range before it.
+    fn store_piece(&mut self, p: ProcessorNumber, va: u64, bytes: &[u8]) -> Result<(), Reply>
+        requires { length bytes.now ≤ 8 }
+        ensures ok { IfOk result (λ _. CarriesOut D.Device self.old.machine self.old.notes
+            (EndsBy (record { p = p; act = acts.Store va bytes.now }) replied.Stored)
+            self.new.machine self.new.notes) }
+        ensures err { IfErr result (λ reply. CarriesOut D.Device self.old.machine self.old.notes (StopsAt p va reply)
+            self.new.machine self.new.notes) }
+    {
+        let store = Step {
+            p,
+            act: Act::Store {
+                va,
+                bytes: part(bytes),
+            },
+        };
+        let answer = self.access(&store, va, true)?;
+        if is_stored(&answer) {
+            Ok(())
+        } else {
+            Err(answer)
+        }
+    }
+
     // Makes a load or a store at an address, and serves its fault. Answers what it is answered in the end, which is no
     // fault; or else why its fault isn't served.
     fn access(&mut self, step: &Step, va: u64, write: bool) -> Result<Reply, Reply>
         requires { IsAccessFor va write step.now.act }
-        ensures ok { IfOk result (λ reply. AnswersAfter D.Device self.old.machine self.old.notes step.now reply
+        ensures ok { IfOk result (λ reply. CarriesOut D.Device self.old.machine self.old.notes (EndsBy step.now reply)
             self.new.machine self.new.notes) }
         ensures no_fault { IfOk result (λ reply. reports_fault reply ≡ false) }
-        ensures err { IfErr result (λ reply. StopsAt D.Device self.old.machine self.old.notes step.now.p va reply
-            self.new.machine self.new.notes) }
-        ensures phases { KeepsPhases self.old.machine.state self.new.machine.state }
+        ensures err { IfErr result (λ reply. CarriesOut D.Device self.old.machine self.old.notes
+            (StopsAt step.now.p va reply) self.new.machine self.new.notes) }
     {
         let reply = self.make(step);
         if !is_fault(&reply) {
@@ -170,18 +189,6 @@ fn part(bytes: &[u8]) -> FewBytes
     FewBytes::new(bytes).unwrap()
 }
 
-// The bytes that were loaded, where a reply reports them.
-fn bytes_of(reply: &Reply) -> Option<&FewBytes>
-    ensures some { IfSome result (λ bytes. reply.now ≡ replied.Bytes bytes.now) }
-    ensures none { IfNone result (reports_bytes reply.now ≡ false) }
-{
-    if let Reply::Bytes(bytes) = reply {
-        Some(bytes)
-    } else {
-        None
-    }
-}
-
 fn is_fault(reply: &Reply) -> bool
     ensures { result ≡ reports_fault reply.now }
 {
@@ -195,8 +202,7 @@ fn is_fixed(reply: &Reply) -> bool
 }
 
 fn is_stored(reply: &Reply) -> bool
-    ensures value { result ≡ reports_stored reply.now }
-    ensures is { IsTrue result → reply.now ≡ replied.Stored }
+    ensures { IsTrue result ↔ (reply.now ≡ replied.Stored) }
 {
     matches!(reply, Reply::Stored)
 }

@@ -1,17 +1,15 @@
 // A new length of a file: from its beginning to the end of its change.
-ghost use Rattle.std.specs.Prelude.{◌≡◌, ◌≢◌, true, false};
+ghost use Rattle.std.specs.Prelude.{◌≡◌, true, false};
 ghost use Rattle.page_entry.specs.declared.refusal.Refusal.{Refusal};
 ghost use Rattle.spaces.specs.declared.change.Change.TheVariants.{SetLength};
 ghost use Rattle.machine.specs.declared.act.Reply.TheVariants as replied;
 ghost use Rattle.session.specs.CarriedOut.{CarriesOut};
 ghost use Rattle.session.specs.Lengths.{reports_begun, AnswersLength, RefusesLength};
-ghost use Rattle.session.specs.Locks.{KeepsPhases};
-ghost use Rattle.session.specs.Ranges.{MakesStepsThat};
-ghost use Rattle.session.specs.inside.Changing.{HasBegun};
+ghost use Rattle.session.specs.inside.Changing.{BeginsChange};
 ghost use Rattle.session.specs.inside.Made.{BeginsLength, AttemptsLength};
 
-use crate::commit::{is_busy, is_nothing};
-use crate::paging::{is_begun, is_flushed, is_no_frame};
+use crate::commit::is_busy;
+use crate::paging::{is_begun, is_no_frame};
 use crate::requests::Requests;
 use device::Device;
 use machine::{Act, Reply, Step};
@@ -36,36 +34,28 @@ impl<D: Device, A: Allocator + Copy> Requests<D, A> {
 
     // Begins to set a length. Where write-outs have to be done first, it makes steps of them.
     fn begin_length(&mut self, p: ProcessorNumber, file: u16, length: u64) -> Reply
-        ensures begins { reports_begun result ≡ true → MakesStepsThat D.Device self.old.machine self.old.notes
-            (BeginsLength p file length) self.new.machine self.new.notes }
-        ensures refuses { reports_begun result ≡ false → MakesStepsThat D.Device self.old.machine self.old.notes
+        ensures begins { reports_begun result ≡ true → BeginsChange D.Device self.old.machine self.old.notes
+            (BeginsLength p file length) p (SetLength file length) self.new.machine self.new.notes }
+        ensures refuses { reports_begun result ≡ false → CarriesOut D.Device self.old.machine self.old.notes
             (RefusesLength p file length result) self.new.machine self.new.notes }
-        ensures held { reports_begun result ≡ true → HasBegun p (SetLength file length) self.old.machine.state
-            self.new.machine.state }
-        ensures phases { reports_begun result ≡ false → KeepsPhases self.old.machine.state self.new.machine.state }
     {
         loop {
             let begun = self.begin_in_room(p, file, length);
             if !is_busy(&begun) {
                 return begun;
             }
-            let flushed = self.flush(p);
-            if is_nothing(&flushed) {
-                return begun;
-            }
-            if !is_flushed(&flushed) {
-                return flushed;
+            if let Some(answer) = self.wait(p) {
+                return answer;
             }
         }
     }
 
     // Begins to set a length. Where too few frames are free for the pages that the file gets, it makes more free.
     fn begin_in_room(&mut self, p: ProcessorNumber, file: u16, length: u64) -> Reply
-        ensures attempts { MakesStepsThat D.Device self.old.machine self.old.notes (AttemptsLength p file length result)
-            self.new.machine self.new.notes }
-        ensures held { reports_begun result ≡ true → HasBegun p (SetLength file length) self.old.machine.state
-            self.new.machine.state }
-        ensures phases { reports_begun result ≡ false → KeepsPhases self.old.machine.state self.new.machine.state }
+        ensures begins { reports_begun result ≡ true → BeginsChange D.Device self.old.machine self.old.notes
+            (AttemptsLength p file length result) p (SetLength file length) self.new.machine self.new.notes }
+        ensures refuses { reports_begun result ≡ false → CarriesOut D.Device self.old.machine self.old.notes
+            (AttemptsLength p file length result) self.new.machine self.new.notes }
     {
         let set = Step {
             p,

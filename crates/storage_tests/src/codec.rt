@@ -1,15 +1,22 @@
 // The bytes of a small volume in each layout, and the limits. Which blocks are refused is in the runs as text.
+ghost use Rattle.std.specs.Prelude.{◌≡◌, ◌*◌, length, IsTrue};
+ghost use Rattle.volume_codec.specs.Layout.{descriptor_blocks};
+
 use page_entry::Refusal;
+use recovery::{blocks, blocks_as};
 use sample_volumes::{
     FILES, GROWING, SPECS, put, put_lengths, put_super_one, put_super_three, put_super_two,
 };
-use std::alloc::Global;
+use std::alloc::{Allocator, Global};
 use std::process::Abort;
 use volume_codec::{
-    FileSpec, Geometry, Layout, Super, block_count_as, block_count_of, capacities, read_descriptor,
-    read_lengths, read_super, write_descriptor, write_lengths, write_lengths_of, write_super,
-    write_super_as,
+    Descriptor, FileSpec, Geometry, Layout, Super, block_count_as, block_count_of, capacities,
+    read_descriptor, read_lengths, read_super, write_descriptor, write_lengths, write_lengths_of,
+    write_super, write_super_as,
 };
+
+// What is known of a file: its name, its capacity, how many pages it has, and its first home block.
+type Known = (&'static str, u64, u32, u32);
 
 // The sample's super block in layout 1.
 fn sample_one() -> [u8; 4096] {
@@ -45,13 +52,8 @@ fn table_of<R: Abort + AllocGlobal>(rt: &R, block: &[u8; 4096]) -> Super<Global>
     read_super(rt.alloc(), block).expect(rt, "a super block")
 }
 
-// Its geometry.
-fn geometry_of<R: Abort + AllocGlobal>(rt: &R, block: &[u8; 4096]) -> Geometry {
-    table_of(rt, block).geometry()
-}
-
 // The layout of a table, how many files it has, and its slots and blocks.
-fn counts_of(table: &Super<Global>) -> (Layout, usize, u32, u32) {
+fn counts_of<A: Allocator + Copy>(table: &Super<A>) -> (Layout, usize, u32, u32) {
     (
         table.layout(),
         table.file_count(),
@@ -60,13 +62,8 @@ fn counts_of(table: &Super<Global>) -> (Layout, usize, u32, u32) {
     )
 }
 
-// Those of a block.
-fn counts<R: Abort + AllocGlobal>(rt: &R, block: &[u8; 4096]) -> (Layout, usize, u32, u32) {
-    counts_of(&table_of(rt, block))
-}
-
 // Whether a file of a table has this name, capacity, pages and first home block.
-fn is_file(table: &Super<Global>, number: usize, wanted: (&str, u64, u32, u32)) -> bool {
+fn is_file<A: Allocator + Copy>(table: &Super<A>, number: usize, wanted: Known) -> bool {
     number < table.file_count()
         && table.name(number) == wanted.0
         && table.capacity(number) == wanted.1
@@ -74,28 +71,16 @@ fn is_file(table: &Super<Global>, number: usize, wanted: (&str, u64, u32, u32)) 
         && table.first_home(number) == wanted.3
 }
 
-// Whether a block has this file of this number.
-fn has_file<R: Abort + AllocGlobal>(
-    rt: &R,
-    block: &[u8; 4096],
-    number: usize,
-    wanted: (&str, u64, u32, u32),
-) -> bool {
-    is_file(&table_of(rt, block), number, wanted)
+// Whether a table has these two files.
+fn has_files<A: Allocator + Copy>(table: &Super<A>, files: [Known; 2]) -> bool {
+    is_file(table, 0, files[0]) && is_file(table, 1, files[1])
 }
 
-// The block of the two files' table in layout 2.
-fn block_two<R: Abort + AllocGlobal>(rt: &R) -> [u8; 4096] {
-    Super::new(rt.alloc(), 2, &SPECS, 4)
-        .expect(rt, "a table")
-        .to_block()
-}
-
-// The block of a table in layout 1.
-fn written<R: Abort + AllocGlobal>(rt: &R, files: &[(&str, u64)], slots: u64) -> [u8; 4096] {
-    match write_super(rt.alloc(), files, slots) {
-        Ok(block) => block,
-        Err(_) => panic!(rt; "a table"),
+// Whether a table was written, and as this block.
+fn is_block(written: Result<[u8; 4096], Refusal>, block: &[u8; 4096]) -> bool {
+    match written {
+        Ok(written) => written == *block,
+        Err(_) => false,
     }
 }
 
@@ -112,13 +97,7 @@ fn journal(geometry: &Geometry, number: u32, slot: u32) -> Option<(u32, u32, u32
 }
 
 // The mark of a descriptor, how many home blocks it has, the first and the last one.
-fn described<R: Abort + AllocGlobal>(
-    rt: &R,
-    geometry: &Geometry,
-    blocks: &[u8],
-) -> (u64, usize, Option<u32>, Option<u32>) {
-    assert!(rt; blocks.len() == 4096 * geometry.descriptor_blocks() as usize);
-    let found = read_descriptor(rt.alloc(), geometry, blocks).expect(rt, "a descriptor");
+fn described<A: Allocator + Copy>(found: &Descriptor<A>) -> (u64, usize, Option<u32>, Option<u32>) {
     let homes = found.homes();
     (
         found.mark(),
@@ -128,16 +107,25 @@ fn described<R: Abort + AllocGlobal>(
     )
 }
 
-// Whether a block has both files, and their home blocks begin there.
-fn has_files<R: Abort + AllocGlobal>(rt: &R, block: &[u8; 4096], homes: [u32; 2]) -> bool {
-    has_file(rt, block, 0, ("a", 5000, 2, homes[0]))
-        && has_file(rt, block, 1, ("b", 4096, 1, homes[1]))
+// Whether blocks are as many as a descriptor has.
+fn are_as_many(geometry: &Geometry, blocks: &[u8]) -> bool
+    ensures { IsTrue result → length blocks.now ≡ 4096 * descriptor_blocks geometry.now.slots }
+{
+    blocks.len() == 4096 * geometry.descriptor_blocks() as usize
 }
 
-// Whether the two files' table in layout 1 is written as this block, if the layout is named, too.
-fn is_written_by_number(alloc: Global, block: &[u8; 4096]) -> bool {
-    match write_super_as(alloc, 1, &SPECS, 4) {
-        Ok(written) => written == *block,
+// Whether blocks say this of a descriptor.
+fn describe<A: Allocator + Copy>(
+    alloc: A,
+    geometry: &Geometry,
+    blocks: &[u8],
+    wanted: (u64, usize, Option<u32>, Option<u32>),
+) -> bool {
+    if !are_as_many(geometry, blocks) {
+        return false;
+    }
+    match read_descriptor(alloc, geometry, blocks) {
+        Ok(found) => described(&found) == wanted,
         Err(_) => false,
     }
 }
@@ -156,31 +144,42 @@ fn is_sample_two(geometry: &Geometry) -> bool {
         && (geometry.first_file_home(), geometry.block_count()) == (13, 16)
 }
 
+// Whether the two files' table in layout 1 is written as this block, without the layout's number and with it.
+fn is_written_one<A: Allocator + Copy>(alloc: A, block: &[u8; 4096]) -> bool {
+    is_block(write_super(alloc, &FILES, 4), block)
+        && is_block(write_super_as(alloc, 1, &SPECS, 4), block)
+}
+
 #[test]
 fn layout_1_is_written_and_read(rt: HostRuntime) {
-    let block = written(&rt, &FILES, 4);
-    assert!(rt; block == sample_one());
-    assert!(rt; is_written_by_number(rt.alloc(), &block));
-    assert!(rt; counts(&rt, &block) == (Layout::One, 2, 4, 10));
-    assert!(rt; has_files(&rt, &block, [7, 9]));
-    assert!(rt; is_sample_one(&geometry_of(&rt, &block)));
+    let block = sample_one();
+    let table = table_of(&rt, &block);
+    assert!(rt;
+        is_written_one(rt.alloc(), &block)
+            && counts_of(&table) == (Layout::One, 2, 4, 10)
+            && has_files(&table, [("a", 5000, 2, 7), ("b", 4096, 1, 9)])
+            && is_sample_one(&table.geometry())
+    );
+}
+
+// Whether it is written in layout 2 as this block.
+fn is_written_two<A: Allocator + Copy>(alloc: A, block: &[u8; 4096]) -> bool {
+    match Super::new(alloc, 2, &SPECS, 4) {
+        Ok(table) => table.to_block() == *block,
+        Err(_) => false,
+    }
 }
 
 #[test]
 fn layout_2_is_written_and_read(rt: HostRuntime) {
-    let block = block_two(&rt);
-    assert!(rt; block == sample_two());
-    assert!(rt; counts(&rt, &block) == (Layout::Two, 2, 4, 16));
-    assert!(rt; has_files(&rt, &block, [13, 15]));
-    assert!(rt; is_sample_two(&geometry_of(&rt, &block)));
-}
-
-// Whether the block of the two files' table in layout 3, where one of them may grow, is this one.
-fn is_written_three(alloc: Global, block: &[u8; 4096]) -> bool {
-    match write_super_as(alloc, 3, &GROWING, 4) {
-        Ok(written) => written == *block,
-        Err(_) => false,
-    }
+    let block = sample_two();
+    let table = table_of(&rt, &block);
+    assert!(rt;
+        is_written_two(rt.alloc(), &block)
+            && counts_of(&table) == (Layout::Two, 2, 4, 16)
+            && has_files(&table, [("a", 5000, 2, 13), ("b", 4096, 1, 15)])
+            && is_sample_two(&table.geometry())
+    );
 }
 
 fn is_sample_three(geometry: &Geometry) -> bool {
@@ -194,11 +193,13 @@ fn is_sample_three(geometry: &Geometry) -> bool {
 #[test]
 fn layout_3_is_written_and_read(rt: HostRuntime) {
     let block = sample_three();
-    assert!(rt; is_written_three(rt.alloc(), &block));
-    assert!(rt; counts(&rt, &block) == (Layout::Three, 2, 4, 18));
-    assert!(rt; has_file(&rt, &block, 0, ("a", 12_288, 3, 14)));
-    assert!(rt; has_file(&rt, &block, 1, ("b", 4096, 1, 17)));
-    assert!(rt; is_sample_three(&geometry_of(&rt, &block)));
+    let table = table_of(&rt, &block);
+    assert!(rt;
+        is_block(write_super_as(rt.alloc(), 3, &GROWING, 4), &block)
+            && counts_of(&table) == (Layout::Three, 2, 4, 18)
+            && has_files(&table, [("a", 12_288, 3, 14), ("b", 4096, 1, 17)])
+            && is_sample_three(&table.geometry())
+    );
 }
 
 // A block of the lengths 5,000 and 4,096.
@@ -208,40 +209,54 @@ fn sample_lengths() -> [u8; 4096] {
     block
 }
 
-// Whether a block says these lengths of the two files.
-fn has_lengths<R: Abort + AllocGlobal>(rt: &R, block: &[u8; 4096], wanted: &[u64]) -> bool {
-    match read_lengths(rt.alloc(), &table_of(rt, &sample_three()), block) {
+// Whether a block says these lengths of a table's files.
+fn has_lengths<A: Allocator + Copy>(
+    alloc: A,
+    table: &Super<A>,
+    block: &[u8; 4096],
+    wanted: &[u64],
+) -> bool {
+    match read_lengths(alloc, table, block) {
         Ok(lengths) => lengths.as_slice() == wanted,
         Err(_) => false,
     }
 }
 
 // Whether a block with one byte more at a place says no lengths.
-fn is_damaged<R: Abort + AllocGlobal>(rt: &R, at: usize, byte: u8) -> bool {
+fn is_damaged<A: Allocator + Copy>(alloc: A, table: &Super<A>, at: usize, byte: u8) -> bool {
     let mut block = sample_lengths();
     put(&mut block, at, &[byte]);
-    match read_lengths(rt.alloc(), &table_of(rt, &sample_three()), &block) {
+    match read_lengths(alloc, table, &block) {
         Ok(_) => false,
         Err(refusal) => refusal == Refusal::Damaged,
     }
 }
 
+// 12,680 and 2^63 + 5,000 are above the capacity of `a`, and 4,097 is above that of `b`; no byte may follow.
+fn are_damaged<A: Allocator + Copy>(alloc: A, table: &Super<A>) -> bool {
+    is_damaged(alloc, table, 6, 0x31)
+        && is_damaged(alloc, table, 0, 0x80)
+        && is_damaged(alloc, table, 15, 1)
+        && is_damaged(alloc, table, 16, 1)
+        && is_damaged(alloc, table, 4095, 1)
+}
+
 #[test]
 fn lengths_are_written_and_read(rt: HostRuntime) {
     let block = sample_lengths();
-    assert!(rt; write_lengths(&[5000, 4096]) == block);
-    assert!(rt; write_lengths_of(&GROWING) == block);
-    assert!(rt; has_lengths(&rt, &block, &[5000, 4096]));
-    assert!(rt; has_lengths(&rt, &[0; 4096], &[0, 0]));
-    // 12,680 and 2^63 + 5,000 are above the capacity of `a`, and 4,097 is above that of `b`; no byte may follow.
-    for (at, byte) in [(6, 0x31), (0, 0x80), (15, 1), (16, 1), (4095, 1)] {
-        assert!(rt; is_damaged(&rt, at, byte), "byte {at}");
-    }
+    let table = table_of(&rt, &sample_three());
+    assert!(rt;
+        write_lengths(&[5000, 4096]) == block
+            && write_lengths_of(&GROWING) == block
+            && has_lengths(rt.alloc(), &table, &block, &[5000, 4096])
+            && has_lengths(rt.alloc(), &table, &[0; 4096], &[0, 0])
+            && are_damaged(rt.alloc(), &table)
+    );
 }
 
-// Whether these are the capacities of the two files where one may grow.
-fn are_capacities<R: Abort + AllocGlobal>(rt: &R, wanted: &[u64]) -> bool {
-    match capacities(rt.alloc(), &table_of(rt, &sample_three())) {
+// Whether these are the capacities of a table's files.
+fn are_capacities<A: Allocator + Copy>(alloc: A, table: &Super<A>, wanted: &[u64]) -> bool {
+    match capacities(alloc, table) {
         Ok(found) => found.as_slice() == wanted,
         Err(_) => false,
     }
@@ -249,7 +264,8 @@ fn are_capacities<R: Abort + AllocGlobal>(rt: &R, wanted: &[u64]) -> bool {
 
 #[test]
 fn capacities_are_listed(rt: HostRuntime) {
-    assert!(rt; are_capacities(&rt, &[12_288, 4096]));
+    let table = table_of(&rt, &sample_three());
+    assert!(rt; are_capacities(rt.alloc(), &table, &[12_288, 4096]));
 }
 
 // Whether a layout has this number, and is the one that has it, and the one of its magic.
@@ -261,50 +277,61 @@ fn is_numbered(layout: Layout, number: u64) -> bool {
 
 #[test]
 fn layouts_have_numbers(rt: HostRuntime) {
-    assert!(rt; is_numbered(Layout::One, 1));
-    assert!(rt; is_numbered(Layout::Two, 2));
-    assert!(rt; is_numbered(Layout::Three, 3));
-    assert!(rt; is_numbered(Layout::Four, 4));
-    for number in [0, 5, u64::MAX] {
-        assert!(rt; Layout::from_number(number) == None);
-    }
-    assert!(rt; Layout::from_magic(*b"FAMSYNC5") == None);
+    assert!(rt;
+        is_numbered(Layout::One, 1)
+            && is_numbered(Layout::Two, 2)
+            && is_numbered(Layout::Three, 3)
+            && is_numbered(Layout::Four, 4)
+    );
+    assert!(rt;
+        Layout::from_number(0) == None
+            && Layout::from_number(5) == None
+            && Layout::from_number(u64::MAX) == None
+            && Layout::from_magic(*b"FAMSYNC5") == None
+    );
+}
+
+// Whether the two files have so many blocks in the layout of this number, for both crates.
+fn are_counted(layout: u64, wanted: Result<u64, Refusal>) -> bool {
+    block_count_as(layout, &SPECS, 4) == wanted && blocks_as(layout, &SPECS, 4) == wanted
+}
+
+// Whether files have so many in layout 1.
+fn are_counted_one(files: &[(&str, u64)], slots: u64, wanted: Result<u64, Refusal>) -> bool {
+    block_count_of(files, slots) == wanted && blocks(files, slots) == wanted
+}
+
+#[test]
+fn blocks_are_counted(rt: HostRuntime) {
+    let refused = Err(Refusal::BadShape);
+    assert!(rt;
+        are_counted_one(&FILES, 4, Ok(10))
+            && are_counted(0, refused)
+            && are_counted(1, Ok(10))
+            && are_counted(2, Ok(16))
+            && are_counted(3, Ok(17))
+            && are_counted(4, Ok(29))
+            && are_counted(5, refused)
+            && blocks_as(3, &GROWING, 4) == Ok(18)
+    );
+}
+
+// Whether no table has these files in layout 1, with so many slots.
+fn has_no_table<A: Allocator + Copy>(alloc: A, files: &[(&str, u64)], slots: u64) -> bool {
+    are_counted_one(files, slots, Err(Refusal::BadShape))
+        && write_super(alloc, files, slots) == Err(Refusal::BadShape)
 }
 
 #[test]
 fn tables_outside_the_rules(rt: HostRuntime) {
-    assert!(rt; block_count_of(&FILES, 4) == Ok(10));
-    for (layout, blocks) in [
-        (1, Ok(10)),
-        (2, Ok(16)),
-        (0, Err(Refusal::BadShape)),
-        (3, Ok(17)),
-        (4, Ok(29)),
-        (5, Err(Refusal::BadShape)),
-    ] {
-        assert!(rt; block_count_as(layout, &SPECS, 4) == blocks);
-    }
-    for (files, slots) in [
-        ([].as_slice(), 4),
-        (&FILES, 0),
-        (&FILES, 1021),
-        (&[("a", 0)], 4),
-        (&[("a", 1), ("a", 1)], 4),
-        (&[("", 1)], 4),
-        (&[("a b", 1)], 4),
-        (&[("a", u64::MAX), ("b", u64::MAX)], 4),
-    ] {
-        assert!(rt; block_count_of(files, slots) == Err(Refusal::BadShape));
-        assert!(rt; write_super(rt.alloc(), files, slots) == Err(Refusal::BadShape));
-    }
-    let growing = [FileSpec {
-        name: "a",
-        length: 5000,
-        capacity: 8192,
-    }];
-    for layout in [1, 2] {
-        assert!(rt; write_super_as(rt.alloc(), layout, &growing, 4) == Err(Refusal::BadShape));
-    }
+    let alloc = rt.alloc();
+    assert!(rt; has_no_table(alloc, &[], 4) && has_no_table(alloc, &FILES, 0));
+    assert!(rt; has_no_table(alloc, &FILES, 1021) && has_no_table(alloc, &[("a", 0)], 4));
+    assert!(rt;
+        has_no_table(alloc, &[("a", 1), ("a", 1)], 4) && has_no_table(alloc, &[("", 1)], 4)
+    );
+    assert!(rt; has_no_table(alloc, &[("a b", 1)], 4));
+    assert!(rt; has_no_table(alloc, &[("a", u64::MAX), ("b", u64::MAX)], 4));
 }
 
 // A file of this length and capacity.
@@ -316,12 +343,31 @@ fn file_of(length: u64, capacity: u64) -> [FileSpec<'static>; 1] {
     }]
 }
 
+// Whether no table of this layout has a file that is shorter than its capacity.
+fn grows_nowhere<A: Allocator + Copy>(alloc: A, layout: u64) -> bool {
+    write_super_as(alloc, layout, &file_of(5000, 8192), 4) == Err(Refusal::BadShape)
+}
+
+#[test]
+fn files_grow_in_layouts_with_lengths(rt: HostRuntime) {
+    assert!(rt; grows_nowhere(rt.alloc(), 1) && grows_nowhere(rt.alloc(), 2));
+}
+
+// Whether no table of layout 3 has a file of this length and capacity, with so many slots.
+fn has_no_three(length: u64, capacity: u64, slots: u64) -> bool {
+    block_count_as(3, &file_of(length, capacity), slots) == Err(Refusal::BadShape)
+}
+
 #[test]
 fn tables_of_layout_3_outside_the_rules(rt: HostRuntime) {
-    assert!(rt; block_count_as(3, &file_of(0, 1), 2) == Ok(11));
-    for (length, capacity, slots) in [(0, 0, 4), (2, 1, 4), (1, 1, 0), (1, 1, 1), (1, 1, 1021)] {
-        assert!(rt; block_count_as(3, &file_of(length, capacity), slots) == Err(Refusal::BadShape));
-    }
+    assert!(rt;
+        block_count_as(3, &file_of(0, 1), 2) == Ok(11)
+            && has_no_three(0, 0, 4)
+            && has_no_three(2, 1, 4)
+            && has_no_three(1, 1, 0)
+            && has_no_three(1, 1, 1)
+            && has_no_three(1, 1, 1021)
+    );
 }
 
 // Names of one character each.
@@ -341,27 +387,39 @@ fn many_files() -> [(&'static str, u64); 65] {
     files_named(NAMES)
 }
 
-// Whether the most files, with the most slots, are written and read.
-fn are_written<R: Abort + AllocGlobal>(rt: &R, most: &[(&str, u64)]) -> bool {
-    let block = written(rt, most, 1020);
-    counts(rt, &block).1 == 64 && has_file(rt, &block, 63, ("_", 4096, 1, 1086))
+// Whether a block has 64 files, and this is the last one.
+fn has_last<A: Allocator + Copy>(alloc: A, block: &[u8; 4096], last: Known) -> bool {
+    match read_super(alloc, block) {
+        Ok(table) => table.file_count() == 64 && is_file(&table, 63, last),
+        Err(_) => false,
+    }
 }
 
-// Whether a file may have so many bytes that there are 2^32 - 1 blocks, and not one more.
+// Whether the most files, with the most slots, are written and read.
+fn are_written<A: Allocator + Copy>(alloc: A, most: &[(&str, u64)]) -> bool {
+    match write_super(alloc, most, 1020) {
+        Ok(block) => has_last(alloc, &block, ("_", 4096, 1, 1086)),
+        Err(_) => false,
+    }
+}
+
+// Whether a file may have so many bytes that there are 2^32 - 1 blocks, and not one more: 7 come before the homes.
 fn most_bytes_are_taken() -> bool {
     let bytes = 4096 * (u64::from(u32::MAX) - 7);
-    block_count_of(&[("a", bytes)], 4) == Ok(u64::from(u32::MAX))
-        && block_count_of(&[("a", bytes + 1)], 4) == Err(Refusal::BadShape)
+    are_counted_one(&[("a", bytes)], 4, Ok(u64::from(u32::MAX)))
+        && are_counted_one(&[("a", bytes + 1)], 4, Err(Refusal::BadShape))
 }
 
 #[test]
 fn limits_of_tables(rt: HostRuntime) {
     let files = many_files();
-    assert!(rt; block_count_of(&files, 1020) == Err(Refusal::BadShape));
     let most = files.get(..64).expect(&rt, "there are 65 files");
-    assert!(rt; block_count_of(most, 1020) == Ok(1087));
-    assert!(rt; are_written(&rt, most));
-    assert!(rt; most_bytes_are_taken());
+    assert!(rt;
+        block_count_of(&files, 1020) == Err(Refusal::BadShape)
+            && block_count_of(most, 1020) == Ok(1087)
+            && are_written(rt.alloc(), most)
+            && most_bytes_are_taken()
+    );
 }
 
 // The descriptor of mark 1 for the home blocks 7 and 8 of the sample's geometry.
@@ -374,7 +432,7 @@ fn written_descriptor(rt: &impl Abort, geometry: &Geometry) -> [u8; 4096] {
 
 #[test]
 fn a_descriptor_is_written(rt: HostRuntime) {
-    let geometry = geometry_of(&rt, &sample_one());
+    let geometry = table_of(&rt, &sample_one()).geometry();
     assert!(rt; written_descriptor(&rt, &geometry) == sample_descriptor());
 }
 
@@ -394,25 +452,27 @@ fn full_descriptor() -> [u8; 4096] {
     full
 }
 
+// The geometry of a table that was written.
+fn geometry_of<R: Abort + AllocGlobal>(rt: &R, written: Result<[u8; 4096], Refusal>) -> Geometry {
+    match written {
+        Ok(block) => table_of(rt, &block).geometry(),
+        Err(_) => panic!(rt; "a table"),
+    }
+}
+
 // A full descriptor has 1,020 home blocks, here 1,023 to 2,042.
 #[test]
 fn a_full_descriptor(rt: HostRuntime) {
-    let geometry = geometry_of(&rt, &written(&rt, &[("a", 4096 * 1020)], 1020));
-    let found = described(&rt, &geometry, &full_descriptor());
-    assert!(rt; found == (9, 1020, Some(1023), Some(2042)));
+    let table = write_super(rt.alloc(), &[("a", 4096 * 1020)], 1020);
+    let geometry = geometry_of(&rt, table);
+    let wanted = (9, 1020, Some(1023), Some(2042));
+    assert!(rt; describe(rt.alloc(), &geometry, &full_descriptor(), wanted));
 }
 
-// The table of a volume in layout 4 with a file of 1,021 blocks and 1,022 slots.
-fn long_table<R: Abort + AllocGlobal>(rt: &R) -> [u8; 4096] {
-    let file = FileSpec {
-        name: "a",
-        length: 4096 * 1021,
-        capacity: 4096 * 1021,
-    };
-    match write_super_as(rt.alloc(), 4, &[file], 1022) {
-        Ok(block) => block,
-        Err(_) => panic!(rt; "a table"),
-    }
+// The geometry of a volume in layout 4 with a file of 1,021 blocks and 1,022 slots.
+fn long_geometry<R: Abort + AllocGlobal>(rt: &R) -> Geometry {
+    let file = file_of(4096 * 1021, 4096 * 1021);
+    geometry_of(rt, write_super_as(rt.alloc(), 4, &file, 1022))
 }
 
 // A descriptor of mark 9 with 1,021 home blocks, in two blocks: the last home block stands in the second one.
@@ -426,40 +486,56 @@ fn long_descriptor() -> [u8; 8192] {
     full
 }
 
+// Whether blocks say no descriptor.
+fn describe_none<A: Allocator + Copy>(alloc: A, geometry: &Geometry, blocks: &[u8]) -> bool {
+    if !are_as_many(geometry, blocks) {
+        return false;
+    }
+    match read_descriptor(alloc, geometry, blocks) {
+        Ok(_) => false,
+        Err(refusal) => refusal == Refusal::Damaged,
+    }
+}
+
+// Whether what is read of two blocks is written so again, block by block.
+fn are_written_again<A: Allocator + Copy>(
+    alloc: A,
+    geometry: &Geometry,
+    blocks: &[u8; 8192],
+) -> bool {
+    if geometry.descriptor_blocks() != 2 {
+        return false;
+    }
+    match read_descriptor(alloc, geometry, blocks) {
+        Ok(found) => {
+            let first = write_descriptor(geometry, found.mark(), found.homes(), 0);
+            let last = write_descriptor(geometry, found.mark(), found.homes(), 1);
+            first[..] == blocks[..4096] && last[..] == blocks[4096..]
+        }
+        Err(_) => false,
+    }
+}
+
 // With 1,022 slots a descriptor of layout 4 has two blocks, and the home blocks of files begin at 4,102.
 #[test]
 fn a_descriptor_of_two_blocks(rt: HostRuntime) {
-    let geometry = geometry_of(&rt, &long_table(&rt));
-    assert!(rt; geometry.descriptor_blocks() == 2);
-    assert!(rt; journal(&geometry, 3, 0) == Some((3076, 3077, 3079)));
-    assert!(rt; geometry.first_file_home() == 4102);
-    let found = described(&rt, &geometry, &long_descriptor());
-    assert!(rt; found == (9, 1021, Some(4102), Some(5122)));
+    let geometry = long_geometry(&rt);
+    let blocks = long_descriptor();
+    let wanted = (9, 1021, Some(4102), Some(5122));
+    assert!(rt;
+        geometry.descriptor_blocks() == 2
+            && journal(&geometry, 3, 0) == Some((3076, 3077, 3079))
+            && geometry.first_file_home() == 4102
+            && describe(rt.alloc(), &geometry, &blocks, wanted)
+            && are_written_again(rt.alloc(), &geometry, &blocks)
+    );
 }
 
 // Each of its bytes counts, also those past the last home block.
 #[test]
 fn a_byte_in_the_last_block_of_a_descriptor_is_damage(rt: HostRuntime) {
-    let geometry = geometry_of(&rt, &long_table(&rt));
+    let geometry = long_geometry(&rt);
     let mut blocks = long_descriptor();
     put(&mut blocks, 8191, &[1]);
-    assert!(rt; blocks.len() == 4096 * geometry.descriptor_blocks() as usize);
-    match read_descriptor(rt.alloc(), &geometry, &blocks) {
-        Ok(_) => panic!(rt; "a descriptor"),
-        Err(refusal) => assert!(rt; refusal == Refusal::Damaged),
-    }
-}
-
-// What is read of a long descriptor is written so again, block by block.
-#[test]
-fn a_descriptor_of_two_blocks_is_written(rt: HostRuntime) {
-    let geometry = geometry_of(&rt, &long_table(&rt));
-    let blocks = long_descriptor();
-    assert!(rt; geometry.descriptor_blocks() == 2);
-    assert!(rt; blocks.len() == 4096 * geometry.descriptor_blocks() as usize);
-    let found = read_descriptor(rt.alloc(), &geometry, &blocks).expect(&rt, "a descriptor");
-    let first = write_descriptor(&geometry, found.mark(), found.homes(), 0);
-    let last = write_descriptor(&geometry, found.mark(), found.homes(), 1);
-    assert!(rt; first[..] == blocks[..4096]);
-    assert!(rt; last[..] == blocks[4096..]);
+    assert!(rt; describe_none(rt.alloc(), &geometry, &blocks));
 }

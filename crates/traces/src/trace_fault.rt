@@ -1,10 +1,11 @@
 // Why a trace is refused.
 use scripts::{ScriptFault, StepFault};
 use std::alloc::AllocError;
+use std::fmt;
 use thiserror::Error;
 
-/// Why a trace is refused.
-#[derive(Debug, Drop, Error)]
+/// Why a trace is refused. What it is shown as for debugging is its text.
+#[derive(Drop, Error)]
 pub enum TraceFault {
     #[error("it isn't UTF-8")]
     NotUtf8,
@@ -20,4 +21,10 @@ pub enum TraceFault {
     Step { line: u64, cause: StepFault },
     #[error("out of memory")]
     Memory(#[from(alloc)] AllocError),
+}
+
+impl fmt::Debug for TraceFault {
+    fn fmt<W: fmt::Write>(&self, f: &mut fmt::Formatter<W>) -> fmt::Result {
+        fmt::Display::fmt(self, f)
+    }
 }

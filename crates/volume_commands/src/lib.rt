@@ -1,9 +1,9 @@
 //! The commands that run no machine: those that make volumes, look at one, and copy a file out of one.
 #![tactic(auto)]
 
-mod look;
-mod make;
+mod looking;
+mod making;
 mod print;
 
-pub use look::look;
-pub use make::make;
+pub use looking::look;
+pub use making::make;

@@ -1,2 +1,1 @@
-mod Copied
 mod DumpRows

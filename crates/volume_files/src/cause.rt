@@ -25,8 +25,8 @@ impl fmt::Display for Refused<'_> {
     }
 }
 
-/// What was found, and what is allowed.
-#[derive(Clone, Copy, Debug, Error)]
+/// What was found, and what is allowed. What it is shown as for debugging is its text.
+#[derive(Clone, Copy, Error)]
 pub enum Cause<'a> {
     #[error("LAYOUT is {0}, and 1 to 4 are served")]
     Layout(u64),
@@ -78,6 +78,12 @@ pub enum Cause<'a> {
     JournalOrLengths,
     #[error("a read, a write or a sync of the file failed")]
     Call,
+}
+
+impl fmt::Debug for Cause<'_> {
+    fn fmt<W: fmt::Write>(&self, f: &mut fmt::Formatter<W>) -> fmt::Result {
+        fmt::Display::fmt(self, f)
+    }
 }
 
 /// Why no volume is made of these files.

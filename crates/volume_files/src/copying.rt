@@ -1,28 +1,38 @@
 // The bytes of one file of a volume.
-ghost use Rattle.std.specs.Prelude.{◌≡◌, ◌≢◌, ℕ, ◌<◌, length, slice_get, Some, IfOk, IfErr, IfSome, IfNone, OnOk, Err};
-ghost use Rattle.std.specs.Io.KnownBytes.{Appends};
+ghost use Rattle.std.specs.Prelude.{◌≡◌, ◌≢◌, ℕ, ◌<◌, length, slice_get, Some, IfOk, IfErr, IfSome, IfNone, Err};
 ghost use Rattle.volume_codec.specs.Super.{names_in};
 ghost use Rattle.recovery.specs.Opening.{Opens};
-ghost use Rattle.recovery.specs.Volume.{IsWellFormed, files_of, bytes_of};
+ghost use Rattle.recovery.specs.Volume.{IsWellFormed, files_of};
 ghost use Rattle.volume_files.specs.Export.{IsCopied, IsExported};
-ghost use Rattle.file_rows.specs.Reading.{IsReadVolume, AreFilesOf};
+ghost use Rattle.file_rows.specs.Reading.{AreFilesOf};
 
 use device::Device;
-use file_rows::read_page;
-use page_entry::{PAGE, Refusal};
+use file_rows::{ListFault, PageForm, write_pages};
+use page_entry::Refusal;
 use recovery::Volume;
 use std::alloc::Allocator;
 use std::io;
 
 /// Why a file of a volume wasn't copied, or not all of it.
-#[derive(Debug, Drop)]
+#[derive(Drop)]
 pub enum CopyFault {
     /// The volume has no file of this name.
     NoFile,
-    /// The file couldn't be read.
-    Unreadable(Refusal),
-    /// The copy couldn't be written.
-    Output(io::Error),
+    /// The file couldn't be read, or the copy couldn't be written.
+    Pages(ListFault),
+}
+
+// The pages of a file as their bytes.
+#[derive(Clone, Copy)]
+struct Whole;
+
+impl PageForm for Whole {
+    ghost page_text = { λ whole at page. page };
+
+    fn write_page<W: io::Write>(&self, at: u64, page: &[u8], out: &mut W) -> Result<(), ListFault> {
+        out.write_all(page)?;
+        Ok(())
+    }
 }
 
 /// Writes all bytes of the file of this name of a device's volume, as it would be opened, and says how many there are.
@@ -77,8 +87,10 @@ fn copy_found<D: Device + Drop, A: Allocator + Copy, W: io::Write>(
         (files_of volume.old.table (D.seen volume.old.device)) name.now (W.contents out.old) (W.contents out.new)) }
 {
     let bytes = volume.length(file);
-    copy_pages(volume, file, bytes, out)?;
-    Ok(bytes)
+    match write_pages(volume, file, bytes, &Whole, out) {
+        Ok(()) => Ok(bytes),
+        Err(fault) => Err(CopyFault::Pages(fault)),
+    }
 }
 
 // The file of this name.
@@ -94,32 +106,4 @@ fn find<D: Device, A: Allocator + Copy>(volume: &Volume<D, A>, name: &str) -> Op
         }
     }
     None
-}
-
-// Writes all bytes of a file of this length, and reads it a page at a time.
-fn copy_pages<D: Device + Drop, A: Allocator + Copy, W: io::Write>(
-    volume: &mut Volume<D, A>,
-    file: usize,
-    bytes: u64,
-    out: &mut W,
-) -> Result<(), CopyFault>
-    requires there { file < length volume.old.table.files }
-    requires long { slice_get volume.old.lengths file ≡ Some bytes }
-    requires files { D.is_honest volume.old.device → AreFilesOf volume.old (D.seen volume.old.device) }
-    ensures copied { D.is_honest volume.old.device → OnOk result (Appends (W.contents out.old) (W.contents out.new)
-        (bytes_of (files_of volume.old.table (D.seen volume.old.device)) file)) }
-    ensures read { IsReadVolume D.Device volume.old volume.new }
-{
-    for page in 0..bytes.div_ceil(PAGE) {
-        let at = PAGE * page;
-        let mut buffer = [0; PAGE as usize];
-        let part = &mut buffer[..(bytes - at).min(PAGE) as usize];
-        if let Err(refusal) = read_page(volume, file, bytes, page, part) {
-            return Err(CopyFault::Unreadable(refusal));
-        }
-        if let Err(fault) = out.write_all(part) {
-            return Err(CopyFault::Output(fault));
-        }
-    }
-    Ok(())
 }

@@ -9,9 +9,11 @@ ghost use Rattle.volume_files.specs.Dump.{dump_text};
 use crate::cause::{Cause, Refused, refused_to_open};
 use crate::failure::FileFailure;
 use crate::listing::DumpLines;
+use crate::marker::Marker;
 use crate::suspect_flag::SuspectFlag;
+use crate::sync_note::SyncNote;
 use crate::volume_file::{Access, off_streams, open_locked, place};
-use crate::watched_file::{SyncNote, WatchedFile};
+use crate::watched_file::WatchedFile;
 use device::{Device, FileDisk, OverlayDisk};
 use file_rows::{ListFault, list_files};
 use page_entry::Refusal;
@@ -20,7 +22,7 @@ use std::fs::{File, Files};
 use std::io::{Read, Write};
 
 /// The disk over the file of a volume.
-pub type VolumeDisk<'a, R> = FileDisk<WatchedFile<'a, File, R>>;
+pub type VolumeDisk<'a, R> = FileDisk<WatchedFile<File, Marker<'a, R>>>;
 
 // Rule: suspect volume
 /// Opens the file of a volume at a place, locks it and syncs it. A volume that is marked as suspect is opened only
@@ -44,7 +46,7 @@ where
             mark: mark.into_path(),
         });
     }
-    match FileDisk::over(WatchedFile::new(file, mark)) {
+    match FileDisk::over(WatchedFile::new(file, Marker::new(mark))) {
         Ok(disk) => Ok(disk),
         Err((cause, file)) => {
             *note = file.into_note();

@@ -2,14 +2,13 @@
 use crate::copying::{CopyFault, copy_file};
 use crate::disk::{not_opened_on_copy, open_disk, unreadable};
 use crate::failure::FileFailure;
-use crate::making::{named, take_after};
-use crate::volume_file::{Access, off_streams, other_kind, place, sync_folder_of};
-use crate::watched_file::SyncNote;
+use crate::making::{named, new_file, take_after};
+use crate::sync_note::SyncNote;
+use crate::volume_file::{Access, apart, found_at, off_streams, other_kind, place, sync_folder_of};
 use device::{Device, OverlayDisk};
+use file_rows::ListFault;
 use std::alloc::Allocator;
-use std::fs::{File, Files, OpenOptions, TryLockError};
-use std::io::ErrorKind;
-use std::os::unix::fs::MetadataExt;
+use std::fs::{File, Files, Metadata, TryLockError};
 use std::{fs, io};
 
 /// Which file of which volume is copied, and where to: the path of the volume's file, the name of the file in the
@@ -94,7 +93,12 @@ where
     A: Allocator + Copy,
 {
     let new = format!(in rt.alloc(); "{to}.new")?;
-    let mut file = new_copy(rt, plan.out, &new)?;
+    let Some(mut file) = new_file(rt, &new)? else {
+        return Err(FileFailure::CopyIsThere {
+            path: plan.out,
+            new,
+        });
+    };
     match copied(alloc, plan, disk, old, &mut file) {
         Ok(count) => {
             let file = named(rt, plan.out, &new, to, Ok(file))?;
@@ -117,47 +121,48 @@ fn old_copy<'a, R>(
 where
     R: Files<File = File>,
 {
-    let refused = |cause| FileFailure::File { path: out, cause };
-    let found = match fs::metadata(rt, to) {
-        Ok(found) => found,
-        Err(fault) if fault.kind() == ErrorKind::NotFound => return Ok(None),
-        Err(fault) => return Err(refused(fault)),
-    };
-    if let Some(kind) = other_kind(&found) {
-        return Err(FileFailure::NotReplaced { path: out, kind });
-    }
-    let volume = fs::metadata(rt, from).map_err(refused)?;
-    if found.dev() == volume.dev() && found.ino() == volume.ino() {
-        return Err(FileFailure::SameFile { path: out });
-    }
-    let file = File::open(rt, to).and_then(off_streams).map_err(refused)?;
-    match file.try_lock() {
-        Ok(()) => Ok(Some(file)),
-        Err(TryLockError::WouldBlock) => Err(FileFailure::CopyInUse { path: out }),
-        Err(TryLockError::Error(cause)) => Err(refused(cause)),
+    match found_at(rt, out, to)? {
+        Some(found) => {
+            judge_replaced(rt, out, from, &found)?;
+            Ok(Some(locked_copy(rt, out, to)?))
+        }
+        None => Ok(None),
     }
 }
 
-// An empty file in which the copy is made.
-fn new_copy<'a, R>(rt: &R, out: &'a str, new: &String) -> Result<File, FileFailure<'a>>
-where
-    R: Files<File = File>,
-{
-    let opened = OpenOptions::new()
-        .write(true)
-        .create_new(true)
-        .open(rt, new.as_str())
-        .and_then(off_streams);
-    match opened {
-        Ok(file) => Ok(file),
-        Err(cause) => {
-            let new = new.clone()?;
-            if cause.kind() == ErrorKind::AlreadyExists {
-                Err(FileFailure::CopyIsThere { path: out, new })
-            } else {
-                Err(FileFailure::Beside { path: new, cause })
-            }
-        }
+// Whether a copy may replace what was found: a regular file, and not that of the volume.
+fn judge_replaced<'a, R: Files<File = File>>(
+    rt: &R,
+    out: &'a str,
+    from: &str,
+    found: &Metadata,
+) -> Result<(), FileFailure<'a>> {
+    if let Some(kind) = other_kind(found) {
+        return Err(FileFailure::NotReplaced { path: out, kind });
+    }
+    match fs::metadata(rt, from) {
+        Ok(volume) => apart(out, found, &volume),
+        Err(cause) => Err(FileFailure::File { path: out, cause }),
+    }
+}
+
+// The file at a place, locked.
+fn locked_copy<'a, R: Files<File = File>>(
+    rt: &R,
+    out: &'a str,
+    to: &str,
+) -> Result<File, FileFailure<'a>> {
+    match File::open(rt, to).and_then(off_streams) {
+        Ok(file) => locked(out, file),
+        Err(cause) => Err(FileFailure::File { path: out, cause }),
+    }
+}
+
+fn locked(out: &str, file: File) -> Result<File, FileFailure<'_>> {
+    match file.try_lock() {
+        Ok(()) => Ok(file),
+        Err(TryLockError::WouldBlock) => Err(FileFailure::CopyInUse { path: out }),
+        Err(TryLockError::Error(cause)) => Err(FileFailure::File { path: out, cause }),
     }
 }
 
@@ -230,11 +235,12 @@ impl CopyFault {
                 path: plan.disk,
                 file: plan.file,
             },
-            CopyFault::Unreadable(refusal) => unreadable(plan.disk, refusal),
-            CopyFault::Output(cause) => FileFailure::File {
+            CopyFault::Pages(ListFault::Unreadable(refusal)) => unreadable(plan.disk, refusal),
+            CopyFault::Pages(ListFault::Output(cause)) => FileFailure::File {
                 path: plan.out,
                 cause,
             },
+            CopyFault::Pages(ListFault::Memory(fault)) => FileFailure::Memory(fault),
         }
     }
 }

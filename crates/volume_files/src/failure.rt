@@ -1,11 +1,12 @@
 // Why something that was asked for of a volume's file wasn't done.
 use crate::cause::Refused;
 use std::alloc::AllocError;
-use std::io;
+use std::{fmt, io};
 use thiserror::Error;
 
-/// Why something that was asked for of a volume's file wasn't done. Its text is one line.
-#[derive(Debug, Drop, Error)]
+/// Why something that was asked for of a volume's file wasn't done. Its text is one line, and what it is shown as for
+/// debugging is that text.
+#[derive(Drop, Error)]
 pub enum FileFailure<'a> {
     /// A real file couldn't be made, opened or read.
     #[error("file {path:?}: {cause}")]
@@ -62,4 +63,10 @@ pub enum FileFailure<'a> {
     /// Memory was refused.
     #[error("out of memory")]
     Memory(#[from(alloc)] AllocError),
+}
+
+impl fmt::Debug for FileFailure<'_> {
+    fn fmt<W: fmt::Write>(&self, f: &mut fmt::Formatter<W>) -> fmt::Result {
+        fmt::Display::fmt(self, f)
+    }
 }

@@ -8,9 +8,11 @@ mod exporting;
 mod failure;
 mod listing;
 mod making;
+mod marker;
 mod migrating;
-mod noted_file;
 mod suspect_flag;
+mod sync_note;
+mod thread_disk;
 mod volume_file;
 mod watched_file;
 
@@ -22,8 +24,10 @@ pub use disk::{
 pub use exporting::{ExportPlan, export};
 pub use failure::FileFailure;
 pub use making::{Plan, format};
+pub use marker::{Marker, Noted};
 pub use migrating::{MigrationPlan, migrate};
-pub use noted_file::{NotedFile, ThreadDisk, for_threads};
 pub use suspect_flag::SuspectFlag;
+pub use sync_note::SyncNote;
+pub use thread_disk::{ThreadDisk, for_threads};
 pub use volume_file::{Access, place};
-pub use watched_file::{SyncNote, WatchedFile};
+pub use watched_file::{WatchedFile, Watcher};

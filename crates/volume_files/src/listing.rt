@@ -6,7 +6,7 @@ use file_rows::{Form, ListFault};
 use std::{fmt, io};
 
 /// Up to 16 bytes of a file, and the offset of the first.
-#[derive(Clone, Copy, Debug)]
+#[derive(Clone, Copy)]
 pub struct Row<'a> {
     pub at: u64,
     pub bytes: &'a [u8],
@@ -27,7 +27,7 @@ impl fmt::Display for Row<'_> {
 }
 
 /// The files of a volume as the lines of a dump.
-#[derive(Clone, Copy, Debug)]
+#[derive(Clone, Copy)]
 pub struct DumpLines;
 
 impl Form for DumpLines {

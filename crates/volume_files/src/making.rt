@@ -2,8 +2,8 @@
 use crate::cause::refused_to_format;
 use crate::failure::FileFailure;
 use crate::suspect_flag::SuspectFlag;
-use crate::volume_file::{Access, lock, off_streams, open_locked, place, sync_folder_of};
-use device::FileDisk;
+use crate::volume_file::{Access, lock, off_streams, open_locked, place, sync_folder_of, unless};
+use device::{Device, FileDisk};
 use page_entry::{PAGE, Refusal};
 use std::alloc::Allocator;
 use std::fs::{File, Files, OpenOptions, Permissions};
@@ -86,9 +86,13 @@ where
     A: Allocator + Copy,
 {
     let new = format!(in rt.alloc(); "{place}.new")?;
-    let file = new_file(rt, path, &new)?;
-    let volume = made(rt, alloc, path, place, plan, blocks, old, file);
-    named(rt, path, &new, place, volume)
+    match new_file(rt, &new)? {
+        Some(file) => {
+            let volume = made(rt, alloc, path, place, plan, blocks, old, file);
+            named(rt, path, &new, place, volume)
+        }
+        None => Err(FileFailure::NewIsThere { path, new }),
+    }
 }
 
 /// Gives the new file, in which all of a volume is on the disk, the name of the old one. Where it wasn't made, or can't
@@ -128,14 +132,19 @@ where
     R: Files<File = File>,
 {
     match fs::exists(rt, place) {
-        Ok(false) => Ok(None),
-        Ok(true) => Ok(Some(open_locked(rt, path, place, Access::Write)?)),
+        Ok(there) => {
+            if there {
+                Ok(Some(open_locked(rt, path, place, Access::Write)?))
+            } else {
+                Ok(None)
+            }
+        }
         Err(cause) => Err(FileFailure::File { path, cause }),
     }
 }
 
-/// An empty file in which a volume is made.
-pub fn new_file<'a, R>(rt: &R, path: &'a str, new: &String) -> Result<File, FileFailure<'a>>
+/// An empty file for what takes another's name once it is whole. There is none where a file has this name already.
+pub fn new_file<'a, R>(rt: &R, new: &String) -> Result<Option<File>, FileFailure<'a>>
 where
     R: Files<File = File>,
 {
@@ -146,15 +155,23 @@ where
         .open(rt, new.as_str())
         .and_then(off_streams);
     match opened {
-        Ok(file) => Ok(file),
-        Err(cause) => {
-            let new = new.clone()?;
-            if cause.kind() == ErrorKind::AlreadyExists {
-                Err(FileFailure::NewIsThere { path, new })
-            } else {
-                Err(FileFailure::Beside { path: new, cause })
-            }
-        }
+        Ok(file) => Ok(Some(file)),
+        Err(cause) => not_made(new, cause),
+    }
+}
+
+// Whether a new file wasn't made since one of its name is there already.
+fn not_made<'a>(new: &String, cause: io::Error) -> Result<Option<File>, FileFailure<'a>> {
+    match unless(ErrorKind::AlreadyExists, cause) {
+        Ok(()) => Ok(None),
+        Err(cause) => Err(beside(new, cause)),
+    }
+}
+
+fn beside<'a>(new: &String, cause: io::Error) -> FileFailure<'a> {
+    match new.clone() {
+        Ok(path) => FileFailure::Beside { path, cause },
+        Err(fault) => FileFailure::Memory(fault),
     }
 }
 
@@ -174,10 +191,19 @@ where
     A: Allocator + Copy,
 {
     let mut disk = ready(rt, alloc, path, place, blocks, old, file)?;
-    match recovery::format_as(alloc, &mut disk, plan.layout, plan.files, plan.slots) {
+    match format_on(alloc, plan, &mut disk) {
         Ok(()) => Ok(disk.into_file()),
         Err(refusal) => Err(plan.refused(path, refusal)),
     }
+}
+
+// Makes the volume on a device.
+fn format_on<D: Device, A: Allocator + Copy>(
+    alloc: A,
+    plan: Plan<'_, '_>,
+    disk: &mut D,
+) -> Result<(), Refusal> {
+    recovery::format_as(alloc, disk, plan.layout, plan.files, plan.slots)
 }
 
 /// A disk over a new file of so many blocks, all zeros, which is to replace an old one, if there is one. `path` names
@@ -216,10 +242,24 @@ where
 {
     lock(path, file, Access::Write)?;
     match old {
-        Some(old) => take_after(file, old).map_err(|cause| FileFailure::File { path, cause }),
-        // Nobody else makes one while this new file is there, but one may have been made before.
-        None if fs::exists(rt, place).unwrap_or(true) => Err(FileFailure::InUse { path }),
-        None => Ok(()),
+        Some(old) => match take_after(file, old) {
+            Ok(()) => Ok(()),
+            Err(cause) => Err(FileFailure::File { path, cause }),
+        },
+        None => judge_absent(rt, path, place),
+    }
+}
+
+// Nobody else makes a volume at a place while a new file for it is there, but one may have been made before.
+fn judge_absent<'a, R: Files<File = File>>(
+    rt: &R,
+    path: &'a str,
+    place: &str,
+) -> Result<(), FileFailure<'a>> {
+    if fs::exists(rt, place).unwrap_or(true) {
+        Err(FileFailure::InUse { path })
+    } else {
+        Ok(())
     }
 }
 
@@ -233,8 +273,8 @@ pub fn take_after(new: &File, old: &File) -> io::Result<()> {
 
 fn unless_denied(outcome: io::Result<()>) -> io::Result<()> {
     match outcome {
-        Err(fault) if fault.kind() == ErrorKind::PermissionDenied => Ok(()),
-        other => other,
+        Ok(()) => Ok(()),
+        Err(fault) => unless(ErrorKind::PermissionDenied, fault),
     }
 }
 

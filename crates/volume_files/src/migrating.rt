@@ -7,19 +7,18 @@ ghost use Rattle.recovery.specs.Migration.{asked_of, HasMigrated};
 ghost use Rattle.volume_files.specs.Migration.{MayMigrate};
 
 use crate::cause::{refused_to_migrate, refused_to_open};
-use crate::disk::{VolumeDisk, not_opened, open_to_write};
+use crate::disk::{not_opened, open_to_write};
 use crate::failure::FileFailure;
 use crate::making::{durably_name, named, new_file, old_file, ready};
-use crate::volume_file::place;
-use crate::watched_file::SyncNote;
+use crate::marker::Noted;
+use crate::sync_note::SyncNote;
+use crate::volume_file::{apart, found_at, place};
 use device::{Device, FileDisk};
 use page_entry::Refusal;
 use recovery::Volume;
 use std::alloc::{AllocError, Allocator};
 use std::fs;
 use std::fs::{File, Files};
-use std::io::ErrorKind;
-use std::os::unix::fs::MetadataExt;
 use volume_codec::Layout;
 
 /// Which volume is migrated, and where to: the paths of the two files, the number of the new volume's layout, 3 or 4
@@ -71,27 +70,28 @@ where
 }
 
 // Makes the new volume at a place of the one on a disk.
-fn migrate_disk<'a, R, A>(
+fn migrate_disk<'a, R, D, A>(
     rt: &R,
     alloc: A,
     plan: MigrationPlan<'a>,
     to: &str,
-    disk: VolumeDisk<'_, R>,
+    disk: D,
     note: &mut SyncNote,
 ) -> Result<u64, FileFailure<'a>>
 where
     R: Files<File = File> + AllocGlobal,
+    D: Device + Noted,
     A: Allocator + Copy,
 {
     match recovery::open(alloc, disk) {
         Ok(mut volume) => {
             let blocks = made_of(rt, alloc, plan, to, &mut volume);
-            *note = volume.into_device().into_file().into_note();
+            *note = volume.into_device().into_note();
             blocks
         }
         Err((refusal, mut disk)) => {
             let cause = refused_to_open(alloc, refusal, &mut disk);
-            *note = disk.into_file().into_note();
+            *note = disk.into_note();
             Err(not_opened(plan.old, cause))
         }
     }
@@ -107,21 +107,11 @@ fn judge_apart<'a, R>(
 where
     R: Files<File = File>,
 {
-    let new = match fs::metadata(rt, to) {
-        Ok(new) => new,
-        Err(fault) if fault.kind() == ErrorKind::NotFound => return Ok(()),
-        Err(cause) => {
-            return Err(FileFailure::File {
-                path: plan.new,
-                cause,
-            });
-        }
+    let Some(new) = found_at(rt, plan.new, to)? else {
+        return Ok(());
     };
     match fs::metadata(rt, from) {
-        Ok(old) if new.dev() == old.dev() && new.ino() == old.ino() => Err(FileFailure::SameFile {
-            path: plan.new,
-        }),
-        Ok(_) => Ok(()),
+        Ok(old) => apart(plan.new, &new, &old),
         Err(cause) => Err(FileFailure::File {
             path: plan.old,
             cause,
@@ -198,12 +188,19 @@ where
     A: Allocator + Copy,
 {
     let new = format!(in rt.alloc(); "{to}.new")?;
-    let file = new_file(rt, plan.new, &new)?;
-    let made = match ready(rt, alloc, plan.new, to, blocks, old, file) {
-        Ok(disk) => copied(alloc, plan, volume, disk),
-        Err(failure) => Err(failure),
-    };
-    named(rt, plan.new, &new, to, made)
+    match new_file(rt, &new)? {
+        Some(file) => {
+            let made = match ready(rt, alloc, plan.new, to, blocks, old, file) {
+                Ok(disk) => copied(alloc, plan, volume, disk),
+                Err(failure) => Err(failure),
+            };
+            named(rt, plan.new, &new, to, made)
+        }
+        None => Err(FileFailure::NewIsThere {
+            path: plan.new,
+            new,
+        }),
+    }
 }
 
 // Copies the volume on to a disk over a new file, and hands the file back, all of it on the disk.

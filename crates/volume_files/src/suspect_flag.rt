@@ -1,5 +1,5 @@
 // The mark of a volume whose file couldn't be synced.
-use crate::volume_file::{off_streams, sync_folder_of};
+use crate::volume_file::{off_streams, sync_folder_of, unless};
 use std::alloc::AllocError;
 use std::fs::{File, Files, OpenOptions};
 use std::io::{ErrorKind, Write};
@@ -68,8 +68,7 @@ impl<'a, R: Files<File = File> + AllocGlobal> SuspectFlag<'a, R> {
     pub fn remove(&self) -> io::Result<()> {
         match fs::remove_file(self.rt, self.path.as_str()) {
             Ok(()) => sync_folder_of(self.rt, self.place),
-            Err(fault) if fault.kind() == ErrorKind::NotFound => Ok(()),
-            Err(fault) => Err(fault),
+            Err(fault) => unless(ErrorKind::NotFound, fault),
         }
     }
 }

@@ -1,8 +1,9 @@
 // The file of a volume: found by its path, opened, locked and judged.
 use crate::failure::FileFailure;
 use std::fs::{File, Files, Metadata, OpenOptions, TryLockError};
+use std::io::ErrorKind;
 use std::os::fd::AsRawFd;
-use std::os::unix::fs::{FileTypeExt, MetadataExt};
+use std::os::unix::fs::MetadataExt;
 use std::path::Path;
 use std::{fs, io};
 
@@ -101,8 +102,54 @@ pub fn lock<'a>(path: &'a str, file: &File, access: Access) -> Result<(), FileFa
 // Whether the file with this metadata is the one at a place.
 fn is_at<R: Files<File = File>>(rt: &R, place: &str, found: &Metadata) -> bool {
     match fs::metadata(rt, place) {
-        Ok(named) => named.dev() == found.dev() && named.ino() == found.ino(),
+        Ok(named) => is_same(&named, found),
         Err(_) => false,
+    }
+}
+
+// Whether these are of one file.
+fn is_same(one: &Metadata, other: &Metadata) -> bool {
+    one.dev() == other.dev() && one.ino() == other.ino()
+}
+
+/// What is at a place, if anything is there. `path` names it in a failure.
+pub fn found_at<'a, R>(
+    rt: &R,
+    path: &'a str,
+    place: &str,
+) -> Result<Option<Metadata>, FileFailure<'a>>
+where
+    R: Files<File = File>,
+{
+    match fs::metadata(rt, place) {
+        Ok(found) => Ok(Some(found)),
+        Err(cause) => not_found(path, cause),
+    }
+}
+
+// Whether nothing is there.
+fn not_found<'a>(path: &'a str, cause: io::Error) -> Result<Option<Metadata>, FileFailure<'a>> {
+    match unless(ErrorKind::NotFound, cause) {
+        Ok(()) => Ok(None),
+        Err(cause) => Err(FileFailure::File { path, cause }),
+    }
+}
+
+/// This fault, unless it is of a kind.
+pub fn unless(kind: ErrorKind, fault: io::Error) -> io::Result<()> {
+    if fault.kind() == kind {
+        Ok(())
+    } else {
+        Err(fault)
+    }
+}
+
+/// That two files are different ones. `path` names one of them in a failure.
+pub fn apart<'a>(path: &'a str, one: &Metadata, other: &Metadata) -> Result<(), FileFailure<'a>> {
+    if is_same(one, other) {
+        Err(FileFailure::SameFile { path })
+    } else {
+        Ok(())
     }
 }
 
@@ -122,31 +169,31 @@ fn judge_kind<'a>(path: &'a str, found: &Metadata) -> Result<(), FileFailure<'a>
     }
 }
 
+// The bits of a file's mode that say of what kind it is.
+const KIND: u32 = 0o170_000;
+
 /// What a file is that isn't a regular one.
 pub fn other_kind(found: &Metadata) -> Option<&'static str> {
-    let kind = found.file_type();
-    if kind.is_file() {
-        None
-    } else if kind.is_dir() {
-        Some("a folder")
-    } else if kind.is_fifo() {
-        Some("a pipe")
-    } else if kind.is_socket() {
-        Some("a socket")
-    } else if kind.is_block_device() {
-        Some("a block device")
-    } else if kind.is_char_device() {
-        Some("a character device")
-    } else {
-        Some("no file")
+    match found.mode() & KIND {
+        0o100_000 => None,
+        0o040_000 => Some("a folder"),
+        0o010_000 => Some("a pipe"),
+        0o140_000 => Some("a socket"),
+        0o060_000 => Some("a block device"),
+        0o020_000 => Some("a character device"),
+        _ => Some("no file"),
     }
 }
 
 /// Makes sure that the names in a folder are on the disk.
 pub fn sync_folder_of<R: Files<File = File>>(rt: &R, place: &str) -> io::Result<()> {
-    let folder = match Path::new(place).parent() {
+    off_streams(File::open(rt, folder_of(place))?)?.sync_all()
+}
+
+// The folder of what is at a place.
+fn folder_of(place: &str) -> &str {
+    match Path::new(place).parent() {
         Some(folder) if !folder.as_str().is_empty() => folder.as_str(),
         _ => ".",
-    };
-    off_streams(File::open(rt, folder)?)?.sync_all()
+    }
 }

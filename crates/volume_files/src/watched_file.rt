@@ -1,68 +1,45 @@
-// The file of a volume, whose failed syncs are marked.
+// A file whose failed syncs are told to a watcher.
 ghost use Rattle.std.specs.Prelude.{◌≡◌};
 
-use crate::suspect_flag::SuspectFlag;
 use device::BlockFile;
-use std::fs::{File, Files};
-use std::{fmt, io};
+use std::io;
 
-/// A file that is marked as suspect when a sync of it fails, before anybody hears of that. Else it is the file that it
-/// is made of.
-#[derive(Drop)]
-pub struct WatchedFile<'a, F: BlockFile, R: Files<File = File>> {
-    file: F,
-    mark: SuspectFlag<'a, R>,
-    /// Whether a sync failed, and whether the last one that did could be marked.
-    marked: Option<io::Result<()>>,
+/// Who hears of each sync of a file that failed, before anybody else does.
+pub trait Watcher {
+    /// A sync failed.
+    fn hear_failure(&mut self);
 }
 
-impl<'a, F: BlockFile, R: Files<File = File> + AllocGlobal> WatchedFile<'a, F, R> {
+/// A file whose watcher hears of each sync of it that fails. Else it is the file that it is made of.
+#[derive(Drop)]
+pub struct WatchedFile<F: BlockFile, W: Watcher> {
+    file: F,
+    watcher: W,
+}
+
+impl<F: BlockFile, W: Watcher> WatchedFile<F, W> {
     /// This file, no sync of which has failed yet.
-    pub fn new(file: F, mark: SuspectFlag<'a, R>) -> Self {
-        WatchedFile {
-            file,
-            mark,
-            marked: None,
-        }
+    pub fn new(file: F, watcher: W) -> Self {
+        WatchedFile { file, watcher }
     }
 
-    // Marks the volume where a sync of it failed.
+    // Tells the watcher where a sync failed.
     fn watch(&mut self, synced: &io::Result<()>)
         ensures { self.new.file ≡ self.old.file }
     {
         if synced.is_err() {
-            self.marked = Some(self.mark.make());
+            self.watcher.hear_failure();
         }
+    }
+
+    /// The file and its watcher.
+    pub fn into_parts(self) -> (F, W) {
+        let WatchedFile { file, watcher } = self;
+        (file, watcher)
     }
 }
 
-impl<'a, F: BlockFile + Drop, R: Files<File = File> + AllocGlobal> WatchedFile<'a, F, R> {
-    /// The file and its mark.
-    pub fn into_parts(self) -> (F, SuspectFlag<'a, R>) {
-        let WatchedFile {
-            file,
-            mark,
-            marked: _,
-        } = self;
-        (file, mark)
-    }
-
-    /// What is to be said of the syncs that failed.
-    pub fn into_note(self) -> SyncNote {
-        let WatchedFile {
-            file: _,
-            mark,
-            marked,
-        } = self;
-        match marked {
-            None => SyncNote::Nothing,
-            Some(Ok(())) => SyncNote::Marked(mark.into_path()),
-            Some(Err(fault)) => SyncNote::Unmarked(mark.into_path(), fault),
-        }
-    }
-}
-
-impl<F: BlockFile, R: Files<File = File> + AllocGlobal> BlockFile for WatchedFile<'_, F, R> {
+impl<F: BlockFile, W: Watcher> BlockFile for WatchedFile<F, W> {
     ghost seen = { λ watched. F.seen watched.file };
 
     ghost may_leave = { λ watched. F.may_leave watched.file };
@@ -105,32 +82,5 @@ impl<F: BlockFile, R: Files<File = File> + AllocGlobal> BlockFile for WatchedFil
         let synced = self.file.sync_data();
         self.watch(&synced);
         synced
-    }
-}
-
-/// What is to be said of failed syncs, after the failure that they made.
-#[derive(Debug, Drop)]
-pub enum SyncNote {
-    /// None failed.
-    Nothing,
-    /// One failed, and the file with this path marks the volume.
-    Marked(String),
-    /// One failed, and the file with this path couldn't be made.
-    Unmarked(String, io::Error),
-}
-
-impl fmt::Display for SyncNote {
-    fn fmt<W: fmt::Write>(&self, f: &mut fmt::Formatter<W>) -> fmt::Result {
-        match self {
-            SyncNote::Nothing => Ok(()),
-            SyncNote::Marked(mark) => write!(
-                f,
-                "; a sync of the disk failed, and {mark:?} marks it"
-            ),
-            SyncNote::Unmarked(mark, cause) => write!(
-                f,
-                "; a sync of the disk failed, and {mark:?}, which is to mark it, can't be made: {cause}"
-            ),
-        }
     }
 }

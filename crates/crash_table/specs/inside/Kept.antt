@@ -1,15 +1,19 @@
 -- The files that are kept of each mark of a run.
-use Rattle.std.specs.Prelude.{ℕ, ◌≡◌, ◌<◌, ◌≤◌, ◌+◌, Bool, false, ◌⊎◌, List, [], ◌∷◌}
+use Rattle.std.specs.Prelude.{ℕ, ◌≡◌, ◌≢◌, ◌<◌, ◌≤◌, ◌+◌, ◌*◌, Bool, true, false, ◌⊎◌, List, [], ◌∷◌}
 use Rattle.std.specs.Prelude.{◌++◌, length, take, map, slice_get, Some, Contains}
+use Rattle.std.specs.List.{AllByRecursion}
 use Rattle.device.specs.declared.device.Device.{Ghosts}
 use Rattle.volume_codec.specs.Files.{File}
+use Rattle.volume_codec.specs.Layout.{GeometryValue, descriptor_blocks}
 use Rattle.volume_codec.specs.Recovery.{RecoversTo}
+use Rattle.volume_codec.specs.Super.{geometry_of}
+use Rattle.machine.specs.declared.act.Act.TheVariants.{Flush}
 use Rattle.machine.specs.declared.act.Reply.{Reply}
-use Rattle.machine.specs.declared.act.Reply.TheVariants.{Marked, Committed}
+use Rattle.machine.specs.declared.act.Reply.TheVariants.{Marked, Going, Committed, Done}
 use Rattle.machine.specs.declared.act.Shape.{Shape}
 use Rattle.machine.specs.declared.act.Step.{Step}
 use Rattle.machine.specs.History.{Event, Mark, files_after}
-use Rattle.machine.specs.Runs.{StepsTaken}
+use Rattle.machine.specs.Runs.{StepTaken, StepsTaken}
 use Rattle.machine.specs.State.{Whole}
 use Rattle.machine.specs.Unmarked.{unmarked_by}
 use Rattle.crash_table.specs.declared.found.MarkFiles.{MarkFiles}
@@ -33,6 +37,12 @@ abbrev pub unmarked_after : Bool → List Reply → Bool
 unmarked_after before [] = before
 unmarked_after before (reply ∷ replies) = unmarked_after (unmarked_by before reply) replies
 
+-- this reply is that of a step of the write-outs which commits nothing: they go on, or an older one is done
+abbrev pub is_under_way : Reply → Bool
+is_under_way Going = true
+is_under_way (Done number) = true
+is_under_way reply = false
+
 -- A mark was written out: steps were made of which the last is answered that it is committed, and no other one that a
 -- mark was made.
 pub record HasCommitted {D : Type 0} (disk : Ghosts D) (old : Whole D) (number : ℕ) (new : Whole D) : Type 0 where
@@ -41,6 +51,29 @@ pub record HasCommitted {D : Type 0} (disk : Ghosts D) (old : Whole D) (number :
   pub going : List Reply
   pub taken : StepsTaken disk old (earlier ++ last ∷ []) (going ++ Committed number ∷ []) new
   pub unmarked : (i k : ℕ) → slice_get going i ≡ Some (Marked k) → ⊥
+
+-- the step of the write-outs by a processor
+abbrev pub flush_by : ℕ → Step
+flush_by p = record { p = p; act = Flush }
+
+-- steps of the write-outs were made by a processor, one for each of these replies, and none committed anything
+abbrev pub GoesOn : {D : Type 0} → Ghosts D → Whole D → ℕ → List Reply → Whole D → Type 0
+GoesOn disk old p going new = StepsTaken disk old (map (λ reply. flush_by p) going) going new
+    × AllByRecursion (λ reply. is_under_way reply ≡ true) going
+
+-- The most steps that come up to the one that commits a write-out of a volume: a record for each slot, the blocks of
+-- the descriptor, a sync, the gate, and a sync; and where write-outs share that first sync, before it the home blocks
+-- of the write-out before, and the gate of the one before that.
+abbrev pub most_flushes : GeometryValue → ℕ
+most_flushes g = 2 * g.slots + descriptor_blocks g.slots + 4
+
+-- The write-out of a mark was given up: after steps that committed nothing, as many as come up to a commit at most, or
+-- as one more was answered neither that write-outs go on nor that the mark is committed.
+abbrev pub HasGivenUp : {D : Type 0} → Ghosts D → Whole D → ℕ → ℕ → Whole D → Type 0
+HasGivenUp {D} disk old p number new =
+    ((going : List Reply) × GoesOn disk old p going new × (length going ≡ most_flushes (geometry_of old.state.table)))
+    ⊎ ((going : List Reply) × (mid : Whole D) × (reply : Reply) × GoesOn disk old p going mid
+    × StepTaken disk mid (flush_by p) reply new × (is_under_way reply ≡ false) × (reply ≢ Committed number))
 
 -- A mark that was made after these replies is acknowledged: by steps that wrote it out, or at once.
 abbrev pub IsAcknowledged : {D : Type 0} → Ghosts D → Whole D → List Reply → ℕ → Whole D → Type 0

@@ -1,5 +1,6 @@
 -- A change from its begin to its end.
-use Rattle.std.specs.Prelude.{ℕ, ◌≡◌, ◌≢◌, ◌<◌, Bool, true, false, None, Some}
+use Rattle.std.specs.Prelude.{ℕ, ◌≡◌, ◌≢◌, ◌<◌, Bool, true, false, List, None, Some}
+use Rattle.device.specs.declared.device.Device.{Ghosts}
 use Rattle.spaces.specs.declared.change.Change.{Change}
 use Rattle.spaces.specs.declared.change.Change.TheVariants.{Unmap, Protect, Reclaim, SetLength, Checkpoint}
 use Rattle.shootdown.specs.declared.proc_state.ProcState.{ProcState}
@@ -7,7 +8,10 @@ use Rattle.shootdown.specs.declared.proc_state.ProcState.TheVariants.{Active, In
 use Rattle.shootdown.specs.Shootdown.{state_of}
 use Rattle.machine.specs.declared.act.Reply.{Reply}
 use Rattle.machine.specs.declared.act.Reply.TheVariants.{Unmapped, Protected, Resized}
-use Rattle.machine.specs.State.{State}
+use Rattle.machine.specs.declared.act.Step.{Step}
+use Rattle.machine.specs.State.{State, Whole}
+use Rattle.session.specs.declared.notes.Notes.{Notes}
+use Rattle.session.specs.Ranges.{MakesStepsThat}
 use Rattle.session.specs.Steps.{reports_reclaim, reports_mark}
 
 -- the phase of a processor after the change that is under way
@@ -28,6 +32,12 @@ pub record HasBegun (p : ℕ) (change : Change) (old new : State) : Type 0 where
   pub held : HoldsLock p change new
   pub phases : (q : ℕ) → phase_after (state_of new.hardware.shootdown q) ≡ state_of old.hardware.shootdown q
 
+-- Steps were made of which this holds, and by the last one processor p began a change.
+pub record BeginsChange {D : Type 0} (disk : Ghosts D) (old : Whole D) (before : Notes)
+    (what : List Step → List Reply → Type 0) (p : ℕ) (change : Change) (new : Whole D) (after : Notes) : Type 0 where
+  pub makes : MakesStepsThat disk old before what new after
+  pub begins : HasBegun p change old.state new.state
+
 -- none of the processors below a number is interrupted
 abbrev pub AreCalm : ℕ → State → Type 0
 AreCalm next s = (q : ℕ) → q < next → state_of s.hardware.shootdown q ≢ Interrupted
@@ -37,23 +47,11 @@ pub record IsOver (old new : State) : Type 0 where
   pub lock : new.hardware.shootdown.lock ≡ None
   pub phases : (q : ℕ) → state_of new.hardware.shootdown q ≡ phase_after (state_of old.hardware.shootdown q)
 
--- that pages were unmapped, got other rights, or a file another length
-abbrev pub reports_unmapped : Reply → Bool
-reports_unmapped Unmapped = true
-reports_unmapped _ = false
-
-abbrev pub reports_protected : Reply → Bool
-reports_protected Protected = true
-reports_protected _ = false
-
-abbrev pub reports_resized : Reply → Bool
-reports_resized Resized = true
-reports_resized _ = false
-
 -- that this change was made
 abbrev pub reports_made : Change → Reply → Bool
-reports_made (Unmap pcid range) reply = reports_unmapped reply
-reports_made (Protect pcid range rights) reply = reports_protected reply
+reports_made (Unmap pcid range) Unmapped = true
+reports_made (Protect pcid range rights) Protected = true
 reports_made (Reclaim owner) reply = reports_reclaim reply
-reports_made (SetLength file length) reply = reports_resized reply
+reports_made (SetLength file length) Resized = true
 reports_made Checkpoint reply = reports_mark reply
+reports_made change reply = false

@@ -1,5 +1,5 @@
 -- That steps were made.
-use Rattle.std.specs.Prelude.{ℕ, ◌≡◌, ◌⊎◌, List, [], ◌∷◌}
+use Rattle.std.specs.Prelude.{ℕ, ◌≡◌, ◌⊎◌, true, List, [], ◌∷◌}
 use Rattle.device.specs.declared.device.Device.{Ghosts}
 use Rattle.page_entry.specs.declared.refusal.Refusal.TheVariants.{NoFrame}
 use Rattle.machine.specs.declared.act.Reply.{Reply}
@@ -8,7 +8,7 @@ use Rattle.machine.specs.declared.act.Step.{Step}
 use Rattle.machine.specs.State.{Whole}
 use Rattle.session.specs.declared.notes.Notes.{Notes}
 use Rattle.session.specs.Ends.{AreFruitless}
-use Rattle.session.specs.Lengths.{IsTry, set_length_by}
+use Rattle.session.specs.Lengths.{IsTry, flush_by, reports_flushed, set_length_by}
 use Rattle.session.specs.Steps.{Makes, AreEach}
 
 -- Steps were made.
@@ -17,6 +17,13 @@ pub record HasMade {D : Type 0} (disk : Ghosts D) (old : Whole D) (before : Note
   pub steps : List Step
   pub replies : List Reply
   pub makes : Makes disk old before steps replies new after
+
+-- The step of the write-outs that an attempt waits for was made.
+pub record Waits (p : ℕ) (steps : List Step) (replies : List Reply) : Type 0 where
+  pub reply : Reply
+  pub made : reports_flushed reply ≡ true
+  pub steps_are : steps ≡ flush_by p ∷ []
+  pub replies_are : replies ≡ reply ∷ []
 
 -- steps before a length's change is begun
 abbrev pub AreTries : ℕ → ℕ → ℕ → List Step → List Reply → Type 0

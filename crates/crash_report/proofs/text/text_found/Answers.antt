@@ -1,6 +1,6 @@
 use Rattle.crash_report.proofs.Writing.{then_appends, where_ok}
 use Rattle.std.proofs.Common.{◌+◌, ◌∷◌, []}
-use Rattle.crash_table.specs.Rows.{newest_of}
+use Rattle.crash_states.specs.Rows.{newest_of}
 use Rattle.crash_report.specs.Text.{marks_text}
 use Rattle.crash_report.proofs.text.text_found.Goals as goal
 

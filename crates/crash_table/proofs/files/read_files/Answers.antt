@@ -2,9 +2,9 @@ use Rattle.std.proofs.Common.{rules, ◌≡◌, ◌<◌, ◌≤◌, ℕ, List, [
 use Rattle.std.proofs.lemmas.List.{map-append}
 use Rattle.volume_codec.specs.Files.{File}
 use Rattle.recovery.specs.Volume.{files_of, bytes_of}
+use Rattle.recovery.proofs.Public.{lengths_of_well_formed, lengths_after_reading, files_read, volume_read_then}
 use Rattle.crash_table.specs.inside.Kept.{contents_of}
-use Rattle.crash_table.proofs.Reading.{lengths_of_well_formed, lengths_after_reading, files_read}
-use Rattle.crash_table.proofs.Reading.{read_then, as_many_files, bytes_more, all_bytes}
+use Rattle.crash_table.proofs.Reading.{as_many_files, bytes_more, all_bytes}
 use Rattle.crash_table.proofs.files.read_files.Goals as goal
 
 pub read_file-requires-clause-files : goal.read_file-requires-clause-files
@@ -20,7 +20,7 @@ loop-file-preserved g c =
     let mid = c.loop-file.volume in
     let before = c.loop-file.invariant in
     let i = c.loop-file.file in (
-      read_then g.D.Device old mid c.read_file.new.volume before.0 c.read_file.ensures.read,
+      volume_read_then g.D.Device old mid c.read_file.new.volume before.0 c.read_file.ensures.read,
       λ honest.
           let files = files_of old.table (g.D.Device.seen old.device) in
           let below : i < length old.table.files = search rules in

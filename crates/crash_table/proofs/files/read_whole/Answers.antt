@@ -1,7 +1,8 @@
 use Rattle.std.proofs.Common.{◌≡◌, ◌+◌, length, slice_range, ◌∙◌}
 use Rattle.std.proofs.lemmas.Result.{on_ok_weaker}
 use Rattle.recovery.specs.Volume.{files_of, bytes_of}
-use Rattle.crash_table.proofs.Reading.{length_of_file, whole_range}
+use Rattle.recovery.proofs.Public.{length_of_file}
+use Rattle.crash_table.proofs.Reading.{whole_range}
 use Rattle.crash_table.proofs.files.read_whole.Goals as goal
 
 pub returns-clause-bytes : goal.returns-clause-bytes

@@ -8,7 +8,7 @@ returns-in-Ok-clause-made g c = if_ok_always c.open_files.result c.in_ok-write_o
 pub returns-in-Ok-clause-kept : goal.returns-in-Ok-clause-kept
 returns-in-Ok-clause-kept g c = λ honest files recovered.
     let out = c.in_ok-write_out-in-Ok.ensures in
-    kept_at_mark g.D.Device g.met.D.Device.seen_is_left c.one_reading.ensures.files c.opened_as_recovered.ensures.files
+    kept_at_mark g.D.Device g.met.D.Device.seen_is_left c.one_reading.ensures.files
     c.args.device c.args.shape c.in-Ok.machine c.in-Ok.ensures.started honest files recovered
     c.args.steps.now c.args.replies.now c.args.at c.args.number out.below c.requires out.is_new out.replied out.marked
     c.write_out.new.machine out.made out.same out.acknowledged c.keeps_the_laws.ensures.left

@@ -18,4 +18,4 @@ returns g c =
       same = sym c.deref.ensures.value ∙ c.are_same_replies.ensures.0 alike;
       acknowledged = acknowledged;
     })
-    c.acknowledge.ensures
+    c.acknowledge.ensures.acknowledged

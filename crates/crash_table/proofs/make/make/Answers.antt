@@ -1,7 +1,7 @@
 use Rattle.std.proofs.Common.{rules, ◌≡◌, ℕ, ◌+◌, ◌<◌, List, [], length, take, refl, sym, ap, subst, ◌∙◌}
 use Rattle.machine.specs.declared.act.Reply.{Reply}
 use Rattle.machine.specs.Runs.{StepsTaken}
-use Rattle.engine.proofs.Runs.{taken_next, length_more}
+use Rattle.engine.proofs.Public.{taken_next, length_more}
 use Rattle.crash_table.proofs.make.make.Goals.{In_ok-push}
 use Rattle.crash_table.proofs.make.make.Goals as goal
 

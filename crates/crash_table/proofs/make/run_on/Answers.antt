@@ -17,7 +17,7 @@ pub returns-in_ok-replies-in-Ok-clause-back : goal.returns-in_ok-replies-in-Ok-c
 returns-in_ok-replies-in-Ok-clause-back g c = λ honest only files recovered left may.
     let replies = c.in_ok-replies-in-Ok.replies.items in
     let steps = take (length replies) c.args.steps.now in
-    back_after_run g.D.Device c.one_reading.ensures.files c.opened_as_recovered.ensures.files c.args.device c.args.shape
+    back_after_run g.D.Device c.one_reading.ensures.files c.args.device c.args.shape
     honest files recovered c.in-Ok.machine c.in-Ok.ensures.started
     steps replies c.make-made.new.machine c.in_ok-replies-in-Ok.ensures c.keeps_the_laws.ensures.left left
     (subst (λ d. g.D.Device.may_leave d left) c.into_device-device.ensures may)
@@ -35,7 +35,7 @@ returns-in-Err-clause-back g c =
     let refused = c.in-Err.refused in
     IfOk-weaker c.not_opened.result _ _
     (λ left is. λ honest only files recovered k may.
-    back_at_start g.D.Device c.one_reading.ensures.files c.opened_as_recovered.ensures.files
+    back_at_start g.D.Device c.one_reading.ensures.files
     c.nothing_stored.ensures.files g.met.D.Device.now_is_since c.args.device c.args.shape c.args.steps.now
     refused.0 refused.1 left.0 left.1.items files (c.crashed_since_refusal.ensures c.args.device refused.1 c.args.shape
     refused.0 files c.in-Err.ensures.refused honest) is honest only recovered k may)

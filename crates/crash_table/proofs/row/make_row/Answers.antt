@@ -1,7 +1,7 @@
 use Rattle.std.proofs.Common.{rules, ◌<◌, length, Some, None, ap, ◌∙◌, arith}
-use Rattle.crash_table.specs.Calls.{call_of}
-use Rattle.crash_table.specs.Choices.{Content, call_ended}
-use Rattle.crash_table.specs.inside.Contents.{content_of}
+use Rattle.crash_states.specs.Calls.{call_of}
+use Rattle.crash_states.specs.Choices.{Content, call_ended}
+use Rattle.crash_states.specs.Held.{content_of}
 use Rattle.crash_table.proofs.Contents.{call_read, call_past, within_is, after_is}
 use Rattle.crash_table.proofs.Marks.{if_ok_always}
 use Rattle.crash_table.proofs.row.make_row.Goals as goal

@@ -1,8 +1,9 @@
 use Rattle.std.proofs.Common.{rules, ℕ, ◌<◌, length, subst, sym, ap, ◌∙◌}
-use Rattle.crash_table.specs.declared.choice.Choice.TheVariants as choices
-use Rattle.crash_table.specs.declared.row.Found.{Found}
-use Rattle.crash_table.specs.Choices.{Content, content_before, left_by}
+use Rattle.crash_states.specs.declared.choice.Choice.TheVariants as choices
+use Rattle.crash_states.specs.declared.row.Found.{Found}
+use Rattle.crash_states.specs.Choices.{Content, content_before, left_by}
 use Rattle.crash_table.specs.Trials.{Leaves}
+use Rattle.crash_states.specs.Held.{content_of}
 use Rattle.crash_table.proofs.Contents.{found_among, torn_some}
 use Rattle.crash_table.proofs.row.row_of.Goals as goal
 
@@ -11,7 +12,7 @@ returns g c = λ within.
     let trial = c.args.trial.now in
     let count = ap (λ (k : Content). length k.unsynced) within in
     let states = c.in_ok-states.field-0.items in
-    let some = λ (more : 0 < length c.args.contents.now.unsynced.items).
+    let some = λ (more : 0 < length (content_of c.args.contents.now).unsynced).
     found_among (λ (f : Found). f.choice) states choices.New (c.in_ok-states.ensures.new more) in
     record {
       number = search rules;

@@ -2,12 +2,12 @@ use Rattle.std.proofs.Common.{rules, ◌≤◌, List, length, inl, inr, subst, s
 use Rattle.std.specs.List.{Contains}
 use Rattle.std.proofs.lemmas.List.{take_all}
 use Rattle.std.proofs.lemmas.List.Elements.{Contains-push_cases}
-use Rattle.crash_table.specs.declared.choice.Choice.{Choice}
-use Rattle.crash_table.specs.declared.choice.Choice.TheVariants as choices
-use Rattle.crash_table.specs.declared.row.Found.{Found}
-use Rattle.crash_table.specs.Choices.{left_by}
+use Rattle.crash_states.specs.declared.choice.Choice.{Choice}
+use Rattle.crash_states.specs.declared.choice.Choice.TheVariants as choices
+use Rattle.crash_states.specs.declared.row.Found.{Found}
+use Rattle.crash_states.specs.Choices.{left_by}
 use Rattle.crash_table.specs.Trials.{Leaves}
-use Rattle.crash_table.specs.inside.Contents.{content_of}
+use Rattle.crash_states.specs.Held.{content_of}
 use Rattle.crash_table.proofs.Contents.{named_more}
 use Rattle.crash_table.proofs.row.states.Goals as goal
 

@@ -1,9 +1,9 @@
 use Rattle.std.proofs.Common.{◌≡◌, map, take}
 use Rattle.std.specs.List.{Contains}
-use Rattle.crash_table.specs.Choices.{left_by}
+use Rattle.crash_states.specs.Choices.{left_by}
 use Rattle.crash_table.specs.Trials.{Leaves}
-use Rattle.crash_table.specs.declared.row.Found.{Found}
-use Rattle.crash_table.specs.inside.Contents.{content_of}
+use Rattle.crash_states.specs.declared.row.Found.{Found}
+use Rattle.crash_states.specs.Held.{content_of}
 use Rattle.crash_table.proofs.row.states.Given as goal
 
 abbrev pub invariant-loop-choice : goal.invariant-loop-choice

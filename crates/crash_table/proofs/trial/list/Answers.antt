@@ -1,13 +1,15 @@
 use Rattle.std.proofs.Common.{IfOk, ap, subst, ◌∙◌}
 use Rattle.device.specs.Memory.{Recorded, seen_of}
 use Rattle.volume_codec.specs.Recovery.{RecoversTo}
-use Rattle.crash_table.specs.Calls.{ListedDisk, AreMade, device_calls_of, listing}
-use Rattle.crash_table.proofs.Marks.{begun, if_ok_always}
+use Rattle.crash_states.specs.Calls.{ListedDisk, device_calls_of, listing}
+use Rattle.crash_table.specs.Calls.{AreMade}
+use Rattle.engine.proofs.Public.{begins}
+use Rattle.crash_table.proofs.Marks.{if_ok_always}
 use Rattle.crash_table.proofs.trial.list.Goals as goal
 
 pub returns-in-Ok-clause-files : goal.returns-in-Ok-clause-files
 returns-in-Ok-clause-files g c =
-    let found = begun _ c.opened_as_recovered.ensures.files _ _ _ c.in-Ok.ensures.started tt in
+    let found = begins _ _ _ _ c.in-Ok.ensures.started tt in
     let P : ListedDisk Recorded → Type 0 = λ disk. RecoversTo (seen_of disk.inner) found.0 in
     if_ok_always c.list_steps.result (found.0, subst P (c.new-disk.ensures ∙ ap listing c.in_ok-copy.ensures) found.1)
 

@@ -2,8 +2,10 @@ use Rattle.std.proofs.Common.{List, ℕ, subst}
 use Rattle.std.proofs.lemmas.Result.{on_ok_weaker}
 use Rattle.std.specs.Io.KnownBytes.{Appends}
 use Rattle.recovery.specs.Volume.{files_of, bytes_of}
+use Rattle.recovery.proofs.Public.{length_of_file}
 use Rattle.file_rows.proofs.Appending.{appends_both}
-use Rattle.file_rows.proofs.Files.{length_of_file, name_of_file, file_at, file_listing_is}
+use Rattle.file_rows.proofs.Files.{name_of_file, file_at, file_listing_is}
+use Rattle.file_rows.proofs.PageText.{rows_of_all_pages}
 use Rattle.file_rows.proofs.listing.write_file.Goals as goal
 
 pub returns-clause-printed : goal.returns-clause-printed
@@ -15,12 +17,15 @@ returns-clause-printed g c = λ honest f at.
     let form = c.args.form.now in
     let are = c.requires.files honest in
     let named = name_of_file volume seen file f c.name-name.result.now are at c.name-name.ensures in
-    let long = length_of_file volume seen file c.length-bytes.result are c.length-bytes.ensures in
-    let text = file_listing_is (g.F.Form.head_text form) (g.F.Form.row_text form) f c.name-name.result.now
-    (bytes_of (files_of volume.table seen) file) c.length-bytes.result named
+    let long = length_of_file volume seen file c.length-bytes.result are.lengths c.length-bytes.ensures in
+    let bytes = bytes_of (files_of volume.table seen) file in
+    let row = g.F.Form.row_text form in
+    let text = file_listing_is (g.F.Form.head_text form) row f c.name-name.result.now bytes c.length-bytes.result named
     (file_at (files_of volume.table seen) file f at) long in
     let P : List ℕ → Type 0 = λ text. Appends (contents c.args.out.now) (contents c.write_pages.new.out) text in
+    let Q : List ℕ → Type 0 = λ rows. Appends (contents c.write_head.new.out) (contents c.write_pages.new.out) rows in
     on_ok_weaker c.write_pages.result
-    (λ rows. subst P text (appends_both (contents c.args.out.now) (contents c.write_head.new.out)
-    (contents c.write_pages.new.out) _ _ c.in_ok-write_head.ensures rows))
-    (c.write_pages.ensures.printed honest)
+    (λ pages. subst P text (appends_both (contents c.args.out.now) (contents c.write_head.new.out)
+    (contents c.write_pages.new.out) _ _ c.in_ok-write_head.ensures
+    (subst Q (rows_of_all_pages row bytes c.length-bytes.result long) pages)))
+    (c.write_pages.ensures.written honest)

@@ -4,9 +4,9 @@ use Rattle.std.specs.Io.KnownBytes.{Appends}
 use Rattle.volume_codec.specs.Files.{File}
 use Rattle.recovery.specs.Volume.{files_of}
 use Rattle.recovery.proofs.FileBytes.{some_at}
+use Rattle.recovery.proofs.Public.{files_read, volume_read_then}
 use Rattle.file_rows.specs.Rows.{files_listing}
-use Rattle.file_rows.proofs.Files.{files_of_well_formed, files_after_reading}
-use Rattle.file_rows.proofs.Files.{files_read, volume_read_then, file_more, as_many_files}
+use Rattle.file_rows.proofs.Files.{files_of_well_formed, files_after_reading, file_more, as_many_files}
 use Rattle.file_rows.proofs.listing.write_files.Goals as goal
 
 pub write_file-requires-clause-files : goal.write_file-requires-clause-files

@@ -1,5 +1,5 @@
 use Rattle.std.proofs.Common.{rules, ◌≡◌, ◌+◌, ◌*◌, ◌<◌, length, min}
-use Rattle.file_rows.proofs.Pages.{row_cut, row_more_at}
+use Rattle.file_rows.proofs.PageText.{row_cut, row_more_at}
 use Rattle.file_rows.proofs.listing.write_rows.Goals as goal
 
 pub loop-row-preserved : goal.loop-row-preserved

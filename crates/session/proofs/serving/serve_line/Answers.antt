@@ -1,7 +1,7 @@
 use Rattle.std.proofs.Common.{inl, inr, refl}
 use Rattle.std.proofs.lemmas.Result.{on_ok_weaker}
 use Rattle.session.proofs.Phases.{keeps_none}
-use Rattle.session.proofs.Pieces.{does_more, does_nothing}
+use Rattle.session.proofs.Stretches.{does_more, does_nothing}
 use Rattle.session.proofs.Served.{line_keeps, line_serves}
 use Rattle.session.proofs.Writing.{line_answered, line_refused}
 use Rattle.session.proofs.serving.serve_line.Goals as goal

@@ -3,7 +3,7 @@ use Rattle.device.specs.Device.{Only}
 use Rattle.device.specs.Failing.{Failing, failing}
 use Rattle.device.specs.Memory.{Recorded, new_disk, seen_of, may_leave_of, after_stop}
 use Rattle.volume_codec.specs.Recovery.{RecoversTo}
-use Rattle.crash_table.specs.Calls.{device_calls_of}
+use Rattle.crash_states.specs.Calls.{device_calls_of}
 use Rattle.crash_table.specs.Crashes.{HasEnded, IsUpTo}
 use Rattle.crash_table.specs.Disks.{failing_memory}
 use Rattle.crash_table.specs.Trials.{TrialValue, Leaves}

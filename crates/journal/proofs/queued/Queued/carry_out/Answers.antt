@@ -34,26 +34,28 @@ below geometry w i first is batch lt place =
       is.some_homes,
     )
 
+placed : (geometry : GeometryValue) (inside self : QueuedWriteOut) (i first : ℕ) → inside ≡ self → IsGeometry geometry
+    → IsBatch geometry self.write_out.batch → self.write_out.described ≡ descriptor_blocks geometry.slots
+    → next_stage self.write_out ≡ Some (Describing i)
+    → first ≡ descriptor_block geometry.slots inside.write_out.batch.journal → first + i < geometry.blocks
+placed geometry inside self i first view_is is batch same at place =
+    below geometry self.write_out i first is batch (described geometry self.write_out i same at)
+    (place ∙ ap (λ (f : QueuedWriteOut). descriptor_block geometry.slots f.write_out.batch.journal) view_is)
+
 pub overflow_add-block : goal.overflow_add-block
 overflow_add-block g c =
-    let w = c.args.self.now.write_out in
-    let geometry = c.args.geometry.now in
-    let i = c.in-Describing.index in
-    let lt = described geometry w i c.requires.described (c.requires.stage ∙ ap Some c.in-Describing.is) in
     let at = c.descriptor_block.ensures in
-    let low = below geometry w i c.descriptor_block.result at.geometry c.requires.batch lt (at.value
-    ∙ ap (λ (f : QueuedWriteOut). descriptor_block geometry.slots f.write_out.batch.journal) c.self.view_is) in
+    let low = placed c.args.geometry.now _ c.args.self.now c.in-Describing.index c.descriptor_block.result
+    c.self.view_is at.geometry c.requires.batch c.requires.described
+    (c.requires.stage ∙ ap Some c.in-Describing.is) at.value in
     omega (arith, low, at.geometry.few_blocks)
 
 pub prove-unreachable-requires-in-Describing : goal.prove-unreachable-requires-in-Describing
 prove-unreachable-requires-in-Describing g c =
-    let w = c.args.self.now.write_out in
-    let geometry = c.args.geometry.now in
-    let i = c.in-Describing.index in
-    let lt = described geometry w i c.requires.described (c.requires.stage ∙ ap Some c.in-Describing.is) in
     let at = c.descriptor_block.ensures in
-    let low = below geometry w i c.descriptor_block.result at.geometry c.requires.batch lt (at.value
-    ∙ ap (λ (f : QueuedWriteOut). descriptor_block geometry.slots f.write_out.batch.journal) c.self.view_is) in
+    let low = placed c.args.geometry.now _ c.args.self.now c.in-Describing.index c.descriptor_block.result
+    c.self.view_is at.geometry c.requires.batch c.requires.described
+    (c.requires.stage ∙ ap Some c.in-Describing.is) at.value in
     omega (arith, low, c.block_count-in-Describing.ensures.value, c.if-prove-2.true)
 
 pub write_descriptor-bytes-requires-clause-within : goal.write_descriptor-bytes-requires-clause-within

@@ -4,7 +4,7 @@ use Rattle.std.specs.Io.KnownBytes.{Appends}
 use Rattle.session.specs.declared.ranges.Reached.TheVariants.{NoMemory}
 use Rattle.session.specs.Answers.{ReportsLoaded}
 use Rattle.session.proofs.Phases.{keeps_none}
-use Rattle.session.proofs.Pieces.{does_more}
+use Rattle.session.proofs.Stretches.{does_more}
 use Rattle.session.proofs.Stretches.{makes_none}
 use Rattle.session.proofs.Writing.{load_answered}
 use Rattle.session.proofs.requests.Requests.answer_load.Goals as goal

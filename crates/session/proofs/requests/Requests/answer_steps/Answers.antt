@@ -1,5 +1,5 @@
 use Rattle.std.proofs.Common.{◌<◌, ◌≤◌, length, refl, rules}
-use Rattle.session.proofs.Pieces.{does_nothing}
+use Rattle.session.proofs.Stretches.{does_nothing}
 use Rattle.session.proofs.Writing.{appends_none, ok_after, reply_more, reply_lost, replies_are_first, steps_answered}
 use Rattle.session.proofs.requests.Requests.answer_steps.Goals as goal
 

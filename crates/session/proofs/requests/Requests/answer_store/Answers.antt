@@ -1,16 +1,12 @@
-use Rattle.session.proofs.Pieces.{does_more}
-use Rattle.session.proofs.Writing.{ok_after, store_answered}
+use Rattle.std.proofs.Common.{refl}
+use Rattle.session.specs.Requests.{asks_store}
+use Rattle.session.proofs.Served.{answered_for}
 use Rattle.session.proofs.requests.Requests.answer_store.Goals as goal
 
 pub returns : goal.returns
 returns g c =
     let contents = g.W.Write.contents in
-    let done = c.store-reached.ensures in
-    record {
-      does = does_more g.D.Device _ _ _ _ _ _ (λ steps replies holds. (c.store-reached.result, holds)) done.makes;
-      answers = ok_after c.write_stored.result c.map_err.result c.map_err.ensures.variant
-          (store_answered g.D.Device _ _ _ _ _ _ _ _ (contents c.args.out.now) (contents c.write_stored.new.out)
-          done.makes)
-          c.write_stored.ensures;
-      phases = done.phases;
-    }
+    answered_for g.D.Device _ _ _ _ (asks_store c.args.p c.args.va c.args.bytes.now) _ _
+    c.write_stored.result c.map_err.result (contents c.args.out.now) (contents c.write_stored.new.out)
+    (λ steps replies it. (c.store-reached.result, it, refl)) (λ kept. kept)
+    c.map_err.ensures.variant c.write_stored.ensures c.store-reached.ensures

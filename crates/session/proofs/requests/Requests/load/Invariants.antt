@@ -1,12 +1,11 @@
 use Rattle.std.proofs.Common.{◌≤◌, ◌-◌}
-use Rattle.session.specs.Locks.{KeepsPhases}
-use Rattle.session.specs.Ranges.{MakesStepsThat, LoadsRange}
+use Rattle.session.specs.CarriedOut.{CarriesOut}
+use Rattle.session.specs.Ranges.{LoadsRange}
 use Rattle.session.proofs.requests.Requests.load.Given as goal
 
 abbrev pub invariant-loop-done : goal.invariant-loop-done
-invariant-loop-done g l = (l.done ≤ l.count) × MakesStepsThat g.D.Device l.initial.self.machine l.initial.self.notes
+invariant-loop-done g l = (l.done ≤ l.count) × CarriesOut g.D.Device l.initial.self.machine l.initial.self.notes
     (LoadsRange l.p l.va l.done l.bytes.items) l.self.machine l.self.notes
-    × KeepsPhases l.initial.self.machine.state l.self.machine.state
 
 abbrev pub decreases-loop-done : goal.decreases-loop-done
 decreases-loop-done g l = l.count - l.done

@@ -1,11 +1,7 @@
-use Rattle.session.proofs.Phases.{keeps_then}
+use Rattle.session.proofs.Carried.{carries_then}
 use Rattle.session.proofs.Rooms.{makes_room_then}
-use Rattle.session.proofs.Stretches.{does_then}
 use Rattle.session.proofs.requests.Requests.make_room.Goals as goal
 
-pub returns-clause-room : goal.returns-clause-room
-returns-clause-room g c = does_then g.D.Device _ _ _ _ _ _ _ _ _
-    (makes_room_then c.args.p _) c.if-take_next_out.ensures.room c.make_room_later.ensures.room
-
-pub returns-clause-phases : goal.returns-clause-phases
-returns-clause-phases g c = keeps_then _ _ _ c.if-take_next_out.ensures.phases c.make_room_later.ensures.phases
+pub returns : goal.returns
+returns g c = carries_then g.D.Device _ _ _ _ _ _ _ _ _
+    (makes_room_then c.args.p _) c.if-take_next_out.ensures c.make_room_later.ensures

@@ -1,12 +1,11 @@
 use Rattle.std.proofs.Common.{◌≤◌, ◌-◌, length, take}
-use Rattle.session.specs.Locks.{KeepsPhases}
-use Rattle.session.specs.Ranges.{MakesStepsThat, StoresRange}
+use Rattle.session.specs.CarriedOut.{CarriesOut}
+use Rattle.session.specs.Ranges.{StoresRange}
 use Rattle.session.proofs.requests.Requests.store.Given as goal
 
 abbrev pub invariant-loop-done : goal.invariant-loop-done
-invariant-loop-done g l = (l.done ≤ length l.bytes) × MakesStepsThat g.D.Device l.initial.self.machine
+invariant-loop-done g l = (l.done ≤ length l.bytes) × CarriesOut g.D.Device l.initial.self.machine
     l.initial.self.notes (StoresRange l.p l.va (take l.done l.bytes)) l.self.machine l.self.notes
-    × KeepsPhases l.initial.self.machine.state l.self.machine.state
 
 abbrev pub decreases-loop-done : goal.decreases-loop-done
 decreases-loop-done g l = length l.bytes - l.done

@@ -1,0 +1,103 @@
+-- What the choices of a crash leave: of each block that was written since the last sync all, half or none of what was
+-- written, or one byte everywhere.
+use Rattle.std.specs.Prelude.{ℕ, zero, suc, ◌+◌, ◌-◌, ◌*◌, ◌/◌, ◌%◌, ◌^◌, ◌==◌, nat_lt, ◌&&◌}
+use Rattle.std.specs.Prelude.{if◌then◌else◌, Bool, List, [], ◌∷◌, ◌++◌, length}
+use Rattle.std.specs.Prelude.{take, drop, replicate, slice_get, slice_index, Option, Some, None}
+use Rattle.std.specs.List.{list_any}
+use Rattle.device.specs.Device.{written}
+use Rattle.crash_states.specs.declared.call.CallKind.{CallKind}
+use Rattle.crash_states.specs.declared.call.CallKind.TheVariants.{Read, Write, Sync}
+use Rattle.crash_states.specs.declared.choice.Choice.{Choice}
+use Rattle.crash_states.specs.declared.choice.Choice.TheVariants.{Old, New, Fill, Halves, Mixture, OneNew, OneOld}
+use Rattle.crash_states.specs.Calls.{DeviceCall}
+
+-- what a disk held at the last sync, what a read gives, and the blocks that were written since, each once
+pub record Content : Type 0 where
+  pub synced : List ℕ
+  pub seen : List ℕ
+  pub unsynced : List ℕ
+
+abbrev pub all_synced : List ℕ → Content
+all_synced bytes = record { synced = bytes; seen = bytes; unsynced = [] }
+
+-- one block more, unless it is among them
+abbrev pub with_block : List ℕ → ℕ → List ℕ
+with_block blocks b = if list_any (λ block. block == b) blocks then blocks else blocks ++ b ∷ []
+
+-- n blocks more, from this one on
+abbrev pub with_blocks : List ℕ → ℕ → ℕ → List ℕ
+with_blocks blocks first zero = blocks
+with_blocks blocks first (suc n) = with_block (with_blocks blocks first n) (first + n)
+
+-- how many blocks are touched by so many bytes from an offset on, one at least
+abbrev pub blocks_touched : ℕ → ℕ → ℕ
+blocks_touched at len = (at + len - 1) / 4096 + 1 - at / 4096
+
+-- a write was begun
+abbrev pub begun_write : Content → ℕ → List ℕ → Content
+begun_write content at [] = content
+begun_write content at (byte ∷ bytes) = record content {
+  seen = written content.seen at (byte ∷ bytes);
+  unsynced = with_blocks content.unsynced (at / 4096) (blocks_touched at (length (byte ∷ bytes)));
+}
+
+-- a call was begun
+abbrev pub begun_as : CallKind → Content → DeviceCall → Content
+begun_as Read content call = content
+begun_as Write content call = begun_write content call.at call.written
+begun_as Sync content call = content
+
+-- and has succeeded
+abbrev pub ended_as : CallKind → Content → Content
+ended_as Read content = content
+ended_as Write content = content
+ended_as Sync content = all_synced content.seen
+
+-- so it is where there is such a call
+abbrev pub call_begun : Content → Option DeviceCall → Content
+call_begun content None = content
+call_begun content (Some call) = begun_as call.kind content call
+
+abbrev pub call_ended : Content → Option DeviceCall → Content
+call_ended content None = content
+call_ended content (Some call) = ended_as call.kind content
+
+-- before the call of this index, which is counted from 0, and within it
+abbrev pub content_before : List ℕ → List DeviceCall → ℕ → Content
+content_before image calls zero = all_synced image
+content_before image calls (suc i) =
+    call_ended (call_begun (content_before image calls i) (slice_get calls i)) (slice_get calls i)
+
+abbrev pub content_within : List ℕ → List DeviceCall → ℕ → Content
+content_within image calls i = call_begun (content_before image calls i) (slice_get calls i)
+
+-- whether a number has this bit
+abbrev pub has_bit : ℕ → ℕ → Bool
+has_bit bits i = nat_lt i 64 && (bits / 2 ^ i % 2 == 1)
+
+-- how many bytes of the block of this index are left as they were written
+abbrev pub new_bytes : Choice → ℕ → ℕ
+new_bytes Old i = 0
+new_bytes New i = 4096
+new_bytes (Fill byte) i = 0
+new_bytes Halves i = 2048
+new_bytes (Mixture bits) i = if has_bit bits i then 4096 else 0
+new_bytes (OneNew block) i = if i == block then 4096 else 0
+new_bytes (OneOld block) i = if i == block then 0 else 4096
+
+-- bytes with the n places from this one on as others have them, as far as these reach
+abbrev pub with_copied : List ℕ → List ℕ → ℕ → ℕ → List ℕ
+with_copied bytes others at n = take at bytes ++ take n (drop at others) ++ drop (at + n) bytes
+
+-- with what is left of the first n blocks as it was written
+abbrev pub left_of_blocks : Choice → Content → ℕ → List ℕ
+left_of_blocks choice content zero = content.synced
+left_of_blocks choice content (suc n) =
+    with_copied (left_of_blocks choice content n) content.seen (4096 * slice_index content.unsynced n)
+    (new_bytes choice n)
+
+-- the bytes that a choice names: a crash leaves them where one was written since the last sync, and elsewhere what was
+-- there
+abbrev pub left_by : Choice → Content → List ℕ
+left_by (Fill byte) content = replicate (length content.synced) byte
+left_by choice content = left_of_blocks choice content (length content.unsynced)

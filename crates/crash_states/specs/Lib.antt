@@ -1,0 +1,6 @@
+pub mod Parts
+pub mod Calls
+pub mod Choices
+pub mod Held
+pub mod Rows
+pub mod inside

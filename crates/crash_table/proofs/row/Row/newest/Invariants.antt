@@ -1,6 +1,0 @@
-use Rattle.std.proofs.Common.{◌≡◌, take}
-use Rattle.crash_table.specs.Rows.{newest_of}
-use Rattle.crash_table.proofs.row.Row.newest.Given as goal
-
-abbrev pub invariant-loop-found : goal.invariant-loop-found
-invariant-loop-found g l = l.newest ≡ newest_of (take l.found-index l.found-items)

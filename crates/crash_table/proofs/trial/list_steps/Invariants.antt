@@ -1,8 +1,0 @@
-use Rattle.std.proofs.Common.{take}
-use Rattle.machine.specs.Runs.{StepsTaken}
-use Rattle.crash_table.specs.Calls.{listing_memory}
-use Rattle.crash_table.proofs.trial.list_steps.Given as goal
-
-abbrev pub invariant-loop-step : goal.invariant-loop-step
-invariant-loop-step g l =
-    StepsTaken listing_memory l.initial.machine (take l.step-index l.steps) l.replies.items l.machine

@@ -1,0 +1,8 @@
+-- What crates above take of the proofs: calls and volumes that only read, and which bytes are refused.
+pub use Rattle.recovery.proofs.FoundJournals.{refuses_read}
+pub use Rattle.recovery.proofs.Kept.{read_then}
+pub use Rattle.recovery.proofs.Parts.{volume_read, journals_refused}
+pub use Rattle.recovery.proofs.RecoveredLengths.{carried_of, volume_of, found_of}
+pub use Rattle.recovery.proofs.Reopened.{own_contents}
+pub use Rattle.recovery.proofs.VolumeReading.{lengths_of_well_formed, files_read, lengths_after_reading}
+pub use Rattle.recovery.proofs.VolumeReading.{volume_read_then, length_of_file}

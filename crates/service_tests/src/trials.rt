@@ -1,0 +1,248 @@
+// What is tried with a machine, and with a service of it. Contracts know the disk as any device, which costs the least.
+ghost use Rattle.std.specs.Prelude.{◌≡◌, length, Some};
+ghost use Rattle.machine.specs.Fresh.{IsFresh};
+
+use crate::machines::{formatted, shape};
+use crate::{calls, loads, threads};
+use device::Device;
+use engine::start;
+use machine::Machine;
+use page_entry::Refusal;
+use service::{Cpu, Entry, Origin, Service};
+use std::alloc::Global;
+use std::marker::Brand;
+use std::sync::Wait;
+use std::sync::ledger::Blank;
+use std::thread::Threads;
+
+// What a machine is tried with.
+pub enum Trial {
+    // Two steps, which fill the trace beside it.
+    Shared,
+    // So many loads of it by itself.
+    Loads(u64),
+    // Calls of the processors of a service of it.
+    Served(Calls),
+}
+
+// What the processors of a service are called for.
+pub enum Calls {
+    // So many loads of one processor. This service isn't gathered, so that the loads alone are counted.
+    Loads(u64),
+    // One call of the first of two.
+    One,
+    // Three calls of two, which fill the trace.
+    Three,
+    // Calls of four threads that run at once.
+    OfThreads,
+}
+
+impl Trial {
+    fn cpus(&self) -> u64 {
+        match self {
+            Trial::Shared => 2,
+            Trial::Loads(_) => 1,
+            Trial::Served(calls) => calls.cpus(),
+        }
+    }
+}
+
+impl Calls {
+    fn cpus(&self) -> u64 {
+        match self {
+            Calls::Loads(_) => 1,
+            Calls::One | Calls::Three => 2,
+            Calls::OfThreads => threads::THREADS,
+        }
+    }
+
+    // The most entries of the trace.
+    fn capacity(&self) -> u64 {
+        match self {
+            Calls::Loads(_) => 3_010,
+            Calls::One | Calls::Three => 3,
+            Calls::OfThreads => 50_000,
+        }
+    }
+
+    // Whether the processors of a service that has just started are answered as they should be.
+    fn are_answered<D: Device + Send + Drop, L: Origin<D> + Send + Sync, R: Threads + Wait + Sync>(
+        &self,
+        rt: &R,
+        cpus: &mut [Cpu<D, Global, L>],
+    ) -> bool {
+        match self {
+            Calls::Loads(count) => loads::are_called(rt, cpus, *count),
+            Calls::One => calls::calls_once(rt, cpus),
+            Calls::Three => calls::fills(rt, cpus),
+            Calls::OfThreads => threads::run(rt, cpus),
+        }
+    }
+
+    // Whether the machine and the trace are as they should be after these calls.
+    fn are_kept<D: Device>(&self, machine: &mut Machine<D, Global>, trace: &[Entry]) -> bool {
+        match self {
+            Calls::Loads(_) => true,
+            Calls::One => calls::is_of_one(machine, trace),
+            Calls::Three => calls::is_of_three(machine, trace),
+            Calls::OfThreads => threads::is_whole(trace),
+        }
+    }
+}
+
+// Whether a trial comes out as it should, with the disk then as that of a machine booted anew on an equal disk, which
+// has answered the steps of the trace in the same way.
+pub fn holds<R: Threads + Wait + Sync>(rt: &R, alloc: Global, trial: &Trial) -> bool {
+    let (Some(mut disk), Some(mut equal)) = (formatted(alloc), formatted(alloc)) else {
+        return false;
+    };
+    holds_anew(rt, alloc, &mut disk, &mut equal, trial) && disk.bytes() == equal.bytes()
+}
+
+fn holds_anew<D: Device + Send + Drop, R: Threads + Wait + Sync>(
+    rt: &R,
+    alloc: Global,
+    disk: D,
+    equal: D,
+    trial: &Trial,
+) -> bool {
+    match start(alloc, equal, shape(trial.cpus())) {
+        Ok(mut again) => holds_on(rt, alloc, disk, &mut again, trial),
+        Err(_) => false,
+    }
+}
+
+fn holds_on<D: Device + Send + Drop, R: Threads + Wait + Sync>(
+    rt: &R,
+    alloc: Global,
+    disk: D,
+    again: &mut Machine<D, Global>,
+    trial: &Trial,
+) -> bool {
+    match start(alloc, disk, shape(trial.cpus())) {
+        Ok(machine) => holds_of(rt, alloc, machine, again, trial),
+        Err(_) => false,
+    }
+}
+
+fn holds_of<D: Device + Send + Drop, R: Threads + Wait + Sync>(
+    rt: &R,
+    alloc: Global,
+    machine: Machine<D, Global>,
+    again: &mut Machine<D, Global>,
+    trial: &Trial,
+) -> bool
+    requires { IsFresh machine.state }
+{
+    match trial {
+        Trial::Shared => calls::is_shared(alloc, machine),
+        Trial::Loads(count) => loads::are_entered(machine, *count),
+        Trial::Served(calls) => named(rt, alloc, machine, again, calls),
+    }
+}
+
+// The service's name stands for this machine.
+fn named<D: Device + Send + Drop, R: Threads + Wait + Sync>(
+    rt: &R,
+    alloc: Global,
+    machine: Machine<D, Global>,
+    again: &mut Machine<D, Global>,
+    calls: &Calls,
+) -> bool
+    requires { IsFresh machine.state }
+{
+    let blank = Blank::new(u64::from(machine.processors()));
+    served::<D, Brand, R>(rt, alloc, machine, calls.capacity(), blank, again, calls)
+}
+
+fn served<D: Device + Send + Drop, L: Origin<D> + Send + Sync, R: Threads + Wait + Sync>(
+    rt: &R,
+    alloc: Global,
+    machine: Machine<D, Global>,
+    capacity: u64,
+    blank: Blank,
+    again: &mut Machine<D, Global>,
+    calls: &Calls,
+) -> bool
+    requires fresh { IsFresh machine.state }
+    requires origin { (L.start ≡ Some machine) × (L.capacity ≡ capacity) }
+    requires name { blank.name ≡ L.name }
+    requires parts { (blank.parts ≡ L.parts) × (L.all ≡ L.parts)
+        × (blank.parts ≡ length machine.state.hardware.shootdown.processors) }
+{
+    match Service::<D, Global, L>::start(alloc, alloc, machine, capacity, blank) {
+        Ok((service, cpus)) => answered(rt, service, cpus, again, calls),
+        Err(_) => false,
+    }
+}
+
+fn answered<D: Device + Send + Drop, L: Origin<D> + Send + Sync, R: Threads + Wait + Sync>(
+    rt: &R,
+    service: Service<D, Global, L>,
+    mut cpus: Vec<Cpu<D, Global, L>>,
+    again: &mut Machine<D, Global>,
+    calls: &Calls,
+) -> bool
+    requires { L.all ≡ L.parts }
+{
+    let are_answered = calls.are_answered(rt, cpus.as_mut_slice());
+    match calls {
+        Calls::Loads(_) => are_answered,
+        Calls::One | Calls::Three | Calls::OfThreads => {
+            gathered(rt, service, cpus, again, calls) && are_answered
+        }
+    }
+}
+
+// A service that is gathered without the last of its processors refuses, and hands back what it was given, so that it
+// can be gathered with all of them.
+fn gathered<D: Device + Drop, L: Origin<D>, R: Wait>(
+    rt: &R,
+    service: Service<D, Global, L>,
+    mut cpus: Vec<Cpu<D, Global, L>>,
+    again: &mut Machine<D, Global>,
+    calls: &Calls,
+) -> bool
+    requires { L.all ≡ L.parts }
+{
+    let Some(last) = cpus.pop() else {
+        return false;
+    };
+    match service.gather(rt, cpus) {
+        Ok(_) => false,
+        Err((refusal, service, mut cpus)) => {
+            let is_whole = cpus.push(last).is_ok();
+            gathered_whole(rt, service, cpus, again, calls)
+                && is_whole
+                && refusal == Refusal::Einval
+        }
+    }
+}
+
+// The machine and the trace of a service to which all its processors are given back.
+fn gathered_whole<D: Device + Drop, L: Origin<D>, R: Wait>(
+    rt: &R,
+    service: Service<D, Global, L>,
+    cpus: Vec<Cpu<D, Global, L>>,
+    again: &mut Machine<D, Global>,
+    calls: &Calls,
+) -> bool
+    requires { L.all ≡ L.parts }
+{
+    match service.gather(rt, cpus) {
+        Ok((mut machine, trace)) => {
+            replays(again, trace.as_slice()) && calls.are_kept(&mut machine, trace.as_slice())
+        }
+        Err(_) => false,
+    }
+}
+
+// Whether a machine answers the steps of a trace as they were answered.
+fn replays<D: Device>(machine: &mut Machine<D, Global>, trace: &[Entry]) -> bool {
+    for entry in trace {
+        if machine.step(&entry.step) != entry.reply {
+            return false;
+        }
+    }
+    true
+}
