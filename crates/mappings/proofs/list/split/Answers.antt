@@ -4,7 +4,16 @@ use Rattle.mappings.specs.declared.mapping.Mapping.{Mapping}
 use Rattle.mappings.specs.inside.Listed.{IsMapping, IsFirstAfter}
 use Rattle.mappings.proofs.Lists.{mapping_at}
 use Rattle.mappings.proofs.Changes.{split_at-insert, length-split_at_cut, split_at_apart}
+use Rattle.mappings.proofs.list.split.Goals.{After-index-whole}
 use Rattle.mappings.proofs.list.split.Goals as goal
+
+-- a mapping ends after the page
+lies : (g : _) (c : After-index-whole g) → IsFirstAfter c.args.list.now.items c.args.page c.first_after-at.result
+    × (c.first_after-at.result < length c.args.list.now.items)
+lies g c =
+    let after : IsFirstAfter c.args.list.now.items c.args.page c.first_after-at.result =
+    rw c.deref.ensures.value at c.first_after-at.ensures in
+    (after, search rules)
 
 -- no mapping ends after the page
 pub returns-then-at-len-clause-items : goal.returns-then-at-len-clause-items
@@ -27,10 +36,8 @@ pub unreachable-requires : goal.unreachable-requires
 unreachable-requires g c =
     let list = c.args.list.now.items in
     let whole = c.index-whole.result.now in
-    let after : IsFirstAfter list c.args.page c.first_after-at.result =
-    rw c.deref.ensures.value at c.first_after-at.ensures in
-    let within : c.first_after-at.result < length list = search rules in
-    let longer = length-split_at_cut c.args.page 0 list c.first_after-at.result whole c.requires.ordered after within
+    let at = lies g (goal.at.unreachable-requires g c).After-index-whole in
+    let longer = length-split_at_cut c.args.page 0 list c.first_after-at.result whole c.requires.ordered at.0 at.1
     (sym c.index-whole.ensures) c.if-whole-page.true in
     let room = c.requires.room in
     search rules
@@ -39,10 +46,8 @@ pub returns-in-Ok-clause-items : goal.returns-in-Ok-clause-items
 returns-in-Ok-clause-items g c =
     let list = c.args.list.now.items in
     let whole = c.index-whole.result.now in
-    let after : IsFirstAfter list c.args.page c.first_after-at.result =
-    rw c.deref.ensures.value at c.first_after-at.ensures in
-    let within : c.first_after-at.result < length list = search rules in
-    let parts = split_at-insert c.args.page 0 list c.first_after-at.result whole c.requires.ordered after within
+    let at = lies g (goal.at.returns-in-Ok-clause-items g c).After-index-whole in
+    let parts = split_at-insert c.args.page 0 list c.first_after-at.result whole c.requires.ordered at.0 at.1
     (sym c.index-whole.ensures) c.if-whole-page.true in
     c.in-Ok.ensures.items ∙ rw (add-one, c.from_page.ensures) parts
 
