@@ -12,6 +12,7 @@ use Rattle.checkpoint.specs.Checkpoint.{CheckpointState, Holds, is_noted, HasDir
 use Rattle.checkpoint.specs.Checkpoint.{IsDirty, IsMappingOf, NotesTaken}
 use Rattle.checkpoint.specs.Backing.{AreBacked, HoldsEachOnce, page_at}
 use Rattle.checkpoint.specs.inside.Notes.{AreNoted, noted_in}
+use Rattle.checkpoint.proofs.Noting.{HasDirtyEntry-at}
 use Rattle.checkpoint.proofs.PagesInUse.{same_page-true}
 
 -- a page whose place is in a page of a file maps it
@@ -75,18 +76,8 @@ IsDirty-mapping memory c spaces owner frame backed distinct holds unnoted = (
       (λ noted. absurd (false≢true (sym unnoted ∙ noted)))
       (λ d.
       let there = maps_page memory c spaces owner d.pcid d.page d.entry backed d.present
-      (subst (λ f. Holds memory f owner) (sym d.same_frame) holds) in (
-        frame,
-        record {
-          pcid = d.pcid;
-          page = d.page;
-          there = there;
-          entry = d.entry;
-          present = d.present;
-          same_frame = d.same_frame;
-          dirty = d.dirty;
-        },
-      ))
+      (subst (λ f. Holds memory f owner) (sym d.same_frame) holds) in
+      (frame, HasDirtyEntry-at d there))
       dirty,
 )
 

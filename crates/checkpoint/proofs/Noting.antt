@@ -11,21 +11,26 @@ use Rattle.spaces.proofs.SpacesLaws.{space_at-missing, get-empty_entries}
 use Rattle.checkpoint.specs.Checkpoint.{HasDirtyEntry, IsInSpace}
 use Rattle.checkpoint.specs.inside.Notes.{AreNoted, IsAnyPage}
 
+-- a dirty entry of a page that is one of those too
+pub HasDirtyEntry-at : {spaces : Spaces} {among other : ℕ → ℕ → Type 0} {frame : ℕ}
+    → (d : HasDirtyEntry spaces among frame) → other d.pcid d.page → HasDirtyEntry spaces other frame
+HasDirtyEntry-at d there = record {
+  pcid = d.pcid;
+  page = d.page;
+  there = there;
+  entry = d.entry;
+  present = d.present;
+  same_frame = d.same_frame;
+  dirty = d.dirty;
+}
+
 -- a dirty entry of one of these pages is one of those pages too
 HasDirtyEntry-among : {spaces : Spaces} {among other : ℕ → ℕ → Type 0} {frame : ℕ}
     → ((pcid page : ℕ) (entry : Mapped) → entry_at spaces pcid page ≡ Some entry
     → entry.dirty ≡ true → among pcid page → other pcid page)
     → HasDirtyEntry spaces among frame
     → HasDirtyEntry spaces other frame
-HasDirtyEntry-among of h = record {
-  pcid = h.pcid;
-  page = h.page;
-  there = of h.pcid h.page h.entry h.present h.dirty h.there;
-  entry = h.entry;
-  present = h.present;
-  same_frame = h.same_frame;
-  dirty = h.dirty;
-}
+HasDirtyEntry-among of h = HasDirtyEntry-at h (of h.pcid h.page h.entry h.present h.dirty h.there)
 
 -- pages with the same dirty entries
 pub AreNoted-as : {spaces : Spaces} {among other : ℕ → ℕ → Type 0} {old new : List Bool}
@@ -66,19 +71,6 @@ AreNoted-then before after is = record {
         h),
   );
 }
-  where
-    HasDirtyEntry-at : {spaces : Spaces} {among other : ℕ → ℕ → Type 0} {frame : ℕ}
-        → (d : HasDirtyEntry spaces among frame) → other d.pcid d.page
-        → HasDirtyEntry spaces other frame
-    HasDirtyEntry-at d there = record {
-      pcid = d.pcid;
-      page = d.page;
-      there = there;
-      entry = d.entry;
-      present = d.present;
-      same_frame = d.same_frame;
-      dirty = d.dirty;
-    }
 
 -- one page with a dirty entry, whose frame is noted
 pub AreNoted-one : (spaces : Spaces) (pcid page : ℕ) (entry : Mapped) (notes : List Bool)

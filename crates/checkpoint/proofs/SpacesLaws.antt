@@ -173,25 +173,23 @@ AreBacked-created memory c spaces pcid =
     (λ q p e present. empty_place q p ∙ cond-false (eqb q pcid) None (place_at spaces q p)
     (narrowed_where (eqb q pcid) (entry_at spaces q p) _ e (empty_entry q p) present).0)
   where
-    empty_entry : (q p : ℕ)
-        → entry_at (with_space spaces pcid empty_space) q p ≡ cond (eqb q pcid) None (entry_at spaces q p)
-    empty_entry q p =
-        ap (λ (s : AddressSpace). maps.get s.entries p) (space_at-with_space spaces pcid empty_space q)
+    empty_at : {X : Type 0} (at : AddressSpace → Option X) → at empty_space ≡ None → (q : ℕ)
+        → at (space_at (with_space spaces pcid empty_space) q) ≡ cond (eqb q pcid) None (at (space_at spaces q))
+    empty_at at none q =
+        ap at (space_at-with_space spaces pcid empty_space q)
         ∙ elim (eqb q pcid)
-        as (λ b. maps.get (cond b empty_space (space_at spaces q)).entries p ≡ cond b None (entry_at spaces q p)) [
-          | true ↦ maps.get-empty nat_cmp p
+        as (λ b. at (cond b empty_space (space_at spaces q)) ≡ cond b None (at (space_at spaces q))) [
+          | true ↦ none
           | false ↦ refl
         ]
 
+    empty_entry : (q p : ℕ)
+        → entry_at (with_space spaces pcid empty_space) q p ≡ cond (eqb q pcid) None (entry_at spaces q p)
+    empty_entry q p = empty_at (λ (s : AddressSpace). maps.get s.entries p) (maps.get-empty nat_cmp p) q
+
     empty_place : (q p : ℕ)
         → place_at (with_space spaces pcid empty_space) q p ≡ cond (eqb q pcid) None (place_at spaces q p)
-    empty_place q p =
-        ap (λ (s : AddressSpace). maps.get s.places p) (space_at-with_space spaces pcid empty_space q)
-        ∙ elim (eqb q pcid)
-        as (λ b. maps.get (cond b empty_space (space_at spaces q)).places p ≡ cond b None (place_at spaces q p)) [
-          | true ↦ maps.get-empty nat_cmp p
-          | false ↦ refl
-        ]
+    empty_place q p = empty_at (λ (s : AddressSpace). maps.get s.places p) (maps.get-empty nat_cmp p) q
 
 -- the entries of a page of a file are taken away
 pub AreBacked-cleared : (memory : FramesState) (c : CheckpointState) (old new : Spaces) (owner : FilePage)

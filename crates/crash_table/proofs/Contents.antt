@@ -1,11 +1,9 @@
 -- What a copy of a disk holds while the calls of a run are made.
 use Rattle.std.proofs.Common.{◌≡◌, ℕ, zero, suc, ◌+◌, ◌-◌, ◌/◌, ◌<◌, ◌≤◌, Bool, true, false, ◌==◌}
-use Rattle.std.proofs.Common.{if◌then◌else◌, List, [], ◌∷◌, ◌++◌, length, map, min, max, take, drop}
-use Rattle.std.proofs.Common.{get_or, slice_range, slice_get, Option, Some, None, ◌⊎◌, refl, sym}
-use Rattle.std.proofs.Common.{◌∙◌, ap, subst, arith, add-one, append-nil, length-drop, inl, inr}
-use Rattle.std.proofs.lemmas.Bool.{cases_lt}
-use Rattle.std.proofs.lemmas.List.{take_all, drop_all, take_min, take_more, map_push}
-use Rattle.std.proofs.lemmas.List.Elements.{Contains-append_left}
+use Rattle.std.proofs.Common.{if◌then◌else◌, List, [], ◌∷◌, ◌++◌, length, map, take}
+use Rattle.std.proofs.Common.{get_or, slice_get, Option, Some, None, refl, sym}
+use Rattle.std.proofs.Common.{◌∙◌, ap, subst, arith, add-one}
+use Rattle.std.proofs.lemmas.List.{take_more, map_push}
 use Rattle.std.proofs.lemmas.Option.{slice_get-map, slice_get_read, slice_get_past}
 use Rattle.std.specs.List.{list_any, Contains}
 use Rattle.std.specs.Option.{option_map}
@@ -14,7 +12,7 @@ use Rattle.crash_states.specs.declared.call.CallKind.{CallKind}
 use Rattle.crash_states.specs.declared.call.CallKind.TheVariants.{Read, Write, Sync}
 use Rattle.crash_states.specs.Calls.{DeviceCall, call_of, device_calls_of}
 use Rattle.crash_states.specs.Choices.{Content, with_block, with_blocks, begun_write, begun_as, call_begun}
-use Rattle.crash_states.specs.Choices.{call_ended, content_before, content_within, blocks_touched, with_copied}
+use Rattle.crash_states.specs.Choices.{call_ended, content_before, content_within, blocks_touched}
 
 -- where a block was added there is one
 with_block_some : (blocks : List ℕ) (b : ℕ) → 0 < length (with_block blocks b)

@@ -165,19 +165,19 @@ module _ (m : Spaces) (n : ℕ) where
       by_test true = refl
       by_test false = refl
 
-  pub entry_at-remove : (q page : ℕ) → entry_at (maps.remove m n) q page ≡ (if q == n then None else entry_at m q page)
-  entry_at-remove q page = ap (λ x. maps.get x.entries page) (space_at-remove q) ∙ by_test (eqb q n)
+  at-remove : {X : Type 0} (at : AddressSpace → Option X) → at empty_space ≡ None → (q : ℕ)
+      → at (space_at (maps.remove m n) q) ≡ (if q == n then None else at (space_at m q))
+  at-remove at none q = ap at (space_at-remove q) ∙ by_test (eqb q n)
     where
-      by_test : (b : Bool) → maps.get (cond b empty_space (space_at m q)).entries page ≡ cond b None (entry_at m q page)
-      by_test true = get-empty_entries page
+      by_test : (b : Bool) → at (cond b empty_space (space_at m q)) ≡ cond b None (at (space_at m q))
+      by_test true = none
       by_test false = refl
 
+  pub entry_at-remove : (q page : ℕ) → entry_at (maps.remove m n) q page ≡ (if q == n then None else entry_at m q page)
+  entry_at-remove q page = at-remove (λ (x : AddressSpace). maps.get x.entries page) (get-empty_entries page) q
+
   pub place_at-remove : (q page : ℕ) → place_at (maps.remove m n) q page ≡ (if q == n then None else place_at m q page)
-  place_at-remove q page = ap (λ x. maps.get x.places page) (space_at-remove q) ∙ by_test (eqb q n)
-    where
-      by_test : (b : Bool) → maps.get (cond b empty_space (space_at m q)).places page ≡ cond b None (place_at m q page)
-      by_test true = get-empty_places page
-      by_test false = refl
+  place_at-remove q page = at-remove (λ (x : AddressSpace). maps.get x.places page) (get-empty_places page) q
 
 -- ---- an entry that is set
 

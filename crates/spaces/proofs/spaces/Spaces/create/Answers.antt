@@ -1,4 +1,4 @@
-use Rattle.std.proofs.Common.{ℕ, ◌≡◌, ◌++◌, ◌∷◌, [], length, cond, Some, Result, Ok, Err}
+use Rattle.std.proofs.Common.{ℕ, ◌≡◌, List, ◌++◌, ◌∷◌, [], cond, Some, Result, Ok, Err}
 use Rattle.std.proofs.Common.{is_ok, is_err, true, false, refl, sym, ap, ◌∙◌, subst, arith}
 use Rattle.spaces.specs.Spaces.{SpacesState, empty_space, with_space, IsLowestFree}
 use Rattle.spaces.specs.inside.Slots.{spaces_of, IsFirstFree, AreSlots, AreInUse, AreFreed}
@@ -71,6 +71,11 @@ succeeded : {T E : Type 0} (r : Result T E) → is_err r ≡ false → is_ok r �
 succeeded (Ok x) h = refl
 succeeded (Err e) h = cc
 
+-- and one that was pushed so is the last
+pushed_to : {X T E : Type 0} (slots : List X) (x : X) (r : Result T E) (all : List X)
+    → all ≡ cond (is_ok r) (slots ++ x ∷ []) slots → is_err r ≡ false → all ≡ slots ++ x ∷ []
+pushed_to slots x r all is went = is ∙ ap (λ b. cond b (slots ++ x ∷ []) slots) (succeeded r went)
+
 -- and what is refused didn't
 refused : {T E : Type 0} (r : Result T E) → is_err r ≡ true → is_ok r ≡ false
 refused (Ok x) h = cc
@@ -93,13 +98,11 @@ invariant_of-self-2 g c =
     let slots = c.self.inside.slots.items in
     let at = c.first_free-free.result in
     let first = subst (λ l. IsFirstFree l at) c.deref.ensures.value c.first_free-free.ensures in
-    let pushed : c.push.new.self.items ≡ slots ++ Some c.in-Ok.space ∷ [] =
-    c.push.ensures.items
-    ∙ ap (λ b. cond b (slots ++ Some c.in-Ok.space ∷ []) slots)
-    (succeeded c.push.result (sym c.is_err.ensures.value ∙ c.if-is_err.false)) in
-    let last : at ≡ length slots = omega (arith, first.within, c.self.inside.slots.ok.0) in (
+    let pushed = pushed_to slots (Some c.in-Ok.space) c.push.result c.push.new.self.items c.push.ensures.items
+    (sym c.is_err.ensures.value ∙ c.if-is_err.false) in (
       subst (λ l. AreSlots l c.self.inside.prepared) (sym pushed)
-          (slots_pushed slots c.self.inside.prepared c.self.invariant.0 at first.free c.in-Ok.space c.in-Ok.ensures last
+          (slots_pushed slots c.self.inside.prepared c.self.invariant.0 at first.free c.in-Ok.space c.in-Ok.ensures
+          (omega (arith, first.within, c.self.inside.slots.ok.0))
           (lowest_free slots c.self.inside.prepared c.self.invariant.0 at first c.if-free-eq-PCIDS.false).small),
       subst (λ l. AreInUse l c.self.inside.in_use) (sym pushed)
           (in_use_pushed slots c.self.inside.in_use c.in-Ok.space c.self.invariant.1 c.in-Ok.ensures),
@@ -120,13 +123,11 @@ returns-clause-created g c =
     let slots = c.self.inside.slots.items in
     let at = c.first_free-free.result in
     let first = subst (λ l. IsFirstFree l at) c.deref.ensures.value c.first_free-free.ensures in
-    let pushed : c.push.new.self.items ≡ slots ++ Some c.in-Ok.space ∷ [] =
-    c.push.ensures.items
-    ∙ ap (λ b. cond b (slots ++ Some c.in-Ok.space ∷ []) slots)
-    (succeeded c.push.result (sym c.is_err.ensures.value ∙ c.if-is_err.false)) in
-    let last : at ≡ length slots = omega (arith, first.within, c.self.inside.slots.ok.0) in
+    let pushed = pushed_to slots (Some c.in-Ok.space) c.push.result c.push.new.self.items c.push.ensures.items
+    (sym c.is_err.ensures.value ∙ c.if-is_err.false) in
     let made =
     ap spaces_of pushed
-    ∙ push-create slots c.self.inside.prepared c.self.invariant.0 at first.free c.in-Ok.space c.in-Ok.ensures last in
+    ∙ push-create slots c.self.inside.prepared c.self.invariant.0 at first.free c.in-Ok.space c.in-Ok.ensures
+    (omega (arith, first.within, c.self.inside.slots.ok.0)) in
     (λ i. record { map = made i; prepared = c.self.inside.prepared })
     ∙ ap (λ (s : SpacesState). record s { map = with_space s.map at empty_space }) c.self.view_is
