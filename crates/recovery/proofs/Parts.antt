@@ -12,10 +12,10 @@ use Rattle.recovery.proofs.Judged.{refuses_journals}
 module _ (v : SuperValue) (h : GeometryValue) (old new : List ℕ) (is : IsSuper v (block_at old 0))
     (long : 4096 * block_count v ≤ length old) (same : h ≡ geometry_of v) (read : new ≡ old) where
   pub volume_read : (batches : List Batch) → AreOpen h batches new → IsVolume v batches old
-  volume_read batches open =
+  volume_read batches are =
       let P : List ℕ → Type 0 = λ bytes. AreOpen h batches bytes in
       let Q : GeometryValue → Type 0 = λ g. AreOpen g batches old in
-      record { super_block = is; long = long; journals = subst Q same (subst P read open) }
+      record { super_block = is; long = long; journals = subst Q same (subst P read are) }
 
   pub journals_refused : (e : Refusal) → RefusesJournals h new e → RefusesOpening old e
   journals_refused e refuses =

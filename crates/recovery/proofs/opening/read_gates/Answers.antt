@@ -1,4 +1,4 @@
-use Rattle.std.proofs.Common.{ℕ, ◌*◌, ap, length-set, ◌∙◌, arith}
+use Rattle.std.proofs.Common.{◌*◌, ap, length-set, ◌∙◌, arith}
 use Rattle.volume_codec.specs.Recovery.{IsOpen}
 use Rattle.volume_codec.proofs.Layouts.{few_journals, first_home-within}
 use Rattle.recovery.proofs.FoundJournals.{gate_read, gate_more}
