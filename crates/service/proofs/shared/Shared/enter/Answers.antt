@@ -20,6 +20,6 @@ returns-clause-entered g c = λ _.
     let ensured = c.enter-reply.ensures in
     let few = c.self.invariant.2.1.few in
     seen_entered g.D.Device _ _ _ _ _ _ c.self.view_is c.step_of-step.ensures
-    (enters g.D.Device _ _ _ c.self.view_is c.is_full.ensures c.if-is_full.false few _ _ c.of.ensures
-    _ c.push_reserved.ensures.items _ _ c.progress_with-self-inside.ensures ensured.taken ensured.longer
+    (enters g.D.Device _ _ _ c.self.view_is c.is_full.ensures c.if-is_full.false few _ _
+    c.of.ensures _ c.push_reserved.ensures.items _ _ c.progress_with-self-inside.ensures ensured.taken ensured.longer
     (λ files start on. ensured.safe files start _ _ on))
