@@ -16,7 +16,7 @@ use serde_json::Value;
 use std::alloc::{AllocError, Allocator, Global};
 
 /// What a thread is to do next.
-#[derive(Clone, Copy, Debug, PartialEq, Eq)]
+#[derive(Clone, Copy)]
 pub enum Command {
     /// An act, and what goes with it until it is done: a load, a store, a switch, a map, or the beginning of a change.
     Do(Act),
