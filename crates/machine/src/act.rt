@@ -8,7 +8,7 @@ use page_entry::{FileNumber, PageIndex, Pcid, ProcessorNumber, Refusal};
 use std::fmt;
 
 /// The size of a machine.
-#[derive(Clone, Copy, Debug, PartialEq, Eq)]
+#[derive(Clone, Copy)]
 pub struct Shape {
     /// Processors, 1 to 16.
     pub cpus: u64,
@@ -21,7 +21,7 @@ pub struct Shape {
 }
 
 /// One act of one processor.
-#[derive(Clone, Copy, Debug, PartialEq, Eq)]
+#[derive(Clone, Copy, PartialEq, Eq)]
 pub enum Act {
     /// Reads `count` bytes, 1 to 8 inside one page below 2^47.
     Load {
@@ -121,14 +121,14 @@ impl Act {
 }
 
 /// An act, and the processor that does it.
-#[derive(Clone, Copy, Debug, PartialEq, Eq)]
+#[derive(Clone, Copy, PartialEq, Eq)]
 pub struct Step {
     pub p: ProcessorNumber,
     pub act: Act,
 }
 
 /// What a step is answered.
-#[derive(Clone, Copy, Debug, PartialEq, Eq)]
+#[derive(Clone, Copy, PartialEq, Eq)]
 pub enum Reply {
     /// The bytes that a load read.
     Bytes(FewBytes),

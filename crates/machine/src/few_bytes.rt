@@ -6,7 +6,7 @@ ghost use Rattle.std.specs.Cmp.Lexicographic.{pointwise, nat_list_eq_equiv};
 use std::marker::Model;
 
 /// The bytes of one load or store: at most 8.
-#[derive(Clone, Copy, Debug)]
+#[derive(Clone, Copy)]
 pub struct FewBytes {
     bytes: [u8; 8],
     len: u8,

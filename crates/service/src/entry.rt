@@ -7,7 +7,7 @@ use machine::{Act, Reply, Step};
 use page_entry::ProcessorNumber;
 
 /// A step that was made, and what it was answered.
-#[derive(Clone, Copy, Debug, PartialEq, Eq)]
+#[derive(Clone, Copy, PartialEq, Eq)]
 pub struct Entry {
     pub step: Step,
     pub reply: Reply,
