@@ -10,7 +10,7 @@ use std::alloc::Global;
 use std::fmt;
 
 /// Where a run is stopped.
-#[derive(Clone, Copy)]
+#[derive(Clone, Copy, Debug)]
 enum Stop {
     /// At its end.
     End,
@@ -29,26 +29,6 @@ enum Stops {
     After(Span),
     Failing(Span),
     Shortened(Span),
-}
-
-impl Stops {
-    // The numbers of the stops.
-    fn span(self) -> Span {
-        match self {
-            Stops::End => Span { first: 0, end: 1 },
-            Stops::After(span) | Stops::Failing(span) | Stops::Shortened(span) => span,
-        }
-    }
-
-    // The stop of this number.
-    fn at(self, number: u64) -> Stop {
-        match self {
-            Stops::End => Stop::End,
-            Stops::After(_) => Stop::After(number),
-            Stops::Failing(_) => Stop::Failing(number),
-            Stops::Shortened(_) => Stop::Shortened(number),
-        }
-    }
 }
 
 fn read_stops(alloc: Global, value: &Value) -> Result<Stops, Failure> {
@@ -112,34 +92,47 @@ pub struct Ending {
 impl Ending {
     /// What a line says.
     pub fn read(alloc: Global, value: &Value) -> Result<Self, Failure> {
-        let stops = read_stops(alloc, value)?;
-        let step = match value.get("step") {
-            Some(step) => Some(number(alloc, step, "step")?),
-            None => None,
-        };
-        let cut = span_of(alloc, value, "cut")?;
-        let leaves = read_choices(alloc, list_of(alloc, value, "leaves")?)?;
-        match read_wanted(alloc, value) {
-            Ok(wanted) => Ok(Ending {
-                stops,
-                step,
-                cut,
-                leaves,
-                wanted,
-            }),
-            Err(failure) => Err(failure),
-        }
+        Ok(Ending {
+            stops: read_stops(alloc, value)?,
+            step: match value.get("step") {
+                Some(step) => Some(number(alloc, step, "step")?),
+                None => None,
+            },
+            cut: span_of(alloc, value, "cut")?,
+            leaves: read_choices(alloc, list_of(alloc, value, "leaves")?)?,
+            wanted: read_wanted(alloc, value)?,
+        })
     }
 
     /// Makes all of them, and tells how many they are.
     pub fn make(&self, alloc: Global, trial: &Trial) -> Result<u64, Failure> {
-        let span = self.stops.span();
-        let mut count = 0u64;
-        for number in span.first..span.end {
-            let made = self.make_at(alloc, trial, self.stops.at(number))?;
-            count = count.saturating_add(made);
+        match self.stops {
+            Stops::End => self.make_at(alloc, trial, Stop::End),
+            Stops::After(span) => {
+                let mut count = 0u64;
+                for steps in span.first..span.end {
+                    let made = self.make_at(alloc, trial, Stop::After(steps))?;
+                    count = count.saturating_add(made);
+                }
+                Ok(count)
+            }
+            Stops::Failing(span) => {
+                let mut count = 0u64;
+                for call in span.first..span.end {
+                    let made = self.make_at(alloc, trial, Stop::Failing(call))?;
+                    count = count.saturating_add(made);
+                }
+                Ok(count)
+            }
+            Stops::Shortened(span) => {
+                let mut count = 0u64;
+                for length in span.first..span.end {
+                    let made = self.make_at(alloc, trial, Stop::Shortened(length))?;
+                    count = count.saturating_add(made);
+                }
+                Ok(count)
+            }
         }
-        Ok(count)
     }
 
     // Those of one stop.

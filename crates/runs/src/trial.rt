@@ -54,37 +54,26 @@ const FLUSH: Step = Step {
     act: Act::Flush,
 };
 
-// Makes steps on a disk, and gives it back. A refusal comes with it.
-fn ran<D: Device>(
-    alloc: Global,
-    disk: D,
-    shape: Shape,
-    steps: &[Step],
-    heard: &mut Heard,
-) -> (D, Option<Refusal>) {
-    match engine::run(alloc, disk, shape, steps, heard) {
-        Ok(disk) => (disk, None),
-        Err((refusal, disk)) => (disk, Some(refusal)),
-    }
-}
-
 impl Run {
     /// Makes the whole run on a disk of these bytes, and gives what is left of it.
     pub fn make(&self, alloc: Global, image: &[u8], ended: &Ended) -> Result<Vec<u8>, Failure> {
         let mut heard = Heard::new(alloc, self.replies.len() as u64, false);
         let disk = FailingDisk::new(disk_of(alloc, image)?, self.fails);
-        let (disk, refusal) = ran(alloc, disk, self.shape, &self.steps, &mut heard);
+        let (disk, refusal) = match engine::run(alloc, disk, self.shape, &self.steps, &mut heard) {
+            Ok(disk) => (disk, None),
+            Err((refusal, disk)) => (disk, Some(refusal)),
+        };
         self.compare_ended(alloc, refusal, &heard.replies, &disk, ended)?;
         Ok(disk.into_inner().bytes().to_vec(alloc)?)
     }
 
     // Compares how a run ended.
-    fn compare_ended<D: Device>(
+    fn compare_ended(
         &self,
         alloc: Global,
         refusal: Option<Refusal>,
         heard: &[Reply],
-        disk: &D,
+        disk: &Disk,
         ended: &Ended,
     ) -> Result<(), Failure> {
         match (refusal, &ended.refused) {
@@ -142,9 +131,9 @@ impl Run {
         heard: &mut Heard,
     ) -> Result<Disk, Failure> {
         let disk = FailingDisk::new(disk_of(alloc, image)?, fails);
-        match ran(alloc, disk, self.shape, steps, heard) {
-            (disk, None) => Ok(disk),
-            (_, Some(refusal)) => Err(Failure::differs(alloc, "the run", &"a machine", &refusal)),
+        match engine::run(alloc, disk, self.shape, steps, heard) {
+            Ok(disk) => Ok(disk),
+            Err((refusal, _)) => Err(Failure::differs(alloc, "the run", &"a machine", &refusal)),
         }
     }
 
@@ -203,12 +192,12 @@ impl Run {
     }
 
     // The step of this number, counted from 0, breaks the machine: two flushes after it are answered so.
-    fn compare_broken<D: Device>(
+    fn compare_broken(
         &self,
         alloc: Global,
         number: u64,
         replies: &[Reply],
-        disk: &D,
+        disk: &Disk,
         call: u64,
     ) -> Result<(), Failure> {
         match replies {

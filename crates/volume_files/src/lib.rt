@@ -28,6 +28,6 @@ pub use marker::{Marker, Noted};
 pub use migrating::{MigrationPlan, migrate};
 pub use suspect_flag::SuspectFlag;
 pub use sync_note::SyncNote;
-pub use thread_disk::{ThreadDisk, for_threads};
+pub use thread_disk::{Reminder, ThreadDisk, for_threads};
 pub use volume_file::{Access, place};
 pub use watched_file::{WatchedFile, Watcher};
