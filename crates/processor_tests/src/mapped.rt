@@ -2,7 +2,6 @@
 use mappings::{Mappings, PageRange, Place, Rights, mapped_pages};
 use page_entry::{FileNumber, PageNumber, Refusal};
 use std::alloc::Global;
-use std::process::Abort;
 
 const READ_WRITE: Rights = Rights::ReadWrite;
 
@@ -56,59 +55,34 @@ fn pages_to_map(rt: HostRuntime) {
     }
 }
 
-// Maps pages that nothing refuses to map.
-fn add(rt: &impl Abort, space: &mut Mappings<Global>, chosen: PageRange, place: Place) {
-    assert!(rt; space.add(chosen, place).is_ok());
-}
-
-// Unmaps pages.
-fn remove(rt: &impl Abort, space: &mut Mappings<Global>, chosen: PageRange) {
-    let Ok(()) = space.reserve(chosen, None) else {
-        panic!(rt; "no memory to unmap");
-    };
-    assert!(rt; space.remove(chosen).is_ok());
+// Unmaps pages. Whether it isn't refused.
+fn remove(space: &mut Mappings<Global>, chosen: PageRange) -> bool {
+    space.reserve(chosen, None).is_ok() && space.remove(chosen).is_ok()
 }
 
 // Sets the rights of pages.
-fn protect(
-    rt: &impl Abort,
-    space: &mut Mappings<Global>,
-    chosen: PageRange,
-    rights: Rights,
-) -> Result<(), Refusal> {
-    let Ok(()) = space.reserve(chosen, Some(rights)) else {
-        panic!(rt; "no memory to protect");
-    };
+fn protect(space: &mut Mappings<Global>, chosen: PageRange, rights: Rights) -> Result<(), Refusal> {
+    space.reserve(chosen, Some(rights))?;
     space.protect(chosen, rights)
 }
 
-// Whether this is what a page maps.
-fn maps(space: &Mappings<Global>, page: PageNumber, expected: Option<Place>) -> bool {
-    space.where_is(page) == expected
+// Whether both ends of a mapping stay where its middle is unmapped.
+fn keeps_both_ends(space: &mut Mappings<Global>) -> bool {
+    let first = place(0, 0, READ_WRITE, READ_WRITE);
+    space.add(range(1, 3), first) == Ok(())
+        && remove(space, range(2, 1))
+        && space.where_is(1) == Some(first)
+        && space.where_is(2).is_none()
+        && space.where_is(3) == Some(place(0, 2, READ_WRITE, READ_WRITE))
+        && !space.has_mapped(range(2, 1))
 }
 
-#[test]
-fn an_unmapped_middle_leaves_both_ends(rt: HostRuntime) {
-    let mut space = Mappings::new(rt.alloc());
-    let first = place(0, 0, READ_WRITE, READ_WRITE);
-    add(&rt, &mut space, range(1, 3), first);
-    let middle = range(2, 1);
-    remove(&rt, &mut space, middle);
-    assert!(rt; maps(&space, 1, Some(first)));
-    assert!(rt; maps(&space, 2, None));
-    assert!(rt; maps(&space, 3, Some(Place { page: 2, ..first })));
-    assert!(rt; !space.has_mapped(middle));
-}
-
-#[test]
-fn rights_of_one_page_change(rt: HostRuntime) {
-    let mut space = Mappings::new(rt.alloc());
-    let first = place(0, 0, READ_WRITE, READ_WRITE);
-    add(&rt, &mut space, range(16, 2), first);
-    let done = protect(&rt, &mut space, range(16, 1), Rights::Read);
-    assert!(rt; done == Ok(()));
-    assert!(rt; maps(&space, 16, Some(place(0, 0, Rights::Read, READ_WRITE))));
-    assert!(rt; maps(&space, 17, Some(place(0, 1, READ_WRITE, READ_WRITE))));
+// Whether the rights of one page of a mapping change.
+fn changes_one(space: &mut Mappings<Global>) -> bool {
+    space.add(range(16, 2), place(0, 0, READ_WRITE, READ_WRITE)) == Ok(())
+        && protect(space, range(16, 1), Rights::Read) == Ok(())
+        && space.where_is(16) == Some(place(0, 0, Rights::Read, READ_WRITE))
+        && space.where_is(17) == Some(place(0, 1, READ_WRITE, READ_WRITE))
 }
 
 // Whether these are the pages that map a page of a file, in their order.
@@ -127,161 +101,106 @@ fn are_pages_of(
     pages.next().is_none()
 }
 
-// Maps the most pages that one mapping may have, where one page more is refused.
-fn add_most(rt: &impl Abort, space: &mut Mappings<Global>, all: PageRange) {
+// Whether the most pages that one mapping may have are mapped, where one page more is refused, to the file pages that
+// they are to map.
+fn maps_the_most(space: &mut Mappings<Global>) -> bool {
+    let (all, more) = (range(1, 65_536), range(1, 65_537));
     let first = place(3, 5, READ_WRITE, READ_WRITE);
-    let more = place(0, 0, READ_WRITE, READ_WRITE);
-    let answers = (
-        space.may_add(range(1, 65_537), more),
-        space.may_add(all, first),
-    );
-    assert!(rt; answers == (Err(Refusal::Einval), Ok(())));
-    add(rt, space, all, first);
+    space.may_add(more, place(0, 0, READ_WRITE, READ_WRITE)) == Err(Refusal::Einval)
+        && space.may_add(all, first) == Ok(())
+        && space.add(all, first) == Ok(())
+        && space.is_mapped(all)
+        && !space.is_mapped(more)
+        && space.has_mapped(range(65_536, 4))
+        && space.where_is(65_536) == Some(place(3, 65_540, READ_WRITE, READ_WRITE))
+        && are_pages_of(space, 3, 65_540, &[65_536])
 }
 
-// The most pages that one mapping may have, and the file pages that they map.
-#[test]
-fn a_mapping_of_the_most_pages(rt: HostRuntime) {
-    let mut space = Mappings::new(rt.alloc());
-    let all = range(1, 65_536);
-    add_most(&rt, &mut space, all);
-    assert!(rt; space.is_mapped(all));
-    assert!(rt; !space.is_mapped(range(1, 65_537)));
-    assert!(rt; space.has_mapped(range(65_536, 4)));
-    let last = place(3, 65_540, READ_WRITE, READ_WRITE);
-    assert!(rt; maps(&space, 65_536, Some(last)));
-    assert!(rt; are_pages_of(&space, 3, 65_540, &[65_536]));
-}
-
-// Two pages that map a page of a file, one of them to be loaded alone.
-fn add_two(rt: &impl Abort, space: &mut Mappings<Global>) {
-    add(rt, space, range(4, 1), place(1, 0, READ_WRITE, READ_WRITE));
-    add(
-        rt,
-        space,
-        range(2, 1),
-        place(1, 0, Rights::Read, Rights::Read),
-    );
-}
-
-// What is refused to be mapped over them.
-fn refused_additions(rt: &impl Abort, space: &mut Mappings<Global>) {
-    let over = space.add(range(2, 1), place(1, 0, READ_WRITE, READ_WRITE));
-    assert!(rt; over == Err(Refusal::Overlap));
-    let forbidden = space.add(range(2, 1), place(1, 0, READ_WRITE, Rights::Read));
-    assert!(rt; forbidden == Err(Refusal::Eacces));
-}
-
-// Which rights they are refused.
-fn refused_rights(rt: &impl Abort, space: &Mappings<Global>) {
-    let forbidden = space.may_protect(range(2, 1), READ_WRITE);
-    assert!(rt; forbidden == Err(Refusal::Eacces));
-    let missing = space.may_protect(range(4, 2), Rights::Read);
-    assert!(rt; missing == Err(Refusal::Enomem));
+// Whether two pages map a page of a file, one of them to be loaded alone; and what is refused to be mapped over them,
+// and which rights they are refused.
+fn refuses(space: &mut Mappings<Global>) -> bool {
+    let both = place(1, 0, READ_WRITE, READ_WRITE);
+    let (second, fourth) = (range(2, 1), range(4, 1));
+    space.add(fourth, both) == Ok(())
+        && space.add(second, place(1, 0, Rights::Read, Rights::Read)) == Ok(())
+        && space.add(second, both) == Err(Refusal::Overlap)
+        && space.add(second, place(1, 0, READ_WRITE, Rights::Read)) == Err(Refusal::Eacces)
+        && space.may_protect(second, READ_WRITE) == Err(Refusal::Eacces)
+        && space.may_protect(range(4, 2), Rights::Read) == Err(Refusal::Enomem)
+        && space.is_mapped(fourth)
+        && are_pages_of(space, 1, 0, &[2, 4])
 }
 
 #[test]
-fn refusals_and_pages_of_a_file_page(rt: HostRuntime) {
-    let mut space = Mappings::new(rt.alloc());
-    add_two(&rt, &mut space);
-    refused_additions(&rt, &mut space);
-    refused_rights(&rt, &space);
-    assert!(rt; space.is_mapped(range(4, 1)));
-    assert!(rt; are_pages_of(&space, 1, 0, &[2, 4]));
+fn pages_are_mapped_as_they_were_asked_for(rt: HostRuntime) {
+    let ends = keeps_both_ends(&mut Mappings::new(rt.alloc()));
+    let rights = changes_one(&mut Mappings::new(rt.alloc()));
+    let most = maps_the_most(&mut Mappings::new(rt.alloc()));
+    let refused = refuses(&mut Mappings::new(rt.alloc()));
+    assert!(rt;
+        ends && rights && most && refused,
+        "{ends}, {rights}, {most}, {refused}"
+    );
 }
 
-// Whether one of the pages is mapped.
-fn has_mapped(pages: &[Option<Place>], first: usize, count: usize) -> bool {
+// How many of the pages are mapped.
+fn mapped_among(pages: &[Option<Place>], first: usize, count: usize) -> usize {
     let inside = pages.iter().skip(first).take(count);
-    inside.filter(|page| page.is_some()).count() > 0
+    inside.filter(|page| page.is_some()).count()
 }
 
-// Whether one of the pages isn't mapped.
-fn has_unmapped(pages: &[Option<Place>], first: usize, count: usize) -> bool {
-    let inside = pages.iter().skip(first).take(count);
-    inside.filter(|page| page.is_none()).count() > 0
-}
+// A call that maps (0), unmaps (1), or takes the right to store from (2) so many pages from the first one on.
+type Call = (u8, usize, usize);
 
-// Maps pages in the list.
-fn list_added(pages: &mut [Option<Place>], first: usize, count: usize) {
+// Makes a call on the list of pages.
+fn change_list(pages: &mut [Option<Place>], call: Call) {
+    let (kind, first, count) = call;
     for (i, page) in pages.iter_mut().skip(first).take(count).enumerate() {
-        *page = Some(place(7, 3 + (i % 8) as u32, READ_WRITE, READ_WRITE));
-    }
-}
-
-// Takes the right to store from pages in the list.
-fn list_protected(pages: &mut [Option<Place>], first: usize, count: usize) {
-    for page in pages.iter_mut().skip(first).take(count) {
-        if let Some(place) = page {
-            place.rights = Rights::Read;
+        match kind {
+            0 => *page = Some(place(7, 3 + (i % 8) as u32, READ_WRITE, READ_WRITE)),
+            1 => *page = None,
+            _ => {
+                if let Some(place) = page {
+                    place.rights = Rights::Read;
+                }
+            }
         }
     }
 }
 
-// Maps pages in both, where none of them is mapped.
-fn add_to_both(
-    rt: &impl Abort,
-    space: &mut Mappings<Global>,
-    pages: &mut [Option<Place>],
-    first: usize,
-    count: usize,
-) {
-    let taken = has_mapped(pages, first, count);
+// Makes a call on both, and not on the list where it has to be refused: pages are mapped where none of them is, and the
+// right is taken where all of them are mapped. Whether it was answered so, and each page is as in the list then.
+fn changes_both(space: &mut Mappings<Global>, pages: &mut [Option<Place>], call: Call) -> bool {
+    let (kind, first, count) = call;
+    let mapped = mapped_among(pages, first, count);
     let chosen = range(first as u64, count as u64);
-    let done = space.add(chosen, place(7, 3, READ_WRITE, READ_WRITE));
-    assert!(rt; done.is_err() == taken);
-    if !taken {
-        list_added(pages, first, count);
+    let (done, wanted) = match kind {
+        0 => (
+            space
+                .add(chosen, place(7, 3, READ_WRITE, READ_WRITE))
+                .is_ok(),
+            mapped == 0,
+        ),
+        1 => (remove(space, chosen), true),
+        _ => (
+            protect(space, chosen, Rights::Read).is_ok(),
+            mapped == count,
+        ),
+    };
+    if wanted {
+        change_list(pages, call);
     }
+    done == wanted && has_all(space, pages)
 }
 
-// Unmaps pages in both.
-fn remove_from_both(
-    rt: &impl Abort,
-    space: &mut Mappings<Global>,
-    pages: &mut [Option<Place>],
-    first: usize,
-    count: usize,
-) {
-    remove(rt, space, range(first as u64, count as u64));
-    for page in pages.iter_mut().skip(first).take(count) {
-        *page = None;
-    }
-}
-
-// Takes the right to store from pages in both, where all of them are mapped.
-fn protect_both(
-    rt: &impl Abort,
-    space: &mut Mappings<Global>,
-    pages: &mut [Option<Place>],
-    first: usize,
-    count: usize,
-) {
-    let missing = has_unmapped(pages, first, count);
-    let chosen = range(first as u64, count as u64);
-    let done = protect(rt, space, chosen, Rights::Read);
-    assert!(rt; done.is_err() == missing);
-    if !missing {
-        list_protected(pages, first, count);
-    }
-}
-
-// Does one call on both, and compares the answers and each page.
-fn both(
-    rt: &impl Abort,
-    space: &mut Mappings<Global>,
-    pages: &mut [Option<Place>],
-    call: (u8, usize, usize),
-) {
-    let (call, first, count) = call;
-    match call {
-        0 => add_to_both(rt, space, pages, first, count),
-        1 => remove_from_both(rt, space, pages, first, count),
-        _ => protect_both(rt, space, pages, first, count),
-    }
+// Whether each page is as in the list.
+fn has_all(space: &Mappings<Global>, pages: &[Option<Place>]) -> bool {
     for (number, page) in pages.iter().enumerate() {
-        assert!(rt; maps(space, number as u64, *page));
+        if space.where_is(number as u64) != *page {
+            return false;
+        }
     }
+    true
 }
 
 #[test]
@@ -302,9 +221,10 @@ fn each_three_calls_do_what_a_list_of_pages_does(rt: HostRuntime) {
             for third in calls {
                 let mut space = Mappings::new(rt.alloc());
                 let mut pages = [None; 8];
-                both(&rt, &mut space, &mut pages, first);
-                both(&rt, &mut space, &mut pages, second);
-                both(&rt, &mut space, &mut pages, third);
+                let alike = changes_both(&mut space, &mut pages, first)
+                    && changes_both(&mut space, &mut pages, second)
+                    && changes_both(&mut space, &mut pages, third);
+                assert!(rt; alike, "{first:?}, {second:?}, {third:?}");
             }
         }
     }

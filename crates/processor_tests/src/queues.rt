@@ -18,37 +18,20 @@ struct Plain {
     space: Pcid,
     entries: Vec<CachedEntry>,
     notified: Vec<Invpcid>,
-    // The PCIDs that were switched to and not dropped whole since.
-    known: Vec<Pcid>,
+    // Of each PCID, whether it was switched to and not dropped whole since.
+    known: [bool; 4],
 }
 
-fn drops_pcid(action: Invpcid, pcid: Pcid) -> bool {
+// Whether an invalidation drops the entry of a page of a PCID; of no page, whether it drops the PCID whole.
+fn drops(action: Invpcid, pcid: Pcid, page: Option<PageNumber>) -> bool {
     match action {
-        Invpcid::IndividualAddress(..) => false,
+        Invpcid::IndividualAddress(named, number) => named == pcid && page == Some(number),
         Invpcid::SingleContext(named) => named == pcid,
         Invpcid::AllContextsAndGlobals | Invpcid::AllContexts => true,
     }
 }
 
-fn drops(action: Invpcid, entry: CachedEntry) -> bool {
-    match action {
-        Invpcid::IndividualAddress(pcid, page) => entry.pcid == pcid && entry.page == page,
-        Invpcid::SingleContext(_) | Invpcid::AllContextsAndGlobals | Invpcid::AllContexts => {
-            drops_pcid(action, entry.pcid)
-        }
-    }
-}
-
 impl Plain {
-    fn new(alloc: Global) -> Result<Self, AllocError> {
-        Ok(Plain {
-            space: 0,
-            entries: Vec::new(alloc),
-            notified: Vec::new(alloc),
-            known: vec![in alloc; 0]?,
-        })
-    }
-
     fn cached(&self, page: PageNumber) -> Option<CachedEntry> {
         for entry in &self.entries {
             if entry.pcid == self.space && entry.page == page {
@@ -58,9 +41,18 @@ impl Plain {
         None
     }
 
-    fn fill(&mut self, entry: CachedEntry) -> Result<(), AllocError> {
+    // Drops what an invalidation names.
+    fn invalidate(&mut self, action: Invpcid) {
         self.entries
-            .retain(|e| !(e.pcid == entry.pcid && e.page == entry.page));
+            .retain(|entry| !drops(action, entry.pcid, Some(entry.page)));
+        for (pcid, known) in self.known.iter_mut().enumerate() {
+            let pcid = pcid as Pcid;
+            *known = *known && (pcid == self.space || !drops(action, pcid, None));
+        }
+    }
+
+    fn fill(&mut self, entry: CachedEntry) -> Result<(), AllocError> {
+        self.invalidate(Invpcid::IndividualAddress(entry.pcid, entry.page));
         if self.entries.len() == CAPACITY {
             self.entries.remove(0);
         }
@@ -77,10 +69,11 @@ impl Plain {
         is_there
     }
 
+    // It is told of what it may have cached something of.
     fn notify(&mut self, action: Invpcid) -> Result<(), AllocError> {
         let concerned = match action {
             Invpcid::IndividualAddress(pcid, _) | Invpcid::SingleContext(pcid) => {
-                self.known.contains(&pcid)
+                self.known.get(usize::from(pcid)) == Some(&true)
             }
             Invpcid::AllContextsAndGlobals | Invpcid::AllContexts => true,
         };
@@ -103,30 +96,27 @@ impl Plain {
 
     // What nine or more invalidations name isn't told apart: they drop everything.
     fn drain(&mut self) {
-        let space = self.space;
         if self.notified.len() > 8 {
-            self.entries.clear();
-            self.known.retain(|pcid| *pcid == space);
+            self.invalidate(Invpcid::AllContexts);
         }
-        for action in &self.notified {
-            let action = *action;
-            self.entries.retain(|e| !drops(action, *e));
-            self.known
-                .retain(|pcid| *pcid == space || !drops_pcid(action, *pcid));
+        for place in 0..self.notified.len() {
+            let notified = self.notified.get(place).copied();
+            if let Some(action) = notified {
+                self.invalidate(action);
+            }
         }
         self.notified.clear();
     }
 
-    fn switch(&mut self, pcid: Pcid, keep: bool) -> Result<(), AllocError> {
+    fn switch(&mut self, pcid: Pcid, keep: bool) {
         self.drain();
         self.space = pcid;
         if !keep {
-            self.entries.retain(|e| e.pcid != pcid);
+            self.invalidate(Invpcid::SingleContext(pcid));
         }
-        if !self.known.contains(&pcid) {
-            self.known.push(pcid)?;
+        if let Some(known) = self.known.get_mut(usize::from(pcid)) {
+            *known = true;
         }
-        Ok(())
     }
 }
 
@@ -138,36 +128,34 @@ struct Pair {
     plain: Plain,
 }
 
-fn three_spaces(rt: &impl Abort, alloc: Global) -> Spaces {
-    let mut spaces = Spaces::new(alloc).expect(rt, "memory for spaces");
-    for _ in 0..3 {
-        assert!(rt; spaces.create().is_ok());
-    }
-    spaces
-}
-
 impl Pair {
     fn new(rt: &impl Abort, alloc: Global) -> Self {
         Pair {
             shootdown: Shootdown::new(alloc, 2, CAPACITY).expect(rt, "memory for processors"),
-            spaces: three_spaces(rt, alloc),
-            plain: Plain::new(alloc).expect(rt, "memory for the plain program"),
+            spaces: Spaces::new(alloc).expect(rt, "memory for spaces"),
+            plain: Plain {
+                space: 0,
+                entries: Vec::new(alloc),
+                notified: Vec::new(alloc),
+                known: [true, false, false, false],
+            },
         }
     }
 
-    fn fill(&mut self, number: u64) -> Result<(), AllocError> {
-        if self.shootdown.state(0).is_ok() {
-            let entry = CachedEntry {
-                pcid: self.shootdown.space(0),
-                page: number % 6,
-                frame: (number / 6 % 100) as u32,
-                writable: number / 600 % 2 == 1,
-                dirty: number / 1200 % 2 == 1,
-            };
-            self.shootdown.fill(0, entry);
-            self.plain.fill(entry)?;
+    // Whether both cache an entry that this number chooses.
+    fn fill(&mut self, number: u64) -> bool {
+        if self.shootdown.state(0).is_err() {
+            return false;
         }
-        Ok(())
+        let entry = CachedEntry {
+            pcid: self.shootdown.space(0),
+            page: number % 6,
+            frame: (number / 6 % 100) as u32,
+            writable: number / 600 % 2 == 1,
+            dirty: number / 1200 % 2 == 1,
+        };
+        self.shootdown.fill(0, entry);
+        self.plain.fill(entry).is_ok()
     }
 
     // Whether both have an entry in this place, or neither has.
@@ -175,91 +163,91 @@ impl Pair {
         self.shootdown.state(0).is_ok() && self.shootdown.evict(0, slot) == self.plain.evict(slot)
     }
 
-    // Processor 1 makes a change, for which processor 0 stalls if it is interrupted. Whether it was.
-    fn change(&mut self, rt: &impl Abort, change: Change) -> bool
+    // Processor 1 makes a change, for which processor 0 stalls if it is interrupted. Whether it was; none where a call
+    // is refused.
+    fn change(&mut self, change: Change) -> Option<bool>
         requires { HasUserPages change }
     {
-        let Ok(()) = self.shootdown.admit_free(1) else {
-            panic!(rt; "a change that isn't admitted");
-        };
+        if self.shootdown.admit_free(1).is_err() {
+            return None;
+        }
         self.shootdown.begin(1, &self.spaces, change);
-        let Ok(state) = self.shootdown.state(0) else {
-            panic!(rt; "no processor 0");
-        };
-        self.make_change(rt);
-        state == ProcState::Interrupted
+        let interrupted = self.shootdown.state(0) == Ok(ProcState::Interrupted);
+        if self.make_change() {
+            Some(interrupted)
+        } else {
+            None
+        }
     }
 
-    // Processor 0 acknowledges the change, which is made then, and resumes.
-    fn make_change(&mut self, rt: &impl Abort) {
-        assert!(rt; self.shootdown.ack(0).is_ok());
-        let Ok(change) = self.shootdown.change(1) else {
-            panic!(rt; "a change that isn't made");
+    // Processor 0 acknowledges the change, which is made then, and resumes. Whether none of that is refused.
+    fn make_change(&mut self) -> bool {
+        let acked = self.shootdown.ack(0).is_ok();
+        let made = match self.shootdown.change(1) {
+            Ok(Some(_)) => {
+                self.shootdown.finish(1);
+                true
+            }
+            Ok(None) => true,
+            Err(_) => false,
         };
-        if change.is_some() {
-            self.shootdown.finish(1);
-        }
-        assert!(rt; self.shootdown.resume(0).is_ok());
+        acked && made && self.shootdown.resume(0).is_ok()
     }
 
     // Some pages of a space are unmapped. Whether its own processor alone was interrupted, which drops them then.
-    fn unmap(&mut self, rt: &impl Abort, pcid: Pcid, first: u64, count: u64) -> bool
+    fn unmap(&mut self, pcid: Pcid, first: u64, count: u64) -> bool
         requires { first + count ≤ 2 ^ 35 }
     {
         let range = PageRange { first, count };
-        let interrupted = self.change(rt, Change::Unmap { pcid, range });
-        assert!(rt; self.plain.notify_range(pcid, first, count).is_ok());
+        let interrupted = self.change(Change::Unmap { pcid, range });
+        let notified = self.plain.notify_range(pcid, first, count).is_ok();
         let is_here = self.plain.space == pcid;
         if is_here {
             self.plain.drain();
         }
-        interrupted == is_here
+        notified && interrupted == Some(is_here)
     }
 
     // A mark, or another length of a file: all are interrupted.
-    fn drop_all(&mut self, rt: &impl Abort, change: Change) -> bool
+    fn drop_all(&mut self, change: Change) -> bool
         requires { HasUserPages change }
     {
-        let interrupted = self.change(rt, change);
-        assert!(rt; self.plain.notify(Invpcid::AllContexts).is_ok());
+        let interrupted = self.change(change);
+        let notified = self.plain.notify(Invpcid::AllContexts).is_ok();
         self.plain.drain();
-        interrupted
+        notified && interrupted == Some(true)
     }
 
     // A space goes, if nobody is in it.
-    fn forget(&mut self, pcid: Pcid) -> Result<(), AllocError> {
-        if !self.shootdown.is_current(pcid) {
-            self.shootdown.forget(pcid);
-            self.plain.notify(Invpcid::SingleContext(pcid))?;
+    fn forget(&mut self, pcid: Pcid) -> bool {
+        if self.shootdown.is_current(pcid) {
+            return true;
         }
-        Ok(())
+        self.shootdown.forget(pcid);
+        self.plain.notify(Invpcid::SingleContext(pcid)).is_ok()
     }
 
-    fn switch(&mut self, rt: &impl Abort, pcid: Pcid, keep: bool) {
-        assert!(rt; self.shootdown.switch(0, &self.spaces, pcid, keep).is_ok());
-        assert!(rt; self.plain.switch(pcid, keep).is_ok());
+    fn switch(&mut self, pcid: Pcid, keep: bool) -> bool {
+        self.plain.switch(pcid, keep);
+        self.shootdown.switch(0, &self.spaces, pcid, keep).is_ok()
     }
 
     // A step that this number chooses. Whether both answer alike.
-    fn step(&mut self, rt: &impl Abort, number: u64) -> bool {
+    fn step(&mut self, number: u64) -> bool {
         let argument = number / 16;
         let pcid = (argument % 3 + 1) as Pcid;
         match number % 16 {
-            0..=7 => assert!(rt; self.fill(argument).is_ok()),
-            8 => return self.evict((argument % 6) as usize),
-            9..=11 => return self.unmap(rt, pcid, argument / 3 % 6, argument / 18 % 6 + 1),
-            12 if argument % 8 == 0 => return self.drop_all(rt, Change::Checkpoint),
-            12 if argument % 8 == 1 => return self.drop_all(
-                rt,
-                Change::SetLength {
-                    file: 0,
-                    length: argument,
-                },
-            ),
-            12 => assert!(rt; self.forget(pcid).is_ok()),
-            _ => self.switch(rt, pcid, argument / 3 % 3 > 0),
+            0..=7 => self.fill(argument),
+            8 => self.evict((argument % 6) as usize),
+            9..=11 => self.unmap(pcid, argument / 3 % 6, argument / 18 % 6 + 1),
+            12 if argument % 8 == 0 => self.drop_all(Change::Checkpoint),
+            12 if argument % 8 == 1 => self.drop_all(Change::SetLength {
+                file: 0,
+                length: argument,
+            }),
+            12 => self.forget(pcid),
+            _ => self.switch(pcid, argument / 3 % 3 > 0),
         }
-        true
     }
 
     // Whether both cache the same for each page, and may cache the same PCIDs.
@@ -272,35 +260,37 @@ impl Pair {
                 return false;
             }
         }
-        for pcid in 0..4 {
-            if self.shootdown.may_cache(0, pcid) != self.plain.known.contains(&pcid) {
+        for (pcid, known) in self.plain.known.iter().enumerate() {
+            if self.shootdown.may_cache(0, pcid as Pcid) != *known {
                 return false;
             }
         }
         true
     }
 
-    // Whether they agree after each of so many steps.
-    fn agree_for(&mut self, rt: &impl Abort, steps: u32) -> bool {
-        let mut seed = 1989;
+    // Whether they agree after each of so many steps, in three spaces, which a fixed run of pseudo-random numbers
+    // chooses.
+    fn agree_for(&mut self, steps: u32) -> bool {
+        let mut seed: u64 = 1989;
+        for pcid in 1..4 {
+            if self.spaces.create() != Ok(pcid) {
+                return false;
+            }
+        }
         for _ in 0..steps {
-            seed = next(seed);
-            if !self.step(rt, seed >> 32) || !self.agrees() {
+            seed = seed
+                .wrapping_mul(6_364_136_223_846_793_005)
+                .wrapping_add(1_442_695_040_888_963_407);
+            if !self.step(seed >> 32) || !self.agrees() {
                 return false;
             }
         }
         true
     }
-}
-
-// The next of a fixed run of pseudo-random numbers.
-fn next(seed: u64) -> u64 {
-    seed.wrapping_mul(6_364_136_223_846_793_005)
-        .wrapping_add(1_442_695_040_888_963_407)
 }
 
 #[test]
 fn agrees_with_a_scanned_list(rt: HostRuntime) {
     let mut pair = Pair::new(&rt, rt.alloc());
-    assert!(rt; pair.agree_for(&rt, 6_000));
+    assert!(rt; pair.agree_for(6_000));
 }

@@ -2,7 +2,6 @@
 use mappings::{PageRange, Place, Rights};
 use page_entry::{Entry, PAGE, PageNumber, Pcid, Refusal};
 use spaces::{ALL_PAGES, Spaces};
-use std::process::Abort;
 
 // The first page of file 2, with both rights.
 const PLACE: Place = Place {
@@ -12,20 +11,53 @@ const PLACE: Place = Place {
     access: Rights::ReadWrite,
 };
 
-// An entry of a frame after a store.
-fn stored(frame: u32) -> Entry {
-    Entry::absent()
-        .with_present(true)
-        .with_frame(frame)
-        .with_writable(true)
-        .with_accessed(true)
-        .with_dirty(true)
+// Makes a space, of the lowest PCID that is free.
+fn create(spaces: &mut Spaces) -> Result<Pcid, Refusal> {
+    spaces.create()
 }
 
-// Maps pages from page 16 on to the pages of a file from the place on, as a `mmap` would.
-fn map(spaces: &mut Spaces, pcid: Pcid, pages: u64, place: Place) -> Result<(), Refusal> {
+// Whether all spaces can be made in the order of their PCIDs, and no more.
+fn create_all(spaces: &mut Spaces) -> bool {
+    for pcid in 1..4096 {
+        if create(spaces) != Ok(pcid) {
+            return false;
+        }
+    }
+    create(spaces) == Err(Refusal::Enomem) && spaces.pcids().last() == Some(4095)
+}
+
+// Removes a space, if it is there. Whether it was, and isn't now.
+fn remove(spaces: &mut Spaces, pcid: Pcid) -> bool {
+    if pcid == 0 || !spaces.has(pcid) {
+        return false;
+    }
+    spaces.remove(pcid);
+    !spaces.has(pcid)
+}
+
+// Whether all spaces are made, and three of them are removed and made again, in the order of their PCIDs.
+fn create_again(spaces: &mut Spaces) -> bool {
+    create_all(spaces)
+        && remove(spaces, 4095)
+        && remove(spaces, 3)
+        && remove(spaces, 7)
+        && create(spaces) == Ok(3)
+        && create(spaces) == Ok(7)
+        && create(spaces) == Ok(4095)
+        && create(spaces) == Err(Refusal::Enomem)
+}
+
+// Rule: lowest free PCID
+#[test]
+fn pcids_are_the_lowest_that_are_free(rt: HostRuntime) {
+    let mut spaces = Spaces::new(rt.alloc()).expect(&rt, "memory");
+    assert!(rt; create_again(&mut spaces));
+}
+
+// Maps pages from page 16 on to the pages of a file, as a `mmap` would.
+fn map(spaces: &mut Spaces, pcid: Pcid, pages: u64) -> Result<(), Refusal> {
     let (range, _) = spaces.judge_mapping(pcid, 16 * PAGE, pages.saturating_mul(PAGE), 0)?;
-    spaces.map(pcid, range, place)
+    spaces.map(pcid, range, PLACE)
 }
 
 // Unmaps pages, as a `munmap` would.
@@ -36,124 +68,70 @@ fn unmap(spaces: &mut Spaces, pcid: Pcid, page: u32, pages: u32) -> Result<(), R
     Ok(())
 }
 
-// Sets the entry of a page that has to be mapped.
-fn set(rt: &impl Abort, spaces: &mut Spaces, pcid: Pcid, page: PageNumber, entry: Entry) {
-    assert!(rt; spaces.place(pcid, page).is_some());
-    spaces.set_entry(pcid, page, entry);
-}
-
-// Makes a space, of the lowest PCID that is free.
-fn create(spaces: &mut Spaces) -> Result<Pcid, Refusal> {
-    spaces.create()
-}
-
-// Makes a space, which there is place for.
-fn created(rt: &impl Abort, spaces: &mut Spaces) -> Pcid {
-    create(spaces).expect(rt, "a space")
-}
-
-// Whether this is what a page of a space maps.
-fn maps(spaces: &Spaces, pcid: Pcid, page: PageNumber, expected: Place) -> bool {
-    spaces.place(pcid, page) == Some(expected)
-}
-
-// Whether this is the entry of a page of a space.
-fn has_entry(spaces: &Spaces, pcid: Pcid, page: PageNumber, expected: Entry) -> bool {
-    spaces.entry(pcid, page) == expected
-}
-
-// Removes a space that has to be there.
-fn remove(rt: &impl Abort, spaces: &mut Spaces, pcid: Pcid) {
-    assert!(rt; pcid > 0 && spaces.has(pcid));
-    spaces.remove(pcid);
-    assert!(rt; !spaces.has(pcid));
-}
-
-// Makes all spaces.
-fn create_all(rt: &impl Abort, spaces: &mut Spaces) {
-    for pcid in 1..4096 {
-        assert!(rt; create(spaces) == Ok(pcid));
+// Sets the entry of a page, if it is mapped. Whether it is.
+fn set(spaces: &mut Spaces, pcid: Pcid, page: PageNumber, entry: Entry) -> bool {
+    let mapped = spaces.place(pcid, page).is_some();
+    if mapped {
+        spaces.set_entry(pcid, page, entry);
     }
-    assert!(rt; create(spaces) == Err(Refusal::Enomem));
-    assert!(rt; spaces.pcids().last() == Some(4095));
+    mapped
 }
 
-// Removes three spaces, which are made again in the order of their PCIDs.
-fn create_again(rt: &impl Abort, spaces: &mut Spaces) {
-    for pcid in [4095, 3, 7] {
-        remove(rt, spaces, pcid);
+// The first dirty page of a space, if it is there and has one.
+fn first_dirty(spaces: &Spaces, pcid: Pcid) -> Option<PageNumber> {
+    if spaces.has(pcid) {
+        spaces.dirty_pages(pcid, ALL_PAGES).next()
+    } else {
+        None
     }
-    for pcid in [3, 7, 4095] {
-        assert!(rt; create(spaces) == Ok(pcid));
-    }
-    assert!(rt; create(spaces) == Err(Refusal::Enomem));
 }
 
-// Rule: lowest free PCID
-#[test]
-fn pcids_are_the_lowest_that_are_free(rt: HostRuntime) {
-    let mut spaces = Spaces::new(rt.alloc()).expect(&rt, "memory");
-    create_all(&rt, &mut spaces);
-    create_again(&rt, &mut spaces);
-}
-
-// The last page of a mapping of the most pages.
+// The last page of a mapping of the most pages, what it maps, and the pages between the first one and it.
 const LAST: PageNumber = 16 + 65_535;
 
-// Maps the most pages that a mapping may have.
-fn map_most(rt: &impl Abort, spaces: &mut Spaces, pcid: Pcid) {
-    assert!(rt; map(spaces, pcid, 65_537, PLACE) == Err(Refusal::Einval));
-    assert!(rt; map(spaces, pcid, 65_536, PLACE) == Ok(()));
-    assert!(rt; map(spaces, pcid, 1, PLACE) == Err(Refusal::Overlap));
+const LAST_PLACE: Place = Place {
+    file: 2,
+    page: 65_535,
+    rights: Rights::ReadWrite,
+    access: Rights::ReadWrite,
+};
+
+const INNER: PageRange = PageRange {
+    first: 17,
+    count: 65_534,
+};
+
+// Whether the most pages that a mapping may have are mapped, and none after them.
+fn map_most(spaces: &mut Spaces) -> bool {
+    create(spaces) == Ok(1)
+        && map(spaces, 1, 65_537) == Err(Refusal::Einval)
+        && map(spaces, 1, 65_536) == Ok(())
+        && map(spaces, 1, 1) == Err(Refusal::Overlap)
+        && spaces.maps_each(1, 16 * PAGE, 65_536 * PAGE)
+        && !spaces.maps_each(1, 16 * PAGE, 65_536 * PAGE + 1)
+        && spaces.place(1, LAST) == Some(LAST_PLACE)
 }
 
-// All of them are mapped, and none after them.
-fn most_are_mapped(rt: &impl Abort, spaces: &Spaces, pcid: Pcid) {
-    assert!(rt; spaces.maps_each(pcid, 16 * PAGE, 65_536 * PAGE));
-    assert!(rt; !spaces.maps_each(pcid, 16 * PAGE, 65_536 * PAGE + 1));
-    let last = Place {
-        page: 65_535,
-        ..PLACE
-    };
-    assert!(rt; maps(spaces, pcid, LAST, last));
-}
-
-// The first dirty page of a space, which has to be there.
-fn first_dirty(rt: &impl Abort, spaces: &Spaces, pcid: Pcid) -> Option<PageNumber> {
-    assert!(rt; spaces.has(pcid));
-    spaces.dirty_pages(pcid, ALL_PAGES).next()
-}
-
-// Whether a space maps one of the pages between the first and the last one.
-fn maps_inner(spaces: &Spaces, pcid: Pcid) -> bool {
-    let inner = PageRange {
-        first: 17,
-        count: 65_534,
-    };
-    spaces.maps_some(pcid, inner)
-}
-
-// Stores to the last page, which is the first dirty one then.
-fn store_to_last(rt: &impl Abort, spaces: &mut Spaces, pcid: Pcid) {
-    set(rt, spaces, pcid, LAST, stored(7));
-    assert!(rt; has_entry(spaces, pcid, LAST, stored(7)));
-    assert!(rt; first_dirty(rt, spaces, pcid) == Some(LAST));
-}
-
-// Unmaps all pages between the first and the last one, which stay as they were.
-fn unmap_inner(rt: &impl Abort, spaces: &mut Spaces, pcid: Pcid) {
-    assert!(rt; unmap(spaces, pcid, 17, 65_534) == Ok(()));
-    assert!(rt; maps(spaces, pcid, 16, PLACE));
-    assert!(rt; !maps_inner(spaces, pcid));
-    assert!(rt; has_entry(spaces, pcid, LAST, stored(7)));
+// Whether the last page is the first dirty one after a store to it, and all pages between the first and the last one
+// can be unmapped, which stay as they were.
+fn unmap_inner(spaces: &mut Spaces, stored: Entry) -> bool {
+    set(spaces, 1, LAST, stored)
+        && spaces.entry(1, LAST) == stored
+        && first_dirty(spaces, 1) == Some(LAST)
+        && unmap(spaces, 1, 17, 65_534) == Ok(())
+        && spaces.place(1, 16) == Some(PLACE)
+        && !spaces.maps_some(1, INNER)
+        && spaces.entry(1, LAST) == stored
 }
 
 #[test]
 fn a_mapping_has_65_536_pages(rt: HostRuntime) {
     let mut spaces = Spaces::new(rt.alloc()).expect(&rt, "memory");
-    let pcid = created(&rt, &mut spaces);
-    map_most(&rt, &mut spaces, pcid);
-    most_are_mapped(&rt, &spaces, pcid);
-    store_to_last(&rt, &mut spaces, pcid);
-    unmap_inner(&rt, &mut spaces, pcid);
+    // The entry of frame 7 after a store.
+    let entry = Entry::absent().with_present(true).with_frame(7);
+    let stored = entry
+        .with_writable(true)
+        .with_accessed(true)
+        .with_dirty(true);
+    assert!(rt; map_most(&mut spaces) && unmap_inner(&mut spaces, stored));
 }

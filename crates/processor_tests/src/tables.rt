@@ -17,6 +17,11 @@ fn entry(frame: u32, accessed: bool, dirty: bool) -> Entry {
         .with_dirty(dirty)
 }
 
+// An empty table.
+fn empty(rt: &impl Abort, alloc: Global) -> Table<Global> {
+    Table::new(alloc).expect(rt, "memory for a root")
+}
+
 // What the changes say of a page, the last first: a range was cleared, then each page has the entry that it was set to.
 fn scanned(
     changes: &[(PageNumber, Entry)],
@@ -74,19 +79,19 @@ fn change(
     ]
 }
 
-// The first of the pages whose entry isn't the one that the changes say, if there is one.
-fn first_other(
+// Whether each page has the entry that the changes say.
+fn has_scanned(
     table: &Table<Global>,
     changes: &[(PageNumber, Entry)],
     from: PageNumber,
     to: PageNumber,
-) -> Option<PageNumber> {
+) -> bool {
     for page in 8..17 {
         if table.get(page) != scanned(changes, from, to, page) {
-            return Some(page);
+            return false;
         }
     }
-    None
+    true
 }
 
 // Whether those of pages 11 and 12 are listed as dirty that the changes leave dirty.
@@ -105,25 +110,17 @@ fn lists_dirty(
     listed.next().is_none()
 }
 
-// Changes an empty table, which has to agree with the list of what was set then.
-fn compare(
+// Changes an empty table. Whether it agrees with the list of what was set then.
+fn agrees(
     rt: &impl Abort,
     table: &mut Table<Global>,
     first: PageNumber,
     second: PageNumber,
-    from: PageNumber,
-    to: PageNumber,
-) {
-    let changes = change(rt, table, first, second, from..to);
-    let other = first_other(table, &changes, from, to);
-    assert!(rt;
-        other.is_none(),
-        "page {other:?} after {first}, {second}, {from}..{to}"
-    );
-    assert!(rt;
-        lists_dirty(table, &changes, from, to),
-        "after {first}, {second}, {from}..{to}"
-    );
+    cleared: Range<PageNumber>,
+) -> bool {
+    let (from, to) = (cleared.start, cleared.end);
+    let changes = change(rt, table, first, second, cleared);
+    has_scanned(table, &changes, from, to) && lists_dirty(table, &changes, from, to)
 }
 
 #[test]
@@ -132,8 +129,9 @@ fn agrees_with_a_scanned_list(rt: HostRuntime) {
         for second in 10..14 {
             for from in 9..15 {
                 for to in 9..15 {
-                    let mut table = Table::new(rt.alloc()).expect(&rt, "memory for a root");
-                    compare(&rt, &mut table, first, second, from, to);
+                    let mut table = empty(&rt, rt.alloc());
+                    let agreed = agrees(&rt, &mut table, first, second, from..to);
+                    assert!(rt; agreed, "after {first}, {second}, {from}..{to}");
                 }
             }
         }
@@ -143,15 +141,7 @@ fn agrees_with_a_scanned_list(rt: HostRuntime) {
 // One more than the last page.
 const END: PageNumber = 1 << 35;
 
-// Grows an empty table by one page, which has no entry.
-fn grow_once(rt: &impl Abort, table: &mut Table<Global>) {
-    assert!(rt; table.get(5) == Entry::absent());
-    assert!(rt; table.grow(3..3) == Ok(()));
-    assert!(rt; table.grow(5..6) == Ok(()));
-    assert!(rt; table.dirty_pages(0..END).next().is_none());
-}
-
-// Grows it by 65,536 pages and by the last one, and sets the first and the last page of each.
+// Grows a table by 65,536 pages and by the last one, and sets the first and the last page of each.
 fn grow_by_many(rt: &impl Abort, table: &mut Table<Global>, stored: Entry) {
     grow(rt, table, 0..65_536);
     table.set(0, stored);
@@ -171,21 +161,19 @@ fn lists(table: &Table<Global>, range: Range<PageNumber>, expected: &[PageNumber
     listed.next().is_none()
 }
 
-// Grows it by pages of which each has grown already then, in two nodes that touch.
-fn grow_over_two(rt: &impl Abort, table: &mut Table<Global>, stored: Entry) {
-    grow(rt, table, 65_536..65_540);
-    assert!(rt; table.grow(65_530..65_540) == Ok(()));
-    assert!(rt; table.get(65_535) == stored);
-}
-
-#[test]
-fn grows_with_ample_memory(rt: HostRuntime) {
-    let mut table = Table::new(rt.alloc()).expect(&rt, "memory for a root");
-    grow_once(&rt, &mut table);
-    let stored = entry(8, true, true);
-    grow_by_many(&rt, &mut table, stored);
-    assert!(rt; lists(&table, 1..END, &[65_535, END - 1]));
-    grow_over_two(&rt, &mut table, stored);
+// Whether an empty table grows by one page, which has no entry; by many; and by pages of which each has grown already
+// then, in two nodes that touch.
+fn grows(rt: &impl Abort, table: &mut Table<Global>, stored: Entry) -> bool {
+    let empty = table.get(5) == Entry::absent()
+        && table.grow(3..3) == Ok(())
+        && table.grow(5..6) == Ok(())
+        && table.dirty_pages(0..END).next().is_none();
+    grow_by_many(rt, table, stored);
+    empty
+        && lists(table, 1..END, &[65_535, END - 1])
+        && table.grow(65_536..65_540) == Ok(())
+        && table.grow(65_530..65_540) == Ok(())
+        && table.get(65_535) == stored
 }
 
 // Sets two neighbouring pages to two entries, and the last page to the first one.
@@ -197,50 +185,50 @@ fn set_three(rt: &impl Abort, table: &mut Table<Global>, first: Entry, second: E
     table.set(END - 1, first);
 }
 
-// Whether the first entry is protected, and the other one isn't.
-fn first_is_protected(table: &Table<Global>, first: Entry, second: Entry) -> bool {
-    table.get(7) == first.protected()
+// Whether the first entry of three is protected, and the other one isn't, where frame 1 is marked, and the list has no
+// place for frame 2; and is then made read-only.
+fn protects(rt: &impl Abort, table: &mut Table<Global>, first: Entry, second: Entry) -> bool {
+    set_three(rt, table, first, second);
+    table.protect_frames(&[true, true]);
+    let protected = table.get(7) == first.protected()
         && table.get(8) == second
         && table.get(END - 1) == first.protected()
-        && table.get(9) == Entry::absent()
-}
-
-#[test]
-fn protects_marked_frames_and_ranges(rt: HostRuntime) {
-    let mut table = Table::new(rt.alloc()).expect(&rt, "memory for a root");
-    let first = entry(1, true, true).with_writable(true);
-    let second = entry(2, true, true).with_writable(true);
-    set_three(&rt, &mut table, first, second);
-    // Frame 1 is marked, and the list has no place for frame 2.
-    table.protect_frames(&[true, true]);
-    assert!(rt; first_is_protected(&table, first, second));
+        && table.get(9) == Entry::absent();
     table.make_read_only(8..10);
-    assert!(rt; table.get(8) == second.with_writable(false));
-    assert!(rt; lists(&table, 0..END, &[8]));
+    protected && table.get(8) == second.with_writable(false) && lists(table, 0..END, &[8])
 }
 
-// Grows a table by the page of an address, and has to find so many nodes then.
-fn grow_to(rt: &impl Abort, table: &mut Table<Global>, address: u64, nodes: u64) {
+// Grows a table by the page of an address. How many nodes it has then.
+fn nodes_to(rt: &impl Abort, table: &mut Table<Global>, address: u64) -> u64 {
     let page = address / PAGE;
     assert!(rt; page < END);
     grow(rt, table, page..page + 1);
-    assert!(rt;
-        table.nodes() == nodes,
-        "{} nodes at {address}",
-        table.nodes()
-    );
+    table.nodes()
 }
 
-// A table is a root alone at first. The first page of user addresses has a node on each of the three levels below it;
-// the fifth page shares them, the page behind the first 2 MiB has a leaf of its own, and the last one has three nodes.
+// Whether a table is a root alone at first; the first page of user addresses has a node on each of the three levels
+// below it; the fifth page shares them, the page behind the first 2 MiB has a leaf of its own, and the last one has
+// three nodes.
+fn needs_nodes(rt: &impl Abort, table: &mut Table<Global>) -> bool {
+    table.nodes() == 1
+        && nodes_to(rt, table, 4_096) == 4
+        && nodes_to(rt, table, 16_384) == 4
+        && nodes_to(rt, table, 2_101_248) == 5
+        && nodes_to(rt, table, 140_737_488_351_232) == 8
+        && table.grow(0..0) == Ok(())
+        && table.nodes() == 8
+}
+
 #[test]
-fn grows_by_the_nodes_that_a_page_needs(rt: HostRuntime) {
-    let mut table = Table::new(rt.alloc()).expect(&rt, "memory for a root");
-    assert!(rt; table.nodes() == 1);
-    grow_to(&rt, &mut table, 4_096, 4);
-    grow_to(&rt, &mut table, 16_384, 4);
-    grow_to(&rt, &mut table, 2_101_248, 5);
-    grow_to(&rt, &mut table, 140_737_488_351_232, 8);
-    assert!(rt; table.grow(0..0) == Ok(()));
-    assert!(rt; table.nodes() == 8);
+fn tables_grow_and_are_protected(rt: HostRuntime) {
+    let stored = entry(8, true, true);
+    let first = entry(1, true, true).with_writable(true);
+    let second = entry(2, true, true).with_writable(true);
+    let needed = needs_nodes(&rt, &mut empty(&rt, rt.alloc()));
+    let grown = grows(&rt, &mut empty(&rt, rt.alloc()), stored);
+    let protected = protects(&rt, &mut empty(&rt, rt.alloc()), first, second);
+    assert!(rt;
+        needed && grown && protected,
+        "{needed}, {grown}, {protected}"
+    );
 }

@@ -1,8 +1,6 @@
 // What a TLB caches and drops.
-use page_entry::{PageNumber, Pcid};
 use pcid_tlb::{CachedEntry, Invpcid, Tlb};
 use std::alloc::Global;
-use std::process::Abort;
 
 const FIRST: CachedEntry = CachedEntry {
     pcid: 1,
@@ -12,63 +10,59 @@ const FIRST: CachedEntry = CachedEntry {
     dirty: false,
 };
 
-// Whether this is what is cached of a page of a space.
-fn is_cached(
-    tlb: &Tlb<Global>,
-    pcid: Pcid,
-    page: PageNumber,
-    expected: Option<CachedEntry>,
-) -> bool {
-    tlb.lookup(pcid, page) == expected
-}
+// The entry of the same page in another space.
+const OTHER: CachedEntry = CachedEntry {
+    pcid: 2,
+    page: 5,
+    frame: 9,
+    writable: false,
+    dirty: false,
+};
 
-// The entry of another space comes after the first one, which is written then and so is the newest.
-fn fill_two(
-    rt: &impl Abort,
-    tlb: &mut Tlb<Global>,
-    other_space: CachedEntry,
-    written: CachedEntry,
-) {
+// The first entry after a store.
+const WRITTEN: CachedEntry = CachedEntry {
+    pcid: 1,
+    page: 5,
+    frame: 9,
+    writable: true,
+    dirty: true,
+};
+
+// Whether a TLB of two entries drops that of another space, which came after the first one, since the first one is
+// written then and so is the newest.
+fn drops_the_oldest(tlb: &mut Tlb<Global>) -> bool {
     tlb.fill(FIRST);
-    tlb.fill(other_space);
-    tlb.fill(written);
-    assert!(rt; is_cached(tlb, 2, 5, Some(other_space)));
+    tlb.fill(OTHER);
+    tlb.fill(WRITTEN);
+    let both = tlb.lookup(2, 5) == Some(OTHER);
+    tlb.fill(CachedEntry { page: 6, ..FIRST });
+    both && tlb.lookup(2, 5).is_none() && tlb.lookup(1, 5) == Some(WRITTEN) && tlb.len() == 2
 }
 
 // Rule: full TLB
 #[test]
 fn full_tlb_drops_the_oldest(rt: HostRuntime) {
     let mut tlb = Tlb::new(rt.alloc(), 2).expect(&rt, "a TLB");
-    let written = CachedEntry {
-        writable: true,
-        dirty: true,
-        ..FIRST
-    };
-    fill_two(&rt, &mut tlb, CachedEntry { pcid: 2, ..FIRST }, written);
-    tlb.fill(CachedEntry { page: 6, ..FIRST });
-    assert!(rt; is_cached(&tlb, 2, 5, None));
-    assert!(rt; is_cached(&tlb, 1, 5, Some(written)));
-    assert!(rt; tlb.len() == 2);
+    assert!(rt; drops_the_oldest(&mut tlb));
 }
 
-// A page is invalidated, and then the other space's entries.
-fn drop_one_by_one(rt: &impl Abort, tlb: &mut Tlb<Global>, other_space: CachedEntry) {
+// Whether a page is invalidated, then the other space's entries, where CR3 is loaded without keeping them, and then all.
+fn drops_what_is_named(tlb: &mut Tlb<Global>) -> bool {
     tlb.fill(FIRST);
-    tlb.fill(other_space);
+    tlb.fill(OTHER);
     tlb.invlpg(1, 5);
-    assert!(rt; is_cached(tlb, 1, 5, None));
+    let page = tlb.lookup(1, 5).is_none();
     tlb.load_cr3(2, true);
-    assert!(rt; is_cached(tlb, 2, 5, Some(other_space)));
+    let kept = tlb.lookup(2, 5) == Some(OTHER);
     tlb.load_cr3(2, false);
-    assert!(rt; is_cached(tlb, 2, 5, None));
+    let space = tlb.lookup(2, 5).is_none();
+    tlb.fill(FIRST);
+    tlb.invpcid(Invpcid::AllContexts);
+    page && kept && space && tlb.is_empty() && !tlb.evict(0)
 }
 
 #[test]
 fn invalidations_drop_what_they_name(rt: HostRuntime) {
     let mut tlb = Tlb::new(rt.alloc(), 4).expect(&rt, "a TLB");
-    drop_one_by_one(&rt, &mut tlb, CachedEntry { pcid: 2, ..FIRST });
-    tlb.fill(FIRST);
-    tlb.invpcid(Invpcid::AllContexts);
-    assert!(rt; tlb.is_empty());
-    assert!(rt; !tlb.evict(0));
+    assert!(rt; drops_what_is_named(&mut tlb));
 }
