@@ -54,29 +54,8 @@ one_more {D} disk start old entry machine progress room counted longer is =
           ∙ sym (count_one_more (λ (e : Entry). is_progress e.step.act e.reply) old.trace entry);
     }
 
--- so one step of the machine and its entry are entered
-pub has_entered : {D : Type 0} (disk : Ghosts D) (old : SharedState D) (entry : Entry) (machine : Whole D)
-    (progress : ℕ) → length old.trace < old.capacity
-    → progress ≡ old.progress + (if is_progress entry.step.act entry.reply then 1 else 0)
-    → StepTaken disk old.machine entry.step entry.reply machine
-    → ((start : Whole D) (steps : List Step) (replies : List Reply) → StepsTaken disk start steps replies old.machine
-    → StepsTaken disk start (steps ++ entry.step ∷ []) (replies ++ entry.reply ∷ []) machine)
-    → ((files : List File) (start : Whole D) → IsReached disk files start (steps_of old.trace) (replies_of old.trace)
-    old.machine → StepIsSafe disk files (observed_by files start old.trace) old.machine entry.step entry.reply machine)
-    → HasEntered disk old entry.step entry.reply
-    (record { machine = machine; trace = old.trace ++ entry ∷ []; capacity = old.capacity; progress = progress })
-has_entered disk old entry machine progress room counted taken longer safe = record {
-  room = room;
-  capacity = refl;
-  entry = refl;
-  taken = taken;
-  kept = λ start is. one_more disk start old entry machine progress room counted
-      (longer start (steps_of old.trace) (replies_of old.trace)) is;
-  safe = λ files start is begins. safe files start (record { begins = begins; taken = is.legal });
-}
-
--- What `enter` leaves of a machine with its trace, where that isn't full: one entry more, however this and the longer
--- trace are written.
+-- So one step of the machine and its entry are entered by what `enter` leaves of a machine with its trace, where that
+-- isn't full, however the entry and the longer trace are written.
 pub enters : {D : Type 0} (disk : Ghosts D) (old seen : SharedState D) (full : Bool) → old ≡ seen
     → full ≡ (length seen.trace == seen.capacity) → full ≡ false → length old.trace ≤ old.capacity
     → (entry put : Entry) → put ≡ entry → (trace : List Entry) → trace ≡ old.trace ++ put ∷ []
@@ -92,12 +71,19 @@ pub enters : {D : Type 0} (disk : Ghosts D) (old seen : SharedState D) (full : B
 enters {D} disk old seen full is asked answer few entry put same trace longer machine progress counted taken on safe =
     let other : (length old.trace == old.capacity) ≡ false =
     ap (λ (s : SharedState D). length s.trace == s.capacity) is ∙ sym asked ∙ answer in
-    let one = has_entered disk old entry machine progress (not_full (length old.trace) old.capacity few other) counted
-    taken on safe in
+    let room : length old.trace < old.capacity = not_full (length old.trace) old.capacity few other in
     let items : trace ≡ old.trace ++ entry ∷ [] = longer ∙ ap (λ (e : Entry). old.trace ++ e ∷ []) same in
     let P : List Entry → Type 0 = λ l. HasEntered disk old entry.step entry.reply
     (record { machine = machine; trace = l; capacity = old.capacity; progress = progress }) in
-    subst P (sym items) one
+    subst P (sym items) (record {
+      room = room;
+      capacity = refl;
+      entry = refl;
+      taken = taken;
+      kept = λ start is. one_more disk start old entry machine progress room counted
+          (on start (steps_of old.trace) (replies_of old.trace)) is;
+      safe = λ files start is begins. safe files start (record { begins = begins; taken = is.legal });
+    })
 
 -- the same of what the machine with its trace is seen as, and of an equal step
 pub seen_entered : {D : Type 0} (disk : Ghosts D) (old seen : SharedState D) (step same : Step) (reply : Reply)
