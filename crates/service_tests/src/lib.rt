@@ -3,18 +3,4 @@
 #![tactic(auto)]
 
 #[cfg(test)]
-mod acts;
-#[cfg(test)]
-mod calls;
-#[cfg(test)]
-mod horizons;
-#[cfg(test)]
-mod loads;
-#[cfg(test)]
-mod machines;
-#[cfg(test)]
-mod memory;
-#[cfg(test)]
-mod threads;
-#[cfg(test)]
-mod trials;
+mod tests;

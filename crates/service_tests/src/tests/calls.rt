@@ -1,8 +1,8 @@
 // What each call answers where memory is ample, a trace that is full, and `Cpu` values that are missing.
 ghost use Rattle.machine.specs.Fresh.{IsFresh};
 
-use crate::acts::{MSYNC, entry};
-use crate::trials::{Calls, Trial, holds};
+use super::acts::{MSYNC, entry};
+use super::trials::{Calls, Trial, holds};
 use device::Device;
 use machine::{Act, Machine, ProcState, Reply, Step};
 use page_entry::Refusal;

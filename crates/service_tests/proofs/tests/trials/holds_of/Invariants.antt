@@ -1,5 +1,5 @@
 use Rattle.std.specs.Prelude.{Some}
-use Rattle.service_tests.proofs.trials.named.Given as goal
+use Rattle.service_tests.proofs.tests.trials.holds_of.Given as goal
 
 abbrev pub ghosts-served-L-Origin : goal.ghosts-served-L-Origin
 ghosts-served-L-Origin g a = record { all = a.blank.parts; start = Some a.machine; capacity = a.capacity }

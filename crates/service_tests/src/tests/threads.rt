@@ -1,6 +1,6 @@
 // Threads that run at once, each with a processor of one service: all of them store to the same pages and commit.
-use crate::acts::{MAP, MSYNC, SWITCH};
-use crate::trials::{Calls, Trial, holds};
+use super::acts::{MAP, MSYNC, SWITCH};
+use super::trials::{Calls, Trial, holds};
 use device::Device;
 use machine::{Act, FewBytes, ProcState, Reply};
 use page_entry::Refusal;

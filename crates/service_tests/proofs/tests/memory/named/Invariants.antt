@@ -1,5 +1,5 @@
 use Rattle.std.specs.Prelude.{Some}
-use Rattle.service_tests.proofs.memory.named.Given as goal
+use Rattle.service_tests.proofs.tests.memory.named.Given as goal
 
 abbrev pub ghosts-starts_again-L-Origin : goal.ghosts-starts_again-L-Origin
 ghosts-starts_again-L-Origin g a = record { all = a.blank.parts; start = Some a.machine; capacity = 5 }

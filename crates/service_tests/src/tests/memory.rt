@@ -3,7 +3,7 @@ ghost use Rattle.std.specs.Prelude.{◌≡◌, length, Some};
 ghost use Rattle.machine.specs.Fresh.{IsFresh};
 ghost use Rattle.service.specs.Serving.{IsCapacity};
 
-use crate::machines::{formatted, shape};
+use super::machines::{formatted, shape};
 use counting_alloc::CountingAllocator;
 use device::Device;
 use engine::start;
@@ -37,30 +37,6 @@ fn make_a_step<D: Device, A: Allocator + Copy, L: Origin<D>, R: Wait>(
     cpus.len() == 2 && cpus[1].call(rt, Act::Create) == Reply::Space(1) && cpus[0].calls() == 0
 }
 
-// Whether a service starts where memory is ample.
-fn starts<D: Device + Drop, A: Allocator + Copy, L: Origin<D>, R: Wait>(
-    rt: &R,
-    alloc: A,
-    counts: &Counting,
-    global: Global,
-    machine: Machine<D, A>,
-    blank: Blank,
-) -> bool
-    requires fresh { IsFresh machine.state }
-    requires origin { (L.start ≡ Some machine) × (L.capacity ≡ 5) }
-    requires name { blank.name ≡ L.name }
-    requires parts { (blank.parts ≡ L.parts) × (L.all ≡ L.parts)
-        × (blank.parts ≡ length machine.state.hardware.shootdown.processors) }
-{
-    counts.restart();
-    match Service::<D, A, L>::start(alloc, global, machine, 5, blank) {
-        Ok((_service, mut cpus)) => {
-            counts.requests() == REQUESTS && make_a_step(rt, cpus.as_mut_slice())
-        }
-        Err(_) => false,
-    }
-}
-
 // Whether a start is refused, with nothing more held, and one where memory is ample succeeds then.
 fn starts_again<D: Device + Drop, A: Allocator + Copy, L: Origin<D>, R: Wait>(
     rt: &R,
@@ -87,7 +63,15 @@ fn starts_again<D: Device + Drop, A: Allocator + Copy, L: Origin<D>, R: Wait>(
             let is_refused = why == refused.why
                 && counts.requests() == refused.request
                 && counts.held() == held;
-            starts::<D, A, L, R>(rt, alloc, counts, global, machine, blank) && is_refused
+            counts.restart();
+            match Service::<D, A, L>::start(alloc, global, machine, 5, blank) {
+                Ok((_service, mut cpus)) => {
+                    is_refused
+                        && counts.requests() == REQUESTS
+                        && make_a_step(rt, cpus.as_mut_slice())
+                }
+                Err(_) => false,
+            }
         }
     }
 }

@@ -2,8 +2,8 @@
 ghost use Rattle.std.specs.Prelude.{◌≡◌, length, Some};
 ghost use Rattle.machine.specs.Fresh.{IsFresh};
 
-use crate::machines::{formatted, shape};
-use crate::{calls, loads, threads};
+use super::machines::{formatted, shape};
+use super::{calls, loads, threads};
 use device::Device;
 use engine::start;
 use machine::Machine;
@@ -137,22 +137,12 @@ fn holds_of<D: Device + Send + Drop, R: Threads + Wait + Sync>(
     match trial {
         Trial::Shared => calls::is_shared(alloc, machine),
         Trial::Loads(count) => loads::are_entered(machine, *count),
-        Trial::Served(calls) => named(rt, alloc, machine, again, calls),
+        Trial::Served(calls) => {
+            // The service's name stands for this machine.
+            let blank = Blank::new(u64::from(machine.processors()));
+            served::<D, Brand, R>(rt, alloc, machine, calls.capacity(), blank, again, calls)
+        }
     }
-}
-
-// The service's name stands for this machine.
-fn named<D: Device + Send + Drop, R: Threads + Wait + Sync>(
-    rt: &R,
-    alloc: Global,
-    machine: Machine<D, Global>,
-    again: &mut Machine<D, Global>,
-    calls: &Calls,
-) -> bool
-    requires { IsFresh machine.state }
-{
-    let blank = Blank::new(u64::from(machine.processors()));
-    served::<D, Brand, R>(rt, alloc, machine, calls.capacity(), blank, again, calls)
 }
 
 fn served<D: Device + Send + Drop, L: Origin<D> + Send + Sync, R: Threads + Wait + Sync>(

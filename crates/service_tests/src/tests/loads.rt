@@ -1,7 +1,7 @@
 // Loads by TLB hits, so many of a machine by itself and so many of a processor of a service, whose instructions
 // `bench/calls` counts.
-use crate::acts::{MAP, SWITCH, loaded};
-use crate::trials::{Calls, Trial, holds};
+use super::acts::{MAP, SWITCH, loaded};
+use super::trials::{Calls, Trial, holds};
 use device::Device;
 use machine::{Act, Machine, Reply, Step};
 use service::{Cpu, Origin};

@@ -1,0 +1,8 @@
+mod acts;
+mod calls;
+mod horizons;
+mod loads;
+mod machines;
+mod memory;
+mod threads;
+mod trials;
