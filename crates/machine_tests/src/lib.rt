@@ -3,10 +3,6 @@
 #![tactic(auto)]
 
 #[cfg(test)]
-mod layout_four;
-#[cfg(test)]
-mod layout_three;
-#[cfg(test)]
 mod machines;
 #[cfg(test)]
 mod memory;

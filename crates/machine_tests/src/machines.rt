@@ -5,27 +5,14 @@ use machine::{Act, FewBytes, Machine, MsyncFlags, Reply, Shape, Step};
 use mappings::Rights;
 use page_entry::{ProcessorNumber, Refusal};
 use recovery::{Volume, format_as, open};
+use sample_volumes::SPECS;
 use shootdown::ProcState;
 use std::alloc::Global;
 use std::process::Abort;
-use volume_codec::FileSpec;
 
 type Disk = MemDisk<Global>;
 
 type Trial = Machine<Disk, Global>;
-
-const SPECS: [FileSpec; 2] = [
-    FileSpec {
-        name: "a",
-        length: 5000,
-        capacity: 5000,
-    },
-    FileSpec {
-        name: "b",
-        length: 4096,
-        capacity: 4096,
-    },
-];
 
 // Two processors with TLBs of 8 entries, 4 frames and 2 copy frames.
 const TWO: Shape = Shape {

@@ -25,104 +25,130 @@ type Disk = FileDisk<File>;
 
 type Trial<'a> = Machine<Disk, &'a Counting>;
 
-// A step, what it is answered where memory is ample, and how many requests for memory it makes.
-type Row = (&'static str, &'static str, u64);
+// How often a step is made, the step, what it is answered where memory is ample, and how many requests for memory it
+// makes.
+type Row = (u8, &'static str, &'static str, u64);
 
 // A commit of what both processors stored, the second one also after it was interrupted, until it is done; holes in a
 // mapping, and in the rights of another; a second space, and each act that takes no memory.
 const LAYOUT_ONE: &[Row] = &[
-    (r#"[0,"create"]"#, "space 1", 3),
-    (r#"[0,"map",1,4096,12288,0,0,"rw","rw"]"#, "mapped", 3),
-    (r#"[0,"map",1,16384,4096,1,0,"rw","rw"]"#, "mapped", 0),
-    (r#"[0,"switch",1,"drop"]"#, "switched", 0),
-    (r#"[1,"switch",1,"drop"]"#, "switched", 0),
-    (r#"[0,"store",4096,[65]]"#, "fault 6", 0),
-    (r#"[0,"fix",4096,"write"]"#, "fixed", 0),
-    (r#"[0,"store",4096,[65]]"#, "stored", 0),
-    (r#"[1,"load",4096,1]"#, "bytes 65", 0),
-    (r#"[0,"msync",4096,4096,4]"#, "begun", 0),
-    (r#"[1,"store",4097,[66]]"#, "stored", 0),
-    (r#"[0,"change"]"#, "notyet 1", 0),
-    (r#"[1,"ack"]"#, "acked", 0),
-    (r#"[1,"store",4098,[67]]"#, "stalled", 0),
-    (r#"[0,"change"]"#, "marked 1", 0),
-    (r#"[1,"resume"]"#, "resumed", 0),
-    (r#"[1,"store",4098,[67]]"#, "fault 7", 0),
-    (r#"[0,"flush"]"#, "going", 0),
-    (r#"[0,"flush"]"#, "going", 0),
-    (r#"[0,"flush"]"#, "going", 0),
-    (r#"[0,"flush"]"#, "going", 0),
-    (r#"[0,"flush"]"#, "committed 1", 0),
-    (r#"[0,"flush"]"#, "going", 0),
-    (r#"[0,"flush"]"#, "going", 0),
-    (r#"[0,"flush"]"#, "going", 0),
-    (r#"[0,"flush"]"#, "done 1", 0),
-    (r#"[0,"flush"]"#, "nothing", 0),
-    (r#"[0,"map",1,32768,12288,0,0,"rw","rw"]"#, "mapped", 0),
-    (r#"[0,"protect",1,36864,4096,"r"]"#, "begun", 1),
-    (r#"[1,"ack"]"#, "acked", 0),
-    (r#"[0,"change"]"#, "protected", 0),
-    (r#"[1,"resume"]"#, "resumed", 0),
-    (r#"[0,"map",1,49152,4096,1,0,"rw","rw"]"#, "mapped", 0),
-    (r#"[0,"map",1,57344,4096,1,0,"rw","rw"]"#, "mapped", 0),
-    (r#"[0,"map",1,65536,4096,1,0,"rw","rw"]"#, "mapped", 0),
-    (r#"[0,"unmap",1,8192,4096]"#, "begun", 1),
-    (r#"[1,"ack"]"#, "acked", 0),
-    (r#"[0,"change"]"#, "unmapped", 0),
-    (r#"[1,"resume"]"#, "resumed", 0),
-    (r#"[0,"create"]"#, "space 2", 3),
-    (r#"[0,"map",2,4096,4096,1,0,"rw","rw"]"#, "mapped", 3),
-    (r#"[1,"switch",2,"keep"]"#, "switched", 0),
-    (r#"[1,"fix",4096,"read"]"#, "fixed", 0),
-    (r#"[1,"fill",1]"#, "filled", 0),
-    (r#"[1,"evict",0]"#, "evicted", 0),
-    (r#"[1,"idle"]"#, "idled", 0),
-    (r#"[1,"wake"]"#, "woken", 0),
-    (r#"[1,"switch",1,"keep"]"#, "switched", 0),
-    (r#"[0,"reclaim",1,0]"#, "begun", 0),
-    (r#"[0,"change"]"#, "reclaimed", 0),
-    (r#"[0,"destroy",2]"#, "destroyed", 0),
-    (r#"[0,"setlength",0,5000]"#, "einval", 0),
-    (r#"[0,"create"]"#, "space 2", 3),
+    (1, r#"[0,"create"]"#, "space 1", 3),
+    (1, r#"[0,"map",1,4096,12288,0,0,"rw","rw"]"#, "mapped", 3),
+    (1, r#"[0,"map",1,16384,4096,1,0,"rw","rw"]"#, "mapped", 0),
+    (1, r#"[0,"switch",1,"drop"]"#, "switched", 0),
+    (1, r#"[1,"switch",1,"drop"]"#, "switched", 0),
+    (1, r#"[0,"store",4096,[65]]"#, "fault 6", 0),
+    (1, r#"[0,"fix",4096,"write"]"#, "fixed", 0),
+    (1, r#"[0,"store",4096,[65]]"#, "stored", 0),
+    (1, r#"[1,"load",4096,1]"#, "bytes 65", 0),
+    (1, r#"[0,"msync",4096,4096,4]"#, "begun", 0),
+    (1, r#"[1,"store",4097,[66]]"#, "stored", 0),
+    (1, r#"[0,"change"]"#, "notyet 1", 0),
+    (1, r#"[1,"ack"]"#, "acked", 0),
+    (1, r#"[1,"store",4098,[67]]"#, "stalled", 0),
+    (1, r#"[0,"change"]"#, "marked 1", 0),
+    (1, r#"[1,"resume"]"#, "resumed", 0),
+    (1, r#"[1,"store",4098,[67]]"#, "fault 7", 0),
+    (4, r#"[0,"flush"]"#, "going", 0),
+    (1, r#"[0,"flush"]"#, "committed 1", 0),
+    (3, r#"[0,"flush"]"#, "going", 0),
+    (1, r#"[0,"flush"]"#, "done 1", 0),
+    (1, r#"[0,"flush"]"#, "nothing", 0),
+    (1, r#"[0,"map",1,32768,12288,0,0,"rw","rw"]"#, "mapped", 0),
+    (1, r#"[0,"protect",1,36864,4096,"r"]"#, "begun", 1),
+    (1, r#"[1,"ack"]"#, "acked", 0),
+    (1, r#"[0,"change"]"#, "protected", 0),
+    (1, r#"[1,"resume"]"#, "resumed", 0),
+    (1, r#"[0,"map",1,49152,4096,1,0,"rw","rw"]"#, "mapped", 0),
+    (1, r#"[0,"map",1,57344,4096,1,0,"rw","rw"]"#, "mapped", 0),
+    (1, r#"[0,"map",1,65536,4096,1,0,"rw","rw"]"#, "mapped", 0),
+    (1, r#"[0,"unmap",1,8192,4096]"#, "begun", 1),
+    (1, r#"[1,"ack"]"#, "acked", 0),
+    (1, r#"[0,"change"]"#, "unmapped", 0),
+    (1, r#"[1,"resume"]"#, "resumed", 0),
+    (1, r#"[0,"create"]"#, "space 2", 3),
+    (1, r#"[0,"map",2,4096,4096,1,0,"rw","rw"]"#, "mapped", 3),
+    (1, r#"[1,"switch",2,"keep"]"#, "switched", 0),
+    (1, r#"[1,"fix",4096,"read"]"#, "fixed", 0),
+    (1, r#"[1,"fill",1]"#, "filled", 0),
+    (1, r#"[1,"evict",0]"#, "evicted", 0),
+    (1, r#"[1,"idle"]"#, "idled", 0),
+    (1, r#"[1,"wake"]"#, "woken", 0),
+    (1, r#"[1,"switch",1,"keep"]"#, "switched", 0),
+    (1, r#"[0,"reclaim",1,0]"#, "begun", 0),
+    (1, r#"[0,"change"]"#, "reclaimed", 0),
+    (1, r#"[0,"destroy",2]"#, "destroyed", 0),
+    (1, r#"[0,"setlength",0,5000]"#, "einval", 0),
+    (1, r#"[0,"create"]"#, "space 2", 3),
+];
+
+// Four mappings of three pages, the first of which an unmap splits; three far apart; a protect that splits the second;
+// one more beside them; spaces until their list grows; and an unmap that takes the end of a mapping away.
+const SPLITS: &[Row] = &[
+    (1, r#"[0,"create"]"#, "space 1", 3),
+    (1, r#"[0,"map",1,4096,12288,0,0,"rw","rw"]"#, "mapped", 3),
+    (1, r#"[0,"map",1,20480,12288,0,0,"rw","rw"]"#, "mapped", 0),
+    (1, r#"[0,"map",1,36864,12288,0,0,"rw","rw"]"#, "mapped", 0),
+    (1, r#"[0,"map",1,53248,12288,0,0,"rw","rw"]"#, "mapped", 0),
+    (1, r#"[0,"unmap",1,8192,4096]"#, "begun", 1),
+    (1, r#"[0,"change"]"#, "unmapped", 0),
+    (
+        1,
+        r#"[0,"map",1,1099511627776,4096,0,0,"rw","rw"]"#,
+        "mapped",
+        2,
+    ),
+    (
+        1,
+        r#"[0,"map",1,2199023255552,4096,0,0,"rw","rw"]"#,
+        "mapped",
+        2,
+    ),
+    (
+        1,
+        r#"[0,"map",1,4398046511104,4096,0,0,"rw","rw"]"#,
+        "mapped",
+        0,
+    ),
+    (1, r#"[0,"protect",1,24576,4096,"r"]"#, "begun", 1),
+    (1, r#"[0,"change"]"#, "protected", 0),
+    (1, r#"[0,"map",1,122880,4096,0,0,"rw","rw"]"#, "mapped", 0),
+    (1, r#"[0,"create"]"#, "space 2", 3),
+    (1, r#"[0,"create"]"#, "space 3", 3),
+    (1, r#"[0,"create"]"#, "space 4", 4),
+    (1, r#"[0,"map",4,4096,4096,0,0,"rw","rw"]"#, "mapped", 3),
+    (1, r#"[0,"unmap",1,61440,4096]"#, "begun", 0),
+    (1, r#"[0,"change"]"#, "unmapped", 0),
 ];
 
 // A file grows by a page, and is cut again; the commit in between has its length and its pages.
 const LAYOUT_THREE: &[Row] = &[
-    (r#"[0,"create"]"#, "space 1", 3),
-    (r#"[0,"map",1,4096,12288,0,0,"rw","rw"]"#, "mapped", 3),
-    (r#"[0,"switch",1,"drop"]"#, "switched", 0),
-    (r#"[1,"switch",1,"drop"]"#, "switched", 0),
-    (r#"[1,"fix",8192,"read"]"#, "fixed", 0),
-    (r#"[1,"store",8192,[1]]"#, "stored", 0),
-    (r#"[0,"setlength",0,9000]"#, "begun", 0),
-    (r#"[1,"ack"]"#, "acked", 0),
-    (r#"[0,"change"]"#, "resized", 0),
-    (r#"[1,"resume"]"#, "resumed", 0),
-    (r#"[0,"fix",12288,"write"]"#, "fixed", 0),
-    (r#"[0,"store",12288,[7]]"#, "stored", 0),
-    (r#"[1,"msync",0,0,1]"#, "begun", 0),
-    (r#"[0,"ack"]"#, "acked", 0),
-    (r#"[1,"change"]"#, "marked 1", 0),
-    (r#"[0,"resume"]"#, "resumed", 0),
-    (r#"[1,"fix",12288,"write"]"#, "fixed", 0),
-    (r#"[1,"store",12288,[8]]"#, "stored", 0),
-    (r#"[0,"flush"]"#, "going", 0),
-    (r#"[0,"flush"]"#, "going", 0),
-    (r#"[0,"flush"]"#, "going", 0),
-    (r#"[0,"flush"]"#, "going", 0),
-    (r#"[0,"flush"]"#, "going", 0),
-    (r#"[0,"flush"]"#, "going", 0),
-    (r#"[0,"flush"]"#, "committed 1", 0),
-    (r#"[0,"flush"]"#, "going", 0),
-    (r#"[0,"flush"]"#, "going", 0),
-    (r#"[0,"flush"]"#, "going", 0),
-    (r#"[0,"flush"]"#, "going", 0),
-    (r#"[0,"flush"]"#, "going", 0),
-    (r#"[0,"flush"]"#, "done 1", 0),
-    (r#"[0,"setlength",0,4096]"#, "begun", 0),
-    (r#"[1,"ack"]"#, "acked", 0),
-    (r#"[0,"change"]"#, "resized", 0),
-    (r#"[1,"resume"]"#, "resumed", 0),
+    (1, r#"[0,"create"]"#, "space 1", 3),
+    (1, r#"[0,"map",1,4096,12288,0,0,"rw","rw"]"#, "mapped", 3),
+    (1, r#"[0,"switch",1,"drop"]"#, "switched", 0),
+    (1, r#"[1,"switch",1,"drop"]"#, "switched", 0),
+    (1, r#"[1,"fix",8192,"read"]"#, "fixed", 0),
+    (1, r#"[1,"store",8192,[1]]"#, "stored", 0),
+    (1, r#"[0,"setlength",0,9000]"#, "begun", 0),
+    (1, r#"[1,"ack"]"#, "acked", 0),
+    (1, r#"[0,"change"]"#, "resized", 0),
+    (1, r#"[1,"resume"]"#, "resumed", 0),
+    (1, r#"[0,"fix",12288,"write"]"#, "fixed", 0),
+    (1, r#"[0,"store",12288,[7]]"#, "stored", 0),
+    (1, r#"[1,"msync",0,0,1]"#, "begun", 0),
+    (1, r#"[0,"ack"]"#, "acked", 0),
+    (1, r#"[1,"change"]"#, "marked 1", 0),
+    (1, r#"[0,"resume"]"#, "resumed", 0),
+    (1, r#"[1,"fix",12288,"write"]"#, "fixed", 0),
+    (1, r#"[1,"store",12288,[8]]"#, "stored", 0),
+    (6, r#"[0,"flush"]"#, "going", 0),
+    (1, r#"[0,"flush"]"#, "committed 1", 0),
+    (5, r#"[0,"flush"]"#, "going", 0),
+    (1, r#"[0,"flush"]"#, "done 1", 0),
+    (1, r#"[0,"setlength",0,4096]"#, "begun", 0),
+    (1, r#"[1,"ack"]"#, "acked", 0),
+    (1, r#"[0,"change"]"#, "resized", 0),
+    (1, r#"[1,"resume"]"#, "resumed", 0),
 ];
 
 // A run: the volume's layout, the capacity of its file `a` and its bytes; the machine's frames; the steps; and how many
@@ -144,6 +170,15 @@ const FIRST: Run = Run {
     frames: 4,
     rows: LAYOUT_ONE,
     calls: 15,
+};
+
+const SPLIT: Run = Run {
+    layout: 1,
+    capacity: 5000,
+    bytes: 40_960,
+    frames: 4,
+    rows: SPLITS,
+    calls: 3,
 };
 
 const THIRD: Run = Run {
@@ -185,10 +220,10 @@ impl Run {
         }
     }
 
-    // How many requests for memory all its steps make.
+    // How many requests for memory all its steps make; those that are made often make none.
     fn requests(&self) -> u64 {
         let mut sum: u64 = 0;
-        for (_, _, requests) in self.rows {
+        for (_, _, _, requests) in self.rows {
             sum = sum.wrapping_add(*requests);
         }
         sum
@@ -202,9 +237,7 @@ impl Run {
         let mut machine = booted(rt, &alloc, volume, self.shape());
         alloc.restart();
         alloc.refuse_nth(refused);
-        for row in self.rows {
-            make(rt, &alloc, &mut machine, row);
-        }
+        make_all(rt, &alloc, &mut machine, self.rows);
         let calls = machine.into_device().calls();
         assert!(rt; calls == self.calls, "{calls} device calls");
         assert!(rt;
@@ -287,12 +320,12 @@ fn states(machine: &Trial) -> [Result<ProcState, Refusal>; 2] {
 
 // Makes a step, again where its request was refused, and compares what it is answered.
 fn make<R: Host>(rt: &R, alloc: &Counting, machine: &mut Trial, row: &Row) {
-    let (text, wanted, requests) = *row;
+    let (_, text, wanted, requests) = *row;
     let step = step_of(rt, text);
     let before = states(machine);
     let refused = alloc.refused();
     let asked = alloc.requests();
-    let mut reply = machine.step(&step);
+    let mut reply = reply_to(machine, &step);
     if alloc.refused() == refused {
         let made = alloc.requests().wrapping_sub(asked);
         assert!(rt; made == requests, "{text}: {made} requests");
@@ -302,9 +335,23 @@ fn make<R: Host>(rt: &R, alloc: &Counting, machine: &mut Trial, row: &Row) {
             "{text}: {reply}"
         );
         assert!(rt; states(machine) == before && is_unlocked(machine), "{text}");
-        reply = machine.step(&step);
+        reply = reply_to(machine, &step);
     }
     assert!(rt; is_printed(rt, &reply, wanted), "{text}: {reply}");
+}
+
+// Makes each row's step as often as it says.
+fn make_all<R: Host>(rt: &R, alloc: &Counting, machine: &mut Trial, rows: &'static [Row]) {
+    for row in rows {
+        for _ in 0..row.0 {
+            make(rt, alloc, machine, row);
+        }
+    }
+}
+
+// The reply to a step.
+fn reply_to(machine: &mut Trial, step: &Step) -> Reply {
+    machine.step(step)
 }
 
 // Whether no change is under way. Where one is, another processor is told that the lock is held.
@@ -313,7 +360,7 @@ fn is_unlocked(machine: &mut Trial) -> bool {
         p: 1,
         act: Act::Change,
     };
-    machine.step(&change) == Reply::Nothing
+    reply_to(machine, &change) == Reply::Nothing
 }
 
 // The length of the first file of a volume with these bytes, and the file's first bytes.
@@ -338,6 +385,13 @@ fn first_file<R: Host>(rt: &R, bytes: Vec<u8>) -> (u64, [u8; 3]) {
 fn a_commit_and_splits_are_refused_memory(rt: HostRuntime) {
     let left = FIRST.refuse_each(&rt, "a_commit_and_splits_are_refused_memory");
     assert!(rt; first_file(&rt, left) == (5000, [65, 66, 0]));
+}
+
+// Nothing is stored where mappings are split.
+#[test]
+fn splits_of_mappings_are_refused_memory(rt: HostRuntime) {
+    let left = SPLIT.refuse_each(&rt, "splits_of_mappings_are_refused_memory");
+    assert!(rt; first_file(&rt, left) == (5000, [0, 0, 0]));
 }
 
 #[test]
