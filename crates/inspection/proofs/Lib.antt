@@ -1,6 +1,5 @@
 mod Healthy
 mod Journals
 mod Looked
-mod Newest
 mod Places
 mod Writing

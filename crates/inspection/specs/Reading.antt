@@ -1,20 +1,9 @@
--- A device that is only read, and how its bytes are answered.
-use Rattle.std.specs.Prelude.{ℕ, ◌≡◌, ◌↔◌, ◌⊎◌, List, Result, Ok, Err, IfErr}
-use Rattle.device.specs.Device.{LeavesOnly}
-use Rattle.device.specs.declared.device.Device.{Ghosts}
+-- How the bytes of a device are answered that is only read.
+use Rattle.std.specs.Prelude.{ℕ, ◌≡◌, ◌⊎◌, List, Result, Ok, Err, IfErr}
 use Rattle.page_entry.specs.declared.refusal.Refusal.{Refusal}
 use Rattle.page_entry.specs.declared.refusal.Refusal.TheVariants.{Device, OutOfMemory, NotAVolume, Damaged}
 use Rattle.volume_codec.specs.Files.{File}
 use Rattle.volume_codec.specs.Recovery.{RecoversTo, IsNotAVolume, IsDamaged}
-
--- nothing was written, at no moment: a read gives what it gave, a crash leaves what it might have left, and one at any
--- moment since old left no more
-pub record IsOnlyRead {D : Type 0} (disk : Ghosts D) (old new : D) : Type 0 where
-  pub same : disk.seen new ≡ disk.seen old
-  pub left : (c : List ℕ) → disk.may_leave new c → disk.may_leave old c
-  pub keeps : disk.is_honest old → (c : List ℕ) → disk.may_leave old c → disk.may_leave new c
-  pub time : LeavesOnly disk.moment disk.left_since old new (disk.may_leave old)
-  pub honest : disk.is_honest new ↔ disk.is_honest old
 
 -- a refusal that no bytes are the reason of: a device call failed, or memory was refused
 abbrev pub IsOfNoBytes : Refusal → Type 0

@@ -1,15 +1,15 @@
 // What is found of the volume of a device.
 ghost use Rattle.std.specs.Prelude.{◌≡◌, length, IfOk, IfErr};
 ghost use Rattle.recovery.specs.Opening.{RefusesOpening};
+ghost use Rattle.recovery.specs.Reading.{IsOnlyRead};
 ghost use Rattle.inspection.specs.Found.{IsFound};
-ghost use Rattle.inspection.specs.Reading.{IsJudged, IsOnlyRead};
+ghost use Rattle.inspection.specs.Reading.{IsJudged};
 
-use crate::lengths::find_lengths;
-use crate::order::opening_calls;
-use crate::reading::read_parts;
+use crate::reading::{read_journals, read_parts};
 use device::Device;
 use page_entry::Refusal;
 use recovery::kinds_of_bytes;
+use recovery::reading::{find_lengths, opening_calls};
 use std::alloc::Allocator;
 use volume_codec::{Descriptor, Super};
 
@@ -61,9 +61,10 @@ fn find<D: Device, A: Allocator + Copy>(alloc: A, device: &mut D) -> Result<Foun
     ensures refused { D.is_honest device.old → IfErr result (RefusesOpening (D.seen device.old)) }
     ensures read { IsOnlyRead D.Device device.old device.new }
 {
-    let (table, journals) = read_parts(alloc, device)?;
-    let lengths = find_lengths(alloc, device, &table, &journals)?;
-    let calls = opening_calls(&table, &journals);
+    let (table, open) = read_parts(alloc, device)?;
+    let lengths = find_lengths(alloc, device, &table, &open)?;
+    let journals = read_journals(alloc, device, &table.geometry())?;
+    let calls = opening_calls(&table, &open);
     Ok(Found {
         table,
         lengths,

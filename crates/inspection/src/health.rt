@@ -2,8 +2,9 @@
 ghost use Rattle.std.specs.Prelude.{◌≡◌, IfOk, IfErr};
 ghost use Rattle.std.specs.List.{list_any};
 ghost use Rattle.recovery.specs.Opening.{RefusesOpening};
+ghost use Rattle.recovery.specs.Reading.{IsOnlyRead};
 ghost use Rattle.inspection.specs.Health.{IsHealth};
-ghost use Rattle.inspection.specs.Reading.{IsJudged, IsOnlyRead};
+ghost use Rattle.inspection.specs.Reading.{IsJudged};
 ghost use Rattle.inspection.specs.inside.Health.{is_open, health_by};
 
 use crate::found::{Found, Journal, inspect};

@@ -6,6 +6,7 @@ use Rattle.device.proofs.Moments.{leaves_on}
 use Rattle.page_entry.specs.declared.refusal.Refusal.{Refusal}
 use Rattle.recovery.specs.Counts.{HasCause, IsAccounted}
 use Rattle.recovery.specs.Opening.{IsUnwritten}
+use Rattle.recovery.specs.Reading.{IsOnlyRead}
 
 -- before any call
 pub kept_none : {D : Type 0} (disk : Ghosts D) (device : D) → IsAccounted {X = Unit {0}} disk device (Ok tt) device
@@ -41,6 +42,20 @@ unwritten_then first second = record {
   same = second.same ∙ first.same;
   left = λ c left. first.left c (second.left c left);
   time = leaves_on first.time second.time first.left;
+}
+
+-- calls that only read
+pub unwritten_of : {D : Type 0} {disk : Ghosts D} {old new : D} → IsOnlyRead disk old new → IsUnwritten disk old new
+unwritten_of read = record { same = read.same; left = read.left; time = read.time }
+
+pub read_then : {D : Type 0} {disk : Ghosts D} {old mid new : D} → IsOnlyRead disk old mid → IsOnlyRead disk mid new
+    → IsOnlyRead disk old new
+read_then first second = record {
+  same = second.same ∙ first.same;
+  left = λ c left. first.left c (second.left c left);
+  keeps = λ honest c left. second.keeps (first.honest.1 honest) c (first.keeps honest c left);
+  time = leaves_on first.time second.time first.left;
+  honest = (λ h. first.honest.0 (second.honest.0 h), λ h. second.honest.1 (first.honest.1 h));
 }
 
 -- what is synced stays synced

@@ -13,3 +13,5 @@ pub mod Carrying
 pub mod Copied
 pub mod Migrated
 pub mod Writing
+pub mod Parts
+pub mod Public

@@ -1,7 +1,8 @@
 -- The block that has the lengths, where journals are open.
-use Rattle.std.proofs.Common.{◌≡◌, ◌≢◌, ◌<◌, ◌≤◌, inl, inr, ℕ, ◌+◌, List, [], ◌∷◌}
+use Rattle.std.proofs.Common.{◌≡◌, ◌≢◌, ◌<◌, ◌≤◌, inl, inr, ℕ, ◌+◌, ◌*◌, List, [], ◌∷◌}
 use Rattle.std.proofs.Common.{length, drop, get_or, sym, ◌∙◌, ap, subst, arith}
 use Rattle.std.proofs.lemmas.List.{drop_more, drop_all}
+use Rattle.std.proofs.lemmas.List.Sums.{sum_by-cons}
 use Rattle.std.specs.List.{AllByRecursion}
 use Rattle.page_entry.specs.declared.refusal.Refusal.{Refusal}
 use Rattle.page_entry.specs.declared.refusal.Refusal.TheVariants.{Device, OutOfMemory, Damaged}
@@ -16,8 +17,9 @@ use Rattle.volume_codec.proofs.Lengths.{lengths_block-home, reads_lengths, has_l
 use Rattle.volume_codec.proofs.Recovered.{recovered_block-at, recovered_block-other}
 use Rattle.journal.specs.WriteOut.{IsBatch}
 use Rattle.recovery.specs.declared.opening.OpenJournal.{OpenJournal}
+use Rattle.recovery.specs.Counts.{Rises, RisesWithin}
 use Rattle.recovery.specs.Opening.{FindsWithin, RefusesOpening}
-use Rattle.recovery.specs.inside.Reading.{batch_of, batches_of, AreFound, JudgesWithin, RefusesStored}
+use Rattle.recovery.specs.inside.Reading.{batch_of, batches_of, carrying_all, AreFound, JudgesWithin, RefusesStored}
 use Rattle.recovery.proofs.Judged.{magic_at}
 use Rattle.recovery.proofs.Reopened.{own_contents}
 
@@ -120,6 +122,23 @@ refuses_stored table batches bytes at Damaged long some is volume refuses = reco
 refuses_stored table batches bytes at OutOfMemory long some is volume refuses = tt
 refuses_stored table batches bytes at Device long some is volume refuses = tt
 refuses_stored table batches bytes at _ long some is volume refuses = absurd refuses
+
+-- the open journals are found within two calls for each, after block 0 was read and synced
+pub judges_within : (journals same old first second new : ℕ) → journals ≡ same → Rises 1 old first
+    → Rises 1 first second → RisesWithin (2 * journals) second new → RisesWithin (2 + 2 * same) old new
+judges_within journals same old first second new is one two more = λ small. omega (arith, small, is, one, two, more)
+
+-- how many calls carry out the next of the open journals and those after it
+pub carrying_next : {Z : Type 0} (found : List (OpenJournal Z)) (i : ℕ) (e : OpenJournal Z) → i < length found
+    → e ≡ get_or found i e → carrying_all (batches_of (drop i found))
+    ≡ 2 * length e.descriptor.homes + 4 + carrying_all (batches_of (drop (i + 1) found))
+carrying_next {Z} found i e h is =
+    ap (λ (l : List (OpenJournal Z)). carrying_all (batches_of l)) (next_is found i e h is)
+    ∙ sum_by-cons (λ (batch : Batch). 2 * length batch.homes + 4) (batch_of e) (batches_of (drop (i + 1) found))
+
+pub carrying_end : {Z : Type 0} (found : List (OpenJournal Z)) (i : ℕ) → length found ≤ i
+    → carrying_all (batches_of (drop i found)) ≡ 0
+carrying_end {Z} found i h = ap (λ (l : List (OpenJournal Z)). carrying_all (batches_of l)) (drop_all i found h)
 
 -- the open journals are found within as many calls as they and the lengths
 pub finds_of_judges : (bytes : List ℕ) (old new : ℕ) → JudgesWithin bytes old new → FindsWithin bytes old new

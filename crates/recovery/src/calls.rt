@@ -5,7 +5,7 @@ ghost use Rattle.device.specs.Work.{Sync, WriteAt};
 ghost use Rattle.volume_codec.specs.Layout.{block_at, blocks_at};
 ghost use Rattle.volume_codec.specs.Text.{zeros};
 ghost use Rattle.recovery.specs.Counts.{Rises, IsAccounted};
-ghost use Rattle.recovery.specs.Opening.{IsUnwritten};
+ghost use Rattle.recovery.specs.Reading.{IsOnlyRead};
 ghost use Rattle.recovery.specs.inside.Writing.{DidBoth};
 
 use device::{Device, make_durable, write_at};
@@ -24,7 +24,7 @@ pub fn read<D: Device>(device: &mut D, at: u64, buffer: &mut [u8]) -> Result<(),
 
     ensures bytes { D.is_honest device.old
         → OnOk result (buffer.new ≡ slice_range (D.seen device.old) at (at + length buffer.old)) }
-    ensures unwritten { D.is_honest device.old → IsUnwritten D.Device device.old device.new }
+    ensures read { IsOnlyRead D.Device device.old device.new }
     ensures kept { IsAccounted D.Device device.old result device.new }
     ensures fault { IfErr result (λ refusal. refusal ≡ Refusal.Device) }
     ensures calls { Rises 1 (D.calls_made device.old) (D.calls_made device.new) }
@@ -41,7 +41,7 @@ pub fn read_block<D: Device>(device: &mut D, block: u32) -> Result<[u8; 4096], R
     requires { 4096 * block + 4096 ≤ length (D.seen device.old) }
 
     ensures bytes { D.is_honest device.old → IfOk result (λ bytes. bytes ≡ block_at (D.seen device.old) block) }
-    ensures unwritten { D.is_honest device.old → IsUnwritten D.Device device.old device.new }
+    ensures read { IsOnlyRead D.Device device.old device.new }
     ensures kept { IsAccounted D.Device device.old result device.new }
     ensures fault { IfErr result (λ refusal. refusal ≡ Refusal.Device) }
     ensures calls { Rises 1 (D.calls_made device.old) (D.calls_made device.new) }
@@ -63,7 +63,7 @@ pub fn read_blocks<D: Device>(
 
     ensures bytes { D.is_honest device.old
         → OnOk result (buffer.new ≡ blocks_at (D.seen device.old) block count) }
-    ensures unwritten { D.is_honest device.old → IsUnwritten D.Device device.old device.new }
+    ensures read { IsOnlyRead D.Device device.old device.new }
     ensures kept { IsAccounted D.Device device.old result device.new }
     ensures fault { IfErr result (λ refusal. refusal ≡ Refusal.Device) }
     ensures calls { Rises 1 (D.calls_made device.old) (D.calls_made device.new) }

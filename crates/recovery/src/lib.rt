@@ -6,6 +6,7 @@ mod formatting;
 mod laws;
 mod migration;
 mod opening;
+pub mod reading;
 mod volume;
 
 pub use formatting::{blocks, blocks_as, format, format_as};

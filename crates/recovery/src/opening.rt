@@ -10,10 +10,11 @@ ghost use Rattle.volume_codec.specs.Recovery.{AreFalling, AreOpen, IsOpen, IsVol
 ghost use Rattle.journal.specs.Finished.{Finishes};
 ghost use Rattle.journal.specs.WriteOut.{IsBatch};
 ghost use Rattle.recovery.specs.Counts.{Rises, RisesWithin, IsAccounted};
-ghost use Rattle.recovery.specs.Opening.{IsUnwritten, FindsWithin, RefusesOpening, Opens, opened_table, device_after};
+ghost use Rattle.recovery.specs.Opening.{IsUnwritten, FindsWithin, RefusesOpening, Opens, opened_table, device_after, opening_calls as calls_of};
+ghost use Rattle.recovery.specs.Reading.{batch_of, batches_of, AreFound, IsOnlyRead, RefusesJournal, RefusesJournals};
 ghost use Rattle.recovery.specs.Volume.{IsWellFormed};
 ghost use Rattle.recovery.specs.inside.Carrying.{CarriesOut};
-ghost use Rattle.recovery.specs.inside.Reading.{batch_of, batches_of, AreRead, RefusesJournal, RefusesJournals, RefusesAdding, RefusesStored, AreFound, JudgesWithin, HasMark, IsAdded, IsPlaceOf, table_found};
+ghost use Rattle.recovery.specs.inside.Reading.{AreRead, RefusesAdding, RefusesStored, JudgesWithin, HasMark, IsAdded, IsPlaceOf, table_found};
 
 use crate::Volume;
 use crate::calls::{read, read_block, read_blocks, sync, zero_block};
@@ -27,18 +28,21 @@ use volume_codec::{
 
 /// A journal whose gate is open, counted from 0, and what its descriptor says.
 #[derive(Drop)]
-struct OpenJournal<A: Allocator + Copy> {
+pub struct OpenJournal<A: Allocator + Copy> {
     journal: u32,
     descriptor: Descriptor<A>,
 }
 
 /// The table of a device's super block. `NotAVolume` and `Damaged` judge the device's length and its block 0.
-fn read_table<D: Device, A: Allocator + Copy>(alloc: A, device: &mut D) -> Result<Super<A>, Refusal>
+pub fn read_table<D: Device, A: Allocator + Copy>(
+    alloc: A,
+    device: &mut D,
+) -> Result<Super<A>, Refusal>
     ensures table { IfOk result (λ table. D.is_honest device.old → IsSuper table (block_at (D.seen device.old) 0)) }
     ensures fits { IfOk result Fits }
     ensures long { IfOk result (λ table. 4096 * block_count table ≤ length (D.seen device.old)) }
     ensures refused { D.is_honest device.old → IfErr result (RefusesOpening (D.seen device.old)) }
-    ensures unwritten { D.is_honest device.old → IsUnwritten D.Device device.old device.new }
+    ensures read { IsOnlyRead D.Device device.old device.new }
     ensures kept { IsAccounted D.Device device.old result device.new }
     ensures calls { OnOk result (Rises 1 (D.calls_made device.old) (D.calls_made device.new)) }
     ensures most { RisesWithin 1 (D.calls_made device.old) (D.calls_made device.new) }
@@ -60,7 +64,7 @@ fn read_gates<D: Device>(device: &mut D, geometry: &Geometry) -> Result<[bool; 4
     requires { 4096 * geometry.now.blocks ≤ length (D.seen device.old) }
     ensures gates { D.is_honest device.old → IfOk result (λ gates. (j : ℕ) → j < journals_of geometry.now.layout
         → ((slice_index_or gates j false ≡ true) ↔ IsOpen (D.seen device.old) geometry.now.slots j)) }
-    ensures unwritten { D.is_honest device.old → IsUnwritten D.Device device.old device.new }
+    ensures read { IsOnlyRead D.Device device.old device.new }
     ensures kept { IsAccounted D.Device device.old result device.new }
     ensures fault { IfErr result (λ refusal. refusal ≡ Refusal.Device) }
     ensures calls { OnOk result
@@ -78,7 +82,7 @@ fn read_gates<D: Device>(device: &mut D, geometry: &Geometry) -> Result<[bool; 4
 }
 
 /// What the descriptor of a journal says, read into a buffer of as many blocks. `Damaged` where it breaks the grammar.
-fn read_journal<D: Device, A: Allocator + Copy>(
+pub fn read_journal<D: Device, A: Allocator + Copy>(
     alloc: A,
     device: &mut D,
     geometry: &Geometry,
@@ -95,7 +99,7 @@ fn read_journal<D: Device, A: Allocator + Copy>(
     ensures refused { D.is_honest device.old → IfErr result (RefusesJournal geometry.now
         (blocks_at (D.seen device.old) (descriptor_block geometry.now.slots journal)
         (descriptor_blocks geometry.now.slots))) }
-    ensures unwritten { D.is_honest device.old → IsUnwritten D.Device device.old device.new }
+    ensures read { IsOnlyRead D.Device device.old device.new }
     ensures kept { IsAccounted D.Device device.old result device.new }
     ensures calls { Rises 1 (D.calls_made device.old) (D.calls_made device.new) }
     ensures room_stays { length buffer.new ≡ length buffer.old }
@@ -171,7 +175,7 @@ fn read_if_open<D: Device, A: Allocator + Copy>(
     ensures refused { D.is_honest device.old → IsGeometry geometry.now
         → AreRead geometry.now (D.seen device.old) journal (batches_of found.old.items)
         → IfErr result (RefusesJournals geometry.now (D.seen device.old)) }
-    ensures unwritten { D.is_honest device.old → IsUnwritten D.Device device.old device.new }
+    ensures read { IsOnlyRead D.Device device.old device.new }
     ensures kept { IsAccounted D.Device device.old result device.new }
     ensures room_stays { length buffer.new ≡ length buffer.old }
 {
@@ -204,7 +208,7 @@ fn read_journals<D: Device, A: Allocator + Copy>(
         → IfOk result (λ found. AreOpen geometry.now (batches_of found.items) (D.seen device.old)) }
     ensures carry { IfOk result (λ found. AllByRecursion (IsBatch geometry.now) (batches_of found.items)) }
     ensures refused { D.is_honest device.old → IfErr result (RefusesJournals geometry.now (D.seen device.old)) }
-    ensures unwritten { D.is_honest device.old → IsUnwritten D.Device device.old device.new }
+    ensures read { IsOnlyRead D.Device device.old device.new }
     ensures kept { IsAccounted D.Device device.old result device.new }
     ensures calls { IfOk result (λ found.
         Rises (length found.items) (D.calls_made device.old) (D.calls_made device.new)) }
@@ -238,7 +242,7 @@ fn read_described<D: Device, A: Allocator + Copy>(
         → IfOk result (λ found. AreOpen geometry.now (batches_of found.items) (D.seen device.old)) }
     ensures carry { IfOk result (λ found. AllByRecursion (IsBatch geometry.now) (batches_of found.items)) }
     ensures refused { D.is_honest device.old → IfErr result (RefusesJournals geometry.now (D.seen device.old)) }
-    ensures unwritten { D.is_honest device.old → IsUnwritten D.Device device.old device.new }
+    ensures read { IsOnlyRead D.Device device.old device.new }
     ensures kept { IsAccounted D.Device device.old result device.new }
     ensures calls { IfOk result (λ found.
         Rises (length found.items) (D.calls_made device.old) (D.calls_made device.new)) }
@@ -256,7 +260,7 @@ fn read_described<D: Device, A: Allocator + Copy>(
 }
 
 /// The open journals, the newest first. `Damaged` where the descriptor of one breaks the grammar, or two have one mark.
-fn read_open<D: Device, A: Allocator + Copy>(
+pub fn read_open<D: Device, A: Allocator + Copy>(
     alloc: A,
     device: &mut D,
     geometry: &Geometry,
@@ -266,7 +270,7 @@ fn read_open<D: Device, A: Allocator + Copy>(
         → IfOk result (λ found. AreOpen geometry.now (batches_of found.items) (D.seen device.old)) }
     ensures carry { IfOk result (λ found. AllByRecursion (IsBatch geometry.now) (batches_of found.items)) }
     ensures refused { D.is_honest device.old → IfErr result (RefusesJournals geometry.now (D.seen device.old)) }
-    ensures unwritten { D.is_honest device.old → IsUnwritten D.Device device.old device.new }
+    ensures read { IsOnlyRead D.Device device.old device.new }
     ensures kept { IsAccounted D.Device device.old result device.new }
     ensures calls { IfOk result (λ found. Rises (journals_of geometry.now.layout + length found.items)
         (D.calls_made device.old) (D.calls_made device.new)) }
@@ -346,7 +350,7 @@ fn read_lengths_at<D: Device, A: Allocator + Copy>(
     ensures are { IfOk result (λ lengths. AreLengths table.now lengths.items) }
     ensures refused { D.is_honest device.old → IfErr result
         (RefusesStored table.now (block_at (D.seen device.old) at)) }
-    ensures unwritten { D.is_honest device.old → IsUnwritten D.Device device.old device.new }
+    ensures read { IsOnlyRead D.Device device.old device.new }
     ensures kept { IsAccounted D.Device device.old result device.new }
     ensures calls { Rises 1 (D.calls_made device.old) (D.calls_made device.new) }
 {
@@ -356,7 +360,7 @@ fn read_lengths_at<D: Device, A: Allocator + Copy>(
 
 /// The lengths of the files, each in bytes, as the volume recovers to, where these journals are open, the newest first.
 /// `Damaged` where a block has them and breaks the grammar.
-fn find_lengths<D: Device, A: Allocator + Copy>(
+pub fn find_lengths<D: Device, A: Allocator + Copy>(
     alloc: A,
     device: &mut D,
     table: &Super<A>,
@@ -371,7 +375,7 @@ fn find_lengths<D: Device, A: Allocator + Copy>(
         lengths_blocks table.now.layout ≡ 0 → lengths.items ≡ capacities_in table.now) }
     ensures refused { D.is_honest device.old → IsVolume table.now (batches_of found.now) (D.seen device.old)
         → IfErr result (RefusesOpening (D.seen device.old)) }
-    ensures unwritten { D.is_honest device.old → IsUnwritten D.Device device.old device.new }
+    ensures read { IsOnlyRead D.Device device.old device.new }
     ensures kept { IsAccounted D.Device device.old result device.new }
     ensures calls { OnOk result
         (Rises (lengths_blocks table.now.layout) (D.calls_made device.old) (D.calls_made device.new)) }
@@ -386,6 +390,27 @@ fn find_lengths<D: Device, A: Allocator + Copy>(
     }
     let lengths = read_lengths_at(alloc, device, table, recovered_first(&geometry, found))?;
     Ok(lengths)
+}
+
+// How many device calls opening makes of an open journal: it reads its descriptor, reads and writes each record, syncs,
+// closes the gate and syncs.
+fn carrying_calls<A: Allocator + Copy>(journal: &OpenJournal<A>) -> u64
+    ensures { Rises (2 * length journal.now.descriptor.homes + 4) 0 result }
+{
+    let records = journal.descriptor.homes().len() as u64;
+    records.saturating_mul(2).saturating_add(4)
+}
+
+/// How many device calls opening makes of a volume with this table, where these journals are open.
+pub fn opening_calls<A: Allocator + Copy>(table: &Super<A>, found: &[OpenJournal<A>]) -> u64
+    ensures { Rises (calls_of table.now (batches_of found.now)) 0 result }
+{
+    let layout = table.layout();
+    let mut all = 2 + u64::from(layout.journals()) + u64::from(layout.lengths_blocks());
+    for journal in found {
+        all = all.saturating_add(carrying_calls(journal));
+    }
+    all
 }
 
 /// The table of a device's volume, its open journals, the newest first, and the lengths of its files. What was written

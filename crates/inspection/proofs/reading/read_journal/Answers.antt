@@ -1,8 +1,8 @@
 use Rattle.std.proofs.Common.{rules, ◌≡◌, ℕ, List, subst, sym, ◌∙◌}
 use Rattle.volume_codec.specs.Layout.{descriptor_block, descriptor_blocks, blocks_at}
 use Rattle.volume_codec.specs.Recovery.{IsOpen}
-use Rattle.recovery.specs.inside.Reading.{RefusesJournal}
-use Rattle.recovery.proofs.FoundJournals.{refuses_read}
+use Rattle.recovery.specs.Reading.{RefusesJournal}
+use Rattle.recovery.proofs.Public.{refuses_read}
 use Rattle.inspection.proofs.reading.read_journal.Goals as goal
 
 pub returns-clause-refused : goal.returns-clause-refused

@@ -1,8 +1,9 @@
 use Rattle.std.proofs.Common.{rules, ◌≡◌, ℕ, ◌+◌, List, [], ◌∷◌, ◌++◌, length, subst, ◌∙◌, ap, arith}
 use Rattle.std.proofs.lemmas.Result.{err_from_is_err_and}
-use Rattle.recovery.specs.inside.Reading.{RefusesJournals}
+use Rattle.recovery.specs.Reading.{RefusesJournals}
+use Rattle.recovery.proofs.Public.{read_then}
 use Rattle.inspection.specs.Found.{IsJournal}
-use Rattle.inspection.proofs.Journals.{from_push, length_more, read_then}
+use Rattle.inspection.proofs.Journals.{from_push, length_more}
 use Rattle.inspection.proofs.reading.read_journals.Goals as goal
 
 pub returns-in_err-says-clause-refused : goal.returns-in_err-says-clause-refused

@@ -1,6 +1,6 @@
 use Rattle.std.proofs.Common.{◌≡◌, length}
+use Rattle.recovery.specs.Reading.{IsOnlyRead}
 use Rattle.inspection.specs.Found.{AreFrom}
-use Rattle.inspection.specs.Reading.{IsOnlyRead}
 use Rattle.inspection.proofs.reading.read_journals.Given as goal
 
 abbrev pub invariant-loop-journal : goal.invariant-loop-journal

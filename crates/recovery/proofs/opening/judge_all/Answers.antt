@@ -1,7 +1,7 @@
 use Rattle.std.proofs.Common.{List, ℕ, Err, ap, sym, subst, ◌∙◌, inr, arith}
 use Rattle.std.proofs.lemmas.Result.{err_from_is_err_and}
 use Rattle.recovery.specs.Opening.{RefusesOpening}
-use Rattle.recovery.proofs.Kept.{kept_then, kept_ok, kept_err, unwritten_then, synced_after}
+use Rattle.recovery.proofs.Kept.{kept_then, kept_ok, kept_err, unwritten_then, unwritten_of, synced_after}
 use Rattle.recovery.proofs.RecoveredLengths.{finds_of_judges, carried_of, volume_of, found_of}
 use Rattle.recovery.proofs.opening.judge_all.Goals as goal
 
@@ -23,7 +23,7 @@ returns-in_err-lengths-clause-refused g c = λ honest.
 pub returns-in_err-lengths-clause-unwritten : goal.returns-in_err-lengths-clause-unwritten
 returns-in_err-lengths-clause-unwritten g c = λ honest.
     unwritten_then (c.in_ok-table.ensures.unwritten honest)
-    (c.find_lengths.ensures.unwritten (c.in_ok-table.ensures.kept.honest.1 honest))
+    (unwritten_of c.find_lengths.ensures.read)
 
 pub returns-in_err-lengths-clause-kept : goal.returns-in_err-lengths-clause-kept
 returns-in_err-lengths-clause-kept g c =
@@ -45,13 +45,13 @@ returns-clause-lengths g c = λ honest.
 
 pub returns-clause-synced : goal.returns-clause-synced
 returns-clause-synced g c = λ honest.
-    synced_after {disk = g.D.Device} (c.find_lengths.ensures.unwritten (c.in_ok-table.ensures.kept.honest.1 honest))
+    synced_after {disk = g.D.Device} (unwritten_of c.find_lengths.ensures.read)
     (c.in_ok-table.ensures.synced honest)
 
 pub returns-clause-unwritten : goal.returns-clause-unwritten
 returns-clause-unwritten g c = λ honest.
     unwritten_then (c.in_ok-table.ensures.unwritten honest)
-    (c.find_lengths.ensures.unwritten (c.in_ok-table.ensures.kept.honest.1 honest))
+    (unwritten_of c.find_lengths.ensures.read)
 
 pub returns-clause-kept : goal.returns-clause-kept
 returns-clause-kept g c = kept_then c.in_ok-table.ensures.kept (kept_ok _ c.in_ok-lengths.ensures.kept)

@@ -1,4 +1,4 @@
-use Rattle.std.proofs.Common.{◌≡◌, ◌+◌, length, Err, true≢false, ap, sym, ◌∙◌, refl, arith}
+use Rattle.std.proofs.Common.{Err, ap, ◌∙◌, refl, arith}
 use Rattle.std.proofs.lemmas.List.{length-map}
 use Rattle.std.proofs.lemmas.Result.{err_from_is_err_and}
 use Rattle.journal.specs.WriteOut.{IsBatch}
@@ -6,7 +6,6 @@ use Rattle.volume_codec.specs.Recovery.{Batch}
 use Rattle.recovery.specs.inside.Reading.{batch_of, batches_of}
 use Rattle.recovery.proofs.FoundJournals.{read_added, added_falling, added_each, added_length}
 use Rattle.recovery.proofs.FoundJournals.{refuses_read, refuses_added, adding_kept}
-use Rattle.recovery.proofs.Kept.{kept_err}
 use Rattle.recovery.proofs.opening.read_if_open.Goals as goal
 
 pub returns-in_err-descriptor-clause-refused : goal.returns-in_err-descriptor-clause-refused

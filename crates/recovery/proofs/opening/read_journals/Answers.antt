@@ -3,13 +3,11 @@ use Rattle.std.proofs.lemmas.Result.{err_from_is_err_and}
 use Rattle.volume_codec.specs.Layout.{journals_of}
 use Rattle.recovery.specs.inside.Reading.{batches_of, AreRead, RefusesJournals}
 use Rattle.recovery.proofs.FoundJournals.{all_read}
-use Rattle.recovery.proofs.Kept.{kept_then, kept_ok, kept_err, unwritten_then}
+use Rattle.recovery.proofs.Kept.{kept_then, kept_ok, kept_err, read_then}
 use Rattle.recovery.proofs.opening.read_journals.Goals as goal
 
-pub returns-in_err-read_if_open-clause-unwritten : goal.returns-in_err-read_if_open-clause-unwritten
-returns-in_err-read_if_open-clause-unwritten g c = λ honest.
-    unwritten_then (c.loop-journal.invariant.unwritten honest)
-    (c.read_if_open.ensures.unwritten (c.loop-journal.invariant.kept.honest.1 honest))
+pub returns-in_err-read_if_open-clause-read : goal.returns-in_err-read_if_open-clause-read
+returns-in_err-read_if_open-clause-read g c = read_then c.loop-journal.invariant.read c.in_err-read_if_open.ensures.read
 
 pub returns-in_err-read_if_open-clause-kept : goal.returns-in_err-read_if_open-clause-kept
 returns-in_err-read_if_open-clause-kept g c =
@@ -22,7 +20,7 @@ returns-in_err-read_if_open-clause-refused g c = λ honest.
     let p = err_from_is_err_and c.from_residual.result c.from_residual.ensures.1 in
     let i = c.loop-journal.invariant in
     let P : List ℕ → Type 0 = λ bytes. RefusesJournals c.args.geometry.now bytes c.in_err-read_if_open.field-0.0 in
-    let same = (i.unwritten honest).same in
+    let same = i.read.same in
     let Q : List ℕ → Type 0 = λ bytes. AreRead c.args.geometry.now bytes c.loop-journal.journal
     (batches_of c.loop-journal.found.items) in
     rw (p.1, p.2) (subst P same (c.in_err-read_if_open.ensures.refused (i.kept.honest.1 honest)
@@ -34,9 +32,9 @@ loop-journal-preserved g c =
     let e = c.in_ok-read_if_open.ensures in
     record {
       kept = kept_ok tt (kept_then i.kept e.kept);
-      unwritten = λ honest. unwritten_then (i.unwritten honest) (e.unwritten (i.kept.honest.1 honest));
+      read = read_then i.read e.read;
       found = λ honest.
-          let same = (i.unwritten honest).same in
+          let same = i.read.same in
           let P : List ℕ → Type 0 = λ bytes.
           AreRead c.args.geometry.now bytes c.loop-journal.journal (batches_of c.loop-journal.found.items) in
           let Q : List ℕ → Type 0 = λ bytes. AreRead c.args.geometry.now bytes (c.loop-journal.journal + 1)
