@@ -102,8 +102,8 @@ fn tell_states<R: Abort>(rt: &R, machine: &mut Trial) {
             [ProcState::Active, ProcState::Idle],
         ),
     ] {
-        assert!(rt; reply_to(machine, p, act) == wanted, "{act:?}");
-        assert!(rt; are_states(machine, states), "{act:?}");
+        assert!(rt; reply_to(machine, p, act) == wanted, "{wanted}");
+        assert!(rt; are_states(machine, states), "{wanted}");
     }
 }
 
