@@ -2,7 +2,7 @@
 use Rattle.std.proofs.Common.{◌≡◌, ◌≢◌, ◌+◌, ◌*◌, ◌<◌, ◌≤◌, ℕ, zero, suc, List, [], ◌∷◌, ◌++◌, length}
 use Rattle.std.proofs.Common.{◌/◌, ◌%◌, ⊎_elim, subst, get_or, set, replicate, refl, sym, ap, ◌∙◌, arith}
 use Rattle.std.proofs.lemmas.List.{get_or_append_left, get_or-append_right, append_assoc}
-use Rattle.std.proofs.lemmas.List.{get_or-set_same, get_or-set_other}
+use Rattle.std.proofs.lemmas.List.{get_or-set_same, get_or-set_other, set_comm}
 use Rattle.std.proofs.lemmas.List.{get_or_default, length-set, length-append, length-replicate}
 use Rattle.std.proofs.lemmas.Bool.{cases_lt, cases_eq}
 use Rattle.std.specs.List.{concat, insert, remove}
@@ -66,16 +66,6 @@ concat-parted (c ∷ (d ∷ cs)) zero xs ys within same =
     sym (append_assoc xs ys (concat cs)) ∙ ap (λ zs. zs ++ concat cs) same ∙ append_assoc c d (concat cs)
 concat-parted (c ∷ (d ∷ cs)) (suc n) xs ys within same =
     ap (λ rest. c ++ rest) (concat-parted (d ∷ cs) n xs ys (omega (arith, within)) same)
-
-pub concat-parted_back : (chunks : List (List ℕ)) (number : ℕ) (xs ys : List ℕ) → suc number < length chunks
-    → xs ++ ys ≡ get_or chunks number [] ++ get_or chunks (suc number) []
-    → concat (set (set chunks (suc number) ys) number xs) ≡ concat chunks
-concat-parted_back [] number xs ys within same = absurd (omega (arith, within))
-concat-parted_back (c ∷ []) number xs ys within same = absurd (omega (arith, within))
-concat-parted_back (c ∷ (d ∷ cs)) zero xs ys within same =
-    sym (append_assoc xs ys (concat cs)) ∙ ap (λ zs. zs ++ concat cs) same ∙ append_assoc c d (concat cs)
-concat-parted_back (c ∷ (d ∷ cs)) (suc n) xs ys within same =
-    ap (λ rest. c ++ rest) (concat-parted_back (d ∷ cs) n xs ys (omega (arith, within)) same)
 
 pub concat-empty : (n : ℕ) → concat (replicate n []) ≡ []
 concat-empty zero = refl
@@ -207,7 +197,8 @@ closed chunks count n m v read before rest more after has within is_read parts i
           (omega (arith, ap length was))
           (omega (arith, ap length grown, length-append before (v ∷ []), ap length beside)) has,
       ap (λ m. concat (set (set chunks m rest) n more)) after
-          ∙ concat-parted_back chunks n more rest (omega (arith, within, after))
+          ∙ ap concat (set_comm chunks (suc n) n rest more (λ same. absurd (omega (arith, same))))
+          ∙ concat-parted chunks n more rest (omega (arith, within, after))
           (ap (λ xs. xs ++ rest) (grown ∙ ap (λ xs. xs ++ v ∷ []) beside)
           ∙ append_assoc (get_or chunks n []) (v ∷ []) rest
           ∙ ap (λ xs. get_or chunks n [] ++ xs) (sym was)

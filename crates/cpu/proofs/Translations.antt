@@ -116,22 +116,21 @@ reaches h p page write frame new coheres there runs to = by_cached h p page writ
 
 -- ---- what the code reaches
 
-module _ (s new : ShootdownState) (spaces tables : Spaces) (memory : FramesState) (p page : ℕ) (write : Bool)
-    (frame : ℕ) where
-  pub reached : IsReachable (hardware s spaces memory) → not_running s p ≡ None
-      → Translates s spaces p page write frame new tables
-      → Reaches (hardware s spaces memory) p page write frame (hardware new tables memory)
-  reached reachable free to =
-      let runs = running s p free in
-      reaches (hardware s spaces memory) p page write frame (hardware new tables memory) reachable.coheres
-      (is_there_below s p runs.0) runs.1 (to memory)
+pub reached : {s new : ShootdownState} {spaces tables : Spaces} {memory : FramesState} {p page : ℕ} {write : Bool}
+    {frame : ℕ} → IsReachable (hardware s spaces memory) → not_running s p ≡ None
+    → Translates s spaces p page write frame new tables
+    → Reaches (hardware s spaces memory) p page write frame (hardware new tables memory)
+reached {s} {new} {spaces} {tables} {memory} {p} {page} {write} {frame} reachable free to =
+    let runs = running s p free in
+    reaches (hardware s spaces memory) p page write frame (hardware new tables memory) reachable.coheres
+    (is_there_below s p runs.0) runs.1 (to memory)
 
-  pub in_use : IsReachable (hardware s spaces memory) → not_running s p ≡ None
-      → Translates s spaces p page write frame new tables
-      → IsSome (frame_at memory frame)
-  in_use reachable free to =
-      let r = reached reachable free to in
-      subst (λ f. IsSome (frame_at memory f)) (sym r.frame_is) (reachable.in_use (current s p) page r.entry r.present)
+-- a frame that is reached is in use
+pub in_use : {h new : Hardware} {p page : ℕ} {write : Bool} {frame : ℕ} → IsReachable h
+    → Reaches h p page write frame new → IsSome (frame_at h.memory frame)
+in_use {h} {new} {p} {page} {write} {frame} reachable r =
+    subst (λ f. IsSome (frame_at h.memory f)) (sym r.frame_is)
+    (reachable.in_use (current h.shootdown p) page r.entry r.present)
 
 -- ---- what is reached without a walk
 
@@ -163,7 +162,10 @@ pub cached_in_use : (s : ShootdownState) (spaces : Spaces) (memory : FramesState
 cached_in_use s spaces memory p va write frame reachable is =
     let both = chosen (is_none (not_running s p) && nat_lt va (2 ^ 47))
     (frame_served write (cached (tlb_of s p) (current s p) (va / 4096))) frame is in
-    in_use s s spaces spaces memory p (va / 4096) write frame reachable
+    let h = hardware s spaces memory in
+    let r : Reaches h p (va / 4096) write frame h =
+    reached {s = s} {new = s} {spaces = spaces} {tables = spaces} reachable
     (none_is (not_running s p) (nat_lt va (2 ^ 47)) both.0)
     (λ memory. served_by (hardware s spaces memory) p (va / 4096) write
-    (cached (tlb_of s p) (current s p) (va / 4096)) frame both.1)
+    (cached (tlb_of s p) (current s p) (va / 4096)) frame both.1) in
+    in_use reachable r

@@ -1,7 +1,8 @@
 -- What a number is in use for after a change of the frames, and what the bytes of a page are after a write.
-use Rattle.std.proofs.Common.{◌≡◌, ◌≢◌, ◌+◌, ◌≤◌, ℕ, zero, suc, List, [], ◌∷◌, ◌++◌, length, get_or, set, take, drop}
-use Rattle.std.proofs.Common.{Option, Some, None, is_some, slice_get, refl, sym, ap, subst, ◌∙◌, ⊎_elim, arith}
-use Rattle.std.proofs.lemmas.List.{length-append, length-take-le, length-drop, get_or-set_same, get_or-set_other}
+use Rattle.std.proofs.Common.{◌≡◌, ◌≢◌, ◌+◌, ◌≤◌, ℕ, zero, suc, List, [], ◌∷◌, length, get_or, set, take, drop}
+use Rattle.std.proofs.Common.{Option, Some, None, is_some, slice_get, refl, sym, ap, subst, ◌∙◌, ⊎_elim, le_refl}
+use Rattle.std.proofs.lemmas.List.{append_assoc, get_or-set_same, get_or-set_other}
+use Rattle.std.proofs.lemmas.List.Edits.{paste_all, length-paste}
 use Rattle.std.proofs.lemmas.Bool.{cases_eq}
 use Rattle.std.proofs.lemmas.Option.{slice_get_within, get_or_from_slice_get}
 use Rattle.page_entry.specs.declared.numbers.FilePage.{FilePage}
@@ -89,10 +90,6 @@ page_of-with_bytes = same-with_bytes page_of page_of-overwrite_frame
 pub length-overwrite : (page : List ℕ) (at : ℕ) (bytes : List ℕ) → at + length bytes ≤ length page
     → length (overwrite page at bytes) ≡ length page
 length-overwrite page at bytes within =
-    omega (
-      arith,
-      length-append (take at page ++ bytes) (drop (at + length bytes) page),
-      length-append (take at page) bytes,
-      length-take-le at page (omega arith),
-      length-drop (at + length bytes) page,
-    )
+    ap length (append_assoc (take at page) bytes (drop (at + length bytes) page)
+    ∙ sym (paste_all page at bytes (length bytes) refl))
+    ∙ length-paste page at bytes (length bytes) within (le_refl _)

@@ -150,6 +150,14 @@ not_true : (b : Bool) → (b ≡ true → ⊥) → b ≡ false
 not_true true h = absurd (h refl)
 not_true false h = refl
 
+-- the mapping as it is read from the list
+read_ends : {ms : List Mapping} {page : ℕ} {m : Mapping} (d : Mapping) (is : IsAround ms page m)
+    → ((get_or ms is.at d).first < page) × (page < (get_or ms is.at d).end)
+read_ends {ms} {page} {m} d is = (
+  subst (λ (n : Mapping). n.first < page) (sym (is.found d)) is.below,
+  subst (λ (n : Mapping). page < n.end) (sym (is.found d)) is.above,
+)
+
 module _ (ms : List Mapping) (kept : IsKept ms) where
   inside_of : (page : ℕ) → goes_on (places_of ms) page ≡ true → (m : Mapping) × IsAround ms page m
   inside_of page e = inside_from_follows 0 page ms kept.ordered kept.merged
@@ -164,20 +172,19 @@ module _ (ms : List Mapping) (kept : IsKept ms) where
       let m = w.0 in
       let is = w.1 in
       let within = is.within in
-      let below = is.below in
-      let above = is.above in
-      let first : (get_or ms is.at m).first ≡ m.first = ap (λ (n : Mapping). n.first) (is.found m) in
-      let end : (get_or ms is.at m).end ≡ m.end = ap (λ (n : Mapping). n.end) (is.found m) in
+      let ends = read_ends m is in
       elim (cases_lt is.at i) [
-        | inl earlier ↦ omega (arith, f.before is.at m earlier)
+        | inl earlier ↦ omega (arith, ends.1, f.before is.at m earlier)
         | inr later ↦ elim (cases_lt i is.at) [
           | inl past ↦ omega (
             arith,
+            ends.0,
             f.after i m (omega arith) (omega arith),
             apart_at 0 ms kept.ordered i is.at m past within,
           )
           | inr here ↦ omega (
             arith,
+            ends.0,
             subst (λ j. page ≤ (get_or ms j m).first) {x = i} {y = is.at} (omega arith) (late m (omega arith)),
           )
         ]
@@ -188,25 +195,18 @@ module _ (ms : List Mapping) (kept : IsKept ms) where
       → (q : ℕ) → m.first ≤ q → q ≤ m.end → (m.first < q → q < m.end → ⊥)
       → goes_on (places_of ms) q ≡ false
   goes_on_at_end page m is q low high not_within = not_true _ (λ e.
-      let w = inside_of q e in
-      let n = w.0 in
-      let also = w.1 in
-      let a = is.within in
-      let b = also.within in
-      let c = also.below in
-      let d = also.above in
+      let also = (inside_of q e).1 in
       let mfirst : (get_or ms is.at m).first ≡ m.first = ap (λ (n : Mapping). n.first) (is.found m) in
       let mend : (get_or ms is.at m).end ≡ m.end = ap (λ (n : Mapping). n.end) (is.found m) in
-      let nfirst : (get_or ms also.at m).first ≡ n.first = ap (λ (n : Mapping). n.first) (also.found m) in
-      let nend : (get_or ms also.at m).end ≡ n.end = ap (λ (n : Mapping). n.end) (also.found m) in
+      let ends = read_ends m also in
       elim (cases_lt is.at also.at) [
-        | inl later ↦ omega (arith, apart_at 0 ms kept.ordered is.at also.at m later b)
+        | inl later ↦ omega (arith, ends.0, apart_at 0 ms kept.ordered is.at also.at m later also.within)
         | inr most ↦ elim (cases_lt also.at is.at) [
-          | inl earlier ↦ omega (arith, apart_at 0 ms kept.ordered also.at is.at m earlier a)
+          | inl earlier ↦ omega (arith, ends.1, apart_at 0 ms kept.ordered also.at is.at m earlier is.within)
           | inr here ↦
               let first_same = ap (λ j. (get_or ms j m).first) {x = is.at} {y = also.at} (omega arith) in
               let end_same = ap (λ j. (get_or ms j m).end) {x = is.at} {y = also.at} (omega arith) in
-              not_within (omega arith) (omega arith)
+              not_within (omega (arith, ends.0)) (omega (arith, ends.1))
         ]
       ])
 

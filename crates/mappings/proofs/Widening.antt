@@ -1,6 +1,6 @@
 -- A range with all pages of the mappings at its ends that have the rights already.
 use Rattle.std.proofs.Common.{◌≡◌, ℕ, ◌+◌, ◌-◌, ◌<◌, ◌≤◌, ◌^◌, true, false, not, if◌then◌else◌}
-use Rattle.std.proofs.Common.{List, Option, Some, None, refl, sym, ap, ◌∙◌, subst, inl, inr, arith}
+use Rattle.std.proofs.Common.{List, Option, Some, None, refl, sym, ap, ◌∙◌, inl, inr, arith}
 use Rattle.std.specs.Option.{option_map}
 use Rattle.std.specs.FinMap as fin_map
 use Rattle.std.specs.Cmp.{nat_cmp_total}
@@ -9,9 +9,9 @@ use Rattle.std.proofs.lemmas.Bool.Decides.{nat_tests}
 use Rattle.mappings.specs.declared.place.Place.{Place}
 use Rattle.mappings.specs.declared.place.Rights.{Rights}
 use Rattle.mappings.specs.declared.mapping.Mapping.{Mapping}
-use Rattle.mappings.specs.Places.{is_among, with_rights, same_rights, goes_on}
+use Rattle.mappings.specs.Places.{is_among, with_rights, same_rights, goes_on, is_cut}
 use Rattle.mappings.specs.inside.Listed.{places_of, IsKept}
-use Rattle.mappings.specs.inside.Edits.{HaveRights, IsAround, IsBegin, IsEnd, IsWidened}
+use Rattle.mappings.specs.inside.Edits.{HaveRights, IsAround, HaveRightsAround, IsWidened}
 use Rattle.mappings.specs.declared.page_range.PageRange.{PageRange}
 use Rattle.mappings.proofs.PlacesLaws.{get-with_rights}
 use Rattle.mappings.proofs.Lists.{mapping_at}
@@ -49,70 +49,61 @@ same_widened ms rights first count low n begins ends before after =
           ]
         ]
 
--- the pages before a page inside a mapping, where that has the rights
-pub begin-same : (ms : List Mapping) (page : ℕ) (rights : Rights) (m : Mapping)
+-- the pages of the mapping that a page is inside, where that has the rights
+pub around-same : (ms : List Mapping) (page : ℕ) (rights : Rights) (m : Mapping)
     → IsKept ms → IsAround ms page m → same_rights m.place.rights rights ≡ true
-    → IsBegin ms page rights m.first
-begin-same ms page rights m kept is same = record {
-  order = omega (arith, is.below);
-  have = λ q place low high got.
-      rights_inside ms kept page m rights is (same_rights-is _ _ same) q place low (omega (arith, is.above)) got;
-  cut = goes_on_at_end ms kept page m is m.first (omega arith) (omega (arith, is.below, is.above)) (λ a b. omega arith)
-      ∙ sym (is_cut-inside ms kept page m rights is ∙ ap not same);
-}
+    → HaveRightsAround ms page rights m.first m.end
+around-same ms page rights m kept is same =
+    let cut : false ≡ is_cut (places_of ms) page rights =
+    sym (is_cut-inside ms kept page m rights is ∙ ap not same) in
+    let below = is.below in
+    let above = is.above in
+    record {
+      begins = omega arith;
+      ends = omega arith;
+      below_end = omega (
+        arith,
+        ap (λ (n : Mapping). n.end) (is.found m),
+        (mapping_at 0 ms kept.ordered is.at m is.within).below_end,
+      );
+      have = rights_inside ms kept page m rights is (same_rights-is _ _ same);
+      cut_first = goes_on_at_end ms kept page m is m.first (omega arith) (omega arith) (λ a b. omega arith) ∙ cut;
+      cut_end = goes_on_at_end ms kept page m is m.end (omega arith) (omega arith) (λ a b. omega arith) ∙ cut;
+    }
 
-pub begin-other : (ms : List Mapping) (page : ℕ) (rights : Rights) (m : Mapping)
+-- and no pages, where it has other rights
+pub around-other : (ms : List Mapping) (page : ℕ) (rights : Rights) (m : Mapping) → page < 2 ^ 64
     → IsKept ms → IsAround ms page m → same_rights m.place.rights rights ≡ false
-    → IsBegin ms page rights page
-begin-other ms page rights m kept is other = record {
-  order = omega arith;
-  have = λ q place low high got. absurd (omega arith);
-  cut = goes_on_inside ms page m kept.ordered is page is.below is.above
-      ∙ sym (is_cut-inside ms kept page m rights is ∙ ap not other);
-}
-
--- the pages from a page inside a mapping on, where that has the rights
-pub end-same : (ms : List Mapping) (page : ℕ) (rights : Rights) (m : Mapping)
-    → IsKept ms → IsAround ms page m → same_rights m.place.rights rights ≡ true
-    → IsEnd ms page rights m.end
-end-same ms page rights m kept is same = record {
-  order = omega (arith, is.above);
-  below_end = omega (
-    arith,
-    ap (λ (n : Mapping). n.end) (is.found m),
-    (mapping_at 0 ms kept.ordered is.at m is.within).below_end,
-  );
-  have = λ q place low high got.
-      rights_inside ms kept page m rights is (same_rights-is _ _ same) q place (omega (arith, is.below)) high got;
-  cut = goes_on_at_end ms kept page m is m.end (omega (arith, is.below, is.above)) (omega arith) (λ a b. omega arith)
-      ∙ sym (is_cut-inside ms kept page m rights is ∙ ap not same);
-}
-
-pub end-other : (ms : List Mapping) (page : ℕ) (rights : Rights) (m : Mapping) → page < 2 ^ 64
-    → IsKept ms → IsAround ms page m → same_rights m.place.rights rights ≡ false
-    → IsEnd ms page rights page
-end-other ms page rights m fits kept is other = record {
-  order = omega arith;
-  below_end = fits;
-  have = λ q place low high got. absurd (omega arith);
-  cut = goes_on_inside ms page m kept.ordered is page is.below is.above
-      ∙ sym (is_cut-inside ms kept page m rights is ∙ ap not other);
-}
+    → HaveRightsAround ms page rights page page
+around-other ms page rights m fits kept is other =
+    let cut : goes_on (places_of ms) page ≡ is_cut (places_of ms) page rights =
+    goes_on_inside ms page m kept.ordered is page is.below is.above
+    ∙ sym (is_cut-inside ms kept page m rights is ∙ ap not other) in
+    record {
+      begins = omega arith;
+      ends = omega arith;
+      below_end = fits;
+      have = λ q place low high got. absurd (omega arith);
+      cut_first = cut;
+      cut_end = cut;
+    }
 
 -- both ends together
-pub IsWidened-ends : (ms : List Mapping) (range : PageRange) (rights : Rights) (low high : ℕ)
-    → IsBegin ms range.first rights low → IsEnd ms (range.first + range.count) rights high
+pub IsWidened-ends : (ms : List Mapping) (range : PageRange) (rights : Rights) (low before after high : ℕ)
+    → HaveRightsAround ms range.first rights low before
+    → HaveRightsAround ms (range.first + range.count) rights after high
     → IsWidened ms range rights (record { first = low; count = high - low })
-IsWidened-ends ms range rights low high begin end =
-    let a = begin.order in
-    let b = end.order in
+IsWidened-ends ms range rights low before after high begin end =
+    let a = begin.begins in
+    let b = end.ends in
     let last : low + (high - low) ≡ high = omega arith in
     record {
       begins = a;
       ends = omega arith;
       below_end = omega (arith, end.below_end);
-      first = begin.cut;
-      end = ap (goes_on (places_of ms)) last ∙ end.cut;
-      same = same_widened ms rights range.first range.count low (high - low) a (omega arith) begin.have
-          (subst (λ n. HaveRights ms (range.first + range.count) n rights) (sym last) end.have);
+      first = begin.cut_first;
+      end = ap (goes_on (places_of ms)) last ∙ end.cut_end;
+      same = same_widened ms rights range.first range.count low (high - low) a (omega arith)
+          (λ q place from upto. begin.have q place from (omega (arith, begin.ends)))
+          (λ q place from upto. end.have q place (omega (arith, end.begins)) (omega (arith, last)));
     }

@@ -3,7 +3,7 @@ ghost use Rattle.std.specs.Prelude.{◌≡◌, ◌+◌, ◌-◌, ◌^◌, ◌≤
 ghost use Rattle.std.specs.Vec.{vec_capacity, vec_len};
 ghost use Rattle.std.specs.List.{list_any, remove_range};
 ghost use Rattle.mappings.specs.Places.{all_mapped, allows, goes_on, is_within, splits, without_range};
-ghost use Rattle.mappings.specs.inside.Edits.{split_at, put_at, end_splits, given_rights, merged, IsAround, IsBegin, IsEnd, IsWidened, IsSplit};
+ghost use Rattle.mappings.specs.inside.Edits.{split_at, put_at, end_splits, given_rights, merged, IsAround, HaveRightsAround, IsWidened, IsSplit};
 ghost use Rattle.mappings.specs.inside.Listed.{places_of, IsOrdered, IsMerged, IsKept, IsFirstAfter, IsMeeting};
 
 use crate::mapping::Mapping;
@@ -86,25 +86,15 @@ pub(crate) fn any_forbids(list: &[Mapping], rights: Rights) -> bool
         .any(|mapping| !mapping.place.access.allows(rights))
 }
 
-// Where the mapping begins that has pages on both sides of the page's begin, if it has the rights; else the page.
-fn begin_with(list: &[Mapping], page: PageNumber, rights: Rights) -> PageNumber
+// The pages of the mapping that has pages on both sides of the page's begin, if it has the rights; else none, at the
+// page.
+fn pages_around(list: &[Mapping], page: PageNumber, rights: Rights) -> Range<PageNumber>
     requires { IsKept list.now }
-    ensures { IsBegin list.now page rights result }
+    ensures { HaveRightsAround list.now page rights result.start result.end }
 {
     match inside(list, page) {
-        Some(mapping) if mapping.place.rights == rights => mapping.first,
-        _ => page,
-    }
-}
-
-// Where the mapping ends that has pages on both sides of the page's begin, if it has the rights; else the page.
-fn end_with(list: &[Mapping], page: PageNumber, rights: Rights) -> PageNumber
-    requires { IsKept list.now }
-    ensures { IsEnd list.now page rights result }
-{
-    match inside(list, page) {
-        Some(mapping) if mapping.place.rights == rights => mapping.end,
-        _ => page,
+        Some(mapping) if mapping.place.rights == rights => mapping.first..mapping.end,
+        _ => page..page,
     }
 }
 
@@ -114,8 +104,8 @@ pub(crate) fn widened(list: &[Mapping], range: PageRange, rights: Rights) -> Pag
     requires fits { range.first + range.count < 2 ^ 64 }
     ensures { IsWidened list.now range rights result }
 {
-    let first = begin_with(list, range.first, rights);
-    let end = end_with(list, range.first + range.count, rights);
+    let first = pages_around(list, range.first, rights).start;
+    let end = pages_around(list, range.first + range.count, rights).end;
     PageRange {
         first,
         count: end - first,

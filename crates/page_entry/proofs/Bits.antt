@@ -8,8 +8,10 @@ use Rattle.std.proofs.lemmas.Nat.Bits.{and_pow}
 use Rattle.std.proofs.lemmas.Bool.Decides.{nat_tests}
 use Rattle.bitflags.specs.Sets.{without}
 use Rattle.page_entry.specs.Entry.{Mapped, flag_weight, bits_of, has_bit, entry_of, IsEntry}
-use Rattle.page_entry.specs.Entry.{is_writable, is_accessed, is_dirty, with_present_of}
-use Rattle.page_entry.specs.Entry.{with_writable_of, with_accessed_of, with_dirty_of, with_frame_of}
+use Rattle.page_entry.specs.Entry.{with_present_of, with_writable_of, with_accessed_of, with_dirty_of, with_frame_of}
+use Rattle.page_entry.specs.inside.Flags.{bit_of, flag_of, with_flag_of}
+use Rattle.page_entry.specs.declared.entry.EntryFlag.{EntryFlag}
+use Rattle.page_entry.specs.declared.entry.EntryFlag.TheVariants.{Writable, Accessed, Dirty}
 
 -- setting bit k adds its weight where it was clear
 or_bit : (n k : ℕ) → bit_or n (2 ^ k) + (n / 2 ^ k % 2) * 2 ^ k ≡ n + 2 ^ k
@@ -42,43 +44,22 @@ scaled : (f : ℕ) (w a d : Bool)
     → bits f w a d ≡ 5 + flag_weight w 1 * 2 + flag_weight a 1 * 32 + flag_weight d 1 * 64 + f * 4096
 scaled f w a d = omega (arith, flag_scaled w 2, flag_scaled a 32, flag_scaled d 64)
 
--- the flags of an entry: which bit each is, what it says, and the entry with it set or clear
-pub data Flag : Type 0 where
-  Writable : Flag
-  Accessed : Flag
-  Dirty : Flag
-
-abbrev pub bit_of : Flag → ℕ
-bit_of Writable = 1
-bit_of Accessed = 5
-bit_of Dirty = 6
-
-abbrev said_by : Flag → Mapped → Bool
-said_by Writable m = m.writable
-said_by Accessed m = m.accessed
-said_by Dirty m = m.dirty
-
-abbrev pub with_flag : Flag → Option Mapped → Bool → Option Mapped
-with_flag Writable e b = with_writable_of e b
-with_flag Accessed e b = with_accessed_of e b
-with_flag Dirty e b = with_dirty_of e b
-
 -- the bits with another value of a flag, as a sum
 module _ (m : Mapped) where
   sums : bits_of (Some m)
       ≡ 5 + flag_weight m.writable 1 * 2 + flag_weight m.accessed 1 * 32 + flag_weight m.dirty 1 * 64 + m.frame * 4096
   sums = scaled m.frame m.writable m.accessed m.dirty
 
-  at_bit : (flag : Flag) → bits_of (Some m) / 2 ^ bit_of flag % 2 ≡ flag_weight (said_by flag m) 1
+  at_bit : (flag : EntryFlag) → bits_of (Some m) / 2 ^ bit_of flag % 2 ≡ flag_weight (flag_of flag (Some m)) 1
   at_bit Writable = omega (arith, sums, flag_small m.writable, flag_small m.accessed, flag_small m.dirty)
   at_bit Accessed = omega (arith, sums, flag_small m.writable, flag_small m.accessed, flag_small m.dirty)
   at_bit Dirty = omega (arith, sums, flag_small m.writable, flag_small m.accessed, flag_small m.dirty)
 
-  has_flag : (flag : Flag) → has_bit (bits_of (Some m)) (bit_of flag) ≡ said_by flag m
-  has_flag flag = ap (λ x. x == 1) (at_bit flag) ∙ flag_test (said_by flag m)
+  has_flag : (flag : EntryFlag) → has_bit (bits_of (Some m)) (bit_of flag) ≡ flag_of flag (Some m)
+  has_flag flag = ap (λ x. x == 1) (at_bit flag) ∙ flag_test (flag_of flag (Some m))
 
-  replaced : (flag : Flag) (b : Bool) → bits_of (with_flag flag (Some m) b)
-      + flag_weight (said_by flag m) 1 * 2 ^ bit_of flag ≡ bits_of (Some m) + flag_weight b 1 * 2 ^ bit_of flag
+  replaced : (flag : EntryFlag) (b : Bool) → bits_of (with_flag_of flag (Some m) b)
+      + flag_weight (flag_of flag (Some m)) 1 * 2 ^ bit_of flag ≡ bits_of (Some m) + flag_weight b 1 * 2 ^ bit_of flag
   replaced Writable b = omega (arith, sums, scaled m.frame b m.accessed m.dirty)
   replaced Accessed b = omega (arith, sums, scaled m.frame m.writable b m.dirty)
   replaced Dirty b = omega (arith, sums, scaled m.frame m.writable m.accessed b)
@@ -138,17 +119,14 @@ pub test_bit : (n k : ℕ) → 0 < 2 ^ k → (bit_and n (2 ^ k) == 2 ^ k) ≡ ha
 test_bit n k some = ap (λ x. x == 2 ^ k) (and_pow n k) ∙ weighed (n / 2 ^ k % 2) (2 ^ k) (omega arith) some
 
 -- and of the bits of an entry
-pub test_writable : (e : Option Mapped) → (bit_and (bits_of e) 2 == 2) ≡ is_writable e
-test_writable None = refl
-test_writable (Some m) = test_bit (bits_of (Some m)) 1 (omega arith) ∙ has_flag m Writable
-
-pub test_accessed : (e : Option Mapped) → (bit_and (bits_of e) 32 == 32) ≡ is_accessed e
-test_accessed None = refl
-test_accessed (Some m) = test_bit (bits_of (Some m)) 5 (omega arith) ∙ has_flag m Accessed
-
-pub test_dirty : (e : Option Mapped) → (bit_and (bits_of e) 64 == 64) ≡ is_dirty e
-test_dirty None = refl
-test_dirty (Some m) = test_bit (bits_of (Some m)) 6 (omega arith) ∙ has_flag m Dirty
+pub test_flag : (flag : EntryFlag) (e : Option Mapped)
+    → (bit_and (bits_of e) (2 ^ bit_of flag) == 2 ^ bit_of flag) ≡ flag_of flag e
+test_flag Writable None = refl
+test_flag Accessed None = refl
+test_flag Dirty None = refl
+test_flag Writable (Some m) = test_bit (bits_of (Some m)) 1 (omega arith) ∙ has_flag m Writable
+test_flag Accessed (Some m) = test_bit (bits_of (Some m)) 5 (omega arith) ∙ has_flag m Accessed
+test_flag Dirty (Some m) = test_bit (bits_of (Some m)) 6 (omega arith) ∙ has_flag m Dirty
 
 -- the bits with some of them set or cleared
 abbrev pub after_set : ℕ → ℕ → Bool → ℕ
@@ -164,19 +142,19 @@ set_one n m k was false small weight at same =
     let scale : n / 2 ^ k % 2 * 2 ^ k ≡ flag_weight was 1 * 2 ^ k = ap (λ x. x * 2 ^ k) at in
     omega (arith, clear_bit n k small weight, scale, same)
 
-light : (flag : Flag) → 2 ^ bit_of flag < 2 ^ 64
+light : (flag : EntryFlag) → 2 ^ bit_of flag < 2 ^ 64
 light Writable = omega arith
 light Accessed = omega arith
 light Dirty = omega arith
 
-set_flag : (flag : Flag) (e : Option Mapped) (b : Bool) → IsSmall e → is_some e ≡ true
-    → after_set (bits_of e) (2 ^ bit_of flag) b ≡ bits_of (with_flag flag e b)
+set_flag : (flag : EntryFlag) (e : Option Mapped) (b : Bool) → IsSmall e → is_some e ≡ true
+    → after_set (bits_of e) (2 ^ bit_of flag) b ≡ bits_of (with_flag_of flag e b)
 set_flag flag None b s h = cc
-set_flag flag (Some m) b s h = set_one (bits_of (Some m)) (bits_of (with_flag flag (Some m) b)) (bit_of flag)
-    (said_by flag m) b (small_bits m.frame m.writable m.accessed m.dirty s) (light flag) (at_bit m flag)
+set_flag flag (Some m) b s h = set_one (bits_of (Some m)) (bits_of (with_flag_of flag (Some m) b)) (bit_of flag)
+    (flag_of flag (Some m)) b (small_bits m.frame m.writable m.accessed m.dirty s) (light flag) (at_bit m flag)
     (replaced m flag b)
 
-small_with : (flag : Flag) (e : Option Mapped) (b : Bool) → IsSmall e → IsSmall (with_flag flag e b)
+small_with : (flag : EntryFlag) (e : Option Mapped) (b : Bool) → IsSmall e → IsSmall (with_flag_of flag e b)
 small_with Writable None b s = s
 small_with Writable (Some m) b s = s
 small_with Accessed None b s = s
@@ -195,20 +173,14 @@ makes bits e same s = record {
   value = ap entry_of same ∙ entry_of-bits_of e;
 }
 
--- a change of an entry, and what it computes on the bits
-pub record Computes (compute : ℕ → ℕ) (change : Option Mapped → Option Mapped) : Type 0 where
-  pub bits : (e : Option Mapped) → IsSmall e → is_some e ≡ true → compute (bits_of e) ≡ bits_of (change e)
-  pub small : (e : Option Mapped) → IsSmall e → IsSmall (change e)
-
-pub changes : (compute : ℕ → ℕ) (change : Option Mapped → Option Mapped) → Computes compute change
-    → (old new : ℕ) (e : Option Mapped) → IsEntry old → entry_of old ≡ e → is_some e ≡ true → new ≡ compute old
-    → Makes new (change e)
-changes compute change is old new e was view some same =
-    let s : IsSmall e = subst IsSmall view (IsSmall-entry_of old was) in
-    makes new (change e) (same ∙ ap compute (sym was.named ∙ ap bits_of view) ∙ is.bits e s some) (is.small e s)
-
-pub flag_changes : (flag : Flag) (b : Bool) → Computes (λ n. after_set n (2 ^ bit_of flag) b) (λ e. with_flag flag e b)
-flag_changes flag b = record { bits = λ e s h. set_flag flag e b s h; small = λ e s. small_with flag e b s }
+-- setting or clearing the bit of a flag makes the entry with the flag set or clear
+pub makes_with_flag : (flag : EntryFlag) (b : Bool) (old : ℕ) (e : Option Mapped) → IsEntry old → entry_of old ≡ e
+    → is_some e ≡ true → Makes (after_set old (2 ^ bit_of flag) b) (with_flag_of flag e b)
+makes_with_flag flag b old e was view some =
+    let small : IsSmall e = subst IsSmall view (IsSmall-entry_of old was) in
+    makes (after_set old (2 ^ bit_of flag) b) (with_flag_of flag e b)
+    (ap (λ n. after_set n (2 ^ bit_of flag) b) (sym was.named ∙ ap bits_of view) ∙ set_flag flag e b small some)
+    (small_with flag e b small)
 
 -- the entry that is made of these bits, one by one
 pub read_back : (n : ℕ)

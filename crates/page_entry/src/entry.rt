@@ -2,6 +2,7 @@
 ghost use Rattle.std.specs.Prelude.{⊤, ◌≡◌, ◌==◌, ◌↔◌, ◌^◌, ◌<◌, None, [], ◌∷◌, codes, is_some, IsSome, IfSome};
 ghost use Rattle.std.specs.Int.RustNames.{bit_and};
 ghost use Rattle.page_entry.specs.Entry.{IsEntry, entry_of, bits_of, is_writable, is_accessed, is_dirty, frame_of, with_present_of, with_writable_of, with_accessed_of, with_dirty_of, with_frame_of, protected_of};
+ghost use Rattle.page_entry.specs.inside.Flags.{bit_of, flag_of, with_flag_of};
 
 use crate::{FrameNumber, PAGE};
 use bitflags::{Flag, Flags, bitflag_items};
@@ -41,6 +42,28 @@ impl Flags for EntryFlags {
 
     fn from_bits_retain(bits: u64) -> EntryFlags {
         EntryFlags(bits)
+    }
+}
+
+// What a present entry says by one bit.
+#[derive(Clone, Copy)]
+enum EntryFlag {
+    // Whether a store is allowed.
+    Writable,
+    // Whether a walk used the entry.
+    Accessed,
+    // Whether a walk for a store used the entry.
+    Dirty,
+}
+
+// The bit by which it is said.
+fn bit_of(flag: EntryFlag) -> EntryFlags
+    ensures { result.0 ≡ 2 ^ bit_of flag }
+{
+    match flag {
+        EntryFlag::Writable => EntryFlags::WRITABLE,
+        EntryFlag::Accessed => EntryFlags::ACCESSED,
+        EntryFlag::Dirty => EntryFlags::DIRTY,
     }
 }
 
@@ -123,21 +146,21 @@ impl Entry {
     pub fn writable(self) -> bool
         ensures { result ≡ is_writable self }
     {
-        EntryFlags(self.0).contains(EntryFlags::WRITABLE)
+        self.flag(EntryFlag::Writable)
     }
 
     /// Whether a walk used the entry.
     pub fn accessed(self) -> bool
         ensures { result ≡ is_accessed self }
     {
-        EntryFlags(self.0).contains(EntryFlags::ACCESSED)
+        self.flag(EntryFlag::Accessed)
     }
 
     /// Whether a walk for a store used the entry.
     pub fn dirty(self) -> bool
         ensures { result ≡ is_dirty self }
     {
-        EntryFlags(self.0).contains(EntryFlags::DIRTY)
+        self.flag(EntryFlag::Dirty)
     }
 
     /// The frame that is mapped; 0 in an absent entry.
@@ -162,35 +185,39 @@ impl Entry {
     pub fn with_writable(self, writable: bool) -> Self
         ensures { result ≡ with_writable_of self writable }
     {
-        if !self.present() {
-            return self;
-        }
-        let mut flags = EntryFlags(self.0);
-        flags.set(EntryFlags::WRITABLE, writable);
-        Entry(flags.bits())
+        self.with_flag(EntryFlag::Writable, writable)
     }
 
     /// The entry with the accessed bit set or clear.
     pub fn with_accessed(self, accessed: bool) -> Self
         ensures { result ≡ with_accessed_of self accessed }
     {
-        if !self.present() {
-            return self;
-        }
-        let mut flags = EntryFlags(self.0);
-        flags.set(EntryFlags::ACCESSED, accessed);
-        Entry(flags.bits())
+        self.with_flag(EntryFlag::Accessed, accessed)
     }
 
     /// The entry with the dirty bit set or clear.
     pub fn with_dirty(self, dirty: bool) -> Self
         ensures { result ≡ with_dirty_of self dirty }
     {
+        self.with_flag(EntryFlag::Dirty, dirty)
+    }
+
+    // What the entry says by a flag; an absent one says nothing.
+    fn flag(self, flag: EntryFlag) -> bool
+        ensures { result ≡ flag_of flag self }
+    {
+        EntryFlags(self.0).contains(bit_of(flag))
+    }
+
+    // The entry with a flag set or clear.
+    fn with_flag(self, flag: EntryFlag, set: bool) -> Self
+        ensures { result ≡ with_flag_of flag self set }
+    {
         if !self.present() {
             return self;
         }
         let mut flags = EntryFlags(self.0);
-        flags.set(EntryFlags::DIRTY, dirty);
+        flags.set(bit_of(flag), set);
         Entry(flags.bits())
     }
 

@@ -1,5 +1,5 @@
 -- Edits of the marked words, node by node, and the table that they leave.
-use Rattle.std.proofs.Common.{◌≡◌, ℕ, zero, suc, ◌+◌, ◌-◌, ◌*◌, ◌/◌, ◌%◌, ◌^◌, ◌<◌, ◌≤◌, Bool, true, false, cond}
+use Rattle.std.proofs.Common.{◌≡◌, ℕ, ◌+◌, ◌-◌, ◌*◌, ◌/◌, ◌%◌, ◌^◌, ◌<◌, ◌≤◌, Bool, true, false, cond}
 use Rattle.std.proofs.Common.{◌&&◌, ltb, List, length, get_or, set, refl, sym, ap, ◌∙◌, subst, inl, inr, arith}
 use Rattle.std.proofs.lemmas.Bool.{cases_eq, cases_lt}
 use Rattle.std.proofs.lemmas.Bool.Decides.{nat_tests}
@@ -9,8 +9,9 @@ use Rattle.page_table.specs.Table.{in_range}
 use Rattle.page_table.specs.inside.Nodes.{word, read_by_walk, IsTree, IsTable, EditsPages}
 use Rattle.page_table.specs.Bits.{is_set, IsSet}
 use Rattle.page_table.specs.inside.Marks.{place_of, HasMarks, AreMarked, EditsMarked, Keeps}
-use Rattle.page_table.proofs.Trees.{walk-suc, walk-zero, walk-none, word_of_node, word_of_none}
+use Rattle.page_table.proofs.Trees.{walk-suc, walk-none, walk-kept, word_of_node}
 use Rattle.page_table.proofs.PageEdits.{walk-high}
+use Rattle.page_table.proofs.Searching.{IsPiecewise}
 use Rattle.page_table.proofs.Choices.{within_range, past_range, some_true}
 use Rattle.page_table.proofs.Marked.{read_place, marked_within, unmarked, HasMarks-same}
 
@@ -87,16 +88,8 @@ module _ (f : ℕ → ℕ) (present : List ℕ) where
     ];
   }
 
-  -- one more marked word
-  pub EditsMarked-next : (first place end at value : ℕ) (ws vs : List ℕ)
-      → first ≤ place → EditsMarked f present first place ws vs
-      → IsSet present place end at → at < length vs → value ≡ f (get_or vs at 0)
-      → EditsMarked f present first (at + 1) ws (set vs at value)
-  EditsMarked-next first place end at value ws vs low done found within value_is =
-      let from = found.low in
-      EditsMarked-joined first at (at + 1) ws vs _ (omega arith) (omega arith)
-      (EditsMarked-all first place at ws vs from done found.before)
-      (EditsMarked-one at value vs found.here within value_is)
+  pub EditsMarked-pieces : IsPiecewise present (EditsMarked f present)
+  EditsMarked-pieces = record { joined = EditsMarked-joined; unset = EditsMarked-all }
 
   -- what isn't changed yet
   pub not_yet : (first place : ℕ) (ws vs : List ℕ) → EditsMarked f present first place ws vs → (i : ℕ) → place ≤ i
@@ -105,17 +98,7 @@ module _ (f : ℕ → ℕ) (present : List ℕ) where
       done.words i
       ∙ (let out : is_edited first place i ≡ false = grind (arith, nat_tests) in rw out refl)
 
--- between nodes in use nothing is marked
-pub unused_between : (ws present in_use : List ℕ) → HasMarks ws present in_use → (node used : ℕ)
-    → ((n : ℕ) → node ≤ n → n < used → is_set in_use n ≡ false) → (i : ℕ) → node * 512 ≤ i → i < used * 512
-    → is_set present i ≡ false
-unused_between ws present in_use marks node used none i low high = by_bit (is_set present i) refl
-  where
-    by_bit : (b : Bool) → is_set present i ≡ b → b ≡ false
-    by_bit false is = refl
-    by_bit true is = absurd (let on = marks.used i is in let off = none (i / 512) (omega arith) (omega arith) in cc)
-
--- and after the last node in use nothing is
+-- after the last node in use nothing is marked
 pub unused_after : (ws present in_use : List ℕ) → HasMarks ws present in_use → (node end : ℕ)
     → length ws / 512 ≤ end → ((n : ℕ) → node ≤ n → n < end → is_set in_use n ≡ false) → (i : ℕ) → node * 512 ≤ i
     → is_set present i ≡ false
@@ -126,18 +109,7 @@ unused_after ws present in_use marks node end most none i low = by_bit (is_set p
     by_bit true is = absurd (let on = marks.used i is in let within = marks.nodes (i / 512) on in
         let off = none (i / 512) (omega arith) (omega arith) in cc)
 
--- the next node in use has changed too
-pub EditsMarked-node : (f : ℕ → ℕ) (ws present in_use : List ℕ) → HasMarks ws present in_use
-    → (node end used : ℕ) (vs us : List ℕ) → EditsMarked f present 0 (node * 512) ws vs
-    → IsSet in_use node end used → EditsMarked f present (used * 512) ((used + 1) * 512) vs us
-    → EditsMarked f present 0 ((used + 1) * 512) ws us
-EditsMarked-node f ws present in_use marks node end used vs us done found one =
-    let low = found.low in
-    EditsMarked-joined f present 0 (used * 512) ((used + 1) * 512) ws vs us (omega arith) (omega arith)
-    (EditsMarked-all f present 0 (node * 512) (used * 512) ws vs (omega arith) done
-    (unused_between ws present in_use marks node used found.before)) one
-
--- its words are entries still
+-- the words of the next node are entries still
 pub AreMarked-node : (f : ℕ → ℕ) (ws present in_use : List ℕ) → IsTable ws → HasMarks ws present in_use
     → (node used : ℕ) (vs : List ℕ) → EditsMarked f present 0 (node * 512) ws vs → node ≤ used
     → AreMarked vs present (used * 512) ((used + 1) * 512)
@@ -146,6 +118,14 @@ AreMarked-node f ws present in_use table marks node used vs done le = λ i low h
       omega (arith, is.0, done.size),
       subst IsEntry (sym (not_yet f present 0 (node * 512) ws vs done i (omega arith))) is.1,
     )
+
+-- and so is the next marked word of a node
+pub IsEntry-next : (f : ℕ → ℕ) (present : List ℕ) (first place end at : ℕ) (ws vs : List ℕ)
+    → AreMarked ws present first end → first ≤ place → EditsMarked f present first place ws vs
+    → IsSet present place end at → IsEntry (get_or vs at 0)
+IsEntry-next f present first place end at ws vs entries low done found =
+    subst IsEntry (sym (not_yet f present first place ws vs done at found.low))
+    (entries at (omega (arith, low, found.low)) found.high found.here).1
 
 -- all marked words
 module _ (f : ℕ → ℕ) (ws vs present in_use : List ℕ) (end : ℕ) (zeros : f 0 ≡ 0)
@@ -174,19 +154,10 @@ module _ (f : ℕ → ℕ) (ws vs present in_use : List ℕ) (end : ℕ) (zeros 
       (table.tree.apart d c 3 (found.0 / 512) (omega arith) (omega arith) node (omega arith)).0 in omega arith)
 
   pub walk-marked : (d c : ℕ) → d ≤ 3 → read_by_walk vs d c ≡ read_by_walk ws d c
-  walk-marked zero c le = walk-zero vs c ∙ sym (walk-zero ws c)
-  walk-marked (suc d) c le =
-      let k = read_by_walk ws d (c / 512) in
-      walk-suc vs d c ∙ ap (λ k. word vs k (c % 512)) (walk-marked d (c / 512) (omega arith))
-      ∙ elim (cases_eq k 0) [
-        | inl none ↦ word_of_none vs k _ none ∙ sym (word_of_none ws k _ none)
-        | inr node ↦
-            let some : 0 < k = omega arith in
-            word_of_node vs k _ some
-            ∙ unmarked_word _ (not_marked d (c / 512) (c % 512) (omega arith) (omega arith) some _ refl)
-            ∙ sym (word_of_node ws k _ some)
-      ]
-      ∙ sym (walk-suc ws d c)
+  walk-marked = walk-kept ws vs (λ d c p less place some.
+      word_of_node vs _ p some
+      ∙ unmarked_word _ (not_marked d c p less place some _ refl)
+      ∙ sym (word_of_node ws _ p some))
 
   pub lookup-marked : (q : ℕ) → read_by_walk vs 4 q ≡ f (read_by_walk ws 4 q)
   lookup-marked q =
@@ -235,7 +206,7 @@ module _ (f : ℕ → ℕ) (ws vs present in_use : List ℕ) (end : ℕ) (zeros 
           absurd (let below = is.below 3 (found.0 / 512) (omega arith) in omega arith)
       by_mark i past false marked = unmarked_word i marked ∙ is.unused i past
 
-  pub EditsPages-marked : EditsPages f 0 (2 ^ 36) ws vs
+  EditsPages-marked : EditsPages f 0 (2 ^ 36) ws vs
   EditsPages-marked = record {
     table = record {
       whole = omega (arith, table.whole, edits.size);
@@ -253,7 +224,7 @@ module _ (f : ℕ → ℕ) (ws vs present in_use : List ℕ) (end : ℕ) (zeros 
     ];
   }
 
-  pub HasMarks-marked : Keeps f → HasMarks vs present in_use
+  HasMarks-marked : Keeps f → HasMarks vs present in_use
   HasMarks-marked some = HasMarks-same ws vs present in_use edits.size walk-marked
       (λ q. ap (λ n. ltb 0 n) (lookup-marked q) ∙ elim (cases_eq (read_by_walk ws 4 q) 0) [
         | inl none ↦ (let same : f (read_by_walk ws 4 q) ≡ 0 = ap f none ∙ zeros in rw (same, none) refl)
@@ -262,3 +233,6 @@ module _ (f : ℕ → ℕ) (ws vs present in_use : List ℕ) (end : ℕ) (zeros 
             ∙ sym (some_true (read_by_walk ws 4 q) (omega arith))
       ])
       marks
+
+  pub changed-marked : Keeps f → EditsPages f 0 (2 ^ 36) ws vs × HasMarks vs present in_use
+  changed-marked some = (EditsPages-marked, HasMarks-marked some)

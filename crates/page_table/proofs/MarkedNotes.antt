@@ -7,12 +7,12 @@ use Rattle.std.specs.FinMap as maps
 use Rattle.page_entry.specs.Entry.{Mapped, entry_of, is_dirty, frame_of}
 use Rattle.page_table.specs.Table.{TableState}
 use Rattle.page_table.specs.inside.Nodes.{read_by_walk, IsTable, table_of}
-use Rattle.page_table.specs.Bits.{is_set, IsSet}
+use Rattle.page_table.specs.Bits.{is_set}
 use Rattle.page_table.specs.inside.Marks.{place_of, HasMarks, IsMarkedDirty, NotesMarked, AreBelow}
 use Rattle.page_table.proofs.Trees.{walk-none}
 use Rattle.page_table.proofs.View.{get_entry}
 use Rattle.page_table.proofs.Choices.{test_of}
-use Rattle.page_table.proofs.MarkedEdits.{unused_between}
+use Rattle.page_table.proofs.Searching.{IsPiecewise}
 use Rattle.page_table.proofs.Marked.{read_place, place_within, marked_within}
 
 module _ (ws present : List ℕ) where
@@ -25,32 +25,16 @@ module _ (ws present : List ℕ) where
     );
   }
 
+  -- of another part that has the place
+  narrower : (a b first end frame : ℕ) → (d : IsMarkedDirty ws present a b frame) → first ≤ d.place → d.place < end
+      → IsMarkedDirty ws present first end frame
+  narrower a b first end frame d low high = record { place = d.place; low = low; high = high; here = d.here }
+
   -- of a longer part
   wider : (a b first end frame : ℕ) → first ≤ a → b ≤ end → IsMarkedDirty ws present a b frame
       → IsMarkedDirty ws present first end frame
-  wider a b first end frame low high d = record {
-    place = d.place;
-    low = omega (arith, d.low);
-    high = omega (arith, d.high);
-    marked = d.marked;
-    entry = d.entry;
-    read = d.read;
-    same_frame = d.same_frame;
-    dirty = d.dirty;
-  }
-
-  narrower : (a b first end frame : ℕ) → (d : IsMarkedDirty ws present a b frame) → first ≤ d.place → d.place < end
-      → IsMarkedDirty ws present first end frame
-  narrower a b first end frame d low high = record {
-    place = d.place;
-    low = low;
-    high = high;
-    marked = d.marked;
-    entry = d.entry;
-    read = d.read;
-    same_frame = d.same_frame;
-    dirty = d.dirty;
-  }
+  wider a b first end frame low high d =
+      narrower a b first end frame d (omega (arith, low, d.low)) (omega (arith, high, d.high))
 
   -- up to a place before which no other word is marked
   pub NotesMarked-all : (first place end : ℕ) (old new : List Bool) → place ≤ end
@@ -68,7 +52,7 @@ module _ (ws present : List ℕ) where
       before : (frame : ℕ) → IsMarkedDirty ws present first end frame → IsMarkedDirty ws present first place frame
       before frame d = elim (cases_lt d.place place) [
         | inl below ↦ narrower first end first place frame d d.low below
-        | inr above ↦ absurd (let off = none d.place above d.high in let on = d.marked in cc)
+        | inr above ↦ absurd (let off = none d.place above d.high in let on = d.here.marked in cc)
       ]
 
   -- one part after the other
@@ -107,11 +91,7 @@ module _ (ws present : List ℕ) where
           place = at;
           low = omega arith;
           high = omega arith;
-          marked = marked;
-          entry = entry;
-          read = sym read;
-          same_frame = sym same;
-          dirty = dirty;
+          here = record { marked = marked; entry = entry; read = sym read; same_frame = sym same; dirty = dirty };
         })
         | inr other ↦ inl (sym (get_or-set_other notes entry.frame frame true false other) ∙ noted)
       ],
@@ -127,8 +107,9 @@ module _ (ws present : List ℕ) where
       one : (frame : ℕ) → IsMarkedDirty ws present at (at + 1) frame → entry.frame ≡ frame
       one frame d =
           let place : d.place ≡ at = (let low = d.low in let high = d.high in omega arith) in
-          let same : Some entry ≡ Some d.entry = read ∙ ap (λ n. entry_of (get_or ws n 0)) (sym place) ∙ d.read in
-          ap frame_of same ∙ d.same_frame
+          let m = d.here in
+          let same : Some entry ≡ Some m.entry = read ∙ ap (λ n. entry_of (get_or ws n 0)) (sym place) ∙ m.read in
+          ap frame_of same ∙ m.same_frame
 
   pub NotesMarked-clean : (at : ℕ) (e : Option Mapped) (notes : List Bool)
       → e ≡ entry_of (get_or ws at 0) → is_dirty e ≡ false
@@ -141,8 +122,9 @@ module _ (ws present : List ℕ) where
       not_dirty : (frame : ℕ) → IsMarkedDirty ws present at (at + 1) frame → ⊥
       not_dirty frame d =
           let place : d.place ≡ at = (let low = d.low in let high = d.high in omega arith) in
-          let same : e ≡ Some d.entry = read ∙ ap (λ n. entry_of (get_or ws n 0)) (sym place) ∙ d.read in
-          let dirty : is_dirty e ≡ true = ap is_dirty same ∙ d.dirty in
+          let m = d.here in
+          let same : e ≡ Some m.entry = read ∙ ap (λ n. entry_of (get_or ws n 0)) (sym place) ∙ m.read in
+          let dirty : is_dirty e ≡ true = ap is_dirty same ∙ m.dirty in
           let never : ⊥ = cc in never
 
   pub frame_below : (first end count at : ℕ) (e : Option Mapped) → AreBelow ws present first end count
@@ -152,28 +134,10 @@ module _ (ws present : List ℕ) where
   frame_below first end count at (Some entry) below low high marked read dirty =
       below at low high marked entry (sym read)
 
-  -- one more marked word
-  pub NotesMarked-next : (first place end at : ℕ) (old now new : List Bool)
-      → first ≤ place → NotesMarked ws present first place old now
-      → IsSet present place end at → NotesMarked ws present at (at + 1) now new
-      → NotesMarked ws present first (at + 1) old new
-  NotesMarked-next first place end at old now new low done found one =
-      let from = found.low in
-      NotesMarked-joined first at (at + 1) old now new (omega arith) (omega arith)
-      (NotesMarked-all first place at old now from done found.before) one
+  pub NotesMarked-pieces : IsPiecewise present (NotesMarked ws present)
+  NotesMarked-pieces = record { joined = NotesMarked-joined; unset = NotesMarked-all }
 
--- the next node in use is noted too
-pub NotesMarked-node : (ws present in_use : List ℕ) → HasMarks ws present in_use
-    → (node end used : ℕ) (old now new : List Bool) → NotesMarked ws present 0 (node * 512) old now
-    → IsSet in_use node end used → NotesMarked ws present (used * 512) ((used + 1) * 512) now new
-    → NotesMarked ws present 0 ((used + 1) * 512) old new
-NotesMarked-node ws present in_use marks node end used old now new done found one =
-    let low = found.low in
-    NotesMarked-joined ws present 0 (used * 512) ((used + 1) * 512) old now new (omega arith) (omega arith)
-    (NotesMarked-all ws present 0 (node * 512) (used * 512) old now (omega arith) done
-    (unused_between ws present in_use marks node used found.before)) one
-
--- and then all nodes are
+-- where all nodes in use are noted, all words are
 pub NotesMarked-whole : (ws present in_use : List ℕ) → IsTable ws → HasMarks ws present in_use
     → (node : ℕ) (old new : List Bool) → NotesMarked ws present 0 (node * 512) old new
     → ((i : ℕ) → node * 512 ≤ i → is_set present i ≡ false)
@@ -188,12 +152,12 @@ NotesMarked-whole ws present in_use table marks node old new done none = record 
   where
     within : (frame : ℕ) → IsMarkedDirty ws present 0 (node * 512) frame → IsMarkedDirty ws present 0 (length ws) frame
     within frame d = narrower ws present 0 (node * 512) 0 (length ws) frame d (omega arith)
-        (marked_within ws present table marks.marked d.place d.marked).0
+        (marked_within ws present table marks.marked d.place d.here.marked).0
 
     before : (frame : ℕ) → IsMarkedDirty ws present 0 (length ws) frame → IsMarkedDirty ws present 0 (node * 512) frame
     before frame d = elim (cases_lt d.place (node * 512)) [
       | inl below ↦ narrower ws present 0 (length ws) 0 (node * 512) frame d (omega arith) below
-      | inr above ↦ absurd (let off = none d.place above in let on = d.marked in cc)
+      | inr above ↦ absurd (let off = none d.place above in let on = d.here.marked in cc)
     ]
 
 -- a table's dirty entries
@@ -261,19 +225,21 @@ module _ (ws present in_use : List ℕ) (t : TableState) (table : IsTable ws) (m
     place = place_of ws page;
     low = omega arith;
     high = place_within ws page table (leaf_of page entry there);
-    marked = marked_of page entry there;
-    entry = entry;
-    read = ap entry_of (sym (read_place ws page (leaf_of page entry there))) ∙ read_of page entry there;
-    same_frame = same;
-    dirty = dirty;
+    here = record {
+      marked = marked_of page entry there;
+      entry = entry;
+      read = ap entry_of (sym (read_place ws page (leaf_of page entry there))) ∙ read_of page entry there;
+      same_frame = same;
+      dirty = dirty;
+    };
   }
 
   pub noted_entries : (old new : List Bool) → NotesMarked ws present 0 (length ws) old new → (frame : ℕ)
       → (get_or new frame false ≡ true) ↔ ((get_or old frame false ≡ true) ⊎ ((page : ℕ) × (entry : Mapped)
       × (maps.get t.entries page ≡ Some entry) × (entry.frame ≡ frame) × (entry.dirty ≡ true)))
   noted_entries old new notes frame = (
-    λ noted. ⊎_elim inl (λ d. inr (let found = at_page d.place d.entry d.marked d.read in
-        (found.0, d.entry, found.1, d.same_frame, d.dirty))) ((notes.noted frame).0 noted),
+    λ noted. ⊎_elim inl (λ d. inr (let m = d.here in let found = at_page d.place m.entry m.marked m.read in
+        (found.0, m.entry, found.1, m.same_frame, m.dirty))) ((notes.noted frame).0 noted),
     λ h. (notes.noted frame).1 (⊎_elim inl (λ d. inr (at_place d.0 d.1 frame d.2 d.3 d.4)) h),
   )
 

@@ -14,15 +14,15 @@ use Rattle.std.proofs.Math.ListN.{get_or-append}
 use Rattle.std.proofs.Math.Seq.{get_or-append_right}
 use Rattle.page_entry.specs.Entry.{Mapped, entry_of, bits_of, protected_of, IsEntry}
 use Rattle.page_entry.proofs.Bits.{entry_of-bits_of, IsEntry-bits_of}
-use Rattle.page_table.specs.Table.{TableState, is_grown, in_range, is_marked, put_entry, outside_range}
-use Rattle.page_table.specs.Table.{frames_protected, range_read_only, empty_table, HasGrown, GrowsOver}
+use Rattle.page_table.specs.Table.{TableState, is_grown, in_range, is_marked, put_entry}
+use Rattle.page_table.specs.Table.{frames_protected, empty_table, HasGrown, GrowsOver}
 use Rattle.page_table.specs.declared.change.Change.{Change}
 use Rattle.page_table.specs.declared.change.Change.TheVariants.{Clear, MakeReadOnly, Protect}
-use Rattle.page_table.specs.inside.Changes.{changed_by, changed_bits}
+use Rattle.page_table.specs.inside.Changes.{changed_by, changed_bits, ChangesRange}
 use Rattle.page_table.specs.inside.Nodes.{word, read_by_walk, lookup, has_leaf, table_of, IsTree}
 use Rattle.page_table.specs.inside.Nodes.{IsTable, EditsPages, GrowsPages, needed, missing}
 use Rattle.page_table.specs.inside.Marks.{HasMarks, IsMarkedTable}
-use Rattle.page_table.proofs.Entries.{same_table, same_entries, get-put_entry, get-outside_range, get-range_read_only}
+use Rattle.page_table.proofs.Entries.{same_table, same_entries, get-put_entry}
 use Rattle.page_table.proofs.Entries.{get-frames_protected, maps_marked, get-empty_table, is_grown-empty_table}
 use Rattle.page_table.proofs.Trees.{walk-zero, walk-suc, walk-none, walk-alike, word_of_node, word_of_none}
 use Rattle.page_table.proofs.Links.{missing-none, missing-alike}
@@ -65,34 +65,20 @@ changed_entry change ws q =
     entry_of-bits_of (changed_by change (lookup ws q))
     ∙ ap (changed_by change) (sym (get_entry ws q))
 
-table_of-changed : (change : Change) (start end : ℕ) (old new : List ℕ) (entries : maps.FinMap nat_cmp Mapped)
+pub table_of-changed : (change : Change) (start end : ℕ) (old new : List ℕ)
     → EditsPages (changed_bits change) start end old new
-    → ((q : ℕ) → maps.get entries q ≡ cond (in_range start end q)
-    (changed_by change (maps.get (table_of old).entries q)) (maps.get (table_of old).entries q))
-    → table_of new ≡ record (table_of old) { entries = entries }
-table_of-changed change start end old new entries edits each =
+    → ChangesRange change start end (table_of old) (table_of new)
+table_of-changed change start end old new edits entries each =
     table_of-edited (changed_bits change) start end old new entries edits
     (λ q. each q
     ∙ ap (λ e. cond (in_range start end q) e (maps.get (table_of old).entries q)) (sym (changed_entry change old q)))
-
--- a range whose entries become absent
-pub table_of-cleared : (start end : ℕ) (old new : List ℕ) → EditsPages (changed_bits Clear) start end old new
-    → table_of new ≡ record (table_of old) { entries = outside_range (table_of old).entries start end }
-table_of-cleared start end old new edits =
-    table_of-changed Clear start end old new _ edits (λ q. get-outside_range (table_of old).entries start end q)
-
--- a range whose entries lose the right to write
-pub table_of-read_only : (start end : ℕ) (old new : List ℕ) → EditsPages (changed_bits MakeReadOnly) start end old new
-    → table_of new ≡ record (table_of old) { entries = range_read_only (table_of old).entries start end }
-table_of-read_only start end old new edits = table_of-changed MakeReadOnly start end old new _ edits
-    (λ q. get-range_read_only (table_of old).entries start end q)
 
 -- all pages whose entries map marked frames
 pub table_of-protected : (marked : Bor (List Bool)) (old new : List ℕ)
     → EditsPages (changed_bits (Protect marked)) 0 (2 ^ 36) old new
     → table_of new ≡ record (table_of old) { entries = frames_protected (table_of old).entries marked.now }
 table_of-protected marked old new edits =
-    table_of-changed (Protect marked) 0 (2 ^ 36) old new _ edits
+    table_of-changed (Protect marked) 0 (2 ^ 36) old new edits _
     (λ q. get-frames_protected (table_of old).entries marked.now q
     ∙ everywhere q (maps.get (table_of old).entries q) (λ high. get_entry old q ∙ ap entry_of (walk-high old q high)))
   where
@@ -136,18 +122,19 @@ written_over v old new size is = with_items_is v new (omega (arith, size, ap len
 
 -- the table after a change that wrote its words over
 pub table_of-written : {Z : Type 0} (words : Vec ℕ Z) (old new : List ℕ) (was : TableState)
-    (change : TableState → TableState)
-    → length new ≡ length old → old ≡ words.items → table_of words.items ≡ was → table_of new ≡ change (table_of old)
-    → table_of (with_items words new).items ≡ change was
-table_of-written words old new was change size is view made =
-    ap table_of (written_over words old new size is) ∙ made ∙ ap change (ap table_of is ∙ view)
+    (Changes : TableState → TableState → Type 0)
+    → length new ≡ length old → old ≡ words.items → table_of words.items ≡ was → Changes (table_of old) (table_of new)
+    → Changes was (table_of (with_items words new).items)
+table_of-written words old new was Changes size is view made =
+    subst (Changes was) (sym (ap table_of (written_over words old new size is)))
+    (subst (λ t. Changes t (table_of new)) (ap table_of is ∙ view) made)
 
 -- and its marks, where these were written over with it
-pub marked_written : {Z : Type 0} (words present in_use : Vec ℕ Z) (ws ps us ws' ps' us' : List ℕ)
+pub marked_written : {Z : Type 0} (words present in_use : Vec ℕ Z) {ws ps us ws' ps' us' : List ℕ}
     → (ws ≡ words.items) × (length ws' ≡ length ws) → (ps ≡ present.items) × (length ps' ≡ length ps)
     → (us ≡ in_use.items) × (length us' ≡ length us) → IsTable ws' → HasMarks ws' ps' us'
     → IsMarkedTable (with_items words ws').items (with_items present ps').items (with_items in_use us').items
-marked_written words present in_use ws ps us ws' ps' us' w p u table marks =
+marked_written words present in_use {ws} {ps} {us} {ws'} {ps'} {us'} w p u table marks =
     rw (written_over words ws ws' w.1 w.0, written_over present ps ps' p.1 p.0, written_over in_use us us' u.1 u.0)
     (record { table = table; marks = marks })
 

@@ -45,6 +45,20 @@ walk-alike ws vs same (suc d) b =
     (same ((read_by_walk ws d (b / 512) - 1) * 512 + b % 512))
     ∙ sym (walk-suc ws d b)
 
+-- where the words of nodes above the leaves stay, the nodes do
+pub walk-kept : (ws vs : List ℕ) → ((d c p : ℕ) → d < 3 → p < 512 → 0 < read_by_walk ws d c
+    → word vs (read_by_walk ws d c) p ≡ word ws (read_by_walk ws d c) p)
+    → (d c : ℕ) → d ≤ 3 → read_by_walk vs d c ≡ read_by_walk ws d c
+walk-kept ws vs kept zero c le = walk-zero vs c ∙ sym (walk-zero ws c)
+walk-kept ws vs kept (suc d) c le =
+    let k = read_by_walk ws d (c / 512) in
+    walk-suc vs d c ∙ ap (λ k. word vs k (c % 512)) (walk-kept ws vs kept d (c / 512) (omega arith))
+    ∙ elim (cases_eq k 0) [
+      | inl none ↦ word_of_none vs k _ none ∙ sym (word_of_none ws k _ none)
+      | inr node ↦ kept d (c / 512) (c % 512) (omega arith) (omega arith) (omega arith)
+    ]
+    ∙ sym (walk-suc ws d c)
+
 -- places of different nodes differ
 apart_places : (k n p lo hi : ℕ) → 0 < k → 0 < n → p < 512 → hi ≤ 512 → k ≢ n
     → in_range ((n - 1) * 512 + lo) ((n - 1) * 512 + hi) ((k - 1) * 512 + p) ≡ false
@@ -83,16 +97,8 @@ module _ (ws : List ℕ) (used : ℕ) (is : IsTree ws used) where
 
     -- the nodes stay
     pub walk-edited : (d c : ℕ) → d ≤ 3 → read_by_walk vs d c ≡ read_by_walk ws d c
-    walk-edited zero c le = walk-zero vs c ∙ sym (walk-zero ws c)
-    walk-edited (suc d) c le =
-        let k = read_by_walk ws d (c / 512) in
-        walk-suc vs d c ∙ ap (λ k. word vs k (c % 512)) (walk-edited d (c / 512) (omega arith))
-        ∙ elim (cases_eq k 0) [
-          | inl none ↦ word_of_none vs k _ none ∙ sym (word_of_none ws k _ none)
-          | inr node ↦ outside k (c % 512) (omega arith) (omega arith) (λ same. let e =
-              (is.apart d (c / 512) 3 b (omega arith) (omega arith) (omega arith) same).0 in omega arith)
-        ]
-        ∙ sym (walk-suc ws d c)
+    walk-edited = walk-kept ws vs (λ d c p less place node. outside (read_by_walk ws d c) p node place
+        (λ same. let e = (is.apart d c 3 b (omega arith) (omega arith) node same).0 in omega arith))
 
     -- and each entry of the places changes
     pub lookup-edited : (q : ℕ)

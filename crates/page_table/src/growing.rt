@@ -41,7 +41,8 @@ fn link_blocks(words: &mut [u64], depth: u64, first: u64, end: u64, used: u64) -
     requires depth { 0 < depth }
     requires least { depth ≤ 3 }
     requires forward { first ≤ end }
-    requires parents { (block : ℕ) → first ≤ block → block < end → 0 < read_by_walk words.old (depth - 1) (block / 512) }
+    requires parents { (block : ℕ) → first ≤ block → block < end
+        → 0 < read_by_walk words.old (depth - 1) (block / 512) }
     requires room { (used + missing words.old depth first (end - first)) * 512 ≤ length words.old }
     ensures { LinksBlocks depth first end used result words.old words.new }
 {

@@ -3,6 +3,7 @@ ghost use Rattle.std.specs.Prelude.{◌≡◌, ◌≤◌, ◌<◌, ◌^◌, ◌�
 ghost use Rattle.std.specs.FinMap as maps;
 ghost use Rattle.page_entry.specs.Entry.{Mapped};
 ghost use Rattle.page_table.specs.Table.{empty_table, is_grown, put_entry, outside_range, frames_protected, range_read_only, dirty_in, HasGrown, GrowsOver};
+ghost use Rattle.page_table.specs.inside.Changes.{ChangesRange};
 ghost use Rattle.page_table.specs.inside.Marks.{Extends};
 
 use crate::DirtyPages;
@@ -130,25 +131,26 @@ impl<A: Allocator + Copy> Table<A> {
     pub fn clear(&mut self, range: Range<PageNumber>)
         ensures { self.new ≡ record self.old { entries = outside_range self.old.entries range.start range.end } }
     {
-        change_pages(
-            &mut self.words,
-            &mut self.present,
-            &mut self.in_use,
-            &range,
-            Change::Clear,
-        );
+        self.change(&range, Change::Clear);
     }
 
     /// Takes the right to write from every entry of the range. It takes no memory.
     pub fn make_read_only(&mut self, range: Range<PageNumber>)
         ensures { self.new ≡ record self.old { entries = range_read_only self.old.entries range.start range.end } }
     {
+        self.change(&range, Change::MakeReadOnly);
+    }
+
+    // Changes every entry of the range.
+    fn change(&mut self, range: &Range<PageNumber>, change: Change)
+        ensures { ChangesRange change.entry range.now.start range.now.end self.old self.new }
+    {
         change_pages(
             &mut self.words,
             &mut self.present,
             &mut self.in_use,
-            &range,
-            Change::MakeReadOnly,
+            range,
+            change,
         );
     }
 

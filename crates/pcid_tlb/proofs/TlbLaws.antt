@@ -1,6 +1,6 @@
 -- What is cached after a fill or an invalidation, and that each leaves a TLB.
 use Rattle.std.proofs.Common.{◌≡◌, ◌<◌, ◌≤◌, ℕ, zero, suc, Bool, true, false, not, cond, ltb, List, [], ◌∷◌, ◌++◌}
-use Rattle.std.proofs.Common.{length, get_or, take, drop, Some, refl, ap, ◌∙◌, subst, inl, inr, ◌⊎◌, arith, All}
+use Rattle.std.proofs.Common.{length, get_or, take, drop, Some, refl, subst, arith, All}
 use Rattle.std.specs.List.{filter, find, remove, AllPairs}
 use Rattle.std.proofs.lemmas.Bool.{eq-eqb}
 use Rattle.std.proofs.lemmas.Bool.Decides.{nat_tests}
@@ -9,9 +9,7 @@ use Rattle.std.proofs.lemmas.List.Elements.{All-append, All-drop, All-take, All-
 use Rattle.std.proofs.lemmas.List.Kept.{AllPairs-cons, AllPairs-filter}
 use Rattle.std.proofs.lemmas.List.Sums.{count_by-le-length, length-filter}
 use Rattle.pcid_tlb.specs.declared.CachedEntry.{CachedEntry}
-use Rattle.pcid_tlb.specs.declared.Invpcid.{Invpcid}
-use Rattle.pcid_tlb.specs.declared.Invpcid.TheVariants.{AllContextsAndGlobals, AllContexts}
-use Rattle.pcid_tlb.specs.Tlb.{TlbState, is_of, cached, keep_entries, without_page, invalidated}
+use Rattle.pcid_tlb.specs.Tlb.{TlbState, is_of, cached, keep_entries, without_page}
 use Rattle.pcid_tlb.specs.Tlb.{cr3_loaded, with_room, filled, evicted, AreApart, IsTlb}
 
 -- an element leaves
@@ -187,18 +185,3 @@ cached-All P t pcid page e all found =
     let both = found_passes (is_of pcid page) P t.entries e all found in
     let parts = is_of-parts pcid page e both.0 in
     (parts.0, parts.1, both.1)
-
--- a form of INVPCID that drops every entry leaves nothing
-pub invalidated-all : (t : TlbState) (kind : Invpcid) → ((kind ≡ AllContextsAndGlobals) ⊎ (kind ≡ AllContexts))
-    → invalidated t kind ≡ record t { entries = [] }
-invalidated-all t kind all = elim all [
-  | inl is ↦ ap (invalidated t) is ∙ ap emptied (none t.entries)
-  | inr is ↦ ap (invalidated t) is ∙ ap emptied (none t.entries)
-]
-  where
-    emptied : List CachedEntry → TlbState
-    emptied es = record t { entries = es }
-
-    none : (es : List CachedEntry) → filter (λ e. false) es ≡ []
-    none [] = refl
-    none (e ∷ es) = none es

@@ -3,7 +3,7 @@
 #![tactic(auto)]
 
 ghost use Rattle.std.specs.Prelude.{◌≡◌, ◌==◌, ◌<◌, [], length, nat_lt, IfOk};
-ghost use Rattle.pcid_tlb.specs.Tlb.{cached, filled, evicted, without_page, without_pcid, invalidated, cr3_loaded, IsTlb};
+ghost use Rattle.pcid_tlb.specs.Tlb.{cached, filled, evicted, drops, without_page, invalidated, cr3_loaded, IsTlb};
 
 use page_entry::{FrameNumber, PageNumber, Pcid};
 use std::alloc::{AllocError, Allocator, Global};
@@ -128,18 +128,14 @@ impl<A: Allocator + Copy> Tlb<A> {
     pub fn invlpg(&mut self, pcid: Pcid, page: PageNumber)
         ensures { self.new ≡ without_page self.old pcid page }
     {
-        self.entries.retain(|e| !(e.pcid == pcid && e.page == page));
+        self.invpcid(Invpcid::IndividualAddress(pcid, page));
     }
 
     /// Drops the entries that INVPCID invalidates; the others survive.
     pub fn invpcid(&mut self, kind: Invpcid)
         ensures { self.new ≡ invalidated self.old kind }
     {
-        match kind {
-            Invpcid::IndividualAddress(pcid, page) => self.invlpg(pcid, page),
-            Invpcid::SingleContext(pcid) => self.drop_pcid(pcid),
-            Invpcid::AllContextsAndGlobals | Invpcid::AllContexts => self.drop_all(),
-        }
+        self.entries.retain(|e| !drops(kind, e));
     }
 
     /// Loads CR3 with a PCID: drops that PCID's entries unless bit 63 of the new value keeps them.
@@ -147,19 +143,18 @@ impl<A: Allocator + Copy> Tlb<A> {
         ensures { self.new ≡ cr3_loaded self.old pcid keep }
     {
         if !keep {
-            self.drop_pcid(pcid);
+            self.invpcid(Invpcid::SingleContext(pcid));
         }
     }
+}
 
-    fn drop_pcid(&mut self, pcid: Pcid)
-        ensures { self.new ≡ without_pcid self.old pcid }
-    {
-        self.entries.retain(|e| e.pcid != pcid);
-    }
-
-    fn drop_all(&mut self)
-        ensures { self.new ≡ record self.old { entries = [] } }
-    {
-        self.entries.clear();
+/// Whether one form of INVPCID drops an entry.
+fn drops(kind: Invpcid, e: &CachedEntry) -> bool
+    ensures { result ≡ drops kind e.now }
+{
+    match kind {
+        Invpcid::IndividualAddress(pcid, page) => e.pcid == pcid && e.page == page,
+        Invpcid::SingleContext(pcid) => e.pcid == pcid,
+        Invpcid::AllContextsAndGlobals | Invpcid::AllContexts => true,
     }
 }

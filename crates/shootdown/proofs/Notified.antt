@@ -9,7 +9,7 @@ use Rattle.pcid_tlb.specs.declared.Invpcid.TheVariants.{IndividualAddress, Singl
 use Rattle.pcid_tlb.specs.declared.Invpcid.TheVariants.{AllContextsAndGlobals, AllContexts}
 use Rattle.shootdown.specs.Processors.{Processor, drops_page, queue_drops, queued}
 use Rattle.shootdown.specs.Processors.{queue_len, is_concerned, notified, notified_all, IsProcessor}
-use Rattle.shootdown.proofs.Queues.{queue_drops-queued, queue_drops-queued_last}
+use Rattle.shootdown.proofs.Queues.{queue_drops-queued}
 
 abbrev with_queue : Processor → List Invpcid → Processor
 with_queue p queue = record p { queue = queue }
@@ -40,7 +40,7 @@ pub queue_kept-queued : (queue : List Invpcid) (a : Invpcid) (pcid page : ℕ)
 queue_kept-queued queue a pcid page kept = go (queue_drops queue pcid page) refl
   where
     go : (b : Bool) → queue_drops queue pcid page ≡ b → b ≡ false
-    go true drops = let more = queue_drops-queued queue a pcid page drops in absurd (cc)
+    go true drops = let more = queue_drops-queued queue a pcid page (inl drops) in absurd (cc)
     go false drops = refl
 
 pub queue_kept-notified : (p : Processor) (a : Invpcid) (pcid page : ℕ)
@@ -89,7 +89,7 @@ pub queue_drops-notified : (p : Processor) (a : Invpcid) (pcid page : ℕ)
 queue_drops-notified p a pcid page may drops =
     ap (λ b. queue_drops (cond b (with_queue p (queued p.queue a)) p).queue pcid page)
     (concerned p a pcid page may drops)
-    ∙ queue_drops-queued_last p.queue a pcid page drops
+    ∙ queue_drops-queued p.queue a pcid page (inr drops)
 
 -- so what one of these invalidations drops is dropped by the queue of whoever may cache it
 pub queue_drops-notified_any : (actions : List Invpcid) (p : Processor) (pcid page : ℕ)

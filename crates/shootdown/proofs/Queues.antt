@@ -1,6 +1,6 @@
 -- What the invalidations of a queue drop.
 use Rattle.std.proofs.Common.{◌≡◌, ℕ, ◌+◌, ◌<◌, Bool, true, false, cond, not, ◌&&◌, ◌||◌, nat_lt}
-use Rattle.std.proofs.Common.{List, [], ◌∷◌, ◌++◌, length, get_or, take, ◌==◌, refl, sym, ap, ◌∙◌}
+use Rattle.std.proofs.Common.{List, [], ◌∷◌, ◌++◌, length, get_or, take, ◌==◌, ◌⊎◌, ⊎_elim, refl, sym, ap, ◌∙◌}
 use Rattle.std.specs.List.{filter, list_any}
 use Rattle.std.proofs.lemmas.Bool.{or_left, or_right, or_parts, or_from}
 use Rattle.std.proofs.lemmas.List.Folds.{list_any-append, list_any_more}
@@ -111,25 +111,16 @@ queue_drops-of_pcid (a ∷ queue) pcid page kept =
     or_from (drops_pcid a pcid) (list_any (λ a. drops_pcid a pcid) queue) (drops_page-of_pcid a pcid page parts.0)
     (queue_drops-of_pcid queue pcid page parts.1)
 
--- what a queue drops it still drops with one invalidation more
-pub queue_drops-queued : (queue : List Invpcid) (a : Invpcid) (pcid page : ℕ) → queue_drops queue pcid page ≡ true
+-- a queue with one invalidation more drops what it dropped, and what that one drops
+pub queue_drops-queued : (queue : List Invpcid) (a : Invpcid) (pcid page : ℕ)
+    → (queue_drops queue pcid page ≡ true) ⊎ (drops_page a pcid page ≡ true)
     → queue_drops (queued queue a) pcid page ≡ true
-queue_drops-queued queue a pcid page drops = go (nat_lt (length queue) queue_len)
+queue_drops-queued queue a pcid page either = go (nat_lt (length queue) queue_len)
   where
     go : (b : Bool) → queue_drops (cond b (queue ++ a ∷ []) (AllContexts ∷ [])) pcid page ≡ true
     go true =
         list_any-append (λ x. drops_page x pcid page) queue (a ∷ [])
-        ∙ or_left (queue_drops queue pcid page) (queue_drops (a ∷ []) pcid page) drops
-    go false = refl
-
--- and what that invalidation drops
-pub queue_drops-queued_last : (queue : List Invpcid) (a : Invpcid) (pcid page : ℕ) → drops_page a pcid page ≡ true
-    → queue_drops (queued queue a) pcid page ≡ true
-queue_drops-queued_last queue a pcid page drops = go (nat_lt (length queue) queue_len)
-  where
-    go : (b : Bool) → queue_drops (cond b (queue ++ a ∷ []) (AllContexts ∷ [])) pcid page ≡ true
-    go true =
-        list_any-append (λ x. drops_page x pcid page) queue (a ∷ [])
-        ∙ or_right (queue_drops queue pcid page) (queue_drops (a ∷ []) pcid page)
-        (or_left (drops_page a pcid page) false drops)
+        ∙ ⊎_elim (or_left (queue_drops queue pcid page) (queue_drops (a ∷ []) pcid page))
+        (λ last. or_right (queue_drops queue pcid page) (queue_drops (a ∷ []) pcid page)
+        (or_left (drops_page a pcid page) false last)) either
     go false = refl

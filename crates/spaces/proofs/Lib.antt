@@ -4,6 +4,7 @@ pub mod Members
 pub mod ChangeLaws
 pub mod SlotsLemmas
 pub mod SlotEdits
+pub mod Located
 pub mod Cleared
 pub mod Rooms
 pub mod RequestLaws

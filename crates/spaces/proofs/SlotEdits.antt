@@ -397,6 +397,14 @@ written n new old all same =
     ∙ ap (take n) (append-nil new)
     ∙ take_all n new (omega arith)
 
+-- and so do all slots whose spaces have other entries
+pub written_edited : (g : SpaceState → maps.FinMap nat_cmp Mapped) (n : ℕ) (new old now : List (Option SpaceState))
+    → n ≡ length old → now ≡ old → new ≡ map (option_map (edited g)) now
+    → take n (new ++ drop (length new) old) ≡ map (option_map (edited g)) old
+written_edited g n new old now all same is =
+    let edit = is ∙ ap (map (option_map (edited g))) same in
+    written n new old all (ap length edit ∙ length-map old (option_map (edited g))) ∙ edit
+
 -- a page without an entry stays without one
 pub absent_stays_cleared : (owner : FilePage) (m : Spaces) (q page : ℕ) → without_entries_of owner m q page None ≡ None
 absent_stays_cleared owner m q page = by_test (is_place_of owner (place_at m q page))

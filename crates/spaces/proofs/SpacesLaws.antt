@@ -194,6 +194,24 @@ here_or_there q n at x = elim (eqb q n) as (λ b. eqb q n ≡ b → cond b (x (a
   | false ↦ λ other. refl
 ] refl
 
+module _ {X : Type 0} (q n : ℕ) (at : ℕ → X) where
+  -- what is at a page of the spaces after one was replaced by another that differs at some pages
+  at_replaced : (differs : Bool) (other new now : X) → now ≡ cond (eqb q n) new (at q)
+      → new ≡ cond differs other (at n) → now ≡ (if q == n && differs then other else at q)
+  at_replaced differs other new now is changed =
+      is
+      ∙ ap (λ x. cond (eqb q n) x (at q)) changed
+      ∙ here_or_there q n at (cond differs other)
+      ∙ nested (eqb q n) differs other (at q)
+
+  -- and where it differs at none
+  at_same : {now : X} → now ≡ cond (eqb q n) (at n) (at q) → now ≡ at q
+  at_same is = is ∙ here_or_there q n at (λ x. x) ∙ either (eqb q n)
+    where
+      either : (b : Bool) → cond b (at q) (at q) ≡ at q
+      either true = refl
+      either false = refl
+
 -- a space that is there stays when it is replaced
 pub has_space-with_space_there : (m : Spaces) (n : ℕ) (s : AddressSpace) → has_space m n ≡ true → (q : ℕ)
     → has_space (with_space m n s) q ≡ has_space m q
@@ -228,28 +246,19 @@ module _ (m : Spaces) (n page : ℕ) (entry : Option Mapped) where
   pub entry_at-with_entry : (q at : ℕ)
       → entry_at (with_entry m n page entry) q at ≡ (if q == n && at == page then entry else entry_at m q at)
   entry_at-with_entry q at =
-      entry_at-with_space m n (record (space_at m n) { entries = put_entry (space_at m n).entries page entry }) q at
-      ∙ ap (λ e. cond (eqb q n) e (entry_at m q at)) (get-put_entry (space_at m n).entries page entry at)
-      ∙ here_or_there q n (λ k. entry_at m k at) (cond (eqb at page) entry)
-      ∙ nested (eqb q n) (eqb at page) entry (entry_at m q at)
+      at_replaced q n (λ k. entry_at m k at) (eqb at page) entry _ _
+      (entry_at-with_space m n (record (space_at m n) { entries = put_entry (space_at m n).entries page entry }) q at)
+      (get-put_entry (space_at m n).entries page entry at)
 
   pub place_at-with_entry : (q at : ℕ) → place_at (with_entry m n page entry) q at ≡ place_at m q at
   place_at-with_entry q at =
-      place_at-with_space m n (record (space_at m n) { entries = put_entry (space_at m n).entries page entry }) q at
-      ∙ here_or_there q n (λ k. place_at m k at) (λ p. p) ∙ either (eqb q n)
-    where
-      either : (b : Bool) → cond b (place_at m q at) (place_at m q at) ≡ place_at m q at
-      either true = refl
-      either false = refl
+      at_same q n (λ k. place_at m k at)
+      (place_at-with_space m n (record (space_at m n) { entries = put_entry (space_at m n).entries page entry }) q at)
 
   pub places-with_entry : (q : ℕ) → (space_at (with_entry m n page entry) q).places ≡ (space_at m q).places
   places-with_entry q =
-      at_page m n (record (space_at m n) { entries = put_entry (space_at m n).entries page entry }) (λ x. x.places) q
-      ∙ here_or_there q n (λ k. (space_at m k).places) (λ p. p) ∙ either (eqb q n)
-    where
-      either : (b : Bool) → cond b (space_at m q).places (space_at m q).places ≡ (space_at m q).places
-      either true = refl
-      either false = refl
+      at_same q n (λ k. (space_at m k).places)
+      (at_page m n (record (space_at m n) { entries = put_entry (space_at m n).entries page entry }) (λ x. x.places) q)
 
   pub has_space-with_entry : has_space m n ≡ true → (q : ℕ) → has_space (with_entry m n page entry) q ≡ has_space m q
   has_space-with_entry there q = has_space-with_space_there m n _ there q
@@ -259,25 +268,17 @@ module _ (m : Spaces) (n page : ℕ) (entry : Option Mapped) where
 module _ (m : Spaces) (n : ℕ) (range : PageRange) (place : Place) where
   pub entry_at-with_mapping : (q at : ℕ) → entry_at (with_mapping m n range place) q at ≡ entry_at m q at
   entry_at-with_mapping q at =
-      entry_at-with_space m n
-      (record (space_at m n) { places = with_range (space_at m n).places range.first range.count place }) q at
-      ∙ here_or_there q n (λ k. entry_at m k at) (λ e. e) ∙ either (eqb q n)
-    where
-      either : (b : Bool) → cond b (entry_at m q at) (entry_at m q at) ≡ entry_at m q at
-      either true = refl
-      either false = refl
+      at_same q n (λ k. entry_at m k at) (entry_at-with_space m n
+      (record (space_at m n) { places = with_range (space_at m n).places range.first range.count place }) q at)
 
   pub place_at-with_mapping : (q at : ℕ)
       → place_at (with_mapping m n range place) q at ≡ (if q == n && is_among range.first range.count at
       then Some (advanced place (at - range.first)) else place_at m q at)
   place_at-with_mapping q at =
-      place_at-with_space m n
-      (record (space_at m n) { places = with_range (space_at m n).places range.first range.count place }) q at
-      ∙ ap (λ p. cond (eqb q n) p (place_at m q at))
+      at_replaced q n (λ k. place_at m k at) (is_among range.first range.count at) _ _ _
+      (place_at-with_space m n
+      (record (space_at m n) { places = with_range (space_at m n).places range.first range.count place }) q at)
       (get-with_range (space_at m n).places range.first range.count place at)
-      ∙ here_or_there q n (λ k. place_at m k at)
-      (cond (is_among range.first range.count at) (Some (advanced place (at - range.first))))
-      ∙ nested (eqb q n) (is_among range.first range.count at) _ (place_at m q at)
 
   pub has_space-with_mapping : has_space m n ≡ true → (q : ℕ)
       → has_space (with_mapping m n range place) q ≡ has_space m q
@@ -287,33 +288,34 @@ module _ (m : Spaces) (n : ℕ) (range : PageRange) (place : Place) where
 
 module _ (m : Spaces) (n : ℕ) (range : PageRange) where
   -- the space without these pages
-  unmapped : AddressSpace
+  abbrev unmapped : AddressSpace
   unmapped = record {
     entries = outside_range (space_at m n).entries range.first (range.first + range.count);
     places = without_range (space_at m n).places range.first range.count;
   }
 
+  -- what is at a page
+  at-without_mapping : {X : Type 0} (at : AddressSpace → Option X) (q page : ℕ)
+      → at unmapped ≡ cond (is_among range.first range.count page) None (at (space_at m n))
+      → at (space_at (without_mapping m n range) q)
+      ≡ (if q == n && is_among range.first range.count page then None else at (space_at m q))
+  at-without_mapping at q page gone =
+      at_replaced q n (λ k. at (space_at m k)) (is_among range.first range.count page) None _ _
+      (at_page m n unmapped at q) gone
+
   pub entry_at-without_mapping : (q at : ℕ)
       → entry_at (without_mapping m n range) q at
       ≡ (if q == n && is_among range.first range.count at then None else entry_at m q at)
-  unfolding unmapped
   entry_at-without_mapping q at =
-      entry_at-with_space m n unmapped q at
-      ∙ ap (λ e. cond (eqb q n) e (entry_at m q at))
+      at-without_mapping (λ x. maps.get x.entries at) q at
       (get-outside_range (space_at m n).entries range.first (range.first + range.count) at)
-      ∙ here_or_there q n (λ k. entry_at m k at) (cond (is_among range.first range.count at) None)
-      ∙ nested (eqb q n) (is_among range.first range.count at) None (entry_at m q at)
 
   pub place_at-without_mapping : (q at : ℕ)
       → place_at (without_mapping m n range) q at
       ≡ (if q == n && is_among range.first range.count at then None else place_at m q at)
-  unfolding unmapped
   place_at-without_mapping q at =
-      place_at-with_space m n unmapped q at
-      ∙ ap (λ p. cond (eqb q n) p (place_at m q at))
+      at-without_mapping (λ x. maps.get x.places at) q at
       (get-without_range (space_at m n).places range.first range.count at)
-      ∙ here_or_there q n (λ k. place_at m k at) (cond (is_among range.first range.count at) None)
-      ∙ nested (eqb q n) (is_among range.first range.count at) None (place_at m q at)
 
   pub has_space-without_mapping : has_space m n ≡ true → (q : ℕ)
       → has_space (without_mapping m n range) q ≡ has_space m q

@@ -1,5 +1,5 @@
 // One address space: its page table and its mappings.
-ghost use Rattle.std.specs.Prelude.{◌≡◌, ◌+◌, ◌≤◌, ◌<◌, ◌↔◌, ◌⊎◌, ℕ, All, Some, None, true, false, length, slice_index_or, IsSome, IfOk, OnOk, OnErr, IfErr, unwrap_or, if◌then◌else◌};
+ghost use Rattle.std.specs.Prelude.{◌≡◌, ◌+◌, ◌≤◌, ◌<◌, ◌⊎◌, ℕ, All, Some, None, true, false, length, IsSome, IfOk, OnOk, OnErr, IfErr, unwrap_or, if◌then◌else◌};
 ghost use Rattle.std.specs.FinMap as maps;
 ghost use Rattle.page_entry.specs.Entry.{Mapped};
 ghost use Rattle.page_entry.specs.declared.refusal.Refusal.TheVariants.{OutOfMemory};
@@ -8,7 +8,7 @@ ghost use Rattle.mappings.specs.Places.{with_range, without_range, with_rights, 
 ghost use Rattle.mappings.specs.Judgement.{is_user_range, add_refusal, protect_refusal};
 ghost use Rattle.spaces.specs.Spaces.{empty_space};
 ghost use Rattle.spaces.specs.Changes.{pages_with_entry};
-ghost use Rattle.spaces.specs.inside.Slots.{space_of, without_entries, without_each, AreGrown, HasUse};
+ghost use Rattle.spaces.specs.inside.Slots.{space_of, without_entries, without_each, AreGrown, HasUse, NotesSlot};
 
 use crate::entry_pages::EntryPages;
 use mappings::{Mappings, PageRange, PagesOf, Place, Rights};
@@ -167,10 +167,7 @@ impl<A: Allocator + Copy> Space<A> {
     pub(crate) fn note_dirty(&self, notes: &mut [bool])
         requires { (page : ℕ) (entry : Mapped) → maps.get self.now.entries page ≡ Some entry
             → entry.frame < length notes.old }
-        ensures size { length notes.new ≡ length notes.old }
-        ensures noted { (frame : ℕ) → (slice_index_or notes.new frame false ≡ true)
-            ↔ ((slice_index_or notes.old frame false ≡ true) ⊎ ((page : ℕ) × (entry : Mapped)
-            × (maps.get self.now.entries page ≡ Some entry) × (entry.frame ≡ frame) × (entry.dirty ≡ true))) }
+        ensures { NotesSlot (Some self.now) notes.old notes.new }
     {
         self.table.note_dirty(notes);
     }

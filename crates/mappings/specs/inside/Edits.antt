@@ -118,19 +118,15 @@ abbrev pub HaveRights : List Mapping → ℕ → ℕ → Rights → Type 0
 HaveRights list low high rights = (q : ℕ) (place : Place) → low ≤ q → q < high
     → fin_map.get (places_of list) q ≡ Some place → place.rights ≡ rights
 
--- the pages before this one have the rights from the first page on, and a mapping goes on at that one only where it has
--- other rights at this one
-pub record IsBegin (list : List Mapping) (page : ℕ) (rights : Rights) (first : ℕ) : Type 0 where
-  pub order : first ≤ page
-  pub have : HaveRights list first page rights
-  pub cut : goes_on (places_of list) first ≡ is_cut (places_of list) page rights
-
--- the same of the pages from this one up to an end
-pub record IsEnd (list : List Mapping) (page : ℕ) (rights : Rights) (end : ℕ) : Type 0 where
-  pub order : page ≤ end
+-- the pages from first up to end, between which this one's begin is, have the rights, and a mapping goes on at first or
+-- at end only where it has other rights at this page
+pub record HaveRightsAround (list : List Mapping) (page : ℕ) (rights : Rights) (first end : ℕ) : Type 0 where
+  pub begins : first ≤ page
+  pub ends : page ≤ end
   pub below_end : end < 2 ^ 64
-  pub have : HaveRights list page end rights
-  pub cut : goes_on (places_of list) end ≡ is_cut (places_of list) page rights
+  pub have : HaveRights list first end rights
+  pub cut_first : goes_on (places_of list) first ≡ is_cut (places_of list) page rights
+  pub cut_end : goes_on (places_of list) end ≡ is_cut (places_of list) page rights
 
 -- The range has more pages at either end, which have the rights already, and a mapping goes on from before its first
 -- page or to the page after its last one only where it has other rights.

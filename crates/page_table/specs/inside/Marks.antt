@@ -45,16 +45,20 @@ pub record EditsMarked (f : ℕ → ℕ) (present : List ℕ) (first end : ℕ) 
   pub words : (i : ℕ) → slice_index_or new i 0 ≡ (if in_range first end i && is_set present i
       then f (slice_index_or old i 0) else slice_index_or old i 0)
 
--- a marked word from `first` up to `end` maps this frame as dirty
-pub record IsMarkedDirty (words present : List ℕ) (first end frame : ℕ) : Type 0 where
-  pub place : ℕ
-  pub low : first ≤ place
-  pub high : place < end
+-- the word is marked and maps this frame as dirty
+pub record MapsDirty (words present : List ℕ) (place frame : ℕ) : Type 0 where
   pub marked : is_set present place ≡ true
   pub entry : Mapped
   pub read : entry_of (slice_index_or words place 0) ≡ Some entry
   pub same_frame : entry.frame ≡ frame
   pub dirty : entry.dirty ≡ true
+
+-- such a word from `first` up to `end`
+pub record IsMarkedDirty (words present : List ℕ) (first end frame : ℕ) : Type 0 where
+  pub place : ℕ
+  pub low : first ≤ place
+  pub high : place < end
+  pub here : MapsDirty words present place frame
 
 -- the frames that marked words from `first` up to `end` map as dirty are noted, and what was noted still is
 pub record NotesMarked (words present : List ℕ) (first end : ℕ) (old new : List Bool) : Type 0 where

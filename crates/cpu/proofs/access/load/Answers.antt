@@ -3,21 +3,24 @@ use Rattle.std.proofs.lemmas.Result.{err_from_is_err_and}
 use Rattle.frames.specs.Frames.{frame_at, bytes_of}
 use Rattle.cpu.specs.Access.{hardware}
 use Rattle.cpu.proofs.Refusals.{Loads-refused}
-use Rattle.cpu.proofs.Translations.{reached, in_use}
+use Rattle.cpu.proofs.Translations.{Reaches, reached, in_use}
 use Rattle.cpu.proofs.access.load.Goals as goal
+use Rattle.cpu.proofs.access.load.Goals.{In_ok-frame}
+
+-- the frame that the access reaches
+reaches : (g : _) (c : In_ok-frame g)
+    → Reaches (hardware c.args.shootdown.now c.args.spaces.now.map c.args.frames.now) c.args.p (c.args.va / 4096) false
+    c.in_ok-frame.frame (hardware c.translate.new.shootdown c.translate.new.spaces.map c.args.frames.now)
+reaches g c =
+    reached {s = c.args.shootdown.now} c.requires c.in_ok-at.ensures.ok.0 c.in_ok-frame.ensures.ok
 
 pub bytes-requires : goal.bytes-requires
-bytes-requires g c =
-    in_use c.args.shootdown.now c.translate.new.shootdown c.args.spaces.now.map
-    c.translate.new.spaces.map c.args.frames.now c.args.p
-    (c.args.va / 4096) false c.in_ok-frame.frame c.requires c.in_ok-at.ensures.ok.0 c.in_ok-frame.ensures.ok
+bytes-requires g c = in_use c.requires (reaches g (goal.at.bytes-requires g c).In_ok-frame)
 
 pub returns-clause-through : goal.returns-clause-through
 returns-clause-through g c =
     let memory = c.args.frames.now in
-    let r =
-    reached c.args.shootdown.now c.translate.new.shootdown c.args.spaces.now.map c.translate.new.spaces.map memory
-    c.args.p (c.args.va / 4096) false c.in_ok-frame.frame c.requires c.in_ok-at.ensures.ok.0 c.in_ok-frame.ensures.ok in
+    let r = reaches g (goal.at.returns-clause-through g c).In_ok-frame in
     let count : c.in_ok-at.at + c.args.count - c.in_ok-at.at ≡ c.args.count = omega arith in
     let bytes : c.bytes.result.now ≡ bytes_of (frame_at memory r.entry.frame) =
     c.bytes.ensures.bytes

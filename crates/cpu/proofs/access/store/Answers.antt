@@ -4,14 +4,20 @@ use Rattle.frames.specs.Frames.{with_bytes}
 use Rattle.cpu.specs.Access.{hardware}
 use Rattle.cpu.proofs.Uses.{IsReachable-OnlyUses, in_use-written}
 use Rattle.cpu.proofs.Refusals.{Stores-refused}
-use Rattle.cpu.proofs.Translations.{reached, in_use}
+use Rattle.cpu.proofs.Translations.{Reaches, reached, in_use}
 use Rattle.cpu.proofs.access.store.Goals as goal
+use Rattle.cpu.proofs.access.store.Goals.{In_ok-frame}
+
+-- the frame that the access reaches
+reaches : (g : _) (c : In_ok-frame g)
+    → Reaches (hardware c.args.shootdown.now c.args.spaces.now.map c.args.frames.now) c.args.p (c.args.va / 4096) true
+    c.in_ok-frame.frame (hardware c.translate.new.shootdown c.translate.new.spaces.map c.args.frames.now)
+reaches g c =
+    reached {s = c.args.shootdown.now} c.requires c.in_ok-at.ensures.ok.0 c.in_ok-frame.ensures.ok
 
 pub write-requires-clause-in_use : goal.write-requires-clause-in_use
 write-requires-clause-in_use g c =
-    in_use c.args.shootdown.now c.translate.new.shootdown c.args.spaces.now.map
-    c.translate.new.spaces.map c.args.frames.now c.args.p
-    (c.args.va / 4096) true c.in_ok-frame.frame c.requires c.in_ok-at.ensures.ok.0 c.in_ok-frame.ensures.ok
+    in_use c.requires (reaches g (goal.at.write-requires-clause-in_use g c).In_ok-frame)
 
 pub returns-clause-stored : goal.returns-clause-stored
 returns-clause-stored g c =
@@ -33,9 +39,7 @@ returns-clause-stored g c =
 pub returns-clause-through : goal.returns-clause-through
 returns-clause-through g c =
     let memory = c.args.frames.now in
-    let r =
-    reached c.args.shootdown.now c.translate.new.shootdown c.args.spaces.now.map c.translate.new.spaces.map memory
-    c.args.p (c.args.va / 4096) true c.in_ok-frame.frame c.requires c.in_ok-at.ensures.ok.0 c.in_ok-frame.ensures.ok in
+    let r = reaches g (goal.at.returns-clause-through g c).In_ok-frame in
     record {
       entry = r.entry;
       present = r.present;
@@ -45,11 +49,7 @@ returns-clause-through g c =
     }
 
 pub returns-clause-dirty : goal.returns-clause-dirty
-returns-clause-dirty g c =
-    let r = reached c.args.shootdown.now c.translate.new.shootdown
-    c.args.spaces.now.map c.translate.new.spaces.map c.args.frames.now c.args.p
-    (c.args.va / 4096) true c.in_ok-frame.frame c.requires c.in_ok-at.ensures.ok.0 c.in_ok-frame.ensures.ok in
-    r.dirty refl
+returns-clause-dirty g c = (reaches g (goal.at.returns-clause-dirty g c).In_ok-frame).dirty refl
 
 pub returns-clause-reachable : goal.returns-clause-reachable
 returns-clause-reachable g c =

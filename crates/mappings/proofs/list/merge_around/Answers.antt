@@ -27,13 +27,8 @@ returns-clause-items g c =
       length-drop a now,
       c.deref_mut.ensures.len,
     ) in
-    let few : c.merge-kept.result ≤ length c.merge-kept.new.list = omega (
-      arith,
-      c.merge-kept.ensures.within,
-      length-take (b - a) (drop a now),
-      length-drop a now,
-      c.deref_mut.ensures.len,
-    ) in
+    let few : c.merge-kept.result ≤ length c.merge-kept.new.list =
+    omega (arith, c.merge-kept.auto.list, c.merge-kept.ensures.within) in
     c.remove_range.ensures.items
     ∙ merged-written list now c.merge-kept.new.list c.args.places.start c.args.places.end a b c.merge-kept.result
     c.deref_mut.ensures.value c.requires.ordered c.requires.forward (omega (arith, c.requires.within)) c.requires.before

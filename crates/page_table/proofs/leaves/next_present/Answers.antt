@@ -13,12 +13,10 @@ pub leaves-preserved : goal.leaves-preserved
 leaves-preserved c =
     let inv = c.leaves.invariant in
     let found = c.in-Some.ensures in
-    let low = inv.low in
-    let from = found.low in
     record {
-      low = omega arith;
+      low = omega (arith, inv.low, found.low);
       before = λ q least most less. none_before c.args.words.now c.args.present.now c.requires.marks c.args.start
-          c.leaves.page c.args.end c.in-Some.first c.walk-node.result low inv.before found c.walk-node.ensures
+          c.leaves.page c.args.end c.in-Some.first c.walk-node.result inv.low inv.before found c.walk-node.ensures
           ((c.walk-node.result - 1 + 1) * 512) c.in_default-first_set.ensures q least less most (λ at. omega arith);
     }
 

@@ -1,7 +1,7 @@
 use Rattle.std.proofs.Common.{◌+◌, ◌*◌, length, ◌∙◌, sym, arith}
-use Rattle.page_table.proofs.MarkedNotes.{NotesMarked-all, NotesMarked-next}
+use Rattle.page_table.proofs.MarkedNotes.{NotesMarked-all, NotesMarked-pieces}
 use Rattle.page_table.proofs.MarkedNotes.{NotesMarked-dirty, NotesMarked-clean, frame_below}
-use Rattle.page_table.proofs.Searching.{SoFar-next}
+use Rattle.page_table.proofs.Searching.{SoFar-next, done-next}
 use Rattle.page_table.proofs.marks.note_node.Goals as goal
 use Rattle.page_table.proofs.marks.note_node.Goals.{then-dirty, else-dirty}
 
@@ -20,8 +20,7 @@ entries-preserved c =
     let found = c.in-Some.ensures in
     let low = found.low in
     let from = c.entries.invariant.low in
-    SoFar-next c.entries.invariant found (NotesMarked-next c.args.words.now c.args.present.now (c.args.node * 512)
-    c.entries.place ((c.args.node + 1) * 512) c.in-Some.at c.args.notes.now c.entries.notes c.if-dirty.notes from
+    SoFar-next c.entries.invariant found (done-next (NotesMarked-pieces c.args.words.now c.args.present.now) from
     c.entries.invariant.done found (elim c.if-dirty.branch [
       | then-dirty w ↦ rw (w.notes-is, w.frame.ensures)
           (NotesMarked-dirty c.args.words.now c.args.present.now c.in-Some.at c.of_bits-entry.result

@@ -1,7 +1,8 @@
 use Rattle.std.proofs.Common.{arith}
 use Rattle.page_table.proofs.Marked.{marked_within}
 use Rattle.page_table.proofs.MarkedEdits.{unused_after}
-use Rattle.page_table.proofs.MarkedNotes.{NotesMarked-node, NotesMarked-whole}
+use Rattle.page_table.proofs.MarkedNotes.{NotesMarked-pieces, NotesMarked-whole}
+use Rattle.page_table.proofs.Searching.{done-node}
 use Rattle.page_table.proofs.marks.note_present.Goals as goal
 
 pub note_node-requires-clause-entries : goal.note_node-requires-clause-entries
@@ -16,9 +17,8 @@ note_node-requires-clause-notes c = λ i low high marked entry read.
     omega (arith, below, c.nodes.auto.notes)
 
 pub nodes-preserved : goal.nodes-preserved
-nodes-preserved c = NotesMarked-node c.args.words.now c.args.present.now c.args.in_use.now c.requires.marks c.nodes.node
-    _ c.in-Some.used c.args.notes.now c.nodes.notes c.note_node.new.notes c.nodes.invariant c.in-Some.ensures
-    c.note_node.ensures
+nodes-preserved c = done-node (NotesMarked-pieces c.args.words.now c.args.present.now) c.requires.marks
+    c.nodes.invariant c.in-Some.ensures c.note_node.ensures
 
 pub returns : goal.returns
 returns c =

@@ -2,7 +2,14 @@ use Rattle.std.proofs.Common.{◌≡◌, sym, ◌∙◌, subst, rules, cond, Som
 use Rattle.std.specs.FinMap as fin_map
 use Rattle.mappings.specs.inside.Listed.{IsMapping, IsFirstAfter, covers, place_in, places_of}
 use Rattle.mappings.proofs.Lists.{mapping_at, get-places_of, lookup_at, lookup_past}
+use Rattle.mappings.proofs.mappings.Mappings.where_is.Goals.{After-first_after-at}
 use Rattle.mappings.proofs.mappings.Mappings.where_is.Goals as goal
+
+-- the place at which the search of the list ends
+searched : (g : _) (c : After-first_after-at g)
+    → IsFirstAfter c.self.inside.list.items c.args.page c.first_after-at.result
+searched g c = subst (λ list. IsFirstAfter list c.args.page c.first_after-at.result)
+    c.deref.ensures.value c.first_after-at.ensures
 
 -- the mapping that was read is one of the list
 pub place_of-requires : goal.place_of-requires
@@ -16,7 +23,7 @@ returns-then-at-len g c =
     let list = c.self.inside.list.items in
     let page = c.args.page in
     let at = c.first_after-at.result in
-    let after = subst (λ list. IsFirstAfter list page at) c.deref.ensures.value c.first_after-at.ensures in
+    let after = searched g (goal.at.returns-then-at-len g c).After-first_after-at in
     let read = c.index.result.now in
     let found = get-places_of list page ∙ lookup_at 0 list c.self.invariant.ordered page at read after (search rules) in
     rw (← c.self.view_is) (c.place_of.ensures
@@ -26,7 +33,5 @@ returns-then-at-len g c =
 pub returns-else-at-len : goal.returns-else-at-len
 returns-else-at-len g c =
     let list = c.self.inside.list.items in
-    let page = c.args.page in
-    let at = c.first_after-at.result in
-    let after = subst (λ list. IsFirstAfter list page at) c.deref.ensures.value c.first_after-at.ensures in
-    rw (← c.self.view_is) (sym (get-places_of list page ∙ lookup_past list page at after (search rules)))
+    rw (← c.self.view_is) (sym (get-places_of list c.args.page ∙ lookup_past list c.args.page c.first_after-at.result
+    (searched g (goal.at.returns-else-at-len g c).After-first_after-at) (search rules)))

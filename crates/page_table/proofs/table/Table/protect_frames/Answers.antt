@@ -1,5 +1,5 @@
-use Rattle.std.proofs.Common.{sym}
-use Rattle.page_table.specs.Table.{TableState, frames_protected}
+use Rattle.std.proofs.Common.{◌≡◌, sym}
+use Rattle.page_table.specs.Table.{frames_protected}
 use Rattle.page_table.proofs.PageEdits.{Keeps-protected}
 use Rattle.page_table.proofs.Tables.{table_of-protected, table_of-written, written_over}
 use Rattle.page_table.proofs.table.Table.protect_frames.Goals as goal
@@ -10,7 +10,7 @@ returns g c =
     let new = c.change_present.new.words in
     let edits = c.change_present.ensures.edits in
     table_of-written c.self.inside.words old new c.args.self.now
-    (λ (t : TableState). record t { entries = frames_protected t.entries c.args.marked.now })
+    (λ t now. now ≡ record t { entries = frames_protected t.entries c.args.marked.now })
     edits.size c.deref_mut.ensures.value c.self.view_is (table_of-protected c.args.marked old new edits)
 
 -- and its marks

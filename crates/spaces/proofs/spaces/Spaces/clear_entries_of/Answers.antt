@@ -1,10 +1,9 @@
-use Rattle.std.proofs.Common.{map, length, sym, ap, ◌∙◌, subst, arith}
+use Rattle.std.proofs.Common.{map, sym, subst, arith}
 use Rattle.std.specs.Option.{option_map}
-use Rattle.std.proofs.lemmas.List.{length-map}
 use Rattle.spaces.specs.Spaces.{SpacesState, EditsEntries}
 use Rattle.spaces.specs.Changes.{without_entries_of}
 use Rattle.spaces.specs.inside.Slots.{spaces_of, edited, without_entries, AreSlots, AreInUse, AreFreed}
-use Rattle.spaces.proofs.SlotEdits.{slots_edited, written, edits-cleared, absent_stays_cleared}
+use Rattle.spaces.proofs.SlotEdits.{slots_edited, written_edited, edits-cleared, absent_stays_cleared}
 use Rattle.spaces.proofs.Used.{in_use_cleared}
 use Rattle.spaces.proofs.Freed.{freed_edited}
 use Rattle.spaces.proofs.spaces.Spaces.clear_entries_of.Goals as goal
@@ -12,13 +11,9 @@ use Rattle.spaces.proofs.spaces.Spaces.clear_entries_of.Goals as goal
 pub invariant_of-self : goal.invariant_of-self
 invariant_of-self g c =
     let slots = c.self.inside.slots.items in
-    let is =
-    c.clear_slots.ensures
-    ∙ ap (map (option_map (edited (λ s. without_entries s.places c.args.page s.entries)))) c.deref_mut.ensures.value in
-    let whole =
-    written c.self.inside.slots.len c.clear_slots.new.slots slots (omega (arith, c.self.inside.slots.ok.0))
-    (ap length is ∙ length-map slots (option_map (edited (λ s. without_entries s.places c.args.page s.entries))))
-    ∙ is in (
+    let whole = written_edited (λ s. without_entries s.places c.args.page s.entries) c.self.inside.slots.len
+    c.clear_slots.new.slots slots c.deref_mut.result.now (omega (arith, c.self.inside.slots.ok.0))
+    c.deref_mut.ensures.value c.clear_slots.ensures in (
       subst (λ l. AreSlots l c.self.inside.prepared) (sym whole)
           (slots_edited (λ s. without_entries s.places c.args.page s.entries) slots c.self.inside.prepared
           c.self.invariant.0 (without_entries_of c.args.page (spaces_of slots)) (edits-cleared slots c.args.page)
@@ -33,13 +28,9 @@ invariant_of-self g c =
 pub returns-clause-entries : goal.returns-clause-entries
 returns-clause-entries g c =
     let slots = c.self.inside.slots.items in
-    let is =
-    c.clear_slots.ensures
-    ∙ ap (map (option_map (edited (λ s. without_entries s.places c.args.page s.entries)))) c.deref_mut.ensures.value in
-    let whole =
-    written c.self.inside.slots.len c.clear_slots.new.slots slots (omega (arith, c.self.inside.slots.ok.0))
-    (ap length is ∙ length-map slots (option_map (edited (λ s. without_entries s.places c.args.page s.entries))))
-    ∙ is in
+    let whole = written_edited (λ s. without_entries s.places c.args.page s.entries) c.self.inside.slots.len
+    c.clear_slots.new.slots slots c.deref_mut.result.now (omega (arith, c.self.inside.slots.ok.0))
+    c.deref_mut.ensures.value c.clear_slots.ensures in
     subst (λ l. EditsEntries (without_entries_of c.args.page c.args.self.now.map) c.args.self.now.map (spaces_of l))
     (sym whole)
     (subst (λ (s : SpacesState). EditsEntries (without_entries_of c.args.page s.map) s.map

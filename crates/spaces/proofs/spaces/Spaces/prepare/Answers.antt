@@ -1,28 +1,19 @@
 use Rattle.std.proofs.Common.{ℕ, ◌≡◌, ◌<◌, true, List, Option, Some, get_or, sym, ap, ◌∙◌, subst, arith}
 use Rattle.std.proofs.lemmas.Result.{err_from_is_err_and}
-use Rattle.spaces.specs.Spaces.{AddressSpace, SpacesState, has_space, space_at, AreSpaces}
+use Rattle.spaces.specs.Spaces.{AddressSpace, SpacesState, space_at, AreSpaces}
 use Rattle.spaces.specs.Requests.{is_user_space}
 use Rattle.mappings.specs.declared.page_range.PageRange.{PageRange}
 use Rattle.mappings.specs.declared.place.Rights.{Rights}
 use Rattle.mappings.specs.Places.{splits}
 use Rattle.spaces.specs.inside.Slots.{SpaceState, slot_at, spaces_of}
-use Rattle.spaces.proofs.AreSpacesLaws.{user_space}
+use Rattle.spaces.proofs.Located.{user_in, there_in}
 use Rattle.spaces.proofs.SlotsLemmas.{within_slots, never_missing, slot_is, found_in_slot}
 use Rattle.spaces.proofs.SlotEdits.{slots_kept, slots_prepared, set-same}
 use Rattle.spaces.proofs.Used.{in_use_same}
 use Rattle.spaces.proofs.Freed.{freed_same}
 use Rattle.spaces.proofs.spaces.Spaces.prepare.Goals as goal
 
--- the space is one that a user made, and found in its slot
-module _ (slots : List (Option SpaceState)) (prepared : Option (ℕ × PageRange × Option Rights)) (self : SpacesState)
-    (pcid : ℕ) (view_is : record { map = spaces_of slots; prepared = prepared } ≡ self)
-    (space : is_user_space self.map pcid ≡ true) where
-  user_in : is_user_space (spaces_of slots) pcid ≡ true
-  user_in = subst (λ (s : SpacesState). is_user_space s.map pcid ≡ true) (sym view_is) space
-
-  there_in : has_space (spaces_of slots) pcid ≡ true
-  there_in = (user_space (spaces_of slots) pcid user_in).1
-
+-- the slot in which the space is found
 at_slot : (slots : List (Option SpaceState)) (prepared : Option (ℕ × PageRange × Option Rights)) (self : SpacesState)
     (pcid : ℕ) (found : Option SpaceState) (s : SpaceState)
     → record { map = spaces_of slots; prepared = prepared } ≡ self → is_user_space self.map pcid ≡ true
