@@ -18,7 +18,6 @@ use Rattle.frames.specs.Frames.{FramesState, Frame, frame_at, AreFrames, AreInOr
 use Rattle.spaces.specs.Spaces.{Spaces}
 use Rattle.checkpoint.specs.Checkpoint.{CheckpointState, Holds, AreRising, Gathers, same_page}
 use Rattle.checkpoint.specs.inside.Notes.{AreNoted, AreNotedPages, IsAnyPage, noted_in, noted_page, noted_at}
-use Rattle.checkpoint.specs.inside.Notes.{noted_by_number}
 use Rattle.checkpoint.proofs.Lists.{Contains-head, Contains-tail}
 use Rattle.checkpoint.proofs.BackingLaws.{Holds-within}
 use Rattle.checkpoint.proofs.PagesInUse.{same_page-true, same_page-refl}
@@ -174,7 +173,7 @@ rising_sorted (a ∷ b ∷ pages) sorted once = (
 
 -- the pages of the frames that are noted, once sorted, are exactly those
 pub AreNotedPages-sorted : (memory : FramesState) (notes : List Bool) (found pages : List FilePage)
-    → AreFrames memory → found ≡ noted_by_number memory notes
+    → AreFrames memory → found ≡ noted_at memory notes (λ frame. frame) (length memory.frames)
     → IsPermutation found pages → IsSorted order_of pages
     → AreNotedPages memory notes pages
 AreNotedPages-sorted memory notes found pages are listed moved sorted =

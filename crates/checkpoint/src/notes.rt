@@ -1,13 +1,13 @@
 // Noting the frames of dirty entries, and the pages of the frames that are noted.
-ghost use Rattle.std.specs.Prelude.{◌≡◌, ◌≤◌, ◌<◌, ◌+◌, ◌^◌, true, length, ℕ, slice_set, IsTrue, ◌↔◌};
+ghost use Rattle.std.specs.Prelude.{◌≡◌, ◌≤◌, ◌<◌, ◌+◌, ◌^◌, ◌++◌, true, length, ℕ, slice_set, IsTrue, ◌↔◌};
 ghost use Rattle.std.specs.List.{list_any};
-ghost use Rattle.std.specs.Vec.{vec_capacity};
+ghost use Rattle.std.specs.Option.{option_to_list};
+ghost use Rattle.std.specs.Vec.{vec_capacity, vec_len};
 ghost use Rattle.page_entry.specs.Entry.{frame_of};
 ghost use Rattle.spaces.specs.Spaces.{has_space};
-ghost use Rattle.frames.specs.Frames.{AreFrames};
 ghost use Rattle.checkpoint.specs.Checkpoint.{HasDirtyEntry, IsInRange, IsInSpace, IsMappingOf};
 ghost use Rattle.checkpoint.specs.Backing.{HasNotes};
-ghost use Rattle.checkpoint.specs.inside.Notes.{AreNoted, IsAnyPage, AreNotedPages, noted_page, noted_by_number};
+ghost use Rattle.checkpoint.specs.inside.Notes.{AreNoted, IsAnyPage, AreNotedPages, noted_page};
 
 use frames::Frames;
 use mappings::PageRange;
@@ -91,57 +91,20 @@ pub(crate) fn has_dirty_entry<A: Allocator + Copy>(spaces: &Spaces<A>, page: Fil
     false
 }
 
-// The page in a frame, if the frame is noted.
-fn noted_page<A: Allocator + Copy>(
+// Lists the page in a frame behind those that are listed, if the frame is noted.
+fn list_page<A: Allocator + Copy>(
+    pages: &mut Vec<FilePage, A>,
     notes: &[bool],
     frames: &Frames<A>,
     frame: FrameNumber,
-) -> Option<FilePage>
-    requires { frame < length notes.now }
-    ensures { result ≡ noted_page frames.now notes.now frame }
+)
+    requires within { frame < length notes.now }
+    requires room { vec_len pages.old < vec_capacity pages.old }
+    ensures listed { pages.new.items ≡ pages.old.items ++ option_to_list (noted_page frames.now notes.now frame) }
+    ensures capacity { vec_capacity pages.new ≡ vec_capacity pages.old }
 {
     if notes[frame as usize] {
-        frames.owner(frame)
-    } else {
-        None
-    }
-}
-
-// Lists the pages of the frames that are noted, by the frames' numbers.
-fn list_by_number<A: Allocator + Copy>(
-    pages: &mut Vec<FilePage, A>,
-    notes: &[bool],
-    frames: &Frames<A>,
-)
-    requires sized { length notes.now ≡ length frames.now.frames }
-    requires room { length notes.now ≤ vec_capacity pages.old }
-    ensures listed { pages.new.items ≡ noted_by_number frames.now notes.now }
-    ensures capacity { vec_capacity pages.new ≡ vec_capacity pages.old }
-    ensures are { AreFrames frames.now }
-{
-    pages.clear();
-    for frame in 0..frames.count() {
-        if let Some(page) = noted_page(notes, frames, frame) {
-            pages.push_reserved(page);
-        }
-    }
-}
-
-// Lists the pages of the frames that are noted, as they come in the order of all frames in use.
-fn list_in_order<A: Allocator + Copy>(
-    pages: &mut Vec<FilePage, A>,
-    notes: &[bool],
-    frames: &Frames<A>,
-)
-    requires sized { length notes.now ≡ length frames.now.frames }
-    requires room { length notes.now ≤ vec_capacity pages.old }
-    ensures listed { AreNotedPages frames.now notes.now pages.new.items }
-    ensures capacity { vec_capacity pages.new ≡ vec_capacity pages.old }
-{
-    pages.clear();
-    let order = frames.in_order();
-    for place in 0..order.len() {
-        if let Some(page) = noted_page(notes, frames, order.get(place)) {
+        if let Some(page) = frames.owner(frame) {
             pages.push_reserved(page);
         }
     }
@@ -164,10 +127,17 @@ pub(crate) fn list_noted<A: Allocator + Copy>(
     ensures listed { AreNotedPages frames.now notes.now pages.new.items }
     ensures capacity { vec_capacity pages.new ≡ vec_capacity pages.old }
 {
-    list_by_number(pages, notes, frames);
-    if pages.len() < frames.in_order().len() / SHARE {
+    pages.clear();
+    for frame in 0..frames.count() {
+        list_page(pages, notes, frames, frame);
+    }
+    let order = frames.in_order();
+    if pages.len() < order.len() / SHARE {
         pages.sort_unstable();
-    } else {
-        list_in_order(pages, notes, frames);
+        return;
+    }
+    pages.clear();
+    for place in 0..order.len() {
+        list_page(pages, notes, frames, order.get(place));
     }
 }

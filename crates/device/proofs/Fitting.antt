@@ -1,13 +1,17 @@
 -- What a file says of a call, as a disk over it does.
-use Rattle.std.proofs.Common.{◌≡◌, ◌↔◌, ℕ, ◌+◌, List, length, Result, OnOk, IsErr, sym, ◌∙◌, ap, subst}
+use Rattle.std.proofs.Common.{◌≡◌, ◌↔◌, ℕ, ◌+◌, Bool, List, length, Result, OnOk, IsErr, sym, ◌∙◌, ap, subst}
 use Rattle.std.specs.Prelude.{slice_range}
 use Rattle.device.specs.Device.{written, Torn, Only}
-use Rattle.device.specs.File.{Opened, IsOverHonest, fitted}
+use Rattle.device.specs.File.{Opened, IsOverHonest, fitted, after_call}
 use Rattle.device.specs.declared.block_file.BlockFile.{Ghosts}
 use Rattle.device.specs.inside.Fitted.{fitted_size, whole_fitted}
 
 -- A file before a call of a disk over it and after.
-module _ {F : Type 0} (file : Ghosts F) (old new : Opened F) (size : new.size ≡ old.size) where
+module _ {F : Type 0} (file : Ghosts F) (old new : Opened F) (done : Bool)
+    (counted : new ≡ after_call old new.file done) where
+  size : new.size ≡ old.size
+  size = ap (λ (disk : Opened _). disk.size) counted
+
   -- an honest file is given as it is
   before : IsOverHonest file.is_honest file.seen old → fitted old.size (file.seen old.file) ≡ file.seen old.file
   before honest = whole_fitted old.size (file.seen old.file) honest.1
@@ -33,10 +37,6 @@ module _ {F : Type 0} (file : Ghosts F) (old new : Opened F) (size : new.size �
       → IsOverHonest file.is_honest file.seen old
       → fitted new.size (file.seen new.file) ≡ fitted old.size (file.seen old.file)
   kept_over same honest = same_over (same honest.0)
-
-  pub length_over : length (fitted new.size (file.seen new.file)) ≡ length (fitted old.size (file.seen old.file))
-  length_over =
-      fitted_size new.size (file.seen new.file) ∙ size ∙ sym (fitted_size old.size (file.seen old.file))
 
   pub write_over : {T E : Type 0} (result : Result T E) (at : ℕ) (bytes : List ℕ)
       → (file.is_honest old.file → length (file.seen new.file) ≡ length (file.seen old.file))
@@ -66,11 +66,15 @@ module _ {F : Type 0} (file : Ghosts F) (old new : Opened F) (size : new.size �
       let P : List ℕ → Type 0 = λ l. OnOk result (Only (file.may_leave new.file) l) in
       subst P (sym (before honest)) (durable honest.0)
 
-  -- A disk over a file that stays honest and as long is as honest as before.
-  pub honest_over : file.is_honest new.file ↔ file.is_honest old.file
+  -- A disk over a file that stays honest and as long is as honest as before; and it is as long as before.
+  pub stays_over : file.is_honest new.file ↔ file.is_honest old.file
       → (file.is_honest old.file → length (file.seen new.file) ≡ length (file.seen old.file))
-      → IsOverHonest file.is_honest file.seen new ↔ IsOverHonest file.is_honest file.seen old
-  honest_over honest kept = (
-    (λ over. (honest.0 over.0, sym (kept (honest.0 over.0)) ∙ over.1 ∙ size)),
-    (λ over. (honest.1 over.0, kept over.0 ∙ over.1 ∙ sym size)),
+      → (IsOverHonest file.is_honest file.seen new ↔ IsOverHonest file.is_honest file.seen old)
+      × (length (fitted new.size (file.seen new.file)) ≡ length (fitted old.size (file.seen old.file)))
+  stays_over honest kept = (
+    (
+      (λ over. (honest.0 over.0, sym (kept (honest.0 over.0)) ∙ over.1 ∙ size)),
+      (λ over. (honest.1 over.0, kept over.0 ∙ over.1 ∙ sym size)),
+    ),
+    fitted_size new.size (file.seen new.file) ∙ size ∙ sym (fitted_size old.size (file.seen old.file)),
   )

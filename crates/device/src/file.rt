@@ -47,7 +47,8 @@ impl<F: BlockFile> FileDisk<F> {
     /// isn't; this is no call of the disk's. With an error the file is handed back.
     pub fn over(mut file: F) -> Result<FileDisk<F>, (io::Error, F)>
         ensures fresh { IfOk result (λ disk. disk ≡ disk_over disk.file disk.size) }
-        ensures synced { IfOk result (λ disk. IsCalledOnce (F.calls_made file) (F.calls_made disk.file) (sync_all true)) }
+        ensures synced { IfOk result (λ disk.
+            IsCalledOnce (F.calls_made file) (F.calls_made disk.file) (sync_all true)) }
 
         // Over an honest file.
         ensures honest { F.is_honest file → IfOk result (IsOverHonest F.is_honest F.seen) }
@@ -112,9 +113,11 @@ impl<F: BlockFile> Device for FileDisk<F> {
 
     ghost is_honest = { IsOverHonest F.is_honest F.seen };
 
-    ghost seen_is_left = { λ disk honest. fitted_is_left (F.may_leave disk.file) disk.size (F.seen disk.file) honest.1 (F.seen_is_left disk.file honest.0) };
+    ghost seen_is_left = { λ disk honest. fitted_is_left (F.may_leave disk.file) disk.size (F.seen disk.file) honest.1
+        (F.seen_is_left disk.file honest.0) };
 
-    ghost left_is_whole = { λ disk c honest left. fitted_is_whole disk.size (F.seen disk.file) c honest.1 (F.left_is_whole disk.file c honest.0 left) };
+    ghost left_is_whole = { λ disk c honest left. fitted_is_whole disk.size (F.seen disk.file) c honest.1
+        (F.left_is_whole disk.file c honest.0 left) };
 
     ghost now_is_since = { λ disk. F.now_is_since disk.file };
 

@@ -93,33 +93,6 @@ impl<D: Device, A: Allocator + Copy> OverlayDisk<D, A> {
         }
         outcome
     }
-
-    fn apply_write(&mut self, at: u64, bytes: &[u8]) -> Result<(), DeviceFault>
-        requires { at + length bytes.now ≤ length (seen_of (as_recorded D.seen self.old)) }
-        ensures ok { OnOk result (self.new ≡ after_change self.old (write at bytes.now)) }
-        ensures err { OnErr result (self.new ≡ after_refusal self.old) }
-    {
-        raise(&mut self.calls);
-        if log_write(self.alloc, &mut self.log, at, bytes).is_err() {
-            self.refused = true;
-            raise(&mut self.faults);
-            return Err(DeviceFault);
-        }
-        Ok(())
-    }
-
-    fn apply_sync(&mut self) -> Result<(), DeviceFault>
-        ensures ok { OnOk result (self.new ≡ after_change self.old sync) }
-        ensures err { OnErr result (self.new ≡ after_refusal self.old) }
-    {
-        raise(&mut self.calls);
-        if log_sync(&mut self.log).is_err() {
-            self.refused = true;
-            raise(&mut self.faults);
-            return Err(DeviceFault);
-        }
-        Ok(())
-    }
 }
 
 impl<D: Device, A: Allocator + Copy> Device for OverlayDisk<D, A> {
@@ -179,7 +152,13 @@ impl<D: Device, A: Allocator + Copy> Device for OverlayDisk<D, A> {
         ensures recorded { OnOk result (self.new ≡ after_change self.old (write at bytes.now)) }
         ensures refused { OnErr result (self.new ≡ after_refusal self.old) }
     {
-        self.apply_write(at, bytes)
+        raise(&mut self.calls);
+        if log_write(self.alloc, &mut self.log, at, bytes).is_err() {
+            self.refused = true;
+            raise(&mut self.faults);
+            return Err(DeviceFault);
+        }
+        Ok(())
     }
 
     fn sync(&mut self) -> Result<(), DeviceFault>
@@ -187,7 +166,13 @@ impl<D: Device, A: Allocator + Copy> Device for OverlayDisk<D, A> {
         ensures recorded { OnOk result (self.new ≡ after_change self.old sync) }
         ensures refused { OnErr result (self.new ≡ after_refusal self.old) }
     {
-        self.apply_sync()
+        raise(&mut self.calls);
+        if log_sync(&mut self.log).is_err() {
+            self.refused = true;
+            raise(&mut self.faults);
+            return Err(DeviceFault);
+        }
+        Ok(())
     }
 
     fn calls(&self) -> u64 {

@@ -1,5 +1,5 @@
 -- A step that lowers no word, and leaves committed at most stalled, keeps the rule.
-use Rattle.std.proofs.Common.{◌≡◌, ◌≤◌, ℕ, ◌≢◌, Bool, true, false, List, [], ◌∷◌, slice_index}
+use Rattle.std.proofs.Common.{◌≡◌, ◌≤◌, ℕ, ◌≢◌, Bool, true, false, List, [], ◌∷◌}
 use Rattle.std.proofs.Common.{if◌then◌else◌, nat_eq, refl, sym, subst, ⊎_elim, le_refl, le_trans, set}
 use mathlib.Core.Option.{some, some-ne-none}
 use lib.ListN.{get_elem?}
@@ -9,8 +9,7 @@ use Rattle.atomic_table.proofs.Lists.{at_set, at_snoc, set_again}
 use Rattle.atomic_table.specs.Seated.{TableId}
 use Rattle.horizon.specs.Seen.{SeenState}
 use Rattle.horizon.specs.declared.rule.View.{View}
-use Rattle.horizon.specs.inside.Rule.{NeitherFell, Lifts, seen_after, IsKept}
-use Rattle.horizon.specs.inside.Rule.{Steps, Reads, RaisesStalled, RaisesCommitted}
+use Rattle.horizon.specs.inside.Rule.{NeitherFell, Lifts, seen_after, IsKept, Steps, Reads}
 
 -- a holder of the same words, which has seen no less since, and has raised nothing
 abbrev pub HasOnlyLooked : SeenState → TableId → View → Type 0
@@ -77,23 +76,8 @@ exchange_lifts found new x views up kept = go (pointwise nat_eq x found) refl
     go true e = subst (λ (z : List ℕ). Lifts z new) (sym ((bytes_decides x found).0 e)) up
     go false e = rests x views kept
 
-exchange_keeps : (found new x : List ℕ) → slice_index new 1 ≡ slice_index found 1
-    → slice_index (exchanged found new x) 1 ≡ slice_index x 1
-exchange_keeps found new x same = go (pointwise nat_eq x found) refl
-  where
-    go : (b : Bool) → pointwise nat_eq x found ≡ b → slice_index (if b then new else x) 1 ≡ slice_index x 1
-    go true e = subst (λ (z : List ℕ). slice_index new 1 ≡ slice_index z 1) (sym ((bytes_decides x found).0 e)) same
-    go false e = refl
-
-pub raises_stalled : (pass : ℕ) (v : View) (found new : List ℕ)
-    → Lifts found new → slice_index new 1 ≡ slice_index found 1
-    → Turns IsKept pass v (λ x. if pointwise nat_eq x found then new else x) RaisesStalled
-raises_stalled pass v found new up same x views kept at =
-    let step = lifted pass v x (exchanged found new x) views (exchange_lifts found new x views up kept) kept at in
-    (seen_after v x (exchanged found new x), step.0, (exchange_keeps found new x same, step.1))
-
-pub raises_committed : (pass : ℕ) (v : View) (found new : List ℕ) → Lifts found new
-    → Turns IsKept pass v (λ x. if pointwise nat_eq x found then new else x) RaisesCommitted
-raises_committed pass v found new up x views kept at =
+pub raises : (pass : ℕ) (v : View) (found new : List ℕ) → Lifts found new
+    → Turns IsKept pass v (λ x. if pointwise nat_eq x found then new else x) Steps
+raises pass v found new up x views kept at =
     let step = lifted pass v x (exchanged found new x) views (exchange_lifts found new x views up kept) kept at in
     (seen_after v x (exchanged found new x), step.0, step.1)

@@ -7,11 +7,12 @@
 #![tactic(auto)]
 
 ghost use Rattle.std.specs.Prelude.{◌≡◌, ◌≤◌, IfOk};
-ghost use Rattle.horizon.specs.Seen.{nothing_seen, HasLooked, HasRaisedNothing, HasRaisedStalled, HasRaisedBoth};
+ghost use Rattle.horizon.specs.Seen.{nothing_seen, HasLooked, IsRaisedTo, HasRaisedNothing};
+ghost use Rattle.horizon.specs.Seen.{HasRaisedStalled, HasRaisedBoth};
 
 mod rule;
 
-use rule::{Holder, RaiseCommitted, RaiseStalled, Read, Same, Words};
+use rule::{Holder, Raise, Read, Same, Words};
 use std::alloc::{AllocError, Global};
 use std::marker::Model;
 use std::sync::Wait;
@@ -102,17 +103,7 @@ impl Horizon {
         ensures exact { HasRaisedStalled mark seen.old seen.new }
         ensures looked { HasLooked seen.old seen.new }
     {
-        for _ in rt.forever() {
-            let found = self.words.load_as::<Read, R>(rt, &mut seen.holder);
-            let raised = [found[0].max(mark), found[1]];
-            if self
-                .words
-                .compare_exchange_as::<RaiseStalled, R>(rt, &mut seen.holder, found, raised)
-                .is_ok()
-            {
-                return;
-            }
-        }
+        self.raise(rt, seen, mark, 0);
     }
 
     /// Makes each of the two numbers the greater of itself and a mark's number, in one step. If the call returns, this
@@ -123,12 +114,26 @@ impl Horizon {
         ensures exact { HasRaisedBoth mark seen.old seen.new }
         ensures looked { HasLooked seen.old seen.new }
     {
+        self.raise(rt, seen, mark, mark);
+    }
+
+    /// Makes each of the two numbers the greater of itself and the one given for it, in one step. If the call returns,
+    /// this holder has seen the numbers after that step.
+    fn raise<R: Wait>(&self, rt: &R, seen: &mut Seen, stalled: u64, committed: u64)
+        requires own { seen.old.cell ≡ self.now }
+        requires ordered { committed ≤ stalled }
+        ensures stalled { IsRaisedTo stalled seen.old.stalled seen.old.stalled_raised
+            seen.new.stalled seen.new.stalled_raised }
+        ensures committed { IsRaisedTo committed seen.old.committed seen.old.committed_raised
+            seen.new.committed seen.new.committed_raised }
+        ensures looked { HasLooked seen.old seen.new }
+    {
         for _ in rt.forever() {
             let found = self.words.load_as::<Read, R>(rt, &mut seen.holder);
-            let raised = [found[0].max(mark), found[1].max(mark)];
+            let raised = [found[0].max(stalled), found[1].max(committed)];
             if self
                 .words
-                .compare_exchange_as::<RaiseCommitted, R>(rt, &mut seen.holder, found, raised)
+                .compare_exchange_as::<Raise, R>(rt, &mut seen.holder, found, raised)
                 .is_ok()
             {
                 return;

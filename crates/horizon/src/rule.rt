@@ -1,5 +1,5 @@
-// The rule of the two words: what holds of them between any two steps, and the three kinds of step.
-ghost use Rattle.horizon.specs.inside.Rule.{IsKept, Reads, RaisesStalled, RaisesCommitted};
+// The rule of the two words: what holds of them between any two steps, and the two kinds of step.
+ghost use Rattle.horizon.specs.inside.Rule.{IsKept, Reads, Steps};
 
 use atomic_table::Split;
 use crossbeam_utils::atomic::seq_cell::{Pass, RuledSeqCell};
@@ -28,16 +28,10 @@ impl Outcome<[u64; 2], View> for Read {
     ghost then = { Reads };
 }
 
-pub struct RaiseStalled;
+pub struct Raise;
 
-impl Outcome<[u64; 2], View> for RaiseStalled {
-    ghost then = { RaisesStalled };
-}
-
-pub struct RaiseCommitted;
-
-impl Outcome<[u64; 2], View> for RaiseCommitted {
-    ghost then = { RaisesCommitted };
+impl Outcome<[u64; 2], View> for Raise {
+    ghost then = { Steps };
 }
 
 /// A further holder has seen as much as the one that it is made from.

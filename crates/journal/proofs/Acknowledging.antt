@@ -1,6 +1,5 @@
 -- What a step answers: that it commits the batch, or that it is the last one.
-use Rattle.std.proofs.Common.{◌≡◌, ℕ, ◌+◌, ◌*◌, ◌<◌, false, true, length, Option, Some, None, refl, sym, ap, arith}
-use Rattle.std.specs.Prelude.{IsSome}
+use Rattle.std.proofs.Common.{◌≡◌, ℕ, ◌+◌, ◌<◌, false, true, length, Option, Some, None, refl, sym, ap, arith}
 use Rattle.std.specs.Option.{option_map_or}
 use Rattle.journal.specs.declared.stage.Stage.{Stage}
 use Rattle.journal.specs.declared.stage.Stage.TheVariants.{Recording, Describing, SyncingRecords, Opening}

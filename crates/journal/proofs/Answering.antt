@@ -1,11 +1,11 @@
 -- What the next step of the write-outs answers, and which write-outs there are after it.
-use Rattle.std.proofs.Common.{◌≡◌, ℕ, ◌≤◌, ◌⊎◌, inl, inr, Bool, true, false, not, List, [], ◌∷◌, ◌++◌, length}
+use Rattle.std.proofs.Common.{◌≡◌, ℕ, ◌⊎◌, inl, inr, Bool, true, false, not, List, [], ◌∷◌, ◌++◌}
 use Rattle.std.proofs.Common.{drop, map}
 use Rattle.std.proofs.Common.{get_or, Option, Some, None, refl, sym, ap, ◌∙◌, subst, arith, length-append}
 use Rattle.std.specs.List.{AllByRecursion}
 use Rattle.std.specs.Option.{option_map, option_map_or, option_and_then}
 use Rattle.std.proofs.lemmas.Bool.{cond-false, or_from, not_from_true}
-use Rattle.volume_codec.specs.Layout.{GeometryValue, journals_of}
+use Rattle.volume_codec.specs.Layout.{GeometryValue}
 use Rattle.journal.specs.declared.stage.Stage.{Stage}
 use Rattle.journal.specs.declared.stage.Stage.TheVariants.{Recording, Describing, SyncingRecords, Opening}
 use Rattle.journal.specs.declared.stage.Stage.TheVariants.{Committing, Applying, SyncingHomes, Closing, Finishing}
@@ -17,7 +17,7 @@ use Rattle.journal.specs.WriteOut.{WriteOut, next_stage, has_committed, advanced
 use Rattle.journal.specs.WriteOut.{next_home, record_at, work_of, answer_of}
 use Rattle.journal.specs.WriteOuts.{WriteOutsValue, has_uncommitted, shares_syncs, is_at, moving, moved, current}
 use Rattle.journal.specs.WriteOuts.{outs_moving, next_answer, outs_after}
-use Rattle.journal.specs.inside.Sound.{IsWriteOut, IsOlder, AreInOrder, IsSpaced, AreSpaced, IsTurn, IsSound}
+use Rattle.journal.specs.inside.Sound.{IsWriteOut, IsOlder, IsSpaced, AreSpaced, AreSound, IsSound}
 use Rattle.journal.specs.inside.Tied.{is_applied}
 use Rattle.journal.proofs.Alls.{all_back, all_replaced}
 use Rattle.journal.proofs.Batches.{current-oldest, committed_parts, at-is}
@@ -130,14 +130,6 @@ older_committed [] w older = refl
 older_committed (x ∷ others) w older = or_from (not (has_committed x)) (has_uncommitted others)
     (not_from_true (has_committed x) older.0.committed) (older_committed others w older.1)
 
--- what holds of the list of write-outs of a volume
-pub record AreSound (g : GeometryValue) (next : ℕ) (batches : List WriteOut) : Type 0 where
-  pub few : length batches ≤ journals_of g.layout
-  pub each : AllByRecursion (IsWriteOut g) batches
-  pub ordered : AreInOrder batches
-  pub spaced : shares_syncs g.layout ≡ true → AreSpaced batches
-  pub turn : IsTurn g.layout next batches
-
 -- the answers of a stage
 fine_at : (mark : ℕ) (stage : Stage) → (answer_at mark stage ≡ Device → ⊥) × (answer_at mark stage ≡ Broken → ⊥)
 fine_at mark (Recording i) = (λ e. cc, λ e. cc)
@@ -162,6 +154,8 @@ module _ (g : GeometryValue) (next : ℕ) where
       let own = (all_back (IsWriteOut g) others (w ∷ []) sound.each).0 in
       let following = early_next g w stage own at early in
       record {
+        geometry = sound.geometry;
+        there = sound.there;
         few = omega (arith, sound.few, length-append others (w ∷ []), length-append others (advanced_of w ∷ []));
         each = newest_each g others w following sound.each;
         ordered = newest_order others w following sound.ordered older;
@@ -178,6 +172,8 @@ module _ (g : GeometryValue) (next : ℕ) where
       let own = (all_back (IsWriteOut g) older (w ∷ newer) sound.each).0 in
       let following = late_next g w stage own is.at is.late not_last in
       record {
+        geometry = sound.geometry;
+        there = sound.there;
         few = omega (arith, sound.few, length-append older (w ∷ newer), length-append older (advanced_of w ∷ newer));
         each = one_each g older w newer stage is following sound.each;
         ordered = one_order g older w newer stage is following own not_last sound.ordered;
@@ -195,6 +191,8 @@ module _ (g : GeometryValue) (next : ℕ) where
 
   pub oldest_ends : (w : WriteOut) (newer : List WriteOut) → AreSound g next (w ∷ newer) → AreSound g next newer
   oldest_ends w newer sound = record {
+    geometry = sound.geometry;
+    there = sound.there;
     few = omega (arith, sound.few);
     each = sound.each.1;
     ordered = sound.ordered.1;
@@ -362,15 +360,6 @@ after_same outs (Done mark) no_device not_broken = refl
 after_same outs Device no_device not_broken = absurd (no_device refl)
 after_same outs Broken no_device not_broken = absurd (not_broken refl)
 
-pub sound_of : (outs : WriteOutsValue) → IsSound outs → AreSound outs.geometry outs.next outs.batches
-sound_of outs sound = record {
-  few = sound.few;
-  each = sound.each;
-  ordered = sound.ordered;
-  spaced = sound.spaced;
-  turn = sound.turn;
-}
-
 module _ (outs : WriteOutsValue) (sound : IsSound outs) (whole : outs.broken ≡ false)
     (some : outs.batches ≡ [] → ⊥) where
   abbrev sharing : Bool
@@ -382,33 +371,13 @@ module _ (outs : WriteOutsValue) (sound : IsSound outs) (whole : outs.broken ≡
   pub outs_after-is : outs_after outs (next_answer outs)
       ≡ record outs { batches = after_in sharing (answer_in sharing outs.batches) outs.batches }
   outs_after-is =
-      let after = sound_after outs.geometry outs.next outs.batches some (sound_of outs sound) in
+      let after = sound_after outs.geometry outs.next outs.batches some sound in
       ap (outs_after outs) answer_same
       ∙ after_same outs (answer_in sharing outs.batches) after.no_device after.not_broken
 
   pub step_sound : IsSound (outs_after outs (next_answer outs))
   step_sound =
-      let after = sound_after outs.geometry outs.next outs.batches some (sound_of outs sound) in
-      subst IsSound (sym outs_after-is) (record {
-        geometry = sound.geometry;
-        there = sound.there;
-        few = after.sound.few;
-        each = after.sound.each;
-        ordered = after.sound.ordered;
-        spaced = after.sound.spaced;
-        turn = after.sound.turn;
-      })
-
-pub failed_sound : (outs : WriteOutsValue) → IsSound outs → IsSound (outs_after outs Device)
-failed_sound outs sound = record {
-  geometry = sound.geometry;
-  there = sound.there;
-  few = sound.few;
-  each = sound.each;
-  ordered = sound.ordered;
-  spaced = sound.spaced;
-  turn = sound.turn;
-}
+      subst IsSound (sym outs_after-is) (sound_after outs.geometry outs.next outs.batches some sound).sound
 
 -- a step that ends a write-out is one of a committed batch
 pub done_committed : (w : WriteOut) (mark : ℕ) → answer_of w ≡ Done mark → has_committed w ≡ true

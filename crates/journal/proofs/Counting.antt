@@ -18,17 +18,17 @@ use Rattle.journal.specs.WriteOut.{WriteOut, next_stage, has_committed, advanced
 use Rattle.journal.specs.WriteOuts.{WriteOutsValue, none_of, has_uncommitted, shares_syncs, is_at, moved}
 use Rattle.journal.specs.WriteOuts.{outs_moving, next_work, next_answer, outs_after, is_busy, begun}
 use Rattle.journal.specs.Commits.{commits_by, syncs_by, HaveCommitted, NoneYet, OneBegun, OneStepped}
-use Rattle.journal.specs.inside.Sound.{IsWriteOut, IsOlder, AreInOrder, AreSpaced, IsSound}
+use Rattle.journal.specs.inside.Sound.{AreSound, IsWriteOut, IsOlder, AreInOrder, AreSpaced, IsSound}
 use Rattle.journal.specs.inside.Tied.{is_applying, is_applied, is_recorded}
 use Rattle.journal.proofs.Alls.{all_map, all_back}
 use Rattle.journal.proofs.Stages.{next_in}
 use Rattle.journal.proofs.Batches.{committed-at, at-is}
-use Rattle.journal.proofs.Tying.{false_true, late_stage, late_next, stage_of}
+use Rattle.journal.proofs.Tying.{false_true, late_stage, late_lacks, late_writer, shared_stage, stage_of}
 use Rattle.journal.proofs.Sounding.{next_from, each_committed, not_busy, next_is_batch, begun_sound, sound_without}
 use Rattle.journal.proofs.Moving.{AreSyncing, None_syncs, Homes_syncs, Records_syncs, Both_sync}
 use Rattle.journal.proofs.Moving.{Moves, By_newest, By_one, By_all, moves_of}
-use Rattle.journal.proofs.Answering.{AreSound, work_in, answer_in, after_in, work_is, answer_is, early_answer}
-use Rattle.journal.proofs.Answering.{late_answer, shared_after, sound_of, answer_same, outs_after-is}
+use Rattle.journal.proofs.Answering.{work_in, answer_in, after_in, work_is, answer_is, early_answer}
+use Rattle.journal.proofs.Answering.{late_answer, shared_after, answer_same, outs_after-is}
 use Rattle.journal.proofs.Answering.{step_sound}
 
 -- ---- one sync of two is made
@@ -43,8 +43,7 @@ abbrev owed : List WriteOut → ℕ
 owed batches = cond (list_any (is_at is_between) batches) 1 0
 
 late_owes_none : (w : WriteOut) → has_committed w ≡ true → is_at is_between w ≡ false
-late_owes_none w committed =
-    late_next (λ o. option_map_or is_between o false ≡ false) refl (λ i. refl) refl refl refl w committed
+late_owes_none = late_lacks is_between (λ i. refl) refl refl refl
 
 any_newest : (others : List WriteOut) (w : WriteOut) → AllByRecursion (λ x. has_committed x ≡ true) others
     → list_any (is_at is_between) (others ++ w ∷ []) ≡ is_at is_between w
@@ -104,35 +103,21 @@ module _ (g : GeometryValue) (next : ℕ) (shared : shares_syncs g.layout ≡ tr
   pub one_writes : (mark : ℕ) (w : WriteOut) (s : Stage) → is_committed s ≡ true → has_writes s ≡ true
       → (syncs_by (work_at g w.batch [] s) ≡ 0) × (commits_by (answer_at mark s) ≡ 0)
       × (is_between s ≡ false) × (is_between (next_in g.slots w.batch s) ≡ false) × (s ≡ Finishing → ⊥)
-  one_writes mark w (Recording i) late writes = false_true late
-  one_writes mark w (Describing i) late writes = false_true late
-  one_writes mark w SyncingRecords late writes = false_true late
-  one_writes mark w Opening late writes = false_true late
-  one_writes mark w Committing late writes = false_true late
-  one_writes mark w (Applying i) late writes = (
-    refl,
-    refl,
-    refl,
-    cond_both (i + 1 == length w.batch.homes) SyncingHomes (Applying (i + 1)) (λ t. is_between t ≡ false) (λ e. refl)
-        (λ e. refl),
-    λ e. cc,
-  )
-  one_writes mark w SyncingHomes late writes = false_true writes
-  one_writes mark w Closing late writes = (refl, refl, refl, refl, λ e. cc)
-  one_writes mark w Finishing late writes = false_true writes
+  one_writes mark w = late_writer _
+      (λ i. (
+        refl,
+        refl,
+        refl,
+        cond_both (i + 1 == length w.batch.homes) SyncingHomes (Applying (i + 1)) (λ t. is_between t ≡ false)
+            (λ e. refl) (λ e. refl),
+        λ e. cc,
+      ))
+      (refl, refl, refl, refl, λ e. cc)
 
   -- of all
   pub shared_adds : (mark : ℕ) (w : WriteOut) (s : Stage) → may_share s ≡ true
       → (syncs_by (work_at g w.batch [] s) ≡ 1) × (commits_by (answer_at mark s) ≡ 0)
-  shared_adds mark w (Recording i) e = false_true e
-  shared_adds mark w (Describing i) e = false_true e
-  shared_adds mark w SyncingRecords e = (refl, refl)
-  shared_adds mark w Opening e = false_true e
-  shared_adds mark w Committing e = false_true e
-  shared_adds mark w (Applying i) e = false_true e
-  shared_adds mark w SyncingHomes e = (refl, refl)
-  shared_adds mark w Closing e = false_true e
-  shared_adds mark w Finishing e = (refl, refl)
+  shared_adds mark w = shared_stage _ (refl, refl) (refl, refl) (refl, refl)
 
   opens_next : (r : WriteOut) → IsWriteOut g r → next_stage r ≡ Some SyncingRecords
       → is_at is_between (advanced_of r) ≡ true
@@ -272,7 +257,7 @@ counted g is_geometry shared (OneStepped outs commits syncs has run) =
     let some : outs.batches ≡ [] → ⊥ = λ e. both_ways (has_uncommitted outs.batches) (ap has_uncommitted e) has in
     let shares : shares_syncs outs.geometry.layout ≡ true =
     ap (λ (x : GeometryValue). shares_syncs x.layout) before.geometry ∙ shared in
-    let even = step_even outs.geometry outs.next shares outs.batches some has (sound_of outs before.sound) in
+    let even = step_even outs.geometry outs.next shares outs.batches some has before.sound in
     let e = outs_after-is outs before.sound before.whole some in
     let works : syncs_by (next_work outs []) ≡ syncs_by (work_in outs.geometry [] outs.batches) =
     ap syncs_by (cond-false outs.broken Nothing

@@ -15,16 +15,16 @@ use Rattle.journal.specs.WriteOut.{WriteOut, next_stage, has_committed, advanced
 use Rattle.journal.specs.WriteOuts.{WriteOutsValue, has_uncommitted, shares_syncs}
 use Rattle.journal.specs.WriteOuts.{outs_moving, next_work, next_answer, outs_after}
 use Rattle.journal.specs.Commits.{syncs_by, HaveCommitted, HaveGoneOn, NotYet, OneMore}
-use Rattle.journal.specs.inside.Sound.{IsWriteOut, IsSound}
+use Rattle.journal.specs.inside.Sound.{AreSound, IsWriteOut, IsSound}
 use Rattle.journal.proofs.Alls.{all_back, all_replaced}
 use Rattle.journal.proofs.Stages.{next_in}
 use Rattle.journal.proofs.Batches.{committed-at}
-use Rattle.journal.proofs.Tying.{false_true}
+use Rattle.journal.proofs.Tying.{false_true, late_writer}
 use Rattle.journal.proofs.Sounding.{next_from, each_committed}
 use Rattle.journal.proofs.Moving.{AreSyncing, None_syncs, Homes_syncs, Records_syncs, Both_sync}
 use Rattle.journal.proofs.Moving.{Moves, By_newest, By_one, By_all, moves_of}
-use Rattle.journal.proofs.Answering.{AreSound, work_in, answer_in, after_in, work_is, answer_is}
-use Rattle.journal.proofs.Answering.{late_answer, shared_after, sound_of, outs_after-is, step_sound}
+use Rattle.journal.proofs.Answering.{work_in, answer_in, after_in, work_is, answer_is}
+use Rattle.journal.proofs.Answering.{late_answer, shared_after, outs_after-is, step_sound}
 use Rattle.journal.proofs.Counting.{one_writes, shared_adds, counted}
 
 -- how many syncs one makes from this stage on, whose batch is committed
@@ -79,20 +79,14 @@ all_committed (w ∷ newer) all =
 -- one that writes has as many left after it, and stays committed
 goes_on : (g : GeometryValue) (w : WriteOut) (s : Stage) → is_committed s ≡ true → has_writes s ≡ true
     → (syncs_from s ≡ syncs_from (next_in g.slots w.batch s)) × (is_committed (next_in g.slots w.batch s) ≡ true)
-goes_on g w (Recording i) late writes = false_true late
-goes_on g w (Describing i) late writes = false_true late
-goes_on g w SyncingRecords late writes = false_true late
-goes_on g w Opening late writes = false_true late
-goes_on g w Committing late writes = false_true late
-goes_on g w (Applying i) late writes = (
-  cond_both (i + 1 == length w.batch.homes) SyncingHomes (Applying (i + 1)) (λ t. 2 ≡ syncs_from t) (λ e. refl)
-      (λ e. refl),
-  cond_both (i + 1 == length w.batch.homes) SyncingHomes (Applying (i + 1)) (λ t. is_committed t ≡ true) (λ e. refl)
-      (λ e. refl),
-)
-goes_on g w SyncingHomes late writes = false_true writes
-goes_on g w Closing late writes = (refl, refl)
-goes_on g w Finishing late writes = false_true writes
+goes_on g w = late_writer _
+    (λ i. (
+      cond_both (i + 1 == length w.batch.homes) SyncingHomes (Applying (i + 1)) (λ t. 2 ≡ syncs_from t) (λ e. refl)
+          (λ e. refl),
+      cond_both (i + 1 == length w.batch.homes) SyncingHomes (Applying (i + 1)) (λ t. is_committed t ≡ true) (λ e. refl)
+          (λ e. refl),
+    ))
+    (refl, refl)
 
 module _ (g : GeometryValue) (next : ℕ) (shared : shares_syncs g.layout ≡ true) where
   abbrev sharing : Bool
@@ -210,7 +204,7 @@ ending g shared start begins (OneMore mid syncs some run) =
     let before = ending g shared start begins run in
     let shares : shares_syncs mid.geometry.layout ≡ true =
     ap (λ (x : GeometryValue). shares_syncs x.layout) before.geometry ∙ shared in
-    let ends = step_ends mid.geometry mid.next shares mid.batches some before.none (sound_of mid before.sound) in
+    let ends = step_ends mid.geometry mid.next shares mid.batches some before.none before.sound in
     let e = outs_after-is mid before.sound before.whole some in
     let works : syncs_by (next_work mid []) ≡ syncs_by (work_in mid.geometry [] mid.batches) =
     ap syncs_by (cond-false mid.broken Nothing (option_map_or (work_of mid.geometry []) (outs_moving mid) Nothing)

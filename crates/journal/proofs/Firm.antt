@@ -1,6 +1,6 @@
 -- Which blocks write-outs leave firm, and what follows for the batches whose gates are surely open.
 use Rattle.std.proofs.Common.{◌≡◌, ◌≢◌, ℕ, ◌+◌, ◌*◌, ◌<◌, ◌≤◌, inl, inr, true, false, cond, ◌==◌, List}
-use Rattle.std.proofs.Common.{[], ◌∷◌, ◌++◌, length, drop, get_or, refl, sym, ap, ◌∙◌, subst, arith}
+use Rattle.std.proofs.Common.{Bool, [], ◌∷◌, ◌++◌, length, drop, get_or, refl, sym, ap, ◌∙◌, subst, arith}
 use Rattle.std.specs.Prelude.{MatchBool}
 use Rattle.std.specs.List.{AllByRecursion, Contains}
 use Rattle.std.proofs.lemmas.Bool.{both_ways, cond_both, cond-true, or_left, or_right, eq-eqb}
@@ -204,19 +204,12 @@ module _ (v : SuperValue) (progress : List Progress) (going : AreGoing (geometry
         record-below v.layout v.slots p.batch.journal at.0 (batch_of p there).there at.1,
       ))
 
-  -- the parts of one write-out's journal
-  pub not_recording : (p : Progress) → IsIn p progress → is_recording p.stage ≡ false
-      → AllByRecursion (λ (q : Progress). is_recording q.stage ≡ true → q.batch.journal ≢ p.batch.journal) progress
-  not_recording p there not = all_map {P = λ (q : Progress). q.batch.journal ≡ p.batch.journal → q.stage ≡ p.stage}
-      {Q = λ (q : Progress). is_recording q.stage ≡ true → q.batch.journal ≢ p.batch.journal}
-      (λ q same rec e. both_ways (is_recording p.stage) not (ap is_recording (sym (same e)) ∙ rec)) progress
-      (one_stage progress p going.ordered there)
-
-  pub not_switching : (p : Progress) → IsIn p progress → is_switching p.stage ≡ false
-      → AllByRecursion (λ (q : Progress). is_switching q.stage ≡ true → q.batch.journal ≢ p.batch.journal) progress
-  not_switching p there not = all_map {P = λ (q : Progress). q.batch.journal ≡ p.batch.journal → q.stage ≡ p.stage}
-      {Q = λ (q : Progress). is_switching q.stage ≡ true → q.batch.journal ≢ p.batch.journal}
-      (λ q same sw e. both_ways (is_switching p.stage) not (ap is_switching (sym (same e)) ∙ sw)) progress
+  -- where a write-out isn't at such a stage, none that is has its journal
+  pub not_at : (has : Stage → Bool) (p : Progress) → IsIn p progress → has p.stage ≡ false
+      → AllByRecursion (λ (q : Progress). has q.stage ≡ true → q.batch.journal ≢ p.batch.journal) progress
+  not_at has p there not = all_map {P = λ (q : Progress). q.batch.journal ≡ p.batch.journal → q.stage ≡ p.stage}
+      {Q = λ (q : Progress). has q.stage ≡ true → q.batch.journal ≢ p.batch.journal}
+      (λ q same its e. both_ways (has p.stage) not (ap has (sym (same e)) ∙ its)) progress
       (one_stage progress p going.ordered there)
 
   -- what stands for home blocks
@@ -295,7 +288,7 @@ module _ (v : SuperValue) (progress : List Progress) (going : AreGoing (geometry
         let is_batch = batch_of p there in
         descriptor_there (geometry_of v) p.batch c is_batch (λ i lt.
         l.firm (descriptor_block v.slots p.batch.journal + i)
-        (descriptor_firm p.batch.journal i is_batch.there lt (not_recording p there not))
+        (descriptor_firm p.batch.journal i is_batch.there lt (not_at is_recording p there not))
         ∙ w.descriptor i lt (omega (arith, lt, all)))
 
     pub durable_open : (p : Progress) → IsIn p progress → is_durable p.stage ≡ true
@@ -306,7 +299,8 @@ module _ (v : SuperValue) (progress : List Progress) (going : AreGoing (geometry
         let is_batch = batch_of p there in
         record {
           there = is_batch.there;
-          gate = gate_kept p.batch.journal (gate_firm p.batch.journal is_batch.there (not_switching p there facts.2))
+          gate = gate_kept p.batch.journal
+              (gate_firm p.batch.journal is_batch.there (not_at is_switching p there facts.2))
               (subst (λ b. MatchBool b (IsOpen seen v.slots p.batch.journal) (IsOpen seen v.slots p.batch.journal → ⊥))
               facts.0 w.gate);
           descriptor = record {

@@ -6,9 +6,6 @@ use Rattle.std.specs.List.{AllByRecursion}
 use Rattle.std.specs.Option.{option_map, option_map_or, option_and_then}
 use Rattle.std.proofs.lemmas.Bool.{cond-false, cond_both}
 use Rattle.volume_codec.specs.Layout.{GeometryValue}
-use Rattle.journal.specs.declared.stage.Stage.{Stage}
-use Rattle.journal.specs.declared.stage.Stage.TheVariants.{Recording, Describing, SyncingRecords, Opening}
-use Rattle.journal.specs.declared.stage.Stage.TheVariants.{Committing, Applying, SyncingHomes, Closing, Finishing}
 use Rattle.journal.specs.Stage.{may_share}
 use Rattle.journal.specs.Work.{Sync, Nothing, work_at}
 use Rattle.journal.specs.WriteOut.{WriteOut, next_stage, advanced_of, record_at, next_record, next_home, work_of}
@@ -17,7 +14,7 @@ use Rattle.journal.specs.WriteOuts.{outs_record, outs_home}
 use Rattle.journal.specs.inside.Queued.{QueuedWriteOut, queued_advanced}
 use Rattle.journal.specs.inside.Room.{write_outs_in, rooms_in, outs_of, IsLone, IsJoint}
 use Rattle.journal.proofs.Rooms.{lone_mover}
-use Rattle.journal.proofs.Tying.{false_true}
+use Rattle.journal.proofs.Tying.{shared_next}
 
 -- the first n have made it
 abbrev pub advanced_to : ℕ → List QueuedWriteOut → List QueuedWriteOut
@@ -96,35 +93,11 @@ blank = record { batch = record { journal = 0; mark = 0; homes = [] }; described
 -- one that shares a sync asks for it, and is given no record
 pub joint_work : (g : GeometryValue) (bytes : List ℕ) (w : WriteOut) → is_at may_share w ≡ true
     → work_of g bytes w ≡ Sync
-joint_work g bytes w joins = by (next_stage w) joins
-  where
-    by : (o : Option Stage) → option_map_or may_share o false ≡ true
-        → option_map_or (work_at g w.batch bytes) o Nothing ≡ Sync
-    by None e = false_true e
-    by (Some (Recording i)) e = false_true e
-    by (Some (Describing i)) e = false_true e
-    by (Some SyncingRecords) e = refl
-    by (Some Opening) e = false_true e
-    by (Some Committing) e = false_true e
-    by (Some (Applying i)) e = false_true e
-    by (Some SyncingHomes) e = refl
-    by (Some Closing) e = false_true e
-    by (Some Finishing) e = refl
+joint_work g bytes w =
+    shared_next (λ o. option_map_or (work_at g w.batch bytes) o Nothing ≡ Sync) refl refl refl w
 
 pub joint_record : (w : WriteOut) → is_at may_share w ≡ true → next_record w ≡ None
-joint_record w joins = by (next_stage w) joins
-  where
-    by : (o : Option Stage) → option_map_or may_share o false ≡ true → option_and_then record_at o ≡ None
-    by None e = refl
-    by (Some (Recording i)) e = false_true e
-    by (Some (Describing i)) e = refl
-    by (Some SyncingRecords) e = refl
-    by (Some Opening) e = refl
-    by (Some Committing) e = refl
-    by (Some (Applying i)) e = refl
-    by (Some SyncingHomes) e = refl
-    by (Some Closing) e = refl
-    by (Some Finishing) e = refl
+joint_record = shared_next (λ o. option_and_then record_at o ≡ None) refl refl refl
 
 pub joint_home : (w : WriteOut) → is_at may_share w ≡ true → next_home w ≡ None
 joint_home w joins = ap (option_map (λ k. get_or w.batch.homes k 0)) (joint_record w joins)

@@ -17,7 +17,7 @@ use Rattle.journal.specs.Work.{Work, Sync, work_at, worked, TornFromWork}
 use Rattle.journal.specs.WriteOut.{WriteOut, next_stage, has_committed, advanced_of}
 use Rattle.journal.specs.WriteOuts.{has_uncommitted, shares_syncs, is_at, moving, moved}
 use Rattle.journal.specs.Crash.{LeftBefore, LeftWithin}
-use Rattle.journal.specs.inside.Sound.{IsWriteOut, IsOlder, AreInOrder}
+use Rattle.journal.specs.inside.Sound.{AreSound, IsWriteOut, IsOlder, AreInOrder}
 use Rattle.journal.specs.inside.Tied.{Progress, progress_in, is_applied, is_under_way, IsTied}
 use Rattle.journal.proofs.Alls.{all_map, all-append, all_front, all_back}
 use Rattle.journal.proofs.Stages.{next_in, recording_within, describing_within, applying_within}
@@ -32,7 +32,7 @@ use Rattle.journal.proofs.Sounding.{next_from, early_next, late_next, newest_ord
 use Rattle.journal.proofs.Sounding.{IsOneOf, none_older, older_of, one_order, one_each}
 use Rattle.journal.proofs.Moving.{AreSyncing, None_syncs, Homes_syncs, Records_syncs, Both_sync, AllMove}
 use Rattle.journal.proofs.Moving.{Moves, By_newest, By_one, By_all, moves_of}
-use Rattle.journal.proofs.Answering.{AreSound, stage_committed, work_in, answer_in, after_in}
+use Rattle.journal.proofs.Answering.{stage_committed, work_in, answer_in, after_in}
 use Rattle.journal.proofs.Answering.{stage_in, IsNewRecord, work_is, answer_is, stage_in-is, home_is}
 use Rattle.journal.proofs.Answering.{early_answer, late_answer, older_committed, homes_one, homes_sound}
 use Rattle.journal.proofs.Answering.{oldest_ends, ends_oldest, shared_after}

@@ -31,18 +31,18 @@ use Rattle.journal.specs.WriteOut.{IsBatch}
 use Rattle.journal.specs.Crash.{LeftBefore, LeftWithin}
 use Rattle.journal.specs.LedTo.{IsStep, HasLedTo, AtFirst, Begun, AnyOld, Stepped}
 use Rattle.journal.specs.inside.Consistent.{IsConsistent}
-use Rattle.journal.specs.inside.Sound.{IsWriteOut, IsSound}
+use Rattle.journal.specs.inside.Sound.{AreSound, IsWriteOut, IsSound}
 use Rattle.journal.specs.inside.Tied.{Progress, progress_in, IsFirmFor, IsLeft, is_durable, durable_in, recorded}
 use Rattle.journal.specs.inside.Tied.{IsWritten, AreWritten, is_under_way, kept_in, IsSeen, IsTied}
 use Rattle.journal.proofs.Alls.{IsIn, all_map, all_in, all-append, all_front, in_right}
 use Rattle.journal.proofs.RecoveredBlocks.{record_or-cases}
-use Rattle.journal.proofs.Tying.{false_true, progress-newest, progress_all, under_way-is}
+use Rattle.journal.proofs.Tying.{false_true, late_stage, progress-newest, progress_all, under_way-is}
 use Rattle.journal.proofs.Firm.{durable_all}
 use Rattle.journal.proofs.Leaving.{under_way}
 use Rattle.journal.proofs.Stepping.{durable_push, left_same, all_committed, before_within}
 use Rattle.journal.proofs.Sounding.{turn_free, first_stage, not_busy, next_is_batch, begun_sound, sound_without}
-use Rattle.journal.proofs.Answering.{AreSound, stage_committed, work_in, answer_in, after_in, sound_of}
-use Rattle.journal.proofs.Answering.{outs_after-is, step_sound, failed_sound, sound_after, answer_same}
+use Rattle.journal.proofs.Answering.{stage_committed, work_in, answer_in, after_in}
+use Rattle.journal.proofs.Answering.{outs_after-is, step_sound, sound_after, answer_same}
 use Rattle.journal.proofs.Keeping.{sharing, IsWithin, GoesOn, steps_of, tied_of, left_before}
 
 module _ (v : SuperValue) (old new : ℕ → List ℕ) where
@@ -121,7 +121,7 @@ module _ (v : SuperValue) (old new : ℕ → List ℕ) where
   are_sound : (outs : WriteOutsValue) → outs.geometry ≡ geometry_of v → IsSound outs
       → AreSound (geometry_of v) outs.next outs.batches
   are_sound outs geometry sound =
-      subst (λ (g : GeometryValue). AreSound g outs.next outs.batches) geometry (sound_of outs sound)
+      subst (λ (g : GeometryValue). AreSound g outs.next outs.batches) geometry sound
 
   pub consistent_going : (outs : WriteOutsValue) (seen : List ℕ) (may : List ℕ → Type 0)
       → outs.geometry ≡ geometry_of v → IsSound outs → outs.broken ≡ false → IsTied v outs.batches old new seen may
@@ -207,7 +207,7 @@ module _ (v : SuperValue) (old new : ℕ → List ℕ) where
         → ((c : List ℕ) → may' c → TornFromWork (next_work outs bytes) may c)
         → IsConsistent v (outs_after outs Device) old new seen' may'
     consistent_failed seen' may' left = consistent_broken (outs_after outs Device) seen' may' s.geometry
-        (failed_sound outs s.sound) refl (λ c may_c. consistent_within c (left c may_c))
+        s.sound refl (λ c may_c. consistent_within c (left c may_c))
 
     -- after a step whose device calls succeed
     pub consistent_after : (may' : List ℕ → Type 0)
@@ -267,15 +267,7 @@ module _ (v : SuperValue) (old new next : ℕ → List ℕ) (batches : List Writ
 
   -- what a read finds of a committed batch doesn't depend on New
   none_recorded : (k : ℕ) (s : Stage) → is_committed s ≡ true → recorded k s ≡ 0
-  none_recorded k (Recording i) late = false_true late
-  none_recorded k (Describing i) late = false_true late
-  none_recorded k SyncingRecords late = false_true late
-  none_recorded k Opening late = false_true late
-  none_recorded k Committing late = false_true late
-  none_recorded k (Applying i) late = refl
-  none_recorded k SyncingHomes late = refl
-  none_recorded k Closing late = refl
-  none_recorded k Finishing late = refl
+  none_recorded k = late_stage _ (λ i. refl) refl refl refl
 
   abbrev at_first : Progress
   at_first = record { batch = batch; stage = Recording 0 }
@@ -445,7 +437,7 @@ consistent_stepped disk v outs old new bytes answer before after step is_new now
     step.answered
   where
     fine : answer ≡ next_answer outs → answer ≡ Device → ⊥
-    fine is e = (sound_after outs.geometry outs.next outs.batches step.some (sound_of outs now.sound)).no_device
+    fine is e = (sound_after outs.geometry outs.next outs.batches step.some now.sound).no_device
         (sym (answer_same outs now.sound step.whole step.some) ∙ sym is ∙ e)
 
     done : answer ≡ next_answer outs → has_done answer ≡ true

@@ -23,7 +23,7 @@ use Rattle.journal.proofs.Written.{home_at}
 use Rattle.journal.proofs.Tying.{false_true, IsBefore, AreGoing, last_of, not_finishing}
 use Rattle.journal.proofs.Firm.{durable_facts, applying_durable, durable_all, durable_there, has_in}
 use Rattle.journal.proofs.Firm.{written_at, gate_firm, record_firm, home_firm}
-use Rattle.journal.proofs.Firm.{not_recording, not_switching, gate_left, descriptor_left, holds_left}
+use Rattle.journal.proofs.Firm.{not_at, gate_left, descriptor_left, holds_left}
 
 pub recovers_of : (v : SuperValue) (opened : List Batch) (contents : ℕ → List ℕ) (c : List ℕ)
     → RecoversBy v opened contents c
@@ -195,7 +195,7 @@ module _ (v : SuperValue) (progress : List Progress) (going : AreGoing (geometry
             absurd (subst (λ b.
             MatchBool b (IsOpen seen v.slots q.batch.journal) (IsOpen seen v.slots q.batch.journal → ⊥)) is.1 w.gate
             (gate_left v progress going old new seen c s l q.batch.journal (gate_firm v progress going q.batch.journal
-            (batch_of q there).there (not_switching v progress going q there is.0)) opens)))
+            (batch_of q there).there (not_at v progress going is_switching q there is.0)) opens)))
         | inr (inr (inl is)) ↦ absurd (other is)
         | inr (inr (inr is)) ↦ last q there is opens
       ])
@@ -235,7 +235,7 @@ module _ (v : SuperValue) (progress : List Progress) (going : AreGoing (geometry
               ∙ same
               ∙ sym (l.firm (record_block v.slots p.batch.journal i) (record_firm v progress going p.batch.journal i
               is_batch.there (omega (arith, lt, is_batch.described.homes.few))
-              (not_recording v progress going p there (ap is_recording is)))))
+              (not_at v progress going is_recording p there (ap is_recording is)))))
         ]
       ]
 
@@ -314,7 +314,7 @@ module _ (v : SuperValue) (progress : List Progress) (going : AreGoing (geometry
   with_newest w there is opened found opens =
       let is_batch = batch_of w there in
       let written = (written_at v new seen progress w s.written there).1 in
-      let firm = not_recording v progress going w there (ap is_recording is) in
+      let firm = not_at v progress going is_recording w there (ap is_recording is) in
       let early : is_committed w.stage ≡ false = ap is_committed is in
       let kept : kept_in progress old new ≡ old = ap (λ b. cond b old new) (under_way progress w there early) in
       holds_newest v opened old new w.batch c

@@ -18,7 +18,7 @@ use Rattle.journal.specs.inside.Tied.{is_applying, is_applied, is_recorded}
 use Rattle.journal.proofs.Alls.{all_map, all-append, all_back}
 use Rattle.journal.proofs.Batches.{HasNewest, newest_of, current-newest, current-oldest, advanced-newest}
 use Rattle.journal.proofs.Batches.{advanced-oldest, committed_parts, committed-at, at-is}
-use Rattle.journal.proofs.Tying.{false_true, late_next, stage_of}
+use Rattle.journal.proofs.Tying.{false_true, late_lacks, stage_of}
 use Rattle.journal.proofs.Sounding.{IsOneOf, each_committed}
 
 -- ---- some of them have this
@@ -138,8 +138,7 @@ all_move w newer joins none_ahead none_writes = steps_first true w newer (map ad
 -- ---- stages
 
 pub not_ahead : (w : WriteOut) → has_committed w ≡ true → is_at is_ahead w ≡ false
-not_ahead w committed =
-    late_next (λ o. option_map_or is_ahead o false ≡ false) refl (λ i. refl) refl refl refl w committed
+not_ahead = late_lacks is_ahead (λ i. refl) refl refl refl
 
 -- one that writes, and isn't ahead
 record IsWriter (s : Stage) : Type 0 where

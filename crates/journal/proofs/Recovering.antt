@@ -44,12 +44,10 @@ falling_front (batch ∷ []) oldest falling = (tt, tt)
 falling_front (batch ∷ next ∷ front) oldest falling = (falling.0, falling_front (next ∷ front) oldest falling.1)
 
 module _ (v : SuperValue) where
-  -- the same for recovery
-  pub record Agrees (opened : List Batch) (c new : List ℕ) : Type 0 where
+  -- what recovery reads stays the same, but for gates
+  pub record StaysBy (opened : List Batch) (c new : List ℕ) : Type 0 where
     pub super_block : block_at new 0 ≡ block_at c 0
     pub same_length : length new ≡ length c
-    pub gates : (j : ℕ) → j < journals_of v.layout
-        → (IsOpen new v.slots j → IsOpen c v.slots j) × (IsOpen c v.slots j → IsOpen new v.slots j)
     pub descriptors : AllByRecursion
         (λ (batch : Batch). blocks_at new (descriptor_block v.slots batch.journal) (descriptor_blocks v.slots)
         ≡ blocks_at c (descriptor_block v.slots batch.journal) (descriptor_blocks v.slots))
@@ -57,30 +55,62 @@ module _ (v : SuperValue) where
     pub recovered : (b : ℕ) → IsHome (geometry_of v) b
         → block_at new (recovered_block v.slots opened b) ≡ block_at c (recovered_block v.slots opened b)
 
-  pub agrees_volume : (opened : List Batch) (c new : List ℕ) → IsVolume v opened c → Agrees opened c new
-      → IsVolume v opened new
-  agrees_volume opened c new volume a = record {
-    super_block = subst (IsSuper v) (sym a.super_block) volume.super_block;
-    long = subst (λ n. 4096 * block_count v ≤ n) (sym a.same_length) volume.long;
-    journals = record {
-      each = all_both (λ (batch : Batch) is same. let r : IsOpenBatch (geometry_of v) new batch = record {
-        there = is.there;
-        gate = (a.gates batch.journal is.there).1 is.gate;
-        descriptor = subst (IsDescriptor (geometry_of v) (record { mark = batch.mark; homes = batch.homes }))
-            (sym same) is.descriptor;
-      } in r) opened volume.journals.each a.descriptors;
-      all = λ j lt is. volume.journals.all j lt ((a.gates j lt).0 is);
-      falling = volume.journals.falling;
-    };
+  pub holds_kept : (opened : List Batch) (contents : ℕ → List ℕ) (c new : List ℕ)
+      → HoldsBy v opened contents c → StaysBy opened c new
+      → AllByRecursion (λ (batch : Batch). IsOpen new v.slots batch.journal) opened
+      → HoldsBy v opened contents new
+  holds_kept opened contents c new h a opens = record {
+    super_block = subst (IsSuper v) (sym a.super_block) h.super_block;
+    long = subst (λ n. 4096 * block_count v ≤ n) (sym a.same_length) h.long;
+    each = all_both (λ (batch : Batch) both same. let r : IsOpenBatch (geometry_of v) new batch = record {
+      there = both.0.there;
+      gate = both.1;
+      descriptor = subst (IsDescriptor (geometry_of v) (record { mark = batch.mark; homes = batch.homes }))
+          (sym same) both.0.descriptor;
+    } in r) opened (all_both (λ (batch : Batch) is opens.
+        let r : IsOpenBatch (geometry_of v) c batch × IsOpen new v.slots batch.journal = (is, opens) in
+        r) opened h.each opens) a.descriptors;
+    falling = h.falling;
+    contents_are = λ b home. h.contents_are b home ∙ sym (a.recovered b home);
   }
+
+  pub holds_of : (opened : List Batch) (contents : ℕ → List ℕ) (c : List ℕ) → RecoversBy v opened contents c
+      → HoldsBy v opened contents c
+  holds_of opened contents c r = record {
+    super_block = r.volume.super_block;
+    long = r.volume.long;
+    each = r.volume.journals.each;
+    falling = r.volume.journals.falling;
+    contents_are = r.contents_are;
+  }
+
+  -- where no other journal is open
+  pub holds_recovers : (opened : List Batch) (contents : ℕ → List ℕ) (c : List ℕ) → HoldsBy v opened contents c
+      → ((j : ℕ) → j < journals_of v.layout → IsOpen c v.slots j → has_journal opened j ≡ true)
+      → RecoversBy v opened contents c
+  holds_recovers opened contents c h all = record {
+    volume = record {
+      super_block = h.super_block;
+      long = h.long;
+      journals = record { each = h.each; all = all; falling = h.falling };
+    };
+    contents_are = h.contents_are;
+  }
+
+  -- and so do the gates
+  pub record Agrees (opened : List Batch) (c new : List ℕ) : Type 0 where
+    pub stays : StaysBy opened c new
+    pub gates : (j : ℕ) → j < journals_of v.layout
+        → (IsOpen new v.slots j → IsOpen c v.slots j) × (IsOpen c v.slots j → IsOpen new v.slots j)
 
   pub agrees_recovers : (opened : List Batch) (contents : ℕ → List ℕ) (c new : List ℕ)
       → RecoversBy v opened contents c → Agrees opened c new
       → RecoversBy v opened contents new
-  agrees_recovers opened contents c new r a = record {
-    volume = agrees_volume opened c new r.volume a;
-    contents_are = λ b home. r.contents_are b home ∙ sym (a.recovered b home);
-  }
+  agrees_recovers opened contents c new r a =
+      holds_recovers opened contents new
+      (holds_kept opened contents c new (holds_of opened contents c r) a.stays
+      (all_map (λ (batch : Batch) is. (a.gates batch.journal is.there).1 is.gate) opened r.volume.journals.each))
+      (λ j lt is. r.volume.journals.all j lt ((a.gates j lt).0 is))
 
   -- ---- what a volume's batches have
 
@@ -122,15 +152,17 @@ module _ (v : SuperValue) where
   pub unread_agrees : (opened : List Batch) (c new : List ℕ) (x : ℕ) → IsUnread v opened x → SameBut x c new
       → Agrees opened c new
   unread_agrees opened c new x unread same = record {
-    super_block = same.blocks 0 (λ e. unread.not_super (sym e));
-    same_length = same.same_length;
+    stays = record {
+      super_block = same.blocks 0 (λ e. unread.not_super (sym e));
+      same_length = same.same_length;
+      descriptors = all_map {P = λ (batch : Batch). (i : ℕ) → i < descriptor_blocks v.slots
+          → x ≢ descriptor_block v.slots batch.journal + i}
+          (λ batch not. descriptor_same batch.journal x c new not same) opened unread.not_descriptor;
+      recovered = λ b home. same.blocks (recovered_block v.slots opened b) (λ e. unread.not_recovered b home (sym e));
+    };
     gates = λ j lt.
         let e = same.firsts (gate_block v.slots j) (λ e. unread.not_gate j lt (sym e)) in
         (λ is. sym e ∙ is, λ is. e ∙ is);
-    descriptors = all_map {P = λ (batch : Batch). (i : ℕ) → i < descriptor_blocks v.slots
-        → x ≢ descriptor_block v.slots batch.journal + i}
-        (λ batch not. descriptor_same batch.journal x c new not same) opened unread.not_descriptor;
-    recovered = λ b home. same.blocks (recovered_block v.slots opened b) (λ e. unread.not_recovered b home (sym e));
   }
 
   -- a block below all homes, which is no record slot of the batches, stands for no home block
@@ -212,83 +244,35 @@ module _ (v : SuperValue) where
 
   -- ---- gates
 
+  -- the block of a gate changes
+  gate_written : (opened : List Batch) (c new : List ℕ) (j : ℕ) → AreFew v.slots opened
+      → j < journals_of v.layout → SameBut (gate_block v.slots j) c new → StaysBy opened c new
+  gate_written opened c new j few lt same = record {
+    super_block = same.blocks 0 (λ e. gate-above v.slots j (sym e));
+    same_length = same.same_length;
+    descriptors = all_of _ opened (λ (batch : Batch). descriptor_same batch.journal (gate_block v.slots j) c new
+        (λ i lt. gate_no_descriptor v.slots j batch.journal i lt) same);
+    recovered = λ b home. same.blocks (recovered_block v.slots opened b)
+        (λ e. not_recovered opened (gate_block v.slots j) few (gate-below v.layout v.slots j lt)
+        (λ k l has fits at. gate_no_record v.slots j k l fits at) b home (sym e));
+  }
+
   -- a gate keeps its state, whatever its block has
   pub gate_agrees : (opened : List Batch) (c new : List ℕ) (j : ℕ) → IsVolume v opened c
       → j < journals_of v.layout → SameBut (gate_block v.slots j) c new
       → (IsOpen new v.slots j → IsOpen c v.slots j) → (IsOpen c v.slots j → IsOpen new v.slots j)
       → Agrees opened c new
   gate_agrees opened c new j volume lt same was stays = record {
-    super_block = same.blocks 0 (λ e. gate-above v.slots j (sym e));
-    same_length = same.same_length;
+    stays = gate_written opened c new j (few_in opened c volume) lt same;
     gates = λ k there. elim (cases_eq k j) [
       | inl is ↦ subst (λ n. (IsOpen new v.slots n → IsOpen c v.slots n) × (IsOpen c v.slots n → IsOpen new v.slots n))
           (sym is) (was, stays)
       | inr other ↦ (let e = same.firsts (gate_block v.slots k) (gates_apart v.slots k j other) in
           (λ is. sym e ∙ is, λ is. e ∙ is))
     ];
-    descriptors = all_of _ opened (λ (batch : Batch). descriptor_same batch.journal (gate_block v.slots j) c new
-        (λ i lt. gate_no_descriptor v.slots j batch.journal i lt) same);
-    recovered = λ b home. same.blocks (recovered_block v.slots opened b) (λ e. gate_not_recovered b home (sym e));
   }
-    where
-      gate_not_recovered : (b : ℕ) → IsHome (geometry_of v) b → gate_block v.slots j ≢ recovered_block v.slots opened b
-      gate_not_recovered = not_recovered opened (gate_block v.slots j) (few_in opened c volume)
-          (gate-below v.layout v.slots j lt) (λ k l has fits e. gate_no_record v.slots j k l fits e)
 
   -- ---- batches that come and go
-
-  -- the same for what these batches give
-  pub record StaysBy (opened : List Batch) (c new : List ℕ) : Type 0 where
-    pub super_block : block_at new 0 ≡ block_at c 0
-    pub same_length : length new ≡ length c
-    pub gates : AllByRecursion (λ (batch : Batch). IsOpen new v.slots batch.journal) opened
-    pub descriptors : AllByRecursion
-        (λ (batch : Batch). blocks_at new (descriptor_block v.slots batch.journal) (descriptor_blocks v.slots)
-        ≡ blocks_at c (descriptor_block v.slots batch.journal) (descriptor_blocks v.slots))
-        opened
-    pub recovered : (b : ℕ) → IsHome (geometry_of v) b
-        → block_at new (recovered_block v.slots opened b) ≡ block_at c (recovered_block v.slots opened b)
-
-  pub holds_kept : (opened : List Batch) (contents : ℕ → List ℕ) (c new : List ℕ)
-      → HoldsBy v opened contents c → StaysBy opened c new
-      → HoldsBy v opened contents new
-  holds_kept opened contents c new h a = record {
-    super_block = subst (IsSuper v) (sym a.super_block) h.super_block;
-    long = subst (λ n. 4096 * block_count v ≤ n) (sym a.same_length) h.long;
-    each = all_both (λ (batch : Batch) both same. let r : IsOpenBatch (geometry_of v) new batch = record {
-      there = both.0.there;
-      gate = both.1;
-      descriptor = subst (IsDescriptor (geometry_of v) (record { mark = batch.mark; homes = batch.homes }))
-          (sym same) both.0.descriptor;
-    } in r) opened (all_both (λ (batch : Batch) is opens.
-        let r : IsOpenBatch (geometry_of v) c batch × IsOpen new v.slots batch.journal = (is, opens) in
-        r) opened h.each a.gates) a.descriptors;
-    falling = h.falling;
-    contents_are = λ b home. h.contents_are b home ∙ sym (a.recovered b home);
-  }
-
-  pub holds_of : (opened : List Batch) (contents : ℕ → List ℕ) (c : List ℕ) → RecoversBy v opened contents c
-      → HoldsBy v opened contents c
-  holds_of opened contents c r = record {
-    super_block = r.volume.super_block;
-    long = r.volume.long;
-    each = r.volume.journals.each;
-    falling = r.volume.journals.falling;
-    contents_are = r.contents_are;
-  }
-
-  -- where no other journal is open
-  pub holds_recovers : (opened : List Batch) (contents : ℕ → List ℕ) (c : List ℕ) → HoldsBy v opened contents c
-      → ((j : ℕ) → j < journals_of v.layout → IsOpen c v.slots j → has_journal opened j ≡ true)
-      → RecoversBy v opened contents c
-  holds_recovers opened contents c h all = record {
-    volume = record {
-      super_block = h.super_block;
-      long = h.long;
-      journals = record { each = h.each; all = all; falling = h.falling };
-    };
-    contents_are = h.contents_are;
-  }
 
   -- a newer batch, whose records and descriptor are there
   pub holds_newest : (opened : List Batch) (old new : ℕ → List ℕ) (batch : Batch) (c : List ℕ)
@@ -350,19 +334,12 @@ module _ (v : SuperValue) where
   gate_stays : (opened : List Batch) (contents : ℕ → List ℕ) (j : ℕ) (c new : List ℕ) → HoldsBy v opened contents c
       → j < journals_of v.layout → has_journal opened j ≡ false → SameBut (gate_block v.slots j) c new
       → HoldsBy v opened contents new
-  gate_stays opened contents j c new h lt none same = holds_kept opened contents c new h (record {
-    super_block = same.blocks 0 (λ e. gate-above v.slots j (sym e));
-    same_length = same.same_length;
-    gates = all_both {P = IsOpenBatch (geometry_of v) c} {Q = λ (other : Batch). other.journal ≢ j}
-        {R = λ (other : Batch). IsOpen new v.slots other.journal} (λ other is apart.
-        same.firsts (gate_block v.slots other.journal) (gates_apart v.slots other.journal j apart) ∙ is.gate)
-        opened h.each (lacks opened j none);
-    descriptors = all_of _ opened (λ (batch : Batch). descriptor_same batch.journal (gate_block v.slots j) c new
-        (λ i lt. gate_no_descriptor v.slots j batch.journal i lt) same);
-    recovered = λ b home. same.blocks (recovered_block v.slots opened b)
-        (λ e. not_recovered opened (gate_block v.slots j) (few_each opened c h.each) (gate-below v.layout v.slots j lt)
-        (λ k l has fits at. gate_no_record v.slots j k l fits at) b home (sym e));
-  })
+  gate_stays opened contents j c new h lt none same =
+      holds_kept opened contents c new h (gate_written opened c new j (few_each opened c h.each) lt same)
+      (all_both {P = IsOpenBatch (geometry_of v) c} {Q = λ (other : Batch). other.journal ≢ j}
+      {R = λ (other : Batch). IsOpen new v.slots other.journal} (λ other is apart.
+      same.firsts (gate_block v.slots other.journal) (gates_apart v.slots other.journal j apart) ∙ is.gate)
+      opened h.each (lacks opened j none))
 
   other_gate : (j k : ℕ) (c new : List ℕ) → k ≢ j → SameBut (gate_block v.slots j) c new → IsOpen new v.slots k
       → IsOpen c v.slots k

@@ -23,7 +23,7 @@ use Rattle.journal.proofs.Alls.{all_map, all_both, all-append, all_front, all_ba
 use Rattle.journal.proofs.Places.{descriptor_some}
 use Rattle.journal.proofs.Stages.{stage_from, next_of, next_in, next_is}
 use Rattle.journal.proofs.Batches.{committed-at, at-is, committed_parts}
-use Rattle.journal.proofs.Tying.{false_true, late_stage}
+use Rattle.journal.proofs.Tying.{false_true, late_stage, late_writer}
 
 pub some_stage : {o : Option Stage} {stage : Stage} → o ≡ Some stage → IsSome o
 some_stage e = subst IsSome (sym e) refl
@@ -79,33 +79,14 @@ pub late_next : (g : GeometryValue) (w : WriteOut) (stage : Stage) → IsWriteOu
 late_next g w stage is at late not_last = record {
   stage = next_in g.slots w.batch stage;
   at = next_from g w stage is at not_last;
-  late = by stage late;
+  late = late_stage (λ s. is_committed (next_in g.slots w.batch s) ≡ true)
+      (λ i. cond_both (i + 1 == length w.batch.homes) SyncingHomes (Applying (i + 1))
+      (λ t. is_committed t ≡ true) (λ e. refl) (λ e. refl)) refl refl refl stage late;
   keeps = λ e. at-is is_applied (advanced_of w) (next_in g.slots w.batch stage) (next_from g w stage is at not_last)
-      ∙ sure stage (sym (at-is is_applied w stage at) ∙ e);
+      ∙ late_stage (λ s. is_applied s ≡ true → is_applied (next_in g.slots w.batch s) ≡ true)
+      (λ i sure. false_true sure) (λ sure. false_true sure) (λ sure. refl) (λ sure. refl) stage late
+      (sym (at-is is_applied w stage at) ∙ e);
 }
-  where
-    sure : (s : Stage) → is_applied s ≡ true → is_applied (next_in g.slots w.batch s) ≡ true
-    sure (Recording i) e = false_true e
-    sure (Describing i) e = false_true e
-    sure SyncingRecords e = false_true e
-    sure Opening e = false_true e
-    sure Committing e = false_true e
-    sure (Applying i) e = false_true e
-    sure SyncingHomes e = false_true e
-    sure Closing e = refl
-    sure Finishing e = refl
-
-    by : (s : Stage) → is_committed s ≡ true → is_committed (next_in g.slots w.batch s) ≡ true
-    by (Recording i) late = false_true late
-    by (Describing i) late = false_true late
-    by SyncingRecords late = false_true late
-    by Opening late = false_true late
-    by Committing late = false_true late
-    by (Applying i) late = cond_both (i + 1 == length w.batch.homes) SyncingHomes (Applying (i + 1))
-        (λ t. is_committed t ≡ true) (λ e. refl) (λ e. refl)
-    by SyncingHomes late = refl
-    by Closing late = refl
-    by Finishing late = refl
 
 -- ---- their order
 
@@ -217,27 +198,21 @@ module _ (g : GeometryValue) (older : List WriteOut) (w : WriteOut) (newer : Lis
       committed = old.committed;
       waits = λ e. inr (
         at-is is_applying (advanced_of w) (next_in g.slots w.batch stage) (next_from g w stage own is.at not_last)
-            ∙ by stage is.at is.late writes x old,
+            ∙ by stage is.late writes is.at x old,
         sure,
       );
     }) older olds is.sure
   ]
     where
-      by : (s : Stage) → next_stage w ≡ Some s → is_committed s ≡ true → has_writes s ≡ true → (x : WriteOut)
+      some_list : (x : WriteOut) → (x ∷ []) ≡ [] → ⊥
+      some_list x e = cc
+
+      by : (s : Stage) → is_committed s ≡ true → has_writes s ≡ true → next_stage w ≡ Some s → (x : WriteOut)
           → IsOlder x w → is_applying (next_in g.slots w.batch s) ≡ true
-      by (Recording i) at late writes x old = false_true late
-      by (Describing i) at late writes x old = false_true late
-      by SyncingRecords at late writes x old = false_true late
-      by Opening at late writes x old = false_true late
-      by Committing at late writes x old = false_true late
-      by (Applying i) at late writes x old = cond_both (i + 1 == length w.batch.homes) SyncingHomes (Applying (i + 1))
-          (λ t. is_applying t ≡ true) (λ e. refl) (λ e. refl)
-      by SyncingHomes at late writes x old = false_true writes
-      by Closing at late writes x old = absurd (some_list (none_older (x ∷ []) w at (old, tt)))
-        where
-          some_list : (x ∷ []) ≡ [] → ⊥
-          some_list e = cc
-      by Finishing at late writes x old = false_true writes
+      by = late_writer _
+          (λ i at x old. cond_both (i + 1 == length w.batch.homes) SyncingHomes (Applying (i + 1))
+          (λ t. is_applying t ≡ true) (λ e. refl) (λ e. refl))
+          (λ at x old. absurd (some_list x (none_older (x ∷ []) w at (old, tt))))
 
   pub one_order : IsWriteOut g w → stage ≢ Finishing → AreInOrder (older ++ w ∷ newer)
       → AreInOrder (older ++ advanced_of w ∷ newer)

@@ -2,7 +2,9 @@
 use Rattle.std.proofs.Common.{◌≡◌, ◌≢◌, ℕ, zero, suc, ◌+◌, ◌-◌, ◌*◌, ◌<◌, ◌≤◌, inl, inr}
 use Rattle.std.proofs.Common.{cond, ◌==◌, List, [], ◌∷◌, ◌++◌, length, map, get_or, Option}
 use Rattle.std.proofs.Common.{Some, None, refl, sym, ap, ◌∙◌, subst, arith, length-append}
+use Rattle.std.specs.Prelude.{if◌then◌else◌, nat_lt, nat_eq}
 use Rattle.std.specs.List.{range_with_len}
+use Rattle.std.proofs.lemmas.Bool.Decides.{nat_tests}
 use Rattle.std.proofs.lemmas.Bool.{cases_order, cond_both, eqb-true, eqb-false}
 use Rattle.std.proofs.lemmas.List.{get_or_append_left, get_or-append-add}
 use Rattle.std.proofs.lemmas.List.FromFn.{length-map-range_with_len, get_or-map-range_with_len}
@@ -164,6 +166,35 @@ stage_is k d n = let is = found k d n in subst (IsAt k d n) (sym (stage_from k d
 pub stage_at-is : (k d n : ℕ) {o : Option Stage} → stage_at k d n ≡ o → IsAt k d n o
 stage_at-is k d n e = subst (IsAt k d n) e (stage_is k d n)
 
+-- by the number of steps
+abbrev pub stage_by : ℕ → ℕ → ℕ → Option Stage
+stage_by k d n =
+    if nat_lt n k then Some (Recording n)
+    else if nat_lt n (k + d) then Some (Describing (n - k))
+    else if nat_eq n (k + d) then Some SyncingRecords
+    else if nat_eq n (k + d + 1) then Some Opening
+    else if nat_eq n (k + d + 2) then Some Committing
+    else if nat_lt n (2 * k + d + 3) then Some (Applying (n - (k + d + 3)))
+    else if nat_eq n (2 * k + d + 3) then Some SyncingHomes
+    else if nat_eq n (2 * k + d + 4) then Some Closing
+    else if nat_eq n (2 * k + d + 5) then Some Finishing
+    else None
+
+pub stage_at_is_by : (k d n : ℕ) → stage_at k d n ≡ stage_by k d n
+stage_at_is_by k d n = by (stage_at k d n) (stage_is k d n)
+  where
+    by : (o : Option Stage) → IsAt k d n o → o ≡ stage_by k d n
+    by (Some (Recording i)) at = grind (arith, nat_tests, at.0, at.1)
+    by (Some (Describing i)) at = grind (arith, nat_tests, at.0, at.1)
+    by (Some SyncingRecords) at = grind (arith, nat_tests, at)
+    by (Some Opening) at = grind (arith, nat_tests, at)
+    by (Some Committing) at = grind (arith, nat_tests, at)
+    by (Some (Applying i)) at = grind (arith, nat_tests, at.0, at.1)
+    by (Some SyncingHomes) at = grind (arith, nat_tests, at)
+    by (Some Closing) at = grind (arith, nat_tests, at)
+    by (Some Finishing) at = grind (arith, nat_tests, at)
+    by None at = grind (arith, nat_tests, at)
+
 -- ---- calls
 
 module _ (g : GeometryValue) (batch : Batch) where
@@ -245,23 +276,26 @@ next_of k d Finishing = Finishing
 abbrev pub next_in : ℕ → Batch → Stage → Stage
 next_in slots batch stage = next_of (length batch.homes) (descriptor_blocks slots) stage
 
+-- after one block of k, which is the last one or isn't
+among : (i k : ℕ) (last other : Stage) (P : Stage → Type 0) → i < k → (i + 1 ≡ k → P last) → (i + 1 < k → P other)
+    → P (cond (i + 1 == k) last other)
+among i k last other P lt at_end before = cond_both (i + 1 == k) last other P
+    (λ e. at_end (eqb-true (i + 1) k e)) (λ e. before (omega (arith, lt, eqb-false (i + 1) k e)))
+
 next_at : (k d n : ℕ) (stage : Stage) → 0 < k → 0 < d → stage ≢ Finishing → IsAt k d n (Some stage)
     → IsAt k d (n + 1) (Some (next_of k d stage))
 next_at k d n (Recording i) some more not_last at =
-    cond_both (i + 1 == k) (Describing 0) (Recording (i + 1)) (λ s. IsAt k d (n + 1) (Some s))
-    (λ e. (omega (arith, at.0, eqb-true (i + 1) k e), more))
-    (λ e. (omega (arith, at.0), omega (arith, at.1, eqb-false (i + 1) k e)))
+    among i k (Describing 0) (Recording (i + 1)) (λ s. IsAt k d (n + 1) (Some s)) at.1
+    (λ e. (omega (arith, at.0, e), more)) (λ lt. (omega (arith, at.0), lt))
 next_at k d n (Describing i) some more not_last at =
-    cond_both (i + 1 == d) SyncingRecords (Describing (i + 1)) (λ s. IsAt k d (n + 1) (Some s))
-    (λ e. omega (arith, at.0, eqb-true (i + 1) d e))
-    (λ e. (omega (arith, at.0), omega (arith, at.1, eqb-false (i + 1) d e)))
+    among i d SyncingRecords (Describing (i + 1)) (λ s. IsAt k d (n + 1) (Some s)) at.1
+    (λ e. omega (arith, at.0, e)) (λ lt. (omega (arith, at.0), lt))
 next_at k d n SyncingRecords some more not_last at = omega (arith, at)
 next_at k d n Opening some more not_last at = omega (arith, at)
 next_at k d n Committing some more not_last at = (omega (arith, at), some)
 next_at k d n (Applying i) some more not_last at =
-    cond_both (i + 1 == k) SyncingHomes (Applying (i + 1)) (λ s. IsAt k d (n + 1) (Some s))
-    (λ e. omega (arith, at.0, eqb-true (i + 1) k e))
-    (λ e. (omega (arith, at.0), omega (arith, at.1, eqb-false (i + 1) k e)))
+    among i k SyncingHomes (Applying (i + 1)) (λ s. IsAt k d (n + 1) (Some s)) at.1
+    (λ e. omega (arith, at.0, e)) (λ lt. (omega (arith, at.0), lt))
 next_at k d n SyncingHomes some more not_last at = omega (arith, at)
 next_at k d n Closing some more not_last at = omega (arith, at)
 next_at k d n Finishing some more not_last at = absurd (not_last refl)

@@ -14,6 +14,7 @@ use Rattle.volume_codec.specs.Layout.{descriptor_block, descriptor_blocks, recor
 use Rattle.volume_codec.specs.Super.{SuperValue, IsSuper, geometry_of, block_count}
 use Rattle.volume_codec.specs.Descriptor.{descriptor_text}
 use Rattle.volume_codec.specs.Recovery.{Batch, IsOpen, Recovers, contents_in}
+use Rattle.volume_codec.proofs.Public.{rising_apart, length-descriptor_text}
 use Rattle.journal.specs.declared.stage.Stage.{Stage}
 use Rattle.journal.specs.declared.stage.Stage.TheVariants.{Recording, Describing, SyncingRecords, Opening}
 use Rattle.journal.specs.declared.stage.Stage.TheVariants.{Committing, Applying, SyncingHomes, Closing, Finishing}
@@ -21,9 +22,9 @@ use Rattle.journal.specs.Stage.{is_committed}
 use Rattle.journal.specs.Work.{Work, Sync, work_at, worked, TornFromWork}
 use Rattle.journal.specs.WriteOut.{IsBatch}
 use Rattle.journal.specs.Crash.{LeftBefore, LeftWithin}
-use Rattle.journal.specs.inside.Tied.{Progress, IsFirmFor, IsLeft, is_recording, is_applying, is_applied, is_durable}
-use Rattle.journal.specs.inside.Tied.{is_open, durable_in, recorded, described, applied, IsCovered}
-use Rattle.journal.specs.inside.Tied.{IsWritten, AreWritten, is_under_way, kept_in, IsSeen}
+use Rattle.journal.specs.inside.Tied.{Progress, IsInJournal, IsFirmFor, IsLeft, is_recording, is_switching}
+use Rattle.journal.specs.inside.Tied.{is_applying, is_applied, is_durable, is_open, durable_in, recorded, described}
+use Rattle.journal.specs.inside.Tied.{applied, IsCovered, IsWritten, AreWritten, is_under_way, kept_in, IsSeen}
 use Rattle.journal.proofs.Alls.{all_map, all_both, all_in, all-append, all_front, all_back, all_replaced, in_right}
 use Rattle.journal.proofs.Changes.{SameBut, same_but_torn, torn-written, block-written, first-written, length-block_at}
 use Rattle.journal.proofs.Places.{gate-below, descriptor-below, record-below}
@@ -32,8 +33,8 @@ use Rattle.journal.proofs.Stages.{next_of, next_in}
 use Rattle.journal.proofs.RecoveredBlocks.{covered_of, recovered-without_oldest}
 use Rattle.journal.proofs.Recovering.{HoldsBy, holds_newest}
 use Rattle.journal.proofs.Written.{IsBeside, written_more, written_kept, written_over, all_kept, beside_gate}
-use Rattle.journal.proofs.Written.{beside_record, beside_descriptor, past_home, beside_home, home_at, rising_apart}
-use Rattle.journal.proofs.Written.{length-descriptor_text, descriptor_there}
+use Rattle.journal.proofs.Written.{beside_record, beside_descriptor, past_home, beside_home, home_at}
+use Rattle.journal.proofs.Written.{descriptor_there}
 use Rattle.journal.proofs.Tying.{false_true, IsBefore, AreOrdered, AreGoing, last_of}
 use Rattle.journal.proofs.Firm.{durable_all, durable_there, first_same, super_firm, gate_firm, recovered_firm}
 use Rattle.journal.proofs.Firm.{holds_left}
@@ -41,95 +42,60 @@ use Rattle.journal.proofs.Leaving.{IsGateOpening, covered_front, newer_than, und
 
 -- ---- the next stage
 
--- after a record
-record IsRecordedTo (k n : ℕ) (s : Stage) : Type 0 where
-  pub recorded_is : recorded k s ≡ n
-  pub applied_is : applied k s ≡ 0
-  pub described_is : (d : ℕ) → described d s ≡ 0
-  pub open_is : is_open s ≡ false
-  pub durable_is : is_durable s ≡ false
-  pub committed_is : is_committed s ≡ false
-  pub recording_is : is_recording s ≡ true
+-- what is written before a stage of a write-out of k blocks, whose descriptor has d, and what is sure and loose then
+record Extent : Type 0 where
+  pub recorded : ℕ
+  pub described : ℕ
+  pub applied : ℕ
+  pub gate_open : Bool
+  pub durable : Bool
+  pub committed : Bool
+  pub recording : Bool
+  pub applying : Bool
 
-recorded_to : (k d i : ℕ) → IsRecordedTo k (i + 1) (next_of k d (Recording i))
-recorded_to k d i = cond_both (i + 1 == k) (Describing 0) (Recording (i + 1)) (IsRecordedTo k (i + 1))
-    (λ e. record {
-      recorded_is = sym (eqb-true (i + 1) k e);
-      applied_is = refl;
-      described_is = λ n. refl;
-      open_is = refl;
-      durable_is = refl;
-      committed_is = refl;
-      recording_is = refl;
-    })
-    (λ e. record {
-      recorded_is = refl;
-      applied_is = refl;
-      described_is = λ n. refl;
-      open_is = refl;
-      durable_is = refl;
-      committed_is = refl;
-      recording_is = refl;
-    })
+abbrev extent : ℕ → ℕ → Stage → Extent
+extent k d s = record {
+  recorded = recorded k s;
+  described = described d s;
+  applied = applied k s;
+  gate_open = is_open s;
+  durable = is_durable s;
+  committed = is_committed s;
+  recording = is_recording s;
+  applying = is_applying s;
+}
 
--- after a block of the descriptor
-record IsDescribedTo (k d n : ℕ) (s : Stage) : Type 0 where
-  pub recorded_is : recorded k s ≡ k
-  pub applied_is : applied k s ≡ 0
-  pub described_is : described d s ≡ n
-  pub open_is : is_open s ≡ false
-  pub durable_is : is_durable s ≡ false
-  pub committed_is : is_committed s ≡ false
-  pub recording_is : is_recording s ≡ true
+-- where so many records, blocks of the descriptor and home blocks are written: before its gate is open, or after that
+abbrev written_to : ℕ → ℕ → ℕ → Bool → Extent
+written_to records texts homes late = record {
+  recorded = records;
+  described = texts;
+  applied = homes;
+  gate_open = late;
+  durable = late;
+  committed = late;
+  recording = not late;
+  applying = late;
+}
 
-described_to : (k d i : ℕ) → IsDescribedTo k d (i + 1) (next_of k d (Describing i))
-described_to k d i = cond_both (i + 1 == d) SyncingRecords (Describing (i + 1)) (IsDescribedTo k d (i + 1))
-    (λ e. record {
-      recorded_is = refl;
-      applied_is = refl;
-      described_is = sym (eqb-true (i + 1) d e);
-      open_is = refl;
-      durable_is = refl;
-      committed_is = refl;
-      recording_is = refl;
-    })
-    (λ e. record {
-      recorded_is = refl;
-      applied_is = refl;
-      described_is = refl;
-      open_is = refl;
-      durable_is = refl;
-      committed_is = refl;
-      recording_is = refl;
-    })
+-- after one block more of n, whether it is the last one or another follows
+one_more : (k d i n : ℕ) (last other : Stage) (to : ℕ → Extent) → extent k d last ≡ to n
+    → extent k d other ≡ to (i + 1) → extent k d (cond (i + 1 == n) last other) ≡ to (i + 1)
+one_more k d i n last other to at_end before = cond_both (i + 1 == n) last other (λ s. extent k d s ≡ to (i + 1))
+    (λ e. at_end ∙ ap to (sym (eqb-true (i + 1) n e))) (λ e. before)
 
--- after a home block
-record IsAppliedTo (k n : ℕ) (s : Stage) : Type 0 where
-  pub recorded_is : recorded k s ≡ 0
-  pub applied_is : applied k s ≡ n
-  pub open_is : is_open s ≡ true
-  pub durable_is : is_durable s ≡ true
-  pub committed_is : is_committed s ≡ true
-  pub applying_is : is_applying s ≡ true
+-- what is sure stays so
+record StaysSure (s s' : Stage) : Type 0 where
+  committed : is_committed s ≡ is_committed s'
+  durable : is_durable s ≡ is_durable s'
 
-applied_to : (k d i : ℕ) → IsAppliedTo k (i + 1) (next_of k d (Applying i))
-applied_to k d i = cond_both (i + 1 == k) SyncingHomes (Applying (i + 1)) (IsAppliedTo k (i + 1))
-    (λ e. record {
-      recorded_is = refl;
-      applied_is = sym (eqb-true (i + 1) k e);
-      open_is = refl;
-      durable_is = refl;
-      committed_is = refl;
-      applying_is = refl;
-    })
-    (λ e. record {
-      recorded_is = refl;
-      applied_is = refl;
-      open_is = refl;
-      durable_is = refl;
-      committed_is = refl;
-      applying_is = refl;
-    })
+stays_sure : (k d records texts homes : ℕ) (late : Bool) (s s' : Stage)
+    → extent k d s' ≡ written_to records texts homes late → is_committed s ≡ late → is_durable s ≡ late
+    → StaysSure s s'
+stays_sure k d records texts homes late s s' to committed durable = record {
+  committed = committed ∙ sym (ap (λ (x : Extent). x.committed) to);
+  durable = durable ∙ sym (ap (λ (x : Extent). x.durable) to);
+}
 
 -- two home blocks of a batch are apart
 homes_apart : (v : SuperValue) (batch : Batch) → IsBatch (geometry_of v) batch
@@ -483,6 +449,19 @@ module _ (v : SuperValue) (old new : ℕ → List ℕ) where
         (subst (λ b. MatchBool b (IsOpen seen v.slots batch.journal) (IsOpen seen v.slots batch.journal → ⊥)) opens
         (own s s' step).gate)
 
+    -- while it is recorded, each block of its journal is loose
+    loose_in : (s s' : Stage) → is_switching s ≡ false → is_applying s ≡ false → is_recording s' ≡ true
+        → (x : ℕ) → IsInJournal v.slots batch.journal x → (b : ℕ) → IsFirmFor v.slots (at batch s') b
+        → IsFirmFor v.slots (at batch s) b × (b ≢ x)
+    loose_in s s' no_gate no_home loose x there b firm = (
+      record {
+        journal = λ e. firm.journal loose;
+        gate = λ e. false_true (sym no_gate ∙ e);
+        home = λ e. false_true (sym no_home ∙ e);
+      },
+      λ e. firm.journal loose (subst (IsInJournal v.slots batch.journal) (sym e) there),
+    )
+
     record_step : (i : ℕ) (bytes : List ℕ) → (step : IsStep (Recording i) (next_in v.slots batch (Recording i)))
         → i < length batch.homes → length bytes ≡ 4096 → bytes ≡ new (get_or batch.homes i 0)
         → ((c : List ℕ) → may' c → TornFromWork (work_at (geometry_of v) batch bytes (Recording i)) may c)
@@ -491,18 +470,17 @@ module _ (v : SuperValue) (old new : ℕ → List ℕ) where
     record_step i bytes step lt size is_new left =
         let s = Recording i in
         let s' = next_in v.slots batch s in
-        let to = recorded_to (length batch.homes) (descriptor_blocks v.slots) i in
+        let to = one_more (length batch.homes) (descriptor_blocks v.slots) i (length batch.homes) (Describing 0)
+        (Recording (i + 1)) (λ n. written_to n 0 0 false) refl refl in
+        let stays = stays_sure _ _ _ _ _ false s s' to refl refl in
         let there = (is_batch s s' step).there in
         let few : i < v.slots = omega (arith, lt, (is_batch s s' step).described.homes.few) in
         let x = record_block v.slots batch.journal i in
         let fits = room s s' step x (record-below v.layout v.slots batch.journal i there few) in
         let w = own s s' step in
         write s s' step x (length bytes) bytes refl (omega (arith, size)) fits
-        (λ b f. (
-          record { journal = λ e. f.journal to.recording_is; gate = λ e. false_true e; home = λ e. false_true e },
-          λ e. f.journal to.recording_is (inr (i, few, e)),
-        ))
-        (sym to.committed_is) (inl (λ e. false_true e))
+        (loose_in s s' refl refl (ap (λ (y : Extent). y.recording) to) x (inr (i, few, refl))) stays.committed
+        (inl (λ e. false_true e))
         (others s s' step x (λ q is apart. beside_record v new q batch.journal i is apart there few))
         (λ same. record {
           records = λ l within less. elim (cases_eq l i) [
@@ -511,14 +489,14 @@ module _ (v : SuperValue) (old new : ℕ → List ℕ) where
                 ∙ is_new
                 ∙ ap (λ n. new (get_or batch.homes n 0)) (sym here)
             | inr other ↦ same.blocks (record_block v.slots batch.journal l) (λ e. other (omega arith))
-                ∙ w.records l within (omega (arith, less, to.recorded_is))
+                ∙ w.records l within (omega (arith, less, ap (λ (x : Extent). x.recorded) to))
           ];
-          descriptor = λ l within less. absurd (omega (arith, less, to.described_is (descriptor_blocks v.slots)));
-          homes = λ l within less. absurd (omega (arith, less, to.applied_is));
+          descriptor = λ l within less. absurd (omega (arith, less, ap (λ (x : Extent). x.described) to));
+          homes = λ l within less. absurd (omega (arith, less, ap (λ (x : Extent). x.applied) to));
           gate = gate_of s s' step x (λ e. gate_no_record v.slots batch.journal batch.journal i few (sym e)) _ same
-              (sym to.open_is);
+              (sym (ap (λ (x : Extent). x.gate_open) to));
         })
-        (contents_with s s' (sym to.durable_is) (sym to.committed_is)) left
+        (contents_with s s' stays.durable stays.committed) left
 
     describe_step : (i : ℕ) (bytes : List ℕ) → (step : IsStep (Describing i) (next_in v.slots batch (Describing i)))
         → i < descriptor_blocks v.slots
@@ -528,7 +506,9 @@ module _ (v : SuperValue) (old new : ℕ → List ℕ) where
     describe_step i bytes step lt left =
         let s = Describing i in
         let s' = next_in v.slots batch s in
-        let to = described_to (length batch.homes) (descriptor_blocks v.slots) i in
+        let to = one_more (length batch.homes) (descriptor_blocks v.slots) i (descriptor_blocks v.slots) SyncingRecords
+        (Describing (i + 1)) (λ n. written_to (length batch.homes) n 0 false) refl refl in
+        let stays = stays_sure _ _ _ _ _ false s s' to refl refl in
         let is = is_batch s s' step in
         let text = descriptor_text v.slots (record { mark = batch.mark; homes = batch.homes }) in
         let long = length-descriptor_text v.slots batch.mark batch.homes is.described.homes.few in
@@ -539,11 +519,8 @@ module _ (v : SuperValue) (old new : ℕ → List ℕ) where
         let fits = room s s' step x (descriptor-below v.layout v.slots batch.journal i is.there lt) in
         let w = own s s' step in
         write s s' step x (length block) block refl (omega (arith, size)) fits
-        (λ b f. (
-          record { journal = λ e. f.journal to.recording_is; gate = λ e. false_true e; home = λ e. false_true e },
-          λ e. f.journal to.recording_is (inl (i, lt, e)),
-        ))
-        (sym to.committed_is) (inl (λ e. false_true e))
+        (loose_in s s' refl refl (ap (λ (y : Extent). y.recording) to) x (inl (i, lt, refl))) stays.committed
+        (inl (λ e. false_true e))
         (others s s' step x (λ q q_is apart. beside_descriptor v new q batch.journal i q_is apart is.there lt))
         (λ same. record {
           records = λ l within less.
@@ -555,13 +532,13 @@ module _ (v : SuperValue) (old new : ℕ → List ℕ) where
                 ∙ block-written x block seen size fits
                 ∙ ap (block_at text) (sym here)
             | inr other ↦ same.blocks (first + l) (λ e. other (omega arith))
-                ∙ w.descriptor l within (omega (arith, less, to.described_is))
+                ∙ w.descriptor l within (omega (arith, less, ap (λ (x : Extent). x.described) to))
           ];
-          homes = λ l within less. absurd (omega (arith, less, to.applied_is));
+          homes = λ l within less. absurd (omega (arith, less, ap (λ (x : Extent). x.applied) to));
           gate = gate_of s s' step x (λ e. gate_no_descriptor v.slots batch.journal batch.journal i lt (sym e)) _ same
-              (sym to.open_is);
+              (sym (ap (λ (x : Extent). x.gate_open) to));
         })
-        (contents_with s s' (sym to.durable_is) (sym to.committed_is)) left
+        (contents_with s s' stays.durable stays.committed) left
 
     open_step : (bytes : List ℕ) → (step : IsStep Opening Committing)
         → ((c : List ℕ) → may' c → TornFromWork (work_at (geometry_of v) batch bytes Opening) may c)
@@ -599,7 +576,11 @@ module _ (v : SuperValue) (old new : ℕ → List ℕ) where
     apply_step i bytes step lt sure waits left =
         let s = Applying i in
         let s' = next_in v.slots batch s in
-        let to = applied_to (length batch.homes) (descriptor_blocks v.slots) i in
+        let to = one_more (length batch.homes) (descriptor_blocks v.slots) i (length batch.homes) SyncingHomes
+        (Applying (i + 1)) (λ n. written_to 0 (descriptor_blocks v.slots) n true) refl refl in
+        let loose : is_applying s' ≡ true = ap (λ (x : Extent). x.applying) to in
+        let stays = stays_sure _ _ _ _ _ true s s' to refl refl in
+        let durable : is_durable s' ≡ true = ap (λ (x : Extent). x.durable) to in
         let is = is_batch s s' step in
         let few : i < v.slots = omega (arith, lt, is.described.homes.few) in
         let home = home_at (geometry_of v) batch.homes i is.described.homes lt in
@@ -616,15 +597,15 @@ module _ (v : SuperValue) (old new : ℕ → List ℕ) where
         (record-below v.layout v.slots batch.journal l is.there (omega (arith, within, is.described.homes.few))) in
         write s s' step x 4096 (block_at seen from) size (omega arith) fits
         (λ b f. (
-          record { journal = λ e. false_true e; gate = λ e. false_true e; home = λ e. f.home to.applying_is },
-          λ e. f.home to.applying_is (subst (Contains batch.homes) (sym e) (Contains-get_or batch.homes i 0 lt)),
+          record { journal = λ e. false_true e; gate = λ e. false_true e; home = λ e. f.home loose },
+          λ e. f.home loose (subst (Contains batch.homes) (sym e) (Contains-get_or batch.homes i 0 lt)),
         ))
-        (sym to.committed_is) (inl (λ e. to.durable_is)) (
+        stays.committed (inl (λ e. durable)) (
           all_both {P = λ (q : Progress). IsBatch (geometry_of v) q.batch} {R = Stays v new newer batch s' x}
               (λ q q_is its l seen seen' same w. written_over v new _ q x seen seen' w (past_home v new q x q_is home)
               (covered_of (durable_in (l ++ at batch s' ∷ newer)) batch x
               (durable_there (l ++ at batch s' ∷ newer) (at batch s') (in_right l (at batch s' ∷ newer) (at batch s')
-              (inl refl)) to.durable_is) (Contains-get_or batch.homes i 0 lt)) same) older
+              (inl refl)) durable) (Contains-get_or batch.homes i 0 lt)) same) older
               (all_front (λ (p : Progress). IsBatch (geometry_of v) p.batch) older
               (at batch s ∷ newer) step.going.each) sure,
           all_both {P = λ (q : Progress). IsBatch (geometry_of v) q.batch}
@@ -633,7 +614,7 @@ module _ (v : SuperValue) (old new : ℕ → List ℕ) where
               (at batch s ∷ newer) step.going.each).1 waits,
         )
         (λ same. record {
-          records = λ l within less. absurd (omega (arith, less, to.recorded_is));
+          records = λ l within less. absurd (omega (arith, less, ap (λ (x : Extent). x.recorded) to));
           descriptor = λ l within less. same.blocks (descriptor_block v.slots batch.journal + l)
               (low (descriptor_block v.slots batch.journal + l)
               (descriptor-below v.layout v.slots batch.journal l is.there within))
@@ -644,7 +625,7 @@ module _ (v : SuperValue) (old new : ℕ → List ℕ) where
                 ≡ block_at (written seen (4096 * x) (block_at seen from)) (record_block v.slots batch.journal n))
                 (sym here)
                 (block-written x (block_at seen from) seen size fits ∙ sym (same.blocks from (slot i lt))))
-            | inr other ↦ elim (w.homes l within (omega (arith, less, to.applied_is))) [
+            | inr other ↦ elim (w.homes l within (omega (arith, less, ap (λ (x : Extent). x.applied) to))) [
               | inl covered ↦ inl covered
               | inr as_record ↦ inr (same.blocks (get_or batch.homes l 0) (homes_apart v batch is l i other within lt)
                   ∙ as_record ∙ sym (same.blocks (record_block v.slots batch.journal l) (slot l within)))
@@ -652,9 +633,9 @@ module _ (v : SuperValue) (old new : ℕ → List ℕ) where
           ];
           gate = gate_of s s' step x
               (λ e. low (gate_block v.slots batch.journal) (gate-below v.layout v.slots batch.journal is.there) (sym e))
-              _ same (sym to.open_is);
+              _ same (sym (ap (λ (x : Extent). x.gate_open) to));
         })
-        (contents_with s s' (sym to.durable_is) (sym to.committed_is)) left
+        (contents_with s s' stays.durable stays.committed) left
 
     close_step : (bytes : List ℕ) → (step : IsStep Closing Finishing) → older ≡ []
         → ((c : List ℕ) → may' c → TornFromWork (work_at (geometry_of v) batch bytes Closing) may c)

@@ -1,5 +1,5 @@
 -- Write-outs by the stages of their next steps, and their order.
-use Rattle.std.proofs.Common.{◌≡◌, ◌≢◌, ℕ, ◌<◌, ◌⊎◌, inl, inr, true, false, not, ◌||◌, List}
+use Rattle.std.proofs.Common.{◌≡◌, ◌≢◌, ℕ, ◌<◌, ◌⊎◌, inl, inr, Bool, true, false, not, ◌||◌, List}
 use Rattle.std.proofs.Common.{[], ◌∷◌, ◌++◌, Option, Some, None, refl, sym, ap, ◌∙◌, subst}
 use Rattle.std.specs.Prelude.{IsSome}
 use Rattle.std.specs.List.{AllByRecursion}
@@ -9,9 +9,9 @@ use Rattle.volume_codec.specs.Layout.{GeometryValue}
 use Rattle.journal.specs.declared.stage.Stage.{Stage}
 use Rattle.journal.specs.declared.stage.Stage.TheVariants.{Recording, Describing, SyncingRecords, Opening}
 use Rattle.journal.specs.declared.stage.Stage.TheVariants.{Committing, Applying, SyncingHomes, Closing, Finishing}
-use Rattle.journal.specs.Stage.{is_committed}
+use Rattle.journal.specs.Stage.{is_committed, has_writes, may_share}
 use Rattle.journal.specs.WriteOut.{WriteOut, IsBatch, next_stage, has_committed}
-use Rattle.journal.specs.WriteOuts.{has_uncommitted}
+use Rattle.journal.specs.WriteOuts.{has_uncommitted, is_at}
 use Rattle.journal.specs.inside.Sound.{IsWriteOut, IsOlder, AreInOrder}
 use Rattle.journal.specs.inside.Tied.{Progress, progress_of, progress_in, is_applying, is_applied, is_under_way}
 use Rattle.journal.proofs.Alls.{IsIn, all_map, all_in}
@@ -40,6 +40,39 @@ late_next P none applying syncing closing finishing w late = by (next_stage w) l
     by : (o : Option Stage) → option_map_or is_committed o true ≡ true → P o
     by None late = none
     by (Some s) late = late_stage (λ s. P (Some s)) applying syncing closing finishing s late
+
+-- what no stage of a committed batch has
+pub late_lacks : (has : Stage → Bool) → ((i : ℕ) → has (Applying i) ≡ false) → has SyncingHomes ≡ false
+    → has Closing ≡ false → has Finishing ≡ false → (w : WriteOut) → has_committed w ≡ true → is_at has w ≡ false
+late_lacks has applying syncing closing finishing w late =
+    late_next (λ o. option_map_or has o false ≡ false) refl applying syncing closing finishing w late
+
+-- what holds of each stage of a committed batch whose step writes
+pub late_writer : (P : Stage → Type 0) → ((i : ℕ) → P (Applying i)) → P Closing → (s : Stage) → is_committed s ≡ true
+    → has_writes s ≡ true → P s
+late_writer P applying closing = late_stage (λ s. has_writes s ≡ true → P s) (λ i writes. applying i)
+    (λ writes. false_true writes) (λ writes. closing) (λ writes. false_true writes)
+
+-- what holds of each stage whose sync may serve other write-outs
+pub shared_stage : (P : Stage → Type 0) → P SyncingRecords → P SyncingHomes → P Finishing → (s : Stage)
+    → may_share s ≡ true → P s
+shared_stage P records homes finishing (Recording i) shares = false_true shares
+shared_stage P records homes finishing (Describing i) shares = false_true shares
+shared_stage P records homes finishing SyncingRecords shares = records
+shared_stage P records homes finishing Opening shares = false_true shares
+shared_stage P records homes finishing Committing shares = false_true shares
+shared_stage P records homes finishing (Applying i) shares = false_true shares
+shared_stage P records homes finishing SyncingHomes shares = homes
+shared_stage P records homes finishing Closing shares = false_true shares
+shared_stage P records homes finishing Finishing shares = finishing
+
+pub shared_next : (P : Option Stage → Type 0) → P (Some SyncingRecords) → P (Some SyncingHomes)
+    → P (Some Finishing) → (w : WriteOut) → is_at may_share w ≡ true → P (next_stage w)
+shared_next P records homes finishing w shares = by (next_stage w) shares
+  where
+    by : (o : Option Stage) → option_map_or may_share o false ≡ true → P o
+    by None shares = false_true shares
+    by (Some s) shares = shared_stage (λ s. P (Some s)) records homes finishing s shares
 
 -- the stage of a write-out that isn't done
 pub stage_of : (w : WriteOut) → IsSome (next_stage w) → (stage : Stage) × (next_stage w ≡ Some stage)

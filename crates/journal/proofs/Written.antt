@@ -1,6 +1,6 @@
 -- What a read finds of a batch, while other blocks are written.
-use Rattle.std.proofs.Common.{◌≡◌, ◌≢◌, ℕ, zero, suc, ◌+◌, ◌-◌, ◌*◌, ◌<◌, ◌≤◌, ◌⊎◌, inl, inr, Bool, true}
-use Rattle.std.proofs.Common.{false, List, [], ◌∷◌, ◌++◌, length, get_or, refl, sym, ap, ◌∙◌, subst, arith}
+use Rattle.std.proofs.Common.{◌≡◌, ◌≢◌, ℕ, ◌+◌, ◌*◌, ◌<◌, ◌≤◌, ◌⊎◌, inl, inr, Bool, true}
+use Rattle.std.proofs.Common.{false, List, [], ◌∷◌, length, get_or, refl, sym, ap, ◌∙◌, subst, arith}
 use Rattle.std.specs.Prelude.{MatchBool, IsTrue, Result, Ok, Err, is_ok, ◌↔◌}
 use Rattle.std.specs.Ordering.{nat_cmp}
 use Rattle.std.specs.List.{Contains}
@@ -8,17 +8,14 @@ use Rattle.std.specs.List.Sorted.{IsBinarySearchResult}
 use Rattle.std.proofs.lemmas.List.Sorted.{searched}
 use Rattle.std.proofs.lemmas.List.{get_or_default}
 use Rattle.std.proofs.lemmas.Bool.{cases_eq, cases_lt, both_ways}
-use Rattle.std.specs.List.{AllByRecursion, flat_map}
-use Rattle.std.specs.Int.{bytes_high_first}
-use Rattle.std.proofs.Common.{length-append}
-use Rattle.std.proofs.lemmas.List.{length-replicate}
+use Rattle.std.specs.List.{AllByRecursion}
 use Rattle.volume_codec.specs.Layout.{GeometryValue, IsHome, journals_of, gate_block}
 use Rattle.volume_codec.specs.Layout.{descriptor_block, descriptor_blocks, record_block, first_home}
 use Rattle.volume_codec.specs.Layout.{block_at, blocks_at}
 use Rattle.volume_codec.specs.Super.{SuperValue, geometry_of}
 use Rattle.volume_codec.specs.Descriptor.{RiseWithin, AreHomes, descriptor_text}
-use Rattle.volume_codec.specs.Text.{number_text, zeros, padded}
 use Rattle.volume_codec.specs.Recovery.{Batch, IsOpen}
+use Rattle.volume_codec.proofs.Public.{rising_at, rising_apart, length-descriptor_text}
 use Rattle.journal.specs.WriteOut.{IsBatch}
 use Rattle.journal.specs.inside.Tied.{Progress, is_open, applied, durable_in, IsCovered, IsWritten, AreWritten}
 use Rattle.journal.proofs.Blocks.{blocks_joined}
@@ -26,25 +23,7 @@ use Rattle.journal.proofs.Changes.{SameBut}
 use Rattle.journal.proofs.Places.{gates_apart, gate-below, descriptor-below, record-below, descriptors_apart}
 use Rattle.journal.proofs.Places.{gate_no_descriptor, gate_no_record, descriptor_no_record, records_apart}
 
--- ---- home blocks that rise
-
-pub rising_at : (low high : ℕ) (homes : List ℕ) (i : ℕ) → RiseWithin low high homes → i < length homes
-    → (low ≤ get_or homes i 0) × (get_or homes i 0 < high)
-rising_at low high [] i rise lt = absurd (omega arith)
-rising_at low high (n ∷ ns) zero rise lt = (rise.0, rise.1)
-rising_at low high (n ∷ ns) (suc i) rise lt =
-    let r = rising_at (n + 1) high ns i rise.2 (omega arith) in
-    (omega (arith, rise.0, r.0), r.1)
-
-pub rising_apart : (low high : ℕ) (homes : List ℕ) (i k : ℕ) → RiseWithin low high homes → i < k → k < length homes
-    → get_or homes i 0 < get_or homes k 0
-rising_apart low high [] i k rise lt within = absurd (omega arith)
-rising_apart low high (n ∷ ns) i zero rise lt within = absurd (omega arith)
-rising_apart low high (n ∷ ns) zero (suc k) rise lt within =
-    let r = rising_at (n + 1) high ns k rise.2 (omega arith) in
-    omega (arith, r.0)
-rising_apart low high (n ∷ ns) (suc i) (suc k) rise lt within =
-    rising_apart (n + 1) high ns i k rise.2 (omega arith) (omega arith)
+-- ---- a batch's home blocks and its descriptor
 
 -- a home block of a batch is one of the volume's
 pub home_at : (g : GeometryValue) (homes : List ℕ) (i : ℕ) → AreHomes g homes → i < length homes
@@ -52,51 +31,6 @@ pub home_at : (g : GeometryValue) (homes : List ℕ) (i : ℕ) → AreHomes g ho
 home_at g homes i are lt =
     let r = rising_at (first_home g.layout g.slots) g.blocks homes i are.rising lt in
     record { low = r.0; high = r.1 }
-
--- ---- a descriptor's length
-
-length-bytes_high_first : (n x : ℕ) → length (bytes_high_first n x) ≡ n
-length-bytes_high_first zero x = refl
-length-bytes_high_first (suc n) x = let e = length-bytes_high_first n x in omega (arith, e)
-
-length-number_text : (n x : ℕ) → length (number_text n x) ≡ n
-unfolding number_text
-length-number_text n x = length-bytes_high_first n x
-
-length-zeros : (n : ℕ) → length (zeros n) ≡ n
-unfolding zeros
-length-zeros n = length-replicate n 0
-
-length-numbers : (homes : List ℕ) → length (flat_map (number_text 4) homes) ≡ 4 * length homes
-length-numbers [] = refl
-length-numbers (n ∷ ns) = omega (
-  arith,
-  length-append (number_text 4 n) (flat_map (number_text 4) ns),
-  length-number_text 4 n,
-  length-numbers ns,
-)
-
-length-padded : (n : ℕ) (text : List ℕ) → length text ≤ n → length (padded n text) ≡ n
-length-padded n text le =
-    omega (arith, length-append text (zeros (n - length text)), length-zeros (n - length text))
-
-length-four : (a b c d : List ℕ) → length (a ++ b ++ c ++ d) ≡ length a + length b + length c + length d
-length-four a b c d = omega (arith, length-append (a ++ b ++ c) d, length-append (a ++ b) c, length-append a b)
-
-pub length-descriptor_text : (slots mark : ℕ) (homes : List ℕ) → length homes ≤ slots
-    → length (descriptor_text slots (record { mark = mark; homes = homes })) ≡ 4096 * descriptor_blocks slots
-length-descriptor_text slots mark homes few =
-    length-padded (4096 * descriptor_blocks slots)
-    (number_text 8 mark ++ number_text 4 (length homes) ++ zeros 4 ++ flat_map (number_text 4) homes)
-    (omega (
-      arith,
-      few,
-      length-four (number_text 8 mark) (number_text 4 (length homes)) (zeros 4) (flat_map (number_text 4) homes),
-      length-numbers homes,
-      length-number_text 8 mark,
-      length-number_text 4 (length homes),
-      length-zeros 4,
-    ))
 
 -- where each block of a descriptor is there, all of it is
 pub descriptor_there : (g : GeometryValue) (batch : Batch) (bytes : List ℕ) → IsBatch g batch

@@ -1,6 +1,6 @@
 -- The stages of a write-out: what is to be done next, by the number of its blocks, of the descriptor blocks of its
 -- journal and of its steps so far.
-use Rattle.std.specs.Prelude.{ℕ, Bool, true, false, List, [], ◌∷◌, ◌++◌, map, Option, slice_get}
+use Rattle.std.specs.Prelude.{ℕ, Bool, true, false, not, List, [], ◌∷◌, ◌++◌, map, Option, slice_get}
 use Rattle.std.specs.List.{range_with_len}
 use Rattle.journal.specs.declared.stage.Stage.{Stage}
 use Rattle.journal.specs.declared.stage.Stage.TheVariants.{Recording, Describing, SyncingRecords, Opening}
@@ -40,18 +40,13 @@ has_writes stage = true
 
 -- its step is a sync that may serve other write-outs too: each but the one that commits
 abbrev pub may_share : Stage → Bool
-may_share SyncingRecords = true
-may_share SyncingHomes = true
-may_share Finishing = true
-may_share stage = false
+may_share Committing = false
+may_share stage = not (has_writes stage)
 
 -- the batch isn't committed, and its next step isn't the sync of its records
 abbrev pub is_ahead : Stage → Bool
-is_ahead (Recording i) = true
-is_ahead (Describing i) = true
-is_ahead Opening = true
-is_ahead Committing = true
-is_ahead stage = false
+is_ahead SyncingRecords = false
+is_ahead stage = not (is_committed stage)
 
 -- what the step of this stage of a mark's write-out answers, where its device calls succeed
 abbrev pub answer_at : ℕ → Stage → Flushed

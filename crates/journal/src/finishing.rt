@@ -55,6 +55,7 @@ pub fn finish<D: Device, A: Allocator + Copy>(
     let slots = geometry.slots();
     prove!(homes.len() <= slots as usize);
     let steps = homes.len() + 3;
-    let mut flush = Flush::committed(*geometry, journal, mark, homes);
+    let mut flush = Flush::new(*geometry, journal, mark, homes);
+    flush.set_committed();
     make_steps(device, &mut flush, steps)
 }

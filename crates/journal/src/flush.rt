@@ -58,19 +58,12 @@ impl<A: Allocator + Copy> Flush<A> {
         }
     }
 
-    /// The write-out of a batch that is committed, before the first step after that: its gate is open, and its records
-    /// are to be written home.
-    pub(crate) fn committed(geometry: Geometry, journal: u32, mark: u64, homes: Vec<u32, A>) -> Self
-        requires { IsBatch geometry (record { journal = journal; mark = mark; homes = homes.items }) }
-        ensures { result ≡ committed_of geometry
-            (record { journal = journal; mark = mark; homes = homes.items }) (vec_capacity homes) }
+    /// The batch is committed, and the first step after that comes next: its gate is open, and its records are to be
+    /// written home.
+    pub(crate) fn set_committed(&mut self)
+        ensures { self.new ≡ record self.old { write_out = committed_of self.old.write_out } }
     {
-        let queued = Queued::committed(&geometry, journal, mark, homes);
-        Flush {
-            geometry,
-            queued,
-            broken: false,
-        }
+        self.queued.set_committed();
     }
 
     /// The journal, counted from 0.

@@ -7,8 +7,8 @@ ghost use Rattle.journal.specs.Stage.{has_writes, is_ahead as ahead};
 ghost use Rattle.journal.specs.Work.{work_at, has_done};
 ghost use Rattle.journal.specs.WriteOut.{IsBatch, next_stage, has_committed, next_record, next_home, work_of, answer_of};
 ghost use Rattle.journal.specs.WriteOuts.{is_at};
-ghost use Rattle.journal.specs.inside.Sound.{IsFlush};
-ghost use Rattle.journal.specs.inside.Queued.{queued_of, committed_queued, queued_advanced, queued_after};
+ghost use Rattle.journal.specs.inside.Sound.{IsFlush, IsWriteOut};
+ghost use Rattle.journal.specs.inside.Queued.{queued_of, committed_of, queued_advanced, queued_after};
 
 use crate::copying::apply_record;
 use crate::gate::write_gate;
@@ -72,27 +72,11 @@ impl<A: Allocator + Copy> Queued<A> {
         }
     }
 
-    /// A batch that is committed, before the first step after that.
-    pub(crate) fn committed(
-        geometry: &Geometry,
-        journal: u32,
-        mark: u64,
-        homes: Vec<u32, A>,
-    ) -> Self
-        requires { IsBatch geometry.now (record { journal = journal; mark = mark; homes = homes.items }) }
-        ensures { result ≡ committed_queued geometry.now.slots
-            (record { journal = journal; mark = mark; homes = homes.items }) (vec_capacity homes) }
+    /// The batch is committed: the first step after that comes next.
+    pub(crate) fn set_committed(&mut self)
+        ensures { self.new ≡ record self.old { write_out = committed_of self.old.write_out } }
     {
-        prove!(geometry.slots() <= 65535);
-        let described = geometry.descriptor_blocks();
-        let steps = homes.len() as u32 + described + 3;
-        Queued {
-            journal,
-            mark,
-            homes,
-            described,
-            steps,
-        }
+        self.steps = self.homes.len() as u32 + self.described + 3;
     }
 
     /// The journal, counted from 0.
@@ -254,9 +238,7 @@ impl<A: Allocator + Copy> Queued<A> {
         buffer: &mut [u8; 4096],
     ) -> Flushed
         requires long { 4096 * geometry.now.blocks ≤ length (D.seen device.old) }
-        requires batch { IsBatch geometry.now self.old.write_out.batch }
-        requires described { self.old.write_out.described ≡ descriptor_blocks geometry.now.slots }
-        requires going { IsSome (next_stage self.old.write_out) }
+        requires under_way { IsWriteOut geometry.now self.old.write_out }
         ensures answer { (result ≡ answer_of self.old.write_out) ⊎ (result ≡ Flushed.Device) }
         ensures sane { result ≢ Flushed.Broken }
         ensures value { self.new ≡ queued_after self.old result }

@@ -17,13 +17,6 @@ use device::{Device, make_durable};
 use std::alloc::Allocator;
 use volume_codec::Geometry;
 
-/// Whether write-outs share their syncs.
-pub(crate) fn shares_syncs(geometry: &Geometry) -> bool
-    ensures { result ≡ in_common geometry.now.layout }
-{
-    geometry.journals() == 4
-}
-
 // The step of each of them is made.
 fn advance_all<A: Allocator + Copy>(queued: &mut Vec<Queued<A>, A>)
     requires going { AllByRecursion (λ w. IsSome (next_stage w)) (write_outs_in queued.old.items) }

@@ -79,6 +79,7 @@ impl Stage {
 // Rule: closing order
 /// The next stage of a write-out of so many blocks, whose descriptor has `described` blocks, after so many steps;
 /// `None` once it is done.
+#[tactic(auto, using(crate::proofs::Stages::stage_at_is_by, std::proofs::lemmas::Bool::Decides::nat_tests))]
 pub fn stage_at(blocks: u32, described: u32, steps: u32) -> Option<Stage>
     ensures { result ≡ stage_at blocks described steps }
 {

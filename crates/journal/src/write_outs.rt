@@ -17,7 +17,7 @@ ghost use Rattle.journal.specs.Crash.{LeftWithin};
 ghost use Rattle.journal.specs.LedTo.{HasLedTo};
 
 use crate::queued::Queued;
-use crate::sharing::{shares_syncs, step_next};
+use crate::sharing::step_next;
 use crate::{Flushed, Stage};
 use device::Device;
 use page_entry::FilePage;
@@ -263,13 +263,20 @@ impl<A: Allocator + Copy> WriteOuts<A> {
         self.writer_place()
     }
 
+    // Whether write-outs share their syncs.
+    fn shares_syncs(&self) -> bool
+        ensures { result ≡ in_common self.now.geometry.layout }
+    {
+        self.geometry.journals() == 4
+    }
+
     // The place of the write-out that makes the next step; `None` where all share a sync.
     fn lone_place(&self) -> Option<usize>
         ensures lone { IfSome result (IsLone (in_common self.now.geometry.layout) self.now.batches) }
         ensures joint { IfNone result (self.now.batches ≢ []
             → IsJoint (in_common self.now.geometry.layout) self.now.batches) }
     {
-        if shares_syncs(&self.geometry) {
+        if self.shares_syncs() {
             self.sharing_place()
         } else {
             self.current_place()

@@ -83,19 +83,27 @@ unreached old at bytes i before fits none = ⊎_elim
     (cases_lt i (at + length bytes)))
     (cases_lt i at)
 
+-- where a place isn't unsynced, the newest write leaves its byte, and it wasn't unsynced before
+left_out : (first : List ℕ) (at : ℕ) (bytes : List ℕ) (older : List DiskChange) (i : ℕ)
+    → AreWithin (length first) (write at bytes ∷ older) → is_unsynced (write at bytes ∷ older) i ≡ false
+    → (get_or (content_after first (write at bytes ∷ older)) i 0 ≡ get_or (content_after first older) i 0)
+    × (is_unsynced older i ≡ false)
+left_out first at bytes older i within unwritten =
+    let old = content_after first older in
+    let before = is_unsynced older i in
+    let fits : at + length bytes ≤ length old = omega (arith, within.0, length_content first older within.1) in (
+      unreached old at bytes i before fits unwritten,
+      not_older (nat_le at i && nat_lt i (at + length bytes)) before unwritten,
+    )
+
 -- a place that isn't unsynced keeps, without a sync, the byte that it had before
 pub as_before : (first : List ℕ) (calls past : List DiskChange) (i : ℕ)
     → AreWithin (length first) (calls ++ past) → syncs_of calls ≡ 0 → is_unsynced (calls ++ past) i ≡ false
     → get_or (content_after first (calls ++ past)) i 0 ≡ get_or (content_after first past) i 0
 as_before first [] past i within none unwritten = refl
 as_before first (write at bytes ∷ older) past i within none unwritten =
-    let here = nat_le at i && nat_lt i (at + length bytes) in
-    let old = content_after first (older ++ past) in
-    let before = is_unsynced (older ++ past) i in
-    let fits : at + length bytes ≤ length old =
-    omega (arith, within.0, length_content first (older ++ past) within.1) in
-    unreached old at bytes i before fits unwritten
-    ∙ as_before first older past i within.1 none (not_older here before unwritten)
+    let out = left_out first at bytes (older ++ past) i within unwritten in
+    out.0 ∙ as_before first older past i within.1 none out.1
 as_before first (sync ∷ older) past i within none unwritten = absurd (omega (arith, none))
 
 -- with one sync at most, each place has what it had at the sync, unless it was written since
@@ -104,15 +112,11 @@ pub as_at_sync : (first : List ℕ) (calls past : List DiskChange) (i : ℕ)
     → get_or (content_after first (before_sync calls ++ past)) i 0 ≡ get_or (content_after first (calls ++ past)) i 0
 as_at_sync first [] past i within few unwritten = refl
 as_at_sync first (write at bytes ∷ older) past i within few unwritten =
-    let here = nat_le at i && nat_lt i (at + length bytes) in
-    let old = content_after first (older ++ past) in
-    let before = is_unsynced (older ++ past) i in
-    let fits : at + length bytes ≤ length old =
-    omega (arith, within.0, length_content first (older ++ past) within.1) in
-    either (λ l. get_or (content_after first (l ++ past)) i 0 ≡ get_or (written old at bytes) i 0)
-    (syncs_of older) (write at bytes ∷ older) (before_sync older) (λ none. refl)
-    (as_at_sync first older past i within.1 few (not_older here before unwritten)
-    ∙ sym (unreached old at bytes i before fits unwritten))
+    let now = write at bytes ∷ older in
+    let out = left_out first at bytes (older ++ past) i within unwritten in
+    either (λ l. get_or (content_after first (l ++ past)) i 0 ≡ get_or (content_after first (now ++ past)) i 0)
+    (syncs_of older) now (before_sync older) (λ none. refl)
+    (as_at_sync first older past i within.1 few out.1 ∙ sym out.0)
 as_at_sync first (sync ∷ older) past i within few unwritten =
     either (λ l. get_or (content_after first (l ++ past)) i 0 ≡ get_or (content_after first (older ++ past)) i 0)
     (syncs_of older + 1) (sync ∷ older) (before_sync older) (λ none. refl)

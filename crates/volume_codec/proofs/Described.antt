@@ -1,7 +1,8 @@
 -- The blocks of a descriptor's text.
 use Rattle.std.proofs.Common.{◌≡◌, ℕ, zero, suc, ◌+◌, ◌-◌, ◌*◌, ◌<◌, ◌≤◌, List, [], ◌∷◌, ◌++◌, length, take, drop}
-use Rattle.std.proofs.Common.{get_or, refl, sym, ap, ◌∙◌, arith, append_assoc, length-append}
+use Rattle.std.proofs.Common.{get_or, refl, sym, ap, ◌∙◌, arith, length-append}
 use Rattle.std.specs.List.{flat_map}
+use Rattle.std.proofs.Math.Nat.{mul-zero, mul-suc}
 use Rattle.std.proofs.Math.Seq.{drop-nil}
 use Rattle.std.proofs.lemmas.List.{length-take, get_or-take, get_or-drop, ext_get_or, take_all}
 use Rattle.volume_codec.specs.Layout.{descriptor_blocks, block_at}
@@ -33,13 +34,15 @@ drop-numbers (suc k) (n ∷ ns) =
     ∙ drop-past (number_text 4 n) (flat_map (number_text 4) ns) 4 (4 * k) (length-number_text 4 n)
     ∙ drop-numbers k ns
 
-length-numbers : (ns : List ℕ) → length (flat_map (number_text 4) ns) ≡ 4 * length ns
-length-numbers [] = refl
-length-numbers (n ∷ ns) = omega (
+-- numbers of so many bytes each
+pub length-numbers : (size : ℕ) (ns : List ℕ) → length (flat_map (number_text size) ns) ≡ size * length ns
+length-numbers size [] = sym (mul-zero size)
+length-numbers size (n ∷ ns) = omega (
   arith,
-  length-append (number_text 4 n) (flat_map (number_text 4) ns),
-  length-number_text 4 n,
-  length-numbers ns,
+  length-append (number_text size n) (flat_map (number_text size) ns),
+  length-number_text size n,
+  length-numbers size ns,
+  mul-suc size (length ns),
 )
 
 -- ---- a block of padded bytes
@@ -100,7 +103,7 @@ module _ (slots mark : ℕ) (homes : List ℕ) (few : length homes ≤ slots) wh
     few,
     length-append head (flat_map (number_text 4) homes),
     length-head,
-    length-numbers homes,
+    length-numbers 4 homes,
   )
 
   pub length-descriptor_text : length (descriptor_text slots (record { mark = mark; homes = homes }))

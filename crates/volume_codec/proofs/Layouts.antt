@@ -6,7 +6,7 @@ use Rattle.volume_codec.specs.declared.layout.Layout.{Layout}
 use Rattle.volume_codec.specs.declared.layout.Layout.TheVariants.{One, Two, Three, Four}
 use Rattle.volume_codec.specs.Layout.{GeometryValue, IsGeometry, number_of, magic_of, journals_of, max_slots}
 use Rattle.volume_codec.specs.Layout.{descriptor_blocks, journal_blocks, gate_block, descriptor_block, record_block}
-use Rattle.volume_codec.specs.Layout.{first_home, lengths_blocks, first_file_home}
+use Rattle.volume_codec.specs.Layout.{first_home, first_file_home}
 
 -- no two layouts have one number
 pub number_of-injective : (a b : Layout) → number_of a ≡ number_of b → a ≡ b

@@ -40,6 +40,11 @@ take-past p q n m h =
     take-add n m (p ++ q) ∙ ap (λ (r : List ℕ). r ++ take m (drop n (p ++ q))) (take_at p q n h)
     ∙ ap (λ (r : List ℕ). p ++ take m r) (drop_at p q n h)
 
+-- what fits behind the bytes that were written fits into their block
+pub room-left : (block written : List ℕ) (at n : ℕ) → at ≤ 4096 → length block ≡ 4096 → take at block ≡ written
+    → length written + n ≤ 4096 → at + n ≤ 4096
+room-left block written at n low whole is fits = omega (arith, ap length is, length-take at block)
+
 -- a block whose bytes from this place on are written
 pub length-pushed : (block bytes new : List ℕ) (at k : ℕ) → new ≡ bytes → k ≡ length bytes → at + length bytes ≤ 4096
     → length block ≡ 4096 → length (put_mid at k block new) ≡ 4096

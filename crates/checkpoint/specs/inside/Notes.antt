@@ -30,10 +30,6 @@ abbrev pub noted_at : FramesState → List Bool → (ℕ → ℕ) → ℕ → Li
 noted_at memory notes at zero = []
 noted_at memory notes at (suc n) = noted_at memory notes at n ++ option_to_list (noted_page memory notes (at n))
 
--- of all frames, by their numbers
-abbrev pub noted_by_number : FramesState → List Bool → List FilePage
-noted_by_number memory notes = noted_at memory notes (λ frame. frame) (length memory.frames)
-
 -- exactly the pages of the frames that are noted, in the order of home blocks
 pub record AreNotedPages (memory : FramesState) (notes : List Bool) (pages : List FilePage) : Type 0 where
   pub rising : AreRising pages

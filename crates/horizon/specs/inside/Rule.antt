@@ -35,12 +35,6 @@ pub record Steps (seen : View) (before after : List ℕ) (sees : View) : Type 0 
   pub within : Lifts before after
   pub shown : sees ≡ seen_after seen before after
 
--- the three kinds of step
+-- a step that leaves the words as they are
 abbrev pub Reads : View → List ℕ → List ℕ → View → Type 0
 Reads seen before after sees = (after ≡ before) × Steps seen before after sees
-
-abbrev pub RaisesStalled : View → List ℕ → List ℕ → View → Type 0
-RaisesStalled seen before after sees = (slice_index after 1 ≡ slice_index before 1) × Steps seen before after sees
-
-abbrev pub RaisesCommitted : View → List ℕ → List ℕ → View → Type 0
-RaisesCommitted seen before after sees = Steps seen before after sees

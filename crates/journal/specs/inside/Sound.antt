@@ -55,11 +55,15 @@ abbrev pub IsTurn : Layout → ℕ → List WriteOut → Type 0
 IsTurn layout next [] = Unit {0}
 IsTurn layout next (w ∷ newer) = AreInTurn layout next (following layout w.batch.journal) newer
 
-pub record IsSound (outs : WriteOutsValue) : Type 0 where
-  pub geometry : IsGeometry outs.geometry
-  pub there : outs.next < journals_of outs.geometry.layout
-  pub few : length outs.batches ≤ journals_of outs.geometry.layout
-  pub each : AllByRecursion (IsWriteOut outs.geometry) outs.batches
-  pub ordered : AreInOrder outs.batches
-  pub spaced : shares_syncs outs.geometry.layout ≡ true → AreSpaced outs.batches
-  pub turn : IsTurn outs.geometry.layout outs.next outs.batches
+-- the write-outs of a volume of this geometry, whose next batch has this journal
+pub record AreSound (g : GeometryValue) (next : ℕ) (batches : List WriteOut) : Type 0 where
+  pub geometry : IsGeometry g
+  pub there : next < journals_of g.layout
+  pub few : length batches ≤ journals_of g.layout
+  pub each : AllByRecursion (IsWriteOut g) batches
+  pub ordered : AreInOrder batches
+  pub spaced : shares_syncs g.layout ≡ true → AreSpaced batches
+  pub turn : IsTurn g.layout next batches
+
+abbrev pub IsSound : WriteOutsValue → Type 0
+IsSound outs = AreSound outs.geometry outs.next outs.batches

@@ -32,10 +32,9 @@ progress_in (w ∷ newer) = progress_of w ++ progress_in newer
 
 -- records and the descriptor: they were written since the last sync
 abbrev pub is_recording : Stage → Bool
-is_recording (Recording i) = true
-is_recording (Describing i) = true
-is_recording SyncingRecords = true
-is_recording stage = false
+is_recording Opening = false
+is_recording Committing = false
+is_recording stage = not (is_committed stage)
 
 -- the gate
 abbrev pub is_switching : Stage → Bool
@@ -53,10 +52,7 @@ is_applying stage = false
 
 -- records and descriptor
 abbrev pub is_recorded : Stage → Bool
-is_recorded (Recording i) = false
-is_recorded (Describing i) = false
-is_recorded SyncingRecords = false
-is_recorded stage = true
+is_recorded stage = not (is_recording stage)
 
 -- all home blocks, while the gate may be open
 abbrev pub is_applied : Stage → Bool
@@ -85,10 +81,8 @@ pub record IsLeft (slots : ℕ) (progress : List Progress) (seen c : List ℕ) :
 
 -- the gate is open, and that is sure
 abbrev pub is_durable : Stage → Bool
-is_durable (Applying i) = true
-is_durable SyncingHomes = true
-is_durable Closing = true
-is_durable stage = false
+is_durable Finishing = false
+is_durable stage = is_committed stage
 
 abbrev pub is_open : Stage → Bool
 is_open Committing = true

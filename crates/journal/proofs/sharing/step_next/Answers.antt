@@ -1,4 +1,4 @@
-use Rattle.std.proofs.Common.{◌≡◌, ℕ, Bool, List, Option, None, length, inl, inr, ⊎_elim, refl, sym, ap, ◌∙◌}
+use Rattle.std.proofs.Common.{◌≡◌, ℕ, Bool, List, Option, Some, None, length, inl, inr, ⊎_elim, refl, sym, ap, ◌∙◌}
 use Rattle.std.proofs.Common.{subst, arith, length-set}
 use Rattle.std.specs.Prelude.{IsSome, IfNone, slice_index_or}
 use Rattle.std.specs.Option.{option_map_or}
@@ -7,32 +7,27 @@ use Rattle.device.proofs.Done.{did_as}
 use Rattle.journal.specs.declared.flushed.Flushed.TheVariants.{Broken}
 use Rattle.journal.specs.Work.{Nothing, has_done}
 use Rattle.journal.specs.WriteOut.{WriteOut, next_stage, work_of, answer_of}
-use Rattle.journal.specs.WriteOuts.{shares_syncs}
+use Rattle.journal.specs.WriteOuts.{shares_syncs, moving}
 use Rattle.journal.specs.inside.Sound.{IsWriteOut}
 use Rattle.journal.specs.inside.Queued.{QueuedWriteOut}
 use Rattle.journal.specs.inside.Room.{write_outs_in, IsJoint}
 use Rattle.journal.proofs.Alls.{all_map}
 use Rattle.journal.proofs.Rooms.{lone_there, lone_mover, lone_own, lone_batches, rooms-set}
 use Rattle.journal.proofs.Joined.{blank, joint_work, joint_batches, joint_rooms}
+use Rattle.journal.proofs.sharing.step_next.Goals.{After-index_mut}
 use Rattle.journal.proofs.sharing.step_next.Goals as goal
 
-pub step-requires-clause-batch : goal.step-requires-clause-batch
-step-requires-clause-batch g c = (lone_own (shares_syncs c.args.geometry.now.layout)
-    c.args.queued.now.items c.args.place c.in-Some.at c.index_mut.result.now c.in-Some.is
-    c.index_mut.ensures.value c.requires.lone
-    c.args.geometry.now c.requires.each).batch
+-- the next step is that of the one at its place
+mover : (g : _) (c : After-index_mut g)
+    → moving (shares_syncs c.args.geometry.now.layout) (write_outs_in c.args.queued.now.items)
+    ≡ Some c.index_mut.result.now.write_out
+mover g c = lone_mover (shares_syncs c.args.geometry.now.layout) c.args.queued.now.items c.args.place c.in-Some.at
+    c.index_mut.result.now c.in-Some.is c.index_mut.ensures.value c.requires.lone
 
-pub step-requires-clause-described : goal.step-requires-clause-described
-step-requires-clause-described g c = (lone_own (shares_syncs c.args.geometry.now.layout)
-    c.args.queued.now.items c.args.place c.in-Some.at c.index_mut.result.now c.in-Some.is
-    c.index_mut.ensures.value c.requires.lone
-    c.args.geometry.now c.requires.each).described
-
-pub step-requires-clause-going : goal.step-requires-clause-going
-step-requires-clause-going g c = (lone_own (shares_syncs c.args.geometry.now.layout)
-    c.args.queued.now.items c.args.place c.in-Some.at c.index_mut.result.now c.in-Some.is
-    c.index_mut.ensures.value c.requires.lone
-    c.args.geometry.now c.requires.each).going
+pub step-requires-clause-under_way : goal.step-requires-clause-under_way
+step-requires-clause-under_way g c = lone_own (shares_syncs c.args.geometry.now.layout) c.args.queued.now.items
+    c.args.place c.in-Some.at c.index_mut.result.now c.in-Some.is c.index_mut.ensures.value c.requires.lone
+    c.args.geometry.now c.requires.each
 
 pub share_sync-requires-clause-going : goal.share_sync-requires-clause-going
 share_sync-requires-clause-going g c = all_map {P = IsWriteOut c.args.geometry.now}
@@ -43,8 +38,7 @@ share_sync-requires-clause-going g c = all_map {P = IsWriteOut c.args.geometry.n
 pub returns-in-Some-clause-answer : goal.returns-in-Some-clause-answer
 returns-in-Some-clause-answer g c = ⊎_elim
     (λ is. inl (is ∙ sym (ap (λ (o : Option WriteOut). option_map_or answer_of o Broken)
-    (lone_mover (shares_syncs c.args.geometry.now.layout) c.args.queued.now.items c.args.place c.in-Some.at
-    c.index_mut.result.now c.in-Some.is c.index_mut.ensures.value c.requires.lone))))
+    (mover g (goal.at.returns-in-Some-clause-answer g c).After-index_mut))))
     (λ is. inr is) c.step.ensures.answer
 
 pub returns-in-Some-clause-batches : goal.returns-in-Some-clause-batches
@@ -64,8 +58,7 @@ returns-in-Some-clause-count g c = length-set c.args.queued.now.items c.in-Some.
 pub returns-in-Some-clause-did : goal.returns-in-Some-clause-did
 returns-in-Some-clause-did g c = did_as g.D.Device
     (sym (ap (λ (o : Option WriteOut). option_map_or (work_of c.args.geometry.now c.args.bytes.now) o Nothing)
-    (lone_mover (shares_syncs c.args.geometry.now.layout) c.args.queued.now.items c.args.place c.in-Some.at
-    c.index_mut.result.now c.in-Some.is c.index_mut.ensures.value c.requires.lone))) refl c.step.ensures.did
+    (mover g (goal.at.returns-in-Some-clause-did g c).After-index_mut))) refl c.step.ensures.did
 
 -- ---- of all
 

@@ -3,6 +3,7 @@ use Rattle.volume_codec.specs.Descriptor.{RiseWithin, IsDescribed, IsDescriptor,
 use Rattle.volume_codec.proofs.Functional.{reads_descriptor_block, read_descriptor_value}
 use Rattle.volume_codec.proofs.Functional.{refuses_described, found_homes, fallen_homes}
 use Rattle.volume_codec.proofs.descriptor.read_descriptor.Goals as goal
+use Rattle.volume_codec.proofs.descriptor.read_descriptor.Goals.{After-deref-2}
 use Rattle.volume_codec.proofs.descriptor.read_descriptor.Goals.{then-mark-eq0-via-then-mark-eq0}
 use Rattle.volume_codec.proofs.descriptor.read_descriptor.Goals.{then-mark-eq0-via-else-mark-eq0+then-count-eq0}
 use Rattle.volume_codec.proofs.descriptor.read_descriptor.Goals.{then-mark-eq0-via-else-mark-eq0+else-count-eq0+then-count-slots}
@@ -38,8 +39,10 @@ returns-then-not-rise_within-clause-refused g c =
     c.first_home.ensures.value c.block_count.ensures.value i.homes) in
     true≢false (sym rises ∙ c.if-not-rise_within.true))
 
-pub is_spelled-requires-clause-described : goal.is_spelled-requires-clause-described
-is_spelled-requires-clause-described g c =
+-- the mark and the home blocks that are read
+described : (g : _) (c : After-deref-2 g) → IsDescribed c.args.geometry.now
+    (record { mark = c.u64_at-mark.result; homes = c.deref-2.result.now })
+described g c =
     let rises = c.rise_within.ensures.0 c.if-not-rise_within.false in
     let same = c.deref.ensures.value ∙ sym c.deref-2.ensures.value in
     let P : List ℕ → Type 0 = λ homes. RiseWithin c.first_home.result c.block_count.result homes in
@@ -51,6 +54,10 @@ is_spelled-requires-clause-described g c =
           (omega arith) (omega (arith, c.slots-slots.ensures.value)) c.first_home.ensures.value
           c.block_count.ensures.value (subst P same rises);
     }
+
+pub is_spelled-requires-clause-described : goal.is_spelled-requires-clause-described
+is_spelled-requires-clause-described g c =
+    described g (goal.at.is_spelled-requires-clause-described g c).After-deref-2
 
 pub returns-then-not-is_spelled-clause-refused : goal.returns-then-not-is_spelled-clause-refused
 returns-then-not-is_spelled-clause-refused g c =
@@ -64,22 +71,9 @@ returns-then-not-is_spelled-clause-refused g c =
 
 pub returns-clause-ok : goal.returns-clause-ok
 returns-clause-ok g c =
-    let listed = c.deref-2.ensures.value in
-    let rises = c.rise_within.ensures.0 c.if-not-rise_within.false in
-    let same = c.deref.ensures.value ∙ sym c.deref-2.ensures.value in
-    let P : List ℕ → Type 0 = λ homes. RiseWithin c.first_home.result c.block_count.result homes in
-    let is_described : IsDescribed c.args.geometry.now
-    (record { mark = c.u64_at-mark.result; homes = c.deref-2.result.now }) = record {
-      some_mark = omega arith;
-      small_mark = omega arith;
-      homes = found_homes c.args.geometry.now c.args.bytes.now c.deref-2.result.now c.u32_at-count.result _ _
-          (c.deref-2.ensures.value ∙ c.in_ok-homes.ensures)
-          (omega arith) (omega (arith, c.slots-slots.ensures.value)) c.first_home.ensures.value
-          c.block_count.ensures.value (subst P same rises);
-    } in
     let Q : List ℕ → Type 0 = λ homes. IsDescriptor c.args.geometry.now
     (record { mark = c.u64_at-mark.result; homes = homes }) c.args.bytes.now in
-    subst Q listed (record {
-      described = is_described;
+    subst Q c.deref-2.ensures.value (record {
+      described = described g (goal.at.returns-clause-ok g c).After-deref-2;
       spelled = c.is_spelled.ensures.0 c.if-not-is_spelled.false;
     })

@@ -19,7 +19,7 @@ use Rattle.journal.specs.Crash.{LeftWithin}
 use Rattle.journal.specs.LedTo.{IsStep, HasLedTo, Stepped}
 use Rattle.journal.specs.inside.Sound.{IsSound}
 use Rattle.journal.specs.inside.Room.{write_outs_in, IsLone, IsJoint, HasRoom}
-use Rattle.journal.proofs.Answering.{step_sound, failed_sound}
+use Rattle.journal.proofs.Answering.{step_sound}
 use Rattle.journal.proofs.KeptConsistent.{consistent_left, consistent_within, consistent}
 use Rattle.journal.proofs.Rooms.{some_queued, after_view, after_room}
 use Rattle.journal.proofs.Joined.{none_given}
@@ -97,7 +97,7 @@ module _ (g : _) (c : goal.After-conclude g) where
   sound = ⊎_elim
       (λ is. subst (λ (a : Flushed). IsSound (outs_after outs a)) (sym (is ∙ same_answer))
       (step_sound outs c.self.invariant.sound c.if-self.false some))
-      (λ is. subst (λ (a : Flushed). IsSound (outs_after outs a)) (sym is) (failed_sound outs c.self.invariant.sound))
+      (λ is. subst (λ (a : Flushed). IsSound (outs_after outs a)) (sym is) c.self.invariant.sound)
       c.step_next-answer.ensures.answer
 
   value : record outs { batches = write_outs_in c.conclude.new.queued.items; broken = c.conclude.new.broken }

@@ -1,14 +1,9 @@
 use Rattle.std.proofs.Common.{◌≤◌, ◌+◌, length, arith, ap, ◌∙◌, ◌++◌}
-use Rattle.std.proofs.lemmas.List.{length-take-le}
-use Rattle.volume_codec.proofs.Padding.{length-pushed, drop-pushed, take-pushed}
+use Rattle.volume_codec.proofs.Padding.{room-left, length-pushed, drop-pushed, take-pushed}
 use Rattle.volume_codec.proofs.block.BlockWriter.push.Goals as goal
 
 room : (c : goal.After-self-1) → c.self.inside.at + length c.args.bytes.now ≤ 4096
-room c =
-    let i = c.self.invariant in
-    let e = ap length c.self.view_is in
-    let l = length-take-le c.self.inside.at c.self.inside.block (omega (arith, i.0, i.1)) in
-    omega (arith, c.requires, e, l)
+room c = room-left _ _ _ _ c.self.invariant.0 c.self.invariant.1 c.self.view_is c.requires
 
 pub invariant_of-self : goal.invariant_of-self
 invariant_of-self c =

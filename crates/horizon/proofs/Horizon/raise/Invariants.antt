@@ -1,6 +1,6 @@
 use Rattle.crossbeam_utils.specs.Seq.{cell_view}
 use Rattle.horizon.proofs.Rises.{HasOnlyLooked}
-use Rattle.horizon.proofs.Horizon.raise_stalled.Given as goal
+use Rattle.horizon.proofs.Horizon.raise.Given as goal
 
 abbrev pub invariant-loop : goal.invariant-loop
 invariant-loop g l =

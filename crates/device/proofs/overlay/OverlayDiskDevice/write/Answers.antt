@@ -4,7 +4,7 @@ use Rattle.device.specs.inside.Logged.{changes_of}
 use Rattle.device.specs.inside.Replay.{AreWithin}
 use Rattle.device.proofs.Outcomes.{on_ok}
 use Rattle.device.proofs.Overlays.{length_of_overlay}
-use Rattle.device.proofs.overlay.OverlayDisk.apply_write.Goals as goal
+use Rattle.device.proofs.overlay.OverlayDiskDevice.write.Goals as goal
 
 pub invariant_of-self-else-is_err : goal.invariant_of-self-else-is_err
 invariant_of-self-else-is_err g c =

@@ -1,7 +1,7 @@
 use Rattle.std.proofs.Common.{rules, arith, [], ◌∷◌}
 use Rattle.horizon.specs.inside.Rule.{Lifts}
-use Rattle.horizon.proofs.Rises.{reads, raises_committed}
-use Rattle.horizon.proofs.Horizon.raise_committed.Goals as goal
+use Rattle.horizon.proofs.Rises.{reads, raises}
+use Rattle.horizon.proofs.Horizon.raise.Goals as goal
 
 pub load_as-found-requires : goal.load_as-found-requires
 load_as-found-requires g c = (search rules, (search rules, (search rules, reads _ _)))
@@ -17,6 +17,6 @@ compare_exchange_as-requires g c =
       search rules,
       (
         search rules,
-        (search rules, raises_committed _ _ c.load_as-found.result (c.max.result ∷ c.max-in-loop.result ∷ []) up),
+        (search rules, raises _ _ c.load_as-found.result (c.max.result ∷ c.max-in-loop.result ∷ []) up),
       ),
     )
