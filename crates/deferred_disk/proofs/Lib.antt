@@ -1,3 +1,4 @@
 mod Carrying
 mod Counting
 mod Deferring
+mod Pasts

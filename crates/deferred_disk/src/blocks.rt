@@ -1,14 +1,14 @@
 // The blocks of a disk that are known.
-ghost use Rattle.std.specs.Prelude.{◌≡◌, ℕ, ◌+◌, ◌-◌, ◌*◌, ◌^◌, ◌<◌, ◌≤◌, false, List, length, get_or, set, replicate, slice_range, IfOk, OnOk, OnErr};
+ghost use Rattle.std.specs.Prelude.{◌≡◌, ℕ, ◌+◌, ◌-◌, ◌*◌, ◌^◌, ◌<◌, ◌≤◌, false, None, List, length, get_or, set, replicate, slice_range, IfOk, OnOk, OnErr};
 ghost use Rattle.device.specs.Device.{written};
-ghost use Rattle.deferred_disk.specs.Deferred.{first_unknown, lacked_by_write, with_known, first_block, end_block};
+ghost use Rattle.deferred_disk.specs.Deferred.{first_unknown, lacked_by_read, lacked_by_write, with_known, first_block, end_block};
 
 use device::put;
 use std::alloc::{AllocError, Allocator};
 use std::marker::Model;
 
 // How many bytes a block has.
-pub(crate) const BLOCK: usize = 4096;
+const BLOCK: usize = 4096;
 
 // Some blocks, of which some are known. What stands in place of the others says nothing.
 #[derive(Drop)]
@@ -41,19 +41,30 @@ impl<A: Allocator + Copy> Blocks<A> {
         })
     }
 
+    // The end of so many bytes from an offset on.
+    fn end_of(&self, at: usize, count: usize) -> usize
+        requires { at + count ≤ length self.now.bytes }
+        ensures { result ≡ at + count }
+    {
+        // The blocks' length is below 2^64, so the end of a range within it doesn't wrap.
+        let _ = self.bytes.len();
+        at + count
+    }
+
     // The first that isn't known of those from one up to another.
-    pub(crate) fn first_unknown(&self, from: usize, to: usize) -> Option<usize>
+    fn first_unknown(&self, from: usize, to: usize) -> Option<usize>
         ensures { result ≡ first_unknown self.now.flags from (to - from) }
     {
         first_false(&self.known, from, to)
     }
 
-    // The first that isn't known of those that a write from one place up to another covers in part.
-    pub(crate) fn lacked_by_write(&self, from: usize, end: usize) -> Option<usize>
-        requires { from ≤ end }
-        ensures { result ≡ lacked_by_write self.now.flags from (end - from) }
+    // The first that isn't known of those that a write of so many bytes from an offset on covers in part.
+    pub(crate) fn lacked_by_write(&self, at: usize, count: usize) -> Option<usize>
+        requires { at + count ≤ length self.now.bytes }
+        ensures { result ≡ lacked_by_write self.now.flags at count }
     {
-        match self.first_unknown(from / BLOCK, from.div_ceil(BLOCK)) {
+        let end = self.end_of(at, count);
+        match self.first_unknown(at / BLOCK, at.div_ceil(BLOCK)) {
             Some(block) => Some(block),
             None => self.first_unknown(end / BLOCK, end.div_ceil(BLOCK)),
         }
@@ -65,12 +76,20 @@ impl<A: Allocator + Copy> Blocks<A> {
         flag(&self.known, block)
     }
 
-    // Copies bytes from an offset on.
-    pub(crate) fn read(&self, at: usize, buffer: &mut [u8])
+    // Copies bytes from an offset on, or says which block is the first that isn't known of those that they reach.
+    pub(crate) fn read(&self, at: usize, buffer: &mut [u8]) -> Option<usize>
         requires { at + length buffer.old ≤ length self.now.bytes }
-        ensures { buffer.new ≡ slice_range self.now.bytes at (at + length buffer.old) }
+        ensures lacked { result ≡ lacked_by_read self.now.flags at (length buffer.old) }
+        ensures bytes { result ≡ None → buffer.new ≡ slice_range self.now.bytes at (at + length buffer.old) }
     {
-        buffer.copy_from_slice(&self.bytes[at..at + buffer.len()]);
+        let end = self.end_of(at, buffer.len());
+        match self.first_unknown(at / BLOCK, end.div_ceil(BLOCK)) {
+            Some(block) => Some(block),
+            None => {
+                buffer.copy_from_slice(&self.bytes[at..end]);
+                None
+            }
+        }
     }
 
     // Puts bytes at an offset; the blocks that they reach are known. It is refused memory, or does it.

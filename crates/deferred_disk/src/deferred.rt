@@ -11,7 +11,7 @@ ghost use Rattle.deferred_disk.specs.Lent.{change_lent};
 ghost use Rattle.device.specs.inside.Logged.{change_of, changes_of};
 ghost use Rattle.device.specs.inside.Replay.{AreWithin};
 
-use crate::blocks::{BLOCK, Blocks};
+use crate::blocks::Blocks;
 use crate::past::Past;
 use device::{Device, DeviceFault, Logged, make_durable, raise, write_at};
 use std::alloc::{AllocError, Allocator};
@@ -71,7 +71,8 @@ impl<A: Allocator + Copy> Model for DeferredDisk<A> {
       faults = disk.faults;
     } };
 
-    ghost invariant = { λ disk. IsKept disk.past.first disk.past.changes disk.past.supplied disk.blocks.bytes disk.blocks.flags (changes_of disk.log.items) disk.len
+    ghost invariant = { λ disk. IsKept disk.past.first disk.past.changes disk.past.supplied disk.blocks.bytes
+        disk.blocks.flags (changes_of disk.log.items) disk.len
         × AreCounted disk.recorded disk.past.changes };
 }
 
@@ -229,64 +230,6 @@ impl<A: Allocator + Copy> DeferredDisk<A> {
     {
         self.log.len()
     }
-
-    fn apply_read(&mut self, at: u64, buffer: &mut [u8]) -> Result<(), DeviceFault>
-        requires { at + length buffer.old ≤ length (seen_of (as_recorded self.old)) }
-        ensures counted { self.new
-            ≡ after_read self.old (lacked_by_read self.old.known at (length buffer.old)) (is_ok result) }
-        ensures lacks { is_ok result ≡ is_none (lacked_by_read self.old.known at (length buffer.old)) }
-        ensures bytes { IsSuppliedWell self.old → OnOk result
-            (buffer.new ≡ slice_range (seen_of (as_recorded self.old)) at (at + length buffer.old)) }
-    {
-        raise(&mut self.calls);
-        let from = at as usize;
-        let end = from + buffer.len();
-        self.wanted = self.blocks.first_unknown(from / BLOCK, end.div_ceil(BLOCK));
-        if self.wanted.is_some() {
-            raise(&mut self.faults);
-            return Err(DeviceFault);
-        }
-        self.blocks.read(from, buffer);
-        Ok(())
-    }
-
-    fn apply_write(&mut self, at: u64, bytes: &[u8]) -> Result<(), DeviceFault>
-        requires { at + length bytes.now ≤ length (seen_of (as_recorded self.old)) }
-        ensures lacks { IsOk result → lacked_by_write self.old.known at (length bytes.now) ≡ None }
-        ensures ok { OnOk result (self.new ≡ after_write self.old at bytes.now) }
-        ensures err { OnErr result (self.new
-            ≡ after_refusal self.old (lacked_by_write self.old.known at (length bytes.now))) }
-    {
-        raise(&mut self.calls);
-        let from = at as usize;
-        self.wanted = self.blocks.lacked_by_write(from, from + bytes.len());
-        if self.wanted.is_some() {
-            raise(&mut self.faults);
-            return Err(DeviceFault);
-        }
-        if keep_write(self.alloc, &mut self.log, &mut self.blocks, at, bytes).is_err() {
-            raise(&mut self.faults);
-            return Err(DeviceFault);
-        }
-        self.past = Past::with_write(&self.past, &at, bytes);
-        self.recorded = self.recorded.saturating_add(1);
-        Ok(())
-    }
-
-    fn apply_sync(&mut self) -> Result<(), DeviceFault>
-        ensures ok { OnOk result (self.new ≡ after_sync self.old) }
-        ensures err { OnErr result (self.new ≡ after_refusal self.old None) }
-    {
-        raise(&mut self.calls);
-        self.wanted = None;
-        if keep_sync(&mut self.log).is_err() {
-            raise(&mut self.faults);
-            return Err(DeviceFault);
-        }
-        self.past = Past::with_sync(&self.past);
-        self.recorded = self.recorded.saturating_add(1);
-        Ok(())
-    }
 }
 
 impl<A: Allocator + Copy> Device for DeferredDisk<A> {
@@ -331,7 +274,13 @@ impl<A: Allocator + Copy> Device for DeferredDisk<A> {
             ≡ after_read self.old (lacked_by_read self.old.known at (length buffer.old)) (is_ok result) }
         ensures lacks { is_ok result ≡ is_none (lacked_by_read self.old.known at (length buffer.old)) }
     {
-        self.apply_read(at, buffer)
+        raise(&mut self.calls);
+        self.wanted = self.blocks.read(at as usize, buffer);
+        if self.wanted.is_some() {
+            raise(&mut self.faults);
+            return Err(DeviceFault);
+        }
+        Ok(())
     }
 
     fn write(&mut self, at: u64, bytes: &[u8]) -> Result<(), DeviceFault>
@@ -343,14 +292,34 @@ impl<A: Allocator + Copy> Device for DeferredDisk<A> {
         ensures refused { OnErr result (self.new
             ≡ after_refusal self.old (lacked_by_write self.old.known at (length bytes.now))) }
     {
-        self.apply_write(at, bytes)
+        raise(&mut self.calls);
+        self.wanted = self.blocks.lacked_by_write(at as usize, bytes.len());
+        if self.wanted.is_some() {
+            raise(&mut self.faults);
+            return Err(DeviceFault);
+        }
+        if keep_write(self.alloc, &mut self.log, &mut self.blocks, at, bytes).is_err() {
+            raise(&mut self.faults);
+            return Err(DeviceFault);
+        }
+        self.past = Past::with_write(&self.past, &at, bytes);
+        self.recorded = self.recorded.saturating_add(1);
+        Ok(())
     }
 
     fn sync(&mut self) -> Result<(), DeviceFault>
         ensures recorded { OnOk result (self.new ≡ after_sync self.old) }
         ensures refused { OnErr result (self.new ≡ after_refusal self.old None) }
     {
-        self.apply_sync()
+        raise(&mut self.calls);
+        self.wanted = None;
+        if keep_sync(&mut self.log).is_err() {
+            raise(&mut self.faults);
+            return Err(DeviceFault);
+        }
+        self.past = Past::with_sync(&self.past);
+        self.recorded = self.recorded.saturating_add(1);
+        Ok(())
     }
 
     fn calls(&self) -> u64 {

@@ -8,6 +8,7 @@ ghost use Rattle.device.specs.Memory.DiskChange.{write, sync};
 ghost use Rattle.device.specs.inside.Codes.{change_code};
 
 use std::marker::Model;
+use std::slice::from_ref;
 
 // What the disk held at first, its writes and syncs with the last one first, and each block that was supplied beside
 // what the disk had there then.
@@ -27,11 +28,12 @@ impl Past {
         ghost content: { List ℕ }
         ensures { (result.first ≡ content) × (result.changes ≡ []) × (result.supplied ≡ []) }
     {
-        Past {}
+        Past::holding(&[], &0, &[])
     }
 
-    // A past with these parts, which the caller picks from the arguments.
-    fn holding(_before: &Past, _number: &u64, _bytes: &[u8]) -> Past
+    // A past with these parts, which the caller picks from the arguments: the past before, where there is one, and what
+    // came then.
+    fn holding(_before: &[Past], _number: &u64, _bytes: &[u8]) -> Past
         ghost held: { List ℕ × (List DiskChange × List (List ℕ × List ℕ)) }
         ensures { (result.first ≡ held.0) × (result.changes ≡ held.1.0) × (result.supplied ≡ held.1.1) }
     {
@@ -43,7 +45,7 @@ impl Past {
             × (result.changes ≡ write at.now bytes.now ∷ before.now.changes)
             × (result.supplied ≡ before.now.supplied) }
     {
-        Past::holding(before, at, bytes)
+        Past::holding(from_ref(before), at, bytes)
     }
 
     pub(crate) fn with_sync(before: &Past) -> Past
@@ -51,7 +53,7 @@ impl Past {
             × (result.changes ≡ sync ∷ before.now.changes)
             × (result.supplied ≡ before.now.supplied) }
     {
-        Past::holding(before, &0, &[])
+        Past::holding(from_ref(before), &0, &[])
     }
 
     pub(crate) fn with_block(before: &Past, block: u32, bytes: &[u8]) -> Past
@@ -62,6 +64,6 @@ impl Past {
               slice_range (content_after before.now.first before.now.changes) (4096 * block) (4096 * block + 4096),
             ) ∷ before.now.supplied) }
     {
-        Past::holding(before, &u64::from(block), bytes)
+        Past::holding(from_ref(before), &u64::from(block), bytes)
     }
 }

@@ -1,9 +1,11 @@
 -- The open batches are carried out one after another, the oldest first.
 use Rattle.std.proofs.Common.{◌≡◌, ◌≢◌, ◌≤◌, ◌⊎◌, inl, inr, ℕ, ◌+◌, ◌*◌, List, [], ◌∷◌, ◌++◌}
-use Rattle.std.proofs.Common.{length, get_or, Result, Ok, Err, refl, sym, ap, ◌∙◌, subst, arith}
+use Rattle.std.proofs.Common.{if◌then◌else◌, length, get_or, Result, Ok, Err, OnOk, is_ok}
+use Rattle.std.proofs.Common.{refl, sym, ap, ◌∙◌, subst, arith}
 use Rattle.std.specs.List.{AllByRecursion}
-use Rattle.std.proofs.lemmas.Bool.{cases_eq}
+use Rattle.std.proofs.lemmas.Bool.{true≢false, false≢true, cases_eq}
 use Rattle.std.proofs.lemmas.List.Sums.{sum_by-append}
+use Rattle.device.specs.Count.{raised}
 use Rattle.device.specs.Device.{LeavesOnly}
 use Rattle.device.specs.declared.device.Device.{Ghosts}
 use Rattle.device.proofs.Moments.{leaves_at_start, leaves_on}
@@ -27,33 +29,26 @@ pub each_unpush : {X : Type 0} (P : X → Type 0) (xs : List X) (x : X) → AllB
 each_unpush P [] x each = (tt, each.0)
 each_unpush P (y ∷ xs) x each = let rest = each_unpush P xs x each.1 in ((each.0, rest.0), rest.1)
 
--- a batch that was finished, or wasn't, as one call
-pub finishes_ok : {D E F : Type 0} {disk : Ghosts D} {g : GeometryValue} {batch : Batch} {old new : D}
-    → Finishes {T = Unit {0}} {E = E} disk g batch old (Ok tt) new
-    → Finishes {T = Unit {0}} {E = F} disk g batch old (Ok tt) new
-finishes_ok f = record {
-  finished = f.finished;
-  closed = f.closed;
-  time = f.time;
-  honest = f.honest;
-  same_length = f.same_length;
-  calls = f.calls;
-  most = f.most;
-  faults = f.faults;
-}
+-- what holds where the one call succeeded holds where another did that succeeded or failed with it
+on_ok_as : (P : Type 0) {T U E F : Type 0} (a : Result T E) (b : Result U F) → is_ok a ≡ is_ok b → OnOk a P → OnOk b P
+on_ok_as P (Ok x) (Ok y) alike p = p
+on_ok_as P (Ok x) (Err f) alike p = absurd (true≢false alike)
+on_ok_as P (Err e) (Ok y) alike p = absurd (false≢true alike)
+on_ok_as P (Err e) (Err f) alike p = tt
 
-pub finishes_err : {D T E F : Type 0} {disk : Ghosts D} {g : GeometryValue} {batch : Batch} {old new : D} {e : E}
-    (f : F) → Finishes {T = T} {E = E} disk g batch old (Err e) new
-    → Finishes {T = T} {E = F} disk g batch old (Err f) new
-finishes_err e f = record {
-  finished = f.finished;
-  closed = f.closed;
+-- a batch that was finished, or wasn't, whatever the value and the fault of the answer are
+pub finishes_as : {D T U E F : Type 0} {disk : Ghosts D} {g : GeometryValue} {batch : Batch} {old new : D}
+    (a : Result T E) (b : Result U F) → is_ok a ≡ is_ok b → Finishes disk g batch old a new
+    → Finishes disk g batch old b new
+finishes_as {disk = disk} {old = old} {new = new} a b alike f = record {
+  finished = λ v newer contents same holds. on_ok_as _ a b alike (f.finished v newer contents same holds);
+  closed = λ honest. on_ok_as _ a b alike (f.closed honest);
   time = f.time;
   honest = f.honest;
   same_length = f.same_length;
-  calls = f.calls;
+  calls = λ small. on_ok_as _ a b alike (f.calls small);
   most = f.most;
-  faults = f.faults;
+  faults = f.faults ∙ ap (λ ok. if ok then disk.faults_met old else raised (disk.faults_met old)) alike;
 }
 
 pub finished_kept : {D : Type 0} {disk : Ghosts D} {g : GeometryValue} {batch : Batch} {old new : D}

@@ -1,7 +1,6 @@
 -- A device that was erased, its gates closed and its table written is a blank volume, and what a crash leaves of that.
-use Rattle.std.proofs.Common.{◌≡◌, ◌≢◌, ◌≤◌, ◌<◌, ◌⊎◌, ℕ, ◌+◌, ◌-◌, ◌*◌, inl, inr, List, [], ◌∷◌, ◌++◌, refl}
+use Rattle.std.proofs.Common.{◌≡◌, ◌≢◌, ◌≤◌, ◌<◌, ◌⊎◌, ℕ, ◌+◌, ◌-◌, ◌*◌, inl, inr, List, ◌++◌, refl}
 use Rattle.std.proofs.Common.{length, get_or, length-append, Result, Ok, Err, OnOk, sym, ◌∙◌, ap, subst, arith}
-use Rattle.std.specs.List.{flat_map}
 use Rattle.std.proofs.lemmas.List.{ext_get_or, length-map}
 use Rattle.device.specs.Device.{written, Torn, TornFrom, LeavesOnly}
 use Rattle.device.specs.declared.device.Device.{Ghosts}
@@ -11,8 +10,8 @@ use Rattle.volume_codec.specs.Layout.{GeometryValue, journals_of, gate_block, fi
 use Rattle.volume_codec.specs.Layout.{first_file_home, lengths_blocks, block_at}
 use Rattle.volume_codec.specs.Lengths.{lengths_text}
 use Rattle.volume_codec.specs.declared.file_spec.FileSpec.{FileSpec}
-use Rattle.volume_codec.specs.Files.{AskedFile, asked_by, lengths_asked}
-use Rattle.volume_codec.specs.Text.{number_text, zeros}
+use Rattle.volume_codec.specs.Files.{AskedFile, asked_by}
+use Rattle.volume_codec.specs.Text.{zeros}
 use Rattle.volume_codec.specs.Super.{SuperValue, Fits, IsSuper, IsAsked, super_head}
 use Rattle.volume_codec.specs.Super.{entries_text, super_text, geometry_of, block_count}
 use Rattle.volume_codec.proofs.Blocks.{length-block_at, get_or-block_at, block_at-agree}
@@ -20,7 +19,7 @@ use Rattle.volume_codec.proofs.Layouts.{gate_block-low, first_home-within}
 use Rattle.volume_codec.proofs.Lengths.{table_file}
 use Rattle.volume_codec.proofs.Padding.{length-zeros, length-padded}
 use Rattle.volume_codec.proofs.Places.{fits_geometry}
-use Rattle.volume_codec.proofs.Spelling.{length-number_text, length-super_head, length-entries_text}
+use Rattle.volume_codec.proofs.Spelling.{length-super_head, length-entries_text}
 use Rattle.page_entry.specs.declared.refusal.Refusal.{Refusal}
 use Rattle.recovery.specs.Format.{HasShape, IsEmptied, IsBlank, IsPartlyFormatted}
 use Rattle.recovery.specs.inside.Erasing.{IsErased, AreEmptied, AreClosed}
@@ -190,32 +189,12 @@ asked_few layout slots files table asked =
     let r : AskedFile = record { name = f.name.now; length = f.length; capacity = f.capacity } in r) in
     omega (arith, first, second, asked.fits.few_files)
 
--- a block of lengths is whole
-length-numbers : (lengths : List ℕ) → length (flat_map (number_text 8) lengths) ≡ 8 * length lengths
-length-numbers [] = refl
-length-numbers (n ∷ ns) = omega (
-  arith,
-  length-append (number_text 8 n) (flat_map (number_text 8) ns),
-  length-number_text 8 n,
-  length-numbers ns,
-)
-
-pub length-lengths_text : (files : List FileSpec) → length files ≤ 64
-    → length (lengths_text (lengths_asked (asked_by files))) ≡ 4096
-length-lengths_text files few =
-    let lengths = lengths_asked (asked_by files) in
-    let count : length lengths ≡ length files =
-    length-map (asked_by files) (λ (f : AskedFile). f.length) ∙ length-map files (λ (f : FileSpec).
-    let r : AskedFile = record { name = f.name.now; length = f.length; capacity = f.capacity } in r) in
-    length-padded 4096 (flat_map (number_text 8) lengths) (omega (arith, length-numbers lengths, count, few))
-
 -- the lengths are written where they are read
-pub said_there : (home at : ℕ) (old new block text : List ℕ) → at ≡ 4096 * home → 4096 * home + 4096 ≤ length old
-    → block ≡ text → length text ≡ 4096 → new ≡ written old at block → block_at new home ≡ text
-said_there home at old new block text place fits same whole is =
+pub said_there : (home at : ℕ) (old new block : List ℕ) → at ≡ 4096 * home → 4096 * home + 4096 ≤ length old
+    → length block ≡ 4096 → new ≡ written old at block → block_at new home ≡ block
+said_there home at old new block place fits whole is =
     let here : new ≡ written old (4096 * home) block = is ∙ ap (λ k. written old k block) place in
-    ap (λ (bytes : List ℕ). block_at bytes home) here
-    ∙ block_at-written old home block (ap length same ∙ whole) fits ∙ same
+    ap (λ (bytes : List ℕ). block_at bytes home) here ∙ block_at-written old home block whole fits
 
 -- the shape of what is asked for on a device of so many bytes
 pub shape_here : (layout : ℕ) (files : List AskedFile) (slots bytes size : ℕ) (table : SuperValue) → bytes ≡ size

@@ -22,7 +22,6 @@ use Rattle.volume_codec.proofs.Layouts.{gate_block-low}
 use Rattle.volume_codec.proofs.Lengths.{table_file, asked_are, asked_lengths_in, asked_has_lengths, index_is, there_is}
 use Rattle.volume_codec.proofs.Places.{first_home_of-le}
 use Rattle.volume_codec.proofs.Recovered.{blocks_from-device}
-use Rattle.volume_codec.proofs.TableLemmas.{one_asked}
 use Rattle.recovery.specs.Format.{HasShape, IsEmptied}
 use Rattle.recovery.specs.Migration.{asked_again, asked_of, AreZeroPast, IsFilled}
 use Rattle.recovery.specs.Migration.{IsPartlyMigrated, LeftByMigration, HasMigrated}
@@ -446,11 +445,6 @@ specs_all files fs lengths i count all was =
     ∙ take_all i (asked_again fs lengths) (omega (arith, length-again fs lengths count, all))
 
 -- what was asked for again is one table, on which the lengths are laid out
-pub one_again : (layout slots : ℕ) (asked others : List AskedFile) (table other : SuperValue) → asked ≡ others
-    → IsAsked layout asked slots table → IsAsked layout others slots other → table ≡ other
-one_again layout slots asked others table other same is is_other = let P : List AskedFile → Type 0 =
-    λ files. IsAsked layout files slots table in one_asked layout others slots table other (subst P same is) is_other
-
 pub shape_again : (layout slots bytes size : ℕ) (asked others : List AskedFile) (table : SuperValue) → asked ≡ others
     → bytes ≡ size → HasShape layout asked slots bytes table → HasShape layout others slots size table
 shape_again layout slots bytes size asked others table same long shape =

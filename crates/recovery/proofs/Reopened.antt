@@ -85,22 +85,24 @@ refused_for bytes files Device r reason = inl refl
 refused_for bytes files OutOfMemory r reason = inr refl
 refused_for bytes files _ r reason = absurd reason
 
+-- what recovers to files does so still where it recovers to all that it did
+abbrev recovers_too : (d c : List ℕ) (files : List File)
+    → ((table : SuperValue) (contents : ℕ → List ℕ) → Recovers table contents d → Recovers table contents c)
+    → RecoversTo d files → RecoversTo c files
+recovers_too d c files alike r = record {
+  table = r.table;
+  contents = r.contents;
+  recovers = alike r.table r.contents r.recovers;
+  lengths = r.lengths;
+  files_are = r.files_are;
+}
+
 -- each list of these recovers as one of those, and those pass a test
 pub tested_as : (test : List File → Bool) (first later : List ℕ → Type 0)
     → ((c : List ℕ) → later c → RecoversAs first c) → AllRecover test first → AllRecover test later
 tested_as test first later alike all c left =
     let d = alike c left in
-    let r = all d.0 d.1 in (
-      r.0,
-      record {
-        table = r.1.table;
-        contents = r.1.contents;
-        recovers = d.2 r.1.table r.1.contents r.1.recovers;
-        lengths = r.1.lengths;
-        files_are = r.1.files_are;
-      },
-      r.2,
-    )
+    let r = all d.0 d.1 in (r.0, recovers_too d.0 c r.0 d.2 r.1, r.2)
 
 module _ {D : Type 0} (disk : Ghosts D)
     (seen_is_left : (device : D) → disk.is_honest device → disk.may_leave device (disk.seen device))
@@ -176,14 +178,7 @@ module _ {D : Type 0} (disk : Ghosts D)
       recovering = all d.0 d.1
 
       later_recovers : RecoversTo (disk.seen later) recovering.0
-      later_recovers =
-          record {
-            table = recovering.1.table;
-            contents = recovering.1.contents;
-            recovers = d.2 recovering.1.table recovering.1.contents recovering.1.recovers;
-            lengths = recovering.1.lengths;
-            files_are = recovering.1.files_are;
-          }
+      later_recovers = recovers_too d.0 (disk.seen later) recovering.0 d.2 recovering.1
 
       by : (r : Result SuperValue Refusal)
           → MatchResult r (λ table. HasOpened disk later table after) (λ refusal. HasRefused disk later refusal after)

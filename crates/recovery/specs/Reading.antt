@@ -34,19 +34,20 @@ batches_of found = map (λ journal. batch_of journal) found
 abbrev pub AreBatches : GeometryValue → List Batch → Type 0
 AreBatches g batches = AllByRecursion (IsBatch g) batches
 
+-- what was read is damaged where it has no value, as this states; else a device call failed, or memory was lacking
+abbrev pub RefusesReading : Type 0 → Refusal → Type 0
+RefusesReading no_value Damaged = no_value
+RefusesReading no_value Device = Unit {0}
+RefusesReading no_value OutOfMemory = Unit {0}
+RefusesReading no_value _ = ⊥
+
 -- an open journal is damaged where its descriptor says no value
 abbrev pub RefusesJournal : GeometryValue → List ℕ → Refusal → Type 0
-RefusesJournal g bytes Damaged = (d : DescriptorValue) → IsDescriptor g d bytes → ⊥
-RefusesJournal g bytes Device = Unit {0}
-RefusesJournal g bytes OutOfMemory = Unit {0}
-RefusesJournal g bytes _ = ⊥
+RefusesJournal g bytes refusal = RefusesReading ((d : DescriptorValue) → IsDescriptor g d bytes → ⊥) refusal
 
 -- journals are damaged where there is no list of the open batches
 abbrev pub RefusesJournals : GeometryValue → List ℕ → Refusal → Type 0
-RefusesJournals g bytes Damaged = (batches : List Batch) → AreOpen g batches bytes → ⊥
-RefusesJournals g bytes Device = Unit {0}
-RefusesJournals g bytes OutOfMemory = Unit {0}
-RefusesJournals g bytes _ = ⊥
+RefusesJournals g bytes refusal = RefusesReading ((batches : List Batch) → AreOpen g batches bytes → ⊥) refusal
 
 -- these are the lengths of the files in what these bytes recover to, where these are the open batches
 pub record AreFound (table : SuperValue) (batches : List Batch) (bytes : List ℕ) (lengths : List ℕ) : Type 0 where

@@ -3,13 +3,12 @@ ghost use Rattle.std.specs.Prelude.{◌≡◌, ◌⊎◌, ◌+◌, ◌-◌, ◌*
 ghost use Rattle.device.specs.Device.{Only, LeavesOnly};
 ghost use Rattle.volume_codec.specs.Files.{asked_by, asked_by_pairs, lengths_asked};
 ghost use Rattle.volume_codec.specs.Layout.{GeometryValue, IsGeometry, journals_of, lengths_blocks, gate_block, first_home, block_at};
-ghost use Rattle.volume_codec.specs.Lengths.{lengths_text};
 ghost use Rattle.volume_codec.specs.Text.{zeros};
 ghost use Rattle.volume_codec.specs.Super.{SuperValue, IsAsked, Fits, super_text, block_count, geometry_of};
 ghost use Rattle.recovery.specs.Counts.{Rises, RisesWithin, IsAccounted};
 ghost use Rattle.recovery.specs.Format.{HasShape, IsEmptied, IsBlank, IsPartlyFormatted, HasFormatted, LeftByFormat, RefusesFormat, format_calls};
 ghost use Rattle.recovery.specs.inside.Erasing.{IsErased, AreClosed, AreEmptied};
-ghost use Rattle.recovery.specs.inside.Writing.{HasOverwritten, HasFinished, laying_calls};
+ghost use Rattle.recovery.specs.inside.Writing.{HasRoom, HasOverwritten, HasFinished, laying_calls};
 
 use crate::calls::{sync, write, write_synced};
 use device::Device;
@@ -71,17 +70,15 @@ fn erase<D: Device>(device: &mut D, from: u64, to: u64) -> Result<(), Refusal>
     Ok(())
 }
 
-/// Writes the lengths of these files into their block, where the layout has one.
+/// Writes the block of lengths, where the layout has one.
 fn put_lengths<D: Device>(
     device: &mut D,
     geometry: &Geometry,
-    files: &[FileSpec],
+    lengths: &[u8; 4096],
 ) -> Result<(), Refusal>
-    requires long { 4096 * geometry.now.blocks ≤ length (D.seen device.old) }
-    requires few { length files.now ≤ 64 }
+    requires { 4096 * geometry.now.blocks ≤ length (D.seen device.old) }
     ensures said { D.is_honest device.old → OnOk result (0 < lengths_blocks geometry.now.layout
-        → block_at (D.seen device.new) (first_home geometry.now.layout geometry.now.slots)
-        ≡ lengths_text (lengths_asked (asked_by files.now))) }
+        → block_at (D.seen device.new) (first_home geometry.now.layout geometry.now.slots) ≡ lengths.now) }
     ensures overwrites { HasOverwritten D.Device (4096 * first_home geometry.now.layout geometry.now.slots)
         (4096 * lengths_blocks geometry.now.layout) (lengths_blocks geometry.now.layout) device.old result device.new }
     ensures fault { IfErr result (λ refusal. refusal ≡ Refusal.Device) }
@@ -91,7 +88,7 @@ fn put_lengths<D: Device>(
     if geometry.layout().lengths_blocks() == 0 {
         return Ok(());
     }
-    write(device, PAGE * u64::from(home), &write_lengths_of(files))
+    write(device, PAGE * u64::from(home), lengths)
 }
 
 /// Writes the home blocks of a volume with these files: their lengths, where a block has them, and zeros.
@@ -100,8 +97,7 @@ fn empty_homes<D: Device>(
     geometry: &Geometry,
     files: &[FileSpec],
 ) -> Result<(), Refusal>
-    requires long { 4096 * geometry.now.blocks ≤ length (D.seen device.old) }
-    requires few { length files.now ≤ 64 }
+    requires { HasRoom geometry.now.blocks files.now (D.seen device.old) }
     ensures emptied { D.is_honest device.old → OnOk result (AreEmptied geometry.now
         (lengths_asked (asked_by files.now)) (D.seen device.old) (D.seen device.new)) }
     ensures overwrites { HasOverwritten D.Device (4096 * first_home geometry.now.layout geometry.now.slots)
@@ -112,7 +108,7 @@ fn empty_homes<D: Device>(
 {
     let homes = PAGE * u64::from(geometry.first_home());
     erase(device, homes, PAGE * u64::from(geometry.block_count()))?;
-    put_lengths(device, geometry, files)
+    put_lengths(device, geometry, &write_lengths_of(files))
 }
 
 /// Closes the gates of all journals.
@@ -138,8 +134,7 @@ pub(crate) fn lay_out<D: Device, A: Allocator + Copy>(
     table: &Super<A>,
     files: &[FileSpec],
 ) -> Result<(), Refusal>
-    requires long { 4096 * block_count table.now ≤ length (D.seen device.old) }
-    requires few { length files.now ≤ 64 }
+    requires { HasRoom (block_count table.now) files.now (D.seen device.old) }
     ensures emptied { D.is_honest device.old → OnOk result
         (IsEmptied table.now (lengths_asked (asked_by files.now)) (D.seen device.new)) }
     ensures overwrites { HasOverwritten D.Device 4096 (4096 * block_count table.now - 4096) (laying_calls table.now)
@@ -173,8 +168,7 @@ fn write_table<D: Device, A: Allocator + Copy>(
     table: &Super<A>,
     files: &[FileSpec],
 ) -> Result<(), Refusal>
-    requires long { 4096 * block_count table.now ≤ length (D.seen device.old) }
-    requires few { length files.now ≤ 64 }
+    requires room { HasRoom (block_count table.now) files.now (D.seen device.old) }
     requires fits { Fits table.now }
     ensures blank { D.is_honest device.old → OnOk result
         (IsBlank table.now (lengths_asked (asked_by files.now)) (D.seen device.new)) }

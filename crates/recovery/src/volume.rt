@@ -132,13 +132,8 @@ impl<D: Device, A: Allocator + Copy> Volume<D, A> {
         ensures device { result ≡ self.device }
         ensures well_formed { IsWellFormed D.Device self }
     {
-        let Volume {
-            table,
-            lengths,
-            device,
-        } = self;
+        let (table, device) = self.into_parts();
         drop(table);
-        drop(lengths);
         device
     }
 

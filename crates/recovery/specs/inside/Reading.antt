@@ -3,13 +3,13 @@ use Rattle.std.specs.Prelude.{◌≡◌, ◌⊎◌, ◌+◌, ◌*◌, ◌<◌, �
 use Rattle.std.specs.Prelude.{[], ◌∷◌, length, sum_by, Result, Ok, Err}
 use Rattle.std.specs.List.{AllByRecursion, insert}
 use Rattle.page_entry.specs.declared.refusal.Refusal.{Refusal}
-use Rattle.page_entry.specs.declared.refusal.Refusal.TheVariants.{Device, OutOfMemory, Damaged}
+use Rattle.page_entry.specs.declared.refusal.Refusal.TheVariants.{OutOfMemory, Damaged}
 use Rattle.volume_codec.specs.Layout.{GeometryValue, journals_of, block_at}
 use Rattle.volume_codec.specs.Super.{SuperValue, IsSuper}
 use Rattle.volume_codec.specs.Lengths.{IsLengths}
 use Rattle.volume_codec.specs.Recovery.{Batch, IsOpenBatch, IsOpen, has_journal}
 use Rattle.recovery.specs.Counts.{RisesWithin}
-pub use Rattle.recovery.specs.Reading.{batch_of, batches_of, RefusesJournal, RefusesJournals, AreFound}
+pub use Rattle.recovery.specs.Reading.{batch_of, batches_of, RefusesReading, RefusesJournal, RefusesJournals, AreFound}
 
 -- how many device calls carry out these batches
 abbrev pub carry_calls : List Batch → ℕ
@@ -48,10 +48,7 @@ RefusesAdding batch batches _ = ⊥
 
 -- a block of lengths is damaged where it says none
 abbrev pub RefusesStored : SuperValue → List ℕ → Refusal → Type 0
-RefusesStored table block Damaged = (lengths : List ℕ) → IsLengths table lengths block → ⊥
-RefusesStored table block Device = Unit {0}
-RefusesStored table block OutOfMemory = Unit {0}
-RefusesStored table block _ = ⊥
+RefusesStored table block refusal = RefusesReading ((lengths : List ℕ) → IsLengths table lengths block → ⊥) refusal
 
 -- how many device calls it takes at most to find the open batches of a device with these bytes
 abbrev pub JudgesWithin : List ℕ → ℕ → ℕ → Type 0

@@ -1,13 +1,20 @@
 -- What the device calls that formatting is made of did.
-use Rattle.std.specs.Prelude.{◌≡◌, ◌⊎◌, ℕ, ◌+◌, ◌-◌, ◌/◌, Bool, true, false, List, Result, OnOk}
+use Rattle.std.specs.Prelude.{◌≡◌, ◌⊎◌, ℕ, ◌+◌, ◌-◌, ◌*◌, ◌/◌, ◌≤◌, Bool, true, false}
+use Rattle.std.specs.Prelude.{List, length, Result, OnOk}
 use Rattle.device.specs.Device.{written, Torn, TornFrom, Only, LeavesOnly}
 use Rattle.device.specs.Did.{Did}
 use Rattle.device.specs.Work.{Work}
 use Rattle.device.specs.declared.device.Device.{Ghosts}
 use Rattle.page_entry.specs.declared.refusal.Refusal.{Refusal}
 use Rattle.volume_codec.specs.Layout.{journals_of, lengths_blocks, first_home}
+use Rattle.volume_codec.specs.declared.file_spec.FileSpec.{FileSpec}
 use Rattle.volume_codec.specs.Super.{SuperValue, block_count}
 use Rattle.recovery.specs.Counts.{Rises, RisesWithin, IsAccounted}
+
+-- a device with these bytes has so many blocks, and no more files are asked for than a volume has
+pub record HasRoom (blocks : ℕ) (files : List FileSpec) (bytes : List ℕ) : Type 0 where
+  pub long : 4096 * blocks ≤ length bytes
+  pub few : length files ≤ 64
 
 -- of two works the second was asked where the first was done
 abbrev pub DidBoth : {D : Type 0} → Ghosts D → D → Work → Work → Bool → D → Type 0

@@ -12,15 +12,14 @@ use Rattle.recovery.specs.Format.{IsBlank, RefusesFormat, format_calls}
 use Rattle.recovery.proofs.Formatted.{asked_few, both_ok, shape_here}
 use Rattle.recovery.proofs.formatting.format_as.Goals as goal
 
-pub write_table-requires-clause-few : goal.write_table-requires-clause-few
-write_table-requires-clause-few g c =
-    asked_few c.args.layout c.args.slots c.args.files.now c.in_ok-table.table c.in_ok-table.ensures.ok.asked
+pub write_table-requires-clause-room : goal.write_table-requires-clause-room
+write_table-requires-clause-room g c = record {
+  long = omega (arith, c.in_ok-table.ensures.ok.long, c.len.ensures);
+  few = asked_few c.args.layout c.args.slots c.args.files.now c.in_ok-table.table c.in_ok-table.ensures.ok.asked;
+}
 
 pub write_table-requires-clause-fits : goal.write_table-requires-clause-fits
 write_table-requires-clause-fits g c = c.in_ok-table.ensures.ok.asked.fits
-
-pub write_table-requires-clause-long : goal.write_table-requires-clause-long
-write_table-requires-clause-long g c = omega (arith, c.in_ok-table.ensures.ok.long, c.len.ensures)
 
 pub returns-clause-refused : goal.returns-clause-refused
 returns-clause-refused g c =

@@ -10,6 +10,21 @@ use Rattle.recovery.proofs.Formatted.{laid}
 use Rattle.recovery.proofs.Writing.{overwritten_less, overwritten_then, overwritten_wider}
 use Rattle.recovery.proofs.formatting.lay_out.Goals as goal
 
+pub empty_homes-requires : goal.empty_homes-requires
+empty_homes-requires g c = record {
+  long =
+      omega (arith, c.requires.long, ap (λ (h : GeometryValue). h.blocks) c.geometry-geometry.ensures.value);
+  few = c.requires.few;
+}
+
+pub close_gates-requires : goal.close_gates-requires
+close_gates-requires g c = omega (
+  arith,
+  c.requires.long,
+  ap (λ (h : GeometryValue). h.blocks) c.geometry-geometry.ensures.value,
+  c.in_ok-empty_homes.ensures.overwrites.kept.len,
+)
+
 pub returns-clause-emptied : goal.returns-clause-emptied
 returns-clause-emptied g c = λ honest.
     let honest_1 = c.in_ok-empty_homes.ensures.overwrites.kept.honest.1 honest in

@@ -8,6 +8,12 @@ use Rattle.recovery.specs.Counts.{Rises}
 use Rattle.recovery.proofs.Formatted.{blank, time_of_laying, time_of_finishing}
 use Rattle.recovery.proofs.formatting.write_table.Goals as goal
 
+pub lay_out-requires : goal.lay_out-requires
+lay_out-requires g c = c.requires.room
+
+pub finish-requires-clause-long : goal.finish-requires-clause-long
+finish-requires-clause-long g c = omega (arith, c.requires.room.long, c.in_ok-lay_out.ensures.overwrites.kept.len)
+
 pub returns-clause-blank : goal.returns-clause-blank
 returns-clause-blank g c = λ honest.
     let honest_1 = c.in_ok-lay_out.ensures.overwrites.kept.honest.1 honest in

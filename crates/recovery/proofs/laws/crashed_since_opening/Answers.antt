@@ -3,13 +3,10 @@ use Rattle.recovery.proofs.laws.crashed_since_opening.Goals as goal
 
 pub returns : goal.returns
 returns g c =
-    let disk = g.D.Device in
-    let seen_is_left = g.met.D.Device.seen_is_left in
-    let now_is_since = g.met.D.Device.now_is_since in
+    let left = left_as g.D.Device g.met.D.Device.seen_is_left g.met.D.Device.now_is_since in
     record {
-      left = λ before after result l honest opens left.
-          left_as disk seen_is_left now_is_since before after result l honest opens left;
+      left = left;
       tested = λ before after result test honest opens all.
-          tested_as test (disk.may_leave before) (disk.left_since after (disk.moment before))
-          (λ l left. left_as disk seen_is_left now_is_since before after result l honest opens left) all;
+          tested_as test (g.D.Device.may_leave before) (g.D.Device.left_since after (g.D.Device.moment before))
+          (λ l. left before after result l honest opens) all;
     }

@@ -9,6 +9,7 @@ use Rattle.recovery.specs.inside.Reading.{batch_of, batches_of}
 use Rattle.recovery.proofs.Kept.{kept_none, kept_then, kept_ok, kept_err}
 use Rattle.recovery.proofs.Carrying.{each_unpush, finished_kept, failed_kept, carrying_none}
 use Rattle.recovery.proofs.Carrying.{carrying_more, carrying_failed, carrying_all}
+use Rattle.recovery.proofs.opening.carry_out_all.Goals.{In-Some}
 use Rattle.recovery.proofs.opening.carry_out_all.Goals as goal
 
 pub loop-oldest-init : goal.loop-oldest-init
@@ -24,31 +25,43 @@ loop-oldest-init g c = record {
   );
 }
 
+-- those that waited are those that wait still, and the oldest one
+popped : (g : _) (c : In-Some g) → batches_of c.loop-oldest.waiting.items
+    ≡ batches_of c.pop.new.self.items ++ batch_of c.in-Some.oldest ∷ []
+popped g c = ap batches_of c.in-Some.ensures.items
+    ∙ map-append batch_of c.pop.new.self.items (c.in-Some.oldest ∷ [])
+
+-- each of them is a batch of the volume
+batches : (g : _) (c : In-Some g)
+    → AllByRecursion (IsBatch c.args.geometry.now) (batches_of c.pop.new.self.items)
+    × IsBatch c.args.geometry.now (batch_of c.in-Some.oldest)
+batches g c = each_unpush (IsBatch c.args.geometry.now) (batches_of c.pop.new.self.items) (batch_of c.in-Some.oldest)
+    (subst (AllByRecursion (IsBatch c.args.geometry.now)) (popped g c) c.loop-oldest.invariant.carry)
+
+-- how far carrying out came before the oldest one
+so_far : (g : _) (c : In-Some g) → let i = c.loop-oldest.invariant in
+    let waited = batches_of c.pop.new.self.items ++ batch_of c.in-Some.oldest ∷ [] in
+    (batches_of c.args.found.items ≡ waited ++ i.under.0)
+    × IsCarrying g.D.Device c.args.geometry.now (batches_of c.args.found.items) waited i.under.0 c.args.device.now
+    c.loop-oldest.device
+so_far g c =
+    let i = c.loop-oldest.invariant in (
+      i.under.1 ∙ ap (λ (l : List Batch). l ++ i.under.0) (popped g c),
+      subst (λ (l : List Batch). IsCarrying g.D.Device c.args.geometry.now (batches_of c.args.found.items) l i.under.0
+          c.args.device.now c.loop-oldest.device) (popped g c) i.under.3,
+    )
+
 pub carry_out-requires-clause-batch : goal.carry_out-requires-clause-batch
-carry_out-requires-clause-batch g c =
-    let batch = batch_of c.in-Some.oldest in
-    let waiting = batches_of c.pop.new.self.items in
-    let popped : batches_of c.loop-oldest.waiting.items ≡ waiting ++ batch ∷ [] =
-    ap batches_of c.in-Some.ensures.items ∙ map-append batch_of c.pop.new.self.items (c.in-Some.oldest ∷ []) in
-    (each_unpush (IsBatch c.args.geometry.now) waiting batch
-    (subst (AllByRecursion (IsBatch c.args.geometry.now)) popped c.loop-oldest.invariant.carry)).1
+carry_out-requires-clause-batch g c = (batches g (goal.at.carry_out-requires-clause-batch g c).In-Some).1
 
 pub returns-in_err-carry_out-clause-carries : goal.returns-in_err-carry_out-clause-carries
 returns-in_err-carry_out-clause-carries g c =
-    let i = c.loop-oldest.invariant in
-    let all = batches_of c.args.found.items in
-    let batch = batch_of c.in-Some.oldest in
-    let waiting = batches_of c.pop.new.self.items in
-    let popped : batches_of c.loop-oldest.waiting.items ≡ waiting ++ batch ∷ [] =
-    ap batches_of c.in-Some.ensures.items ∙ map-append batch_of c.pop.new.self.items (c.in-Some.oldest ∷ []) in
-    let carrying = subst (λ (l : List Batch). IsCarrying g.D.Device c.args.geometry.now all l i.under.0
-    c.args.device.now c.loop-oldest.device) popped i.under.3 in
-    let split = i.under.1 ∙ ap (λ (l : List Batch). l ++ i.under.0) popped in
+    let far = so_far g (goal.at.returns-in_err-carry_out-clause-carries g c).In-Some in
     let p = err_from_is_err_and c.from_residual.result c.from_residual.ensures.1 in
-    rw (p.1, p.2) (carrying_failed g.D.Device c.args.geometry.now all c.args.device.now g.met.D.Device.seen_is_left
-    g.met.D.Device.now_is_since
-    waiting i.under.0 batch c.loop-oldest.device c.carry_out.new.device carrying _ split
-    c.in_err-carry_out.ensures.finishes)
+    rw (p.1, p.2) (carrying_failed g.D.Device c.args.geometry.now (batches_of c.args.found.items) c.args.device.now
+    g.met.D.Device.seen_is_left g.met.D.Device.now_is_since
+    (batches_of c.pop.new.self.items) c.loop-oldest.invariant.under.0 (batch_of c.in-Some.oldest) c.loop-oldest.device
+    c.carry_out.new.device far.1 _ far.0 c.in_err-carry_out.ensures.finishes)
 
 pub returns-in_err-carry_out-clause-kept : goal.returns-in_err-carry_out-clause-kept
 returns-in_err-carry_out-clause-kept g c =
@@ -58,28 +71,23 @@ returns-in_err-carry_out-clause-kept g c =
 
 pub loop-oldest-preserved : goal.loop-oldest-preserved
 loop-oldest-preserved g c =
+    let at = (goal.at.loop-oldest-preserved g c).In-Some in
     let i = c.loop-oldest.invariant in
-    let all = batches_of c.args.found.items in
     let batch = batch_of c.in-Some.oldest in
     let waiting = batches_of c.pop.new.self.items in
-    let popped : batches_of c.loop-oldest.waiting.items ≡ waiting ++ batch ∷ [] =
-    ap batches_of c.in-Some.ensures.items ∙ map-append batch_of c.pop.new.self.items (c.in-Some.oldest ∷ []) in
-    let carry = each_unpush (IsBatch c.args.geometry.now) waiting batch
-    (subst (AllByRecursion (IsBatch c.args.geometry.now)) popped i.carry) in
-    let carrying = subst (λ (l : List Batch). IsCarrying g.D.Device c.args.geometry.now all l i.under.0
-    c.args.device.now c.loop-oldest.device) popped i.under.3 in
-    let split = i.under.1 ∙ ap (λ (l : List Batch). l ++ i.under.0) popped in
+    let far = so_far g at in
+    let carry = batches g at in
     let finishes = c.in_ok-carry_out.ensures.finishes in
     record {
       kept = kept_ok tt (kept_then i.kept (finished_kept finishes));
       carry = carry.0;
       under = (
         batch ∷ i.under.0,
-        split ∙ append_assoc waiting (batch ∷ []) i.under.0,
+        far.0 ∙ append_assoc waiting (batch ∷ []) i.under.0,
         (carry.1, i.under.2),
-        carrying_more g.D.Device c.args.geometry.now all c.args.device.now g.met.D.Device.seen_is_left
-            g.met.D.Device.now_is_since
-            waiting i.under.0 batch c.loop-oldest.device c.carry_out.new.device carrying i.under.2
+        carrying_more g.D.Device c.args.geometry.now (batches_of c.args.found.items) c.args.device.now
+            g.met.D.Device.seen_is_left g.met.D.Device.now_is_since
+            waiting i.under.0 batch c.loop-oldest.device c.carry_out.new.device far.1 i.under.2
             i.kept.honest.1 finishes,
       );
     }

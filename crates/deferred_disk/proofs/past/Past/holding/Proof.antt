@@ -40,7 +40,7 @@ use Rattle.deferred_disk.specs.contracts.past.Past as past
 
 abbrev stayed : Stays (called.ended).signature.params (called.ended).kept
 stayed = (
-  stay_none_ref (0 ∷ []) tt (plain (λ _. past.the_row)) yes,
+  stay_none_slice (0 ∷ []) tt (plain (λ _. past.the_row)) yes,
   (stay_none_ref (1 ∷ []) tt (plain (λ _. u64)) yes, (stay_none_slice (2 ∷ []) tt (plain (λ _. u8)) yes, tt)),
 )
 
@@ -51,7 +51,7 @@ module _ {M : Type 1} {𝓤 : Ura M} (𝓛 : Logic 𝓤) (mem : Memory → SProp
   module _ (κs : Lfts 3) (qs : Shares 3) (a : Args called.signature κs)
       (held : List ℕ × (List DiskChange × List (List ℕ × List ℕ))) where
     abbrev before : Val
-    before = vptr a.0.ref_ptr.0 a.0.ref_ptr.1
+    before = slice_val a.0.ref_ptr (length a.0.now)
 
     abbrev number : Val
     number = vptr a.1.0.ref_ptr.0 a.1.0.ref_ptr.1
@@ -68,15 +68,17 @@ module _ {M : Type 1} {𝓤 : Ura M} (𝓛 : Logic 𝓤) (mem : Memory → SProp
     abbrev made : past.the_row.Denot
     made = record { first = held.0; changes = held.1.0; supplied = held.1.1 }
 
-    walk : length a.1.1.0.now < 2 ^ 64
+    walk : length a.0.now < 2 ^ 64 → length a.1.1.0.now < 2 ^ 64
         → ent 𝓤 (on_entry 𝓛 called.signature κs qs a (before ∷ [], (number ∷ [], (bytes ∷ [], tt))))
         (WpFn 𝓤 H C Λ code.function (before ∷ number ∷ bytes ∷ [])
         ((walk_of 𝓛 called.ended stayed (called.clauses 𝓛 mem run)).post bound))
-    walk fits =
+    walk room fits =
         qed 𝓛 (raw (alive 𝓛 called.signature κs qs) ∷ ‵ passed ∷ []) ∵ enter ! C Λ code.function
         (before ∷ number ∷ bytes ∷ []) _ $
-        alloc_all ! (λ l. pass_all ! refl ((tt, tt), ((tt, tt), ((tt, (tt, (record { fits = fits }, tt))), tt))) $ sets
-        ! (agg ! (no_more !)) refl (tt, tt) $
+        alloc_all ! (λ l. pass_all ! refl (
+          (tt, (tt, (record { fits = room }, tt))),
+          ((tt, tt), ((tt, (tt, (record { fits = fits }, tt))), tt)),
+        ) $ sets ! (agg ! (no_more !)) refl (tt, tt) $
         returns ! (look_at ! 0 refl) $ free_all ! refl $
         suffices ! _ (ends_at 𝓛 called.ended stayed (called.clauses 𝓛 mem run) bound (vstruct vnil) made
         (tt, (tt, (tt, tt))) (tt, (tt, (tt, tt)))) $
@@ -87,18 +89,18 @@ module _ {M : Type 1} {𝓤 : Ura M} (𝓛 : Logic 𝓤) (mem : Memory → SProp
   walks : Walks 𝓛 called.ended stayed (WpFn 𝓤 H C Λ code.function) (called.clauses 𝓛 mem run)
   walks =
       walked 𝓛 called.ended stayed (called.clauses 𝓛 mem run) (WpFn 𝓤 H C Λ code.function)
-      (λ κs. (shr_vals, (shr_vals, (shr_slice_vals, tt))))
+      (λ κs. (shr_slice_vals, (shr_vals, (shr_slice_vals, tt))))
       (λ κs. (
-        shr_Tells (named 0) κs.0 past.the_row,
+        shr_slice_Tells (named 0) κs.0 past.the_row,
         (shr_Tells (named 1) κs.1.0 u64, (shr_slice_Tells (named 2) κs.1.1.0 u8, tt)),
       ))
-      (λ κs qs bounds a g are. via 𝓤 _ (fst∗ 𝓤 _ (emp 𝓤)) (walk κs qs a g are.1.1.0.0.1.0))
+      (λ κs qs bounds a g are. via 𝓤 _ (fst∗ 𝓤 _ (emp 𝓤)) (walk κs qs a g are.0.0.1.0 are.1.1.0.0.1.0))
 
 meets : {M : Type 1} {𝓤 : Ura M} (𝓛 : Logic 𝓤) (mem : Memory → SProp 𝓤) (run : Routine → Fun 𝓤) (𝓣 : Tables 𝓤 𝓛.H)
     → Meets 𝓛 called.signature (WpFn 𝓤 𝓛.H 𝓣.C 𝓣.Λ code.function) (called.spec 𝓛 mem run)
 meets {𝓤 = 𝓤} 𝓛 mem run 𝓣 =
     walk_Meets 𝓛 called.ended stayed (
-      Goes-none_ref 𝓛 3 (0 ∷ []) tt (plain (λ _. past.the_row)) yes,
+      Goes-none_slice 𝓛 3 (0 ∷ []) tt (plain (λ _. past.the_row)) yes,
       (
         Goes-none_ref 𝓛 3 (1 ∷ []) tt (plain (λ _. u64)) yes,
         (Goes-none_slice 𝓛 3 (2 ∷ []) tt (plain (λ _. u8)) yes, tt),

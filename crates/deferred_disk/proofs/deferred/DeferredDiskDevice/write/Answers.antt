@@ -1,4 +1,4 @@
-use Rattle.std.proofs.Common.{◌≡◌, ◌+◌, ◌-◌, None, refl, sym, ◌∙◌, ap, subst, length, arith}
+use Rattle.std.proofs.Common.{◌≡◌, ◌+◌, None, refl, sym, ◌∙◌, ap, subst, length}
 use Rattle.deferred_disk.specs.Deferred.{Deferred, after_write, lacked_by_write}
 use Rattle.device.specs.Memory.DiskChange.{write}
 use Rattle.deferred_disk.specs.inside.Deferring.{AreCounted}
@@ -6,12 +6,11 @@ use Rattle.device.specs.inside.Logged.{changes_of}
 use Rattle.deferred_disk.proofs.Counting.{counted_more}
 use Rattle.deferred_disk.proofs.Deferring.{kept_as, kept_with_write, none_of, same_deferred, one_more, within_kept}
 use Rattle.device.proofs.Public.{on_ok}
-use Rattle.deferred_disk.proofs.deferred.DeferredDisk.apply_write.Goals as goal
+use Rattle.deferred_disk.proofs.deferred.DeferredDiskDevice.write.Goals as goal
 
-pub overflow_add-from : goal.overflow_add-from
-overflow_add-from g c =
-    let room = within_kept (c.args.at + length c.args.bytes.now) c.self.view_is c.self.invariant.0 c.requires in
-    record { fits = omega (arith, room.1.1, c.self.ranges) }
+pub lacked_by_write-self-inside-requires : goal.lacked_by_write-self-inside-requires
+lacked_by_write-self-inside-requires g c =
+    (within_kept (c.args.at + length c.args.bytes.now) c.self.view_is c.self.invariant.0 c.requires).1.0
 
 pub keep_write-requires : goal.keep_write-requires
 keep_write-requires g c =
@@ -25,9 +24,8 @@ invariant_of-self-2 g c =
     let fits = (within_kept (at + length bytes) c.self.view_is c.self.invariant.0 c.requires).0 in
     let past = c.with_write-self-inside.ensures in
     let none = sym c.is_err.ensures.value ∙ c.if-is_err.false in
-    let long : at + length bytes - at ≡ length bytes = omega arith in
     let lacked : lacked_by_write disk.blocks.flags at (length bytes) ≡ None =
-    ap (lacked_by_write disk.blocks.flags at) (sym long) ∙ sym c.lacked_by_write-self-inside.ensures
+    sym c.lacked_by_write-self-inside.ensures
     ∙ none_of c.lacked_by_write-self-inside.result (sym c.is_some.ensures ∙ c.if-is_some.false) in (
       kept_as past.0 past.1 past.2 (on_ok c.keep_write.result none c.keep_write.ensures.bytes) (on_ok
           c.keep_write.result none c.keep_write.ensures.flags) (on_ok c.keep_write.result none c.keep_write.ensures.log)
@@ -38,8 +36,8 @@ invariant_of-self-2 g c =
           (write at bytes) c.self.invariant.1 c.saturating_add-self-inside.ensures),
     )
 
-pub returns-clause-ok : goal.returns-clause-ok
-returns-clause-ok g c =
+pub returns-clause-recorded : goal.returns-clause-recorded
+returns-clause-recorded g c =
     let past = c.with_write-self-inside.ensures in
     let none = sym c.is_err.ensures.value ∙ c.if-is_err.false in
     same_deferred past.0 past.1 (one_more c.self.inside.log.items c.keep_write.new.log.items

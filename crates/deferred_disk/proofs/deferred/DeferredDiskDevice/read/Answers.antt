@@ -1,18 +1,13 @@
-use Rattle.std.proofs.Common.{◌≤◌, ◌≡◌, ◌+◌, ◌-◌, ◌/◌, None, sym, ◌∙◌, ap, subst, length, arith}
+use Rattle.std.proofs.Common.{◌≤◌, ◌≡◌, ◌+◌, sym, ◌∙◌, ap, subst, length, arith}
 use Rattle.std.specs.Prelude.{slice_range}
-use Rattle.deferred_disk.specs.Deferred.{Deferred, AreAlike, as_recorded, first_unknown, lacked_by_read}
+use Rattle.deferred_disk.specs.Deferred.{Deferred, AreAlike, as_recorded}
 use Rattle.device.specs.Memory.{seen_of, content_after}
 use Rattle.deferred_disk.proofs.Deferring.{agrees_for_read, none_of, within_kept}
 use Rattle.device.proofs.Public.{length-content_after}
-use Rattle.deferred_disk.proofs.deferred.DeferredDisk.apply_read.Goals as goal
+use Rattle.deferred_disk.proofs.deferred.DeferredDiskDevice.read.Goals as goal
 
-pub overflow_add-end : goal.overflow_add-end
-overflow_add-end g c =
-    let room = within_kept (c.args.at + length c.args.buffer.now) c.self.view_is c.self.invariant.0 c.requires in
-    record { fits = omega (arith, room.1.1, c.self.ranges) }
-
-pub read-requires : goal.read-requires
-read-requires g c =
+pub read-self-inside-requires : goal.read-self-inside-requires
+read-self-inside-requires g c =
     (within_kept (c.args.at + length c.args.buffer.now) c.self.view_is c.self.invariant.0 c.requires).1.0
 
 pub returns-clause-bytes : goal.returns-clause-bytes
@@ -29,10 +24,7 @@ returns-clause-bytes g c = λ well.
       c.self.invariant.0.bytes_length,
     ) in
     let alike = subst (λ (d : Deferred). AreAlike d.supplied) (sym c.self.view_is) well in
-    let none = none_of c.first_unknown-self-inside.result (sym c.is_some.ensures ∙ c.if-is_some.false) in
-    let lacked : lacked_by_read disk.blocks.flags c.args.at n ≡ None =
-    ap (λ k. first_unknown disk.blocks.flags (c.args.at / 4096) (k - c.args.at / 4096)) (sym c.div_ceil.ensures)
-    ∙ sym c.first_unknown-self-inside.ensures ∙ none in
-    c.read.ensures ∙ agrees_for_read disk.blocks.flags disk.blocks.bytes content c.args.at n
-    (c.self.invariant.0.agrees alike) same room lacked
+    let none = none_of c.read-self-inside.result (sym c.is_some.ensures ∙ c.if-is_some.false) in
+    c.read-self-inside.ensures.bytes none ∙ agrees_for_read disk.blocks.flags disk.blocks.bytes content c.args.at n
+    (c.self.invariant.0.agrees alike) same room (sym c.read-self-inside.ensures.lacked ∙ none)
     ∙ ap (λ (d : Deferred). slice_range (seen_of (as_recorded d)) c.args.at (c.args.at + n)) c.self.view_is
