@@ -8,7 +8,7 @@ use Rattle.machine.proofs.Names.{File, GeometryValue, Batch, Stage, Committing, 
 use Rattle.machine.proofs.Names.{Nothing, work_at, calls_of, WriteOut, next_stage, begun_of, advanced_of, work_of}
 use Rattle.machine.proofs.Names.{answer_of, calls_in_steps, WriteOutsValue, gives_way, moving, moved, outs_after}
 use Rattle.machine.proofs.Names.{is_ahead, has_writes, may_share, is_at, joined, outs_moving, Sync, ne_eqb, or_from}
-use Rattle.machine.proofs.Names.{or_left, or_right, or_parts, not, map, list_any, ◌&&◌, ◌||◌, Recording, Describing}
+use Rattle.machine.proofs.Names.{or_left, or_right, or_parts, not, map, list_any, ◌&&◌, Recording, Describing}
 use Rattle.machine.proofs.Names.{SyncingRecords, Opening, Applying, SyncingHomes, Closing}
 use Rattle.machine.proofs.Names.{next_answer, next_batch, begun, IsAt, stage_is, early_calls, all_calls}
 use Rattle.machine.proofs.Names.{Act, Reply, Step, State, Whole, Acts, MarkMade}
@@ -24,7 +24,7 @@ use Rattle.machine.specs.Rules.{next_record}
 use Rattle.machine.specs.inside.Moves.{Flushed as Stepped, Resized}
 use Rattle.machine.proofs.sound.ByMark.{marked_sound}
 use Rattle.machine.proofs.sound.Waiting.{blocks}
-use Rattle.machine.proofs.sound.Sharing.{shared, AreStepped, Makes, each_stepped, none_ahead, none_have}
+use Rattle.machine.proofs.sound.Sharing.{shared, AreStepped, Makes, each_stepped, none_ahead}
 use Rattle.machine.proofs.acts.All.{performed}
 use Rattle.machine.proofs.sound.Kept.{performed_sound}
 use Rattle.machine.proofs.durable.Steps.{GoesOn, step_goes, step_asks}
@@ -698,14 +698,14 @@ module _ {D : Type 0} (disk : Ghosts D) (files : List File) (start old marked la
   HasAsked reply count = (works : List Work) × AskFor disk number marked (steps ++ step ∷ []) (answers ++ reply ∷ [])
       new works × (length works ≡ count) × (sum_by calls_of works ≡ calls_in_steps g its_batch count)
 
-  counted : (answer : Flushed) → GoesOn answer → ((w : WriteOut) → answer_of w ≡ answer → w.batch.mark ≡ number)
-      → ((m : ℕ) → answer_of (after_steps number g.slots its_batch refl m) ≡ answer
-      → suc m ≤ all number its_batch refl g)
+  -- a step that answers so is the write-out's step of this number
+  counted : (answer : Flushed) (count : ℕ) → GoesOn answer
+      → ((w : WriteOut) → answer_of w ≡ answer → w.batch.mark ≡ number)
+      → ((m : ℕ) → answer_of (after_steps number g.slots its_batch refl m) ≡ answer → suc m ≡ count)
+      → count ≤ all number its_batch refl g
       → ((d d' : List ℕ) → IsStep last.state d step.p new.state d' number step.act answer)
-      → StepTaken disk last step (reply_to answer) new
-      → (m : ℕ) × (answer_of (after_steps number g.slots its_batch refl m) ≡ answer)
-      × HasAsked (reply_to answer) (suc m)
-  counted answer goes tallied few is_step here =
+      → StepTaken disk last step (reply_to answer) new → HasAsked (reply_to answer) count
+  counted answer count goes tallied at few is_step here =
       let reply = reply_to answer in
       let marks : marked.state.marks ≡ number = ap (λ (x : State). x.marks) mark.done in
       let st = subst (λ o. IsTallied number its_batch refl g o []) (sym (ap (λ (x : State). x.write_outs) mark.done))
@@ -713,9 +713,15 @@ module _ {D : Type 0} (disk : Ghosts D) (files : List File) (start old marked la
       let asked = run number its_batch refl g disk last new step reply here steps answers marked []
       (marked_sound s p number marked.state mark sound) (omega (arith, marks)) taken st in
       let flush = is_step here.answered.0 here.answered.1 here.answered.2 in
-      let end = ends number its_batch refl g disk last new step reply here answer goes tallied asked.works few flush.0
-      (ap reply_to (sym flush.1)) flush.1 asked.tallied in
-      (end.0, end.1, (asked.works ++ asked_for number last.state step.act reply, asked.asks, end.2, end.3))
+      let end = ends number its_batch refl g disk last new step reply here answer goes tallied asked.works
+      (λ m is. let same = at m is in omega (arith, few, same)) flush.0 (ap reply_to (sym flush.1)) flush.1
+      asked.tallied in
+      let same = at end.0 end.1 in (
+        asked.works ++ asked_for number last.state step.act reply,
+        asked.asks,
+        end.2 ∙ same,
+        end.3 ∙ ap (calls_in_steps g its_batch) same,
+      )
 
   slots_are : descriptor_blocks s.write_outs.geometry.slots ≡ descriptor_blocks s.table.slots
   slots_are = ap (λ (x : GeometryValue). descriptor_blocks x.slots) sound.write_outs.geometry
@@ -726,16 +732,15 @@ module _ {D : Type 0} (disk : Ghosts D) (files : List File) (start old marked la
       × (length works ≡ length (mark_homes s mark.pages) + descriptor_blocks s.table.slots + 3)
       × (sum_by calls_of works ≡ length (mark_homes s mark.pages) + descriptor_blocks s.table.slots + 3)
   committed_count here =
-      let found = counted (flushed.Committed number) tt (λ w e. (answered_at w g (flushed.Committed number) e).0)
-      (λ m e. let at = (answered_at (after_steps number g.slots its_batch refl m) g (flushed.Committed number) e).1 in
-      omega (arith, at))
+      let answer = flushed.Committed number in
+      let count = length its_batch.homes + descriptor_blocks g.slots + 3 in
+      let found = counted answer count tt (λ w e. (answered_at w g answer e).0)
+      (λ m e. let at = (answered_at (after_steps number g.slots its_batch refl m) g answer e).1 in omega (arith, at))
+      (omega arith)
       (λ d d'. (steps_alone last.state d step.p new.state d' number step.act).0) here in
-      let its_steps = after_steps number g.slots its_batch refl found.0 in
-      let at = (answered_at its_steps g (flushed.Committed number) found.1).1 in
-      let count : suc found.0 ≡ length (mark_homes s mark.pages) + descriptor_blocks s.table.slots + 3 =
-      omega (arith, at, slots_are) in
-      let few : suc found.0 ≤ length its_batch.homes + descriptor_blocks g.slots + 3 = omega (arith, at) in
-      (found.2.0, found.2.1, found.2.2 ∙ count, found.2.3 ∙ early_calls g its_batch (suc found.0) few ∙ count)
+      let steps_are : count ≡ length (mark_homes s mark.pages) + descriptor_blocks s.table.slots + 3 =
+      omega (arith, slots_are) in
+      (found.0, found.1, found.2 ∙ steps_are, found.3 ∙ early_calls g its_batch count (omega arith) ∙ steps_are)
 
   pub done_count : StepTaken disk last step (replies.Done number) new
       → (works : List Work)
@@ -743,19 +748,14 @@ module _ {D : Type 0} (disk : Ghosts D) (files : List File) (start old marked la
       × (length works ≡ 2 * length (mark_homes s mark.pages) + descriptor_blocks s.table.slots + 6)
       × (sum_by calls_of works ≡ 3 * length (mark_homes s mark.pages) + descriptor_blocks s.table.slots + 6)
   done_count here =
-      let found = counted (flushed.Done number) tt (λ w e. (answered_at w g (flushed.Done number) e).0)
-      (λ m e. let at = (answered_at (after_steps number g.slots its_batch refl m) g (flushed.Done number) e).1 in
-      omega (arith, at))
+      let answer = flushed.Done number in
+      let count = 2 * length its_batch.homes + descriptor_blocks g.slots + 6 in
+      let found = counted answer count tt (λ w e. (answered_at w g answer e).0)
+      (λ m e. let at = (answered_at (after_steps number g.slots its_batch refl m) g answer e).1 in omega (arith, at))
+      (omega arith)
       (λ d d'. (steps_alone last.state d step.p new.state d' number step.act).1) here in
-      let its_steps = after_steps number g.slots its_batch refl found.0 in
-      let at = (answered_at its_steps g (flushed.Done number) found.1).1 in
-      let count : suc found.0 ≡ 2 * length its_batch.homes + descriptor_blocks g.slots + 6 = omega (arith, at) in
-      let steps_are : suc found.0 ≡ 2 * length (mark_homes s mark.pages) + descriptor_blocks s.table.slots + 6 =
-      omega (arith, at, slots_are) in
+      let steps_are : count ≡ 2 * length (mark_homes s mark.pages) + descriptor_blocks s.table.slots + 6 =
+      omega (arith, slots_are) in
       let calls_are : 3 * length its_batch.homes + descriptor_blocks g.slots + 6
-      ≡ 3 * length (mark_homes s mark.pages) + descriptor_blocks s.table.slots + 6 = omega (arith, slots_are) in (
-        found.2.0,
-        found.2.1,
-        found.2.2 ∙ steps_are,
-        found.2.3 ∙ ap (calls_in_steps g its_batch) count ∙ all_calls g its_batch ∙ calls_are,
-      )
+      ≡ 3 * length (mark_homes s mark.pages) + descriptor_blocks s.table.slots + 6 = omega (arith, slots_are) in
+      (found.0, found.1, found.2 ∙ steps_are, found.3 ∙ all_calls g its_batch ∙ calls_are)

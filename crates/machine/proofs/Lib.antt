@@ -8,3 +8,4 @@ pub mod durable
 pub mod Refinement
 pub mod Since
 pub mod Counted
+pub mod Public

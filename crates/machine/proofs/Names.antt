@@ -108,12 +108,13 @@ pub use Rattle.machine.specs.inside.Moves.{Changing, Copy, Destroy, Drop, End, E
 pub use Rattle.machine.specs.inside.Moves.{IsMoved, IsProcessorObserved, Leaving, Mapping, Marked, Move, Moved, Moves}
 pub use Rattle.machine.specs.inside.Moves.{Performed, Remap, Replace, ReplacesProcessor, ReplacesSpaces, Running}
 pub use Rattle.machine.specs.inside.Moves.{HasStepped, SameDirty, Effect, Silent}
-pub use Rattle.machine.specs.inside.Moves.{Store, StoresBytes, Storing, effect_of}
+pub use Rattle.machine.specs.inside.Moves.{CanBegin, MakesChange, SamePlaces, Store, StoresBytes, Storing, effect_of}
 pub use Rattle.machine.specs.inside.Moves.{ending_of, reply_to, after_effect, after_effects}
 pub use Rattle.machine.specs.inside.Sound.{AreOlderCommitted, AreSpacesSound, AreWriteOutsSound, IsMemory}
 pub use Rattle.machine.specs.inside.Sound.{IsMemorySound, IsPrepared, IsSound, IsSource, IsResizable}
 pub use Rattle.machine.specs.inside.Refining.{AreContentsOf, AreMarks, ArePlain, AreTouched}
 pub use Rattle.machine.specs.inside.Refining.{HasAcknowledged, HasFiles}
+pub use Rattle.machine.specs.inside.Refining.{HasPages, HasUncommitted, IsDurable}
 pub use Rattle.machine.specs.inside.Refining.{HasParts, IsArranged, IsLatest, IsLost, Refines, IsWaiting, IsWritten}
 pub use Rattle.machine.specs.inside.Refining.{change_in, has_resized, is_resize, pending_in}
 pub use Rattle.mappings.specs.Judgement.{add_refusal, is_mappable, is_user_range, mapped_pages_of, pages_holding}

@@ -59,8 +59,6 @@ module _ {D : Type 0} (disk : Ghosts D) (files : List File) (start : Whole D) wh
       (lengths_within s.table.files s.lengths are.count are.within) in
       let has = files_at_start files s (disk.seen start.device) sound
       (ap (λ (x : State). x.resized) begins.fresh.as_booted) begins.volume begins.files_are begins.lengths_are in
-      let pages = pages_at_start files s begins.fresh has in
-      let d = durable_at_start disk files start sound begins in
       record {
         begins = begins;
         honest = begins.honest;
@@ -68,15 +66,9 @@ module _ {D : Type 0} (disk : Ghosts D) (files : List File) (start : Whole D) wh
         lawful = tt;
         refines = record {
           sound = sound;
-          files_are = has;
           arranged = arranged_at_start files s begins.fresh has;
-          latest = pages.latest;
-          touched = pages.touched;
-          plain = pages.plain;
-          old = d.old;
-          new = d.new;
-          consistent = d.consistent;
-          written = d.written;
+          pages = pages_at_start files s begins.fresh has;
+          durable = durable_at_start disk files start sound begins;
         };
       }
 
@@ -123,14 +115,3 @@ pub follows : {D : Type 0} (disk : Ghosts D) (files : List File) (start : Whole 
     → On disk files start steps replies now
 follows disk files start steps replies now on =
     follows_all disk files start [] [] start steps replies now (follows_first disk files start on.begins) on.taken
-
--- one run after another
-pub taken_then : {D : Type 0} (disk : Ghosts D) (old mid new : Whole D) (steps : List Step) (replies : List Reply)
-    (later : List Step) (observed : List Reply) → StepsTaken disk old steps replies mid
-    → StepsTaken disk mid later observed new
-    → StepsTaken disk old (steps ++ later) (replies ++ observed) new
-taken_then {D} disk old mid new [] [] later observed first rest =
-    let P : Whole D → Type 0 = λ m. StepsTaken disk m later observed new in subst P first rest
-taken_then disk old mid new (step ∷ steps) (reply ∷ replies) later observed (next, here, first) rest =
-    (next, here, taken_then disk next mid new steps replies later observed first rest)
-taken_then disk old mid new steps replies later observed first rest = absurd first

@@ -17,7 +17,7 @@ module _ {D : Type 0} (disk : Ghosts D) (files : List File) where
       → ReadsBack files observed.history c
   reads_then observed now t c left =
       reads_now files observed now.state (disk.seen now.device) (disk.may_leave now.device)
-      t.sound t.files_are (record { old = t.old; new = t.new; consistent = t.consistent; written = t.written }) c left
+      t.sound t.files_are t.durable c left
 
   -- since a moment no later than that of the first machine: before it, or by what is observed by then
   since : (observed : Observed) (old : Whole D) (steps : List Step) (replies : List Reply)

@@ -17,6 +17,8 @@ pub mod Reached
 pub mod AtOnce
 pub mod Stops
 pub mod Words
+pub mod Accesses
+pub mod Outcomes
 pub mod Unmarked
 pub mod inside
 pub mod Later

@@ -4,7 +4,7 @@ ghost use Rattle.machine.specs.declared.act.Act.TheVariants.{Load, Store, Fill, 
 ghost use Rattle.machine.specs.Rules.{Reaches};
 ghost use Rattle.machine.specs.inside.Layers.{state_in, reply_to, IsQuiet};
 
-use crate::layers::Layers;
+use crate::layers::{Layers, reply_if};
 use crate::{FewBytes, Reply};
 use device::Device;
 use page_entry::{PageNumber, ProcessorNumber, Refusal};
@@ -55,10 +55,8 @@ impl<D: Device, A: Allocator + Copy> Layers<D, A> {
         ensures rules { Reaches (state_in self.old) p (Fill page) (reply_to result) (state_in self.new) }
         ensures quiet { IsQuiet self.old self.new }
     {
-        match cpu::fill(&mut self.shootdown, &mut self.spaces, p, page)? {
-            true => Ok(Reply::Filled),
-            false => Ok(Reply::Nothing),
-        }
+        let filled = cpu::fill(&mut self.shootdown, &mut self.spaces, p, page)?;
+        Ok(reply_if(filled, Reply::Filled))
     }
 
     // The entry in a slot of a processor's TLB is dropped, if there is such a slot.
@@ -66,9 +64,7 @@ impl<D: Device, A: Allocator + Copy> Layers<D, A> {
         ensures rules { Reaches (state_in self.old) p (Evict slot) (reply_to result) (state_in self.new) }
         ensures quiet { IsQuiet self.old self.new }
     {
-        match cpu::evict(&mut self.shootdown, p, slot as usize)? {
-            true => Ok(Reply::Evicted),
-            false => Ok(Reply::Nothing),
-        }
+        let evicted = cpu::evict(&mut self.shootdown, p, slot as usize)?;
+        Ok(reply_if(evicted, Reply::Evicted))
     }
 }

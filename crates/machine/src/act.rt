@@ -1,5 +1,7 @@
 // What a processor does in one step, and what it is answered.
 ghost use Rattle.std.specs.Prelude.{◌≡◌, ◌↔◌, IsTrue};
+ghost use Rattle.machine.specs.Accesses.{access_of};
+ghost use Rattle.machine.specs.Outcomes.{outcome_of};
 ghost use Rattle.machine.specs.Unmarked.{decides, unmarked_by};
 
 use crate::{FewBytes, MsyncFlags};
@@ -111,12 +113,52 @@ pub enum Act {
     Flush,
 }
 
+/// What an act is to the memory that it names by an address.
+#[derive(Clone, Copy)]
+pub enum Access {
+    /// It reads from this address on.
+    Load(u64),
+    /// It writes from this address on.
+    Store(u64),
+    /// It changes a TLB as hardware may at any time.
+    Translation,
+    /// Something else.
+    Other,
+}
+
 impl Act {
     /// Whether it is the other act: the same kind, with the same values.
     pub fn is_same(&self, other: &Act) -> bool
         ensures { IsTrue result ↔ (self.now ≡ other.now) }
     {
         *self == *other
+    }
+
+    /// What it is to the memory that it names by an address.
+    pub fn access(&self) -> Access
+        ensures { result ≡ access_of self.now }
+    {
+        match self {
+            Act::Load { va, .. } => Access::Load(*va),
+            Act::Store { va, .. } => Access::Store(*va),
+            Act::Fill { .. } | Act::Evict { .. } => Access::Translation,
+            Act::Switch { .. }
+            | Act::Idle
+            | Act::Wake
+            | Act::Fix { .. }
+            | Act::Create
+            | Act::Destroy { .. }
+            | Act::Map { .. }
+            | Act::Unmap { .. }
+            | Act::Protect { .. }
+            | Act::Reclaim { .. }
+            | Act::SetLength { .. }
+            | Act::Msync { .. }
+            | Act::Ack
+            | Act::Change
+            | Act::Resume
+            | Act::Flush => Access::Other,
+        }
     }
 }
 
@@ -184,6 +226,23 @@ pub enum Reply {
     Refused(Refusal),
 }
 
+/// What a reply says of stores and of marks.
+#[derive(Clone, Copy)]
+pub enum Outcome {
+    /// Something was stored, or a length set, that no mark holds yet.
+    Unmarked,
+    /// All stores so far belong to the mark of this number.
+    Marked(u32),
+    /// The mark of this number is durable.
+    Committed(u32),
+    /// Something else was done.
+    Other,
+    /// There was nothing to do.
+    Nothing,
+    /// The step was refused.
+    Refused(Refusal),
+}
+
 impl Reply {
     /// Whether it is the other reply: the same kind, with the same values.
     pub fn is_same(&self, other: &Reply) -> bool
@@ -219,13 +278,14 @@ impl Reply {
         }
     }
 
-    /// What it says of stores and lengths that no mark holds yet: that there are some, that there are none, or nothing.
-    pub fn decides(&self) -> Option<bool>
-        ensures { result ≡ decides self.now }
+    /// What it says of stores and of marks.
+    pub fn outcome(&self) -> Outcome
+        ensures { result ≡ outcome_of self.now }
     {
         match self {
-            Reply::Stored | Reply::Resized => Some(true),
-            Reply::Marked(_) => Some(false),
+            Reply::Stored | Reply::Resized => Outcome::Unmarked,
+            Reply::Marked(mark) => Outcome::Marked(*mark),
+            Reply::Committed(mark) => Outcome::Committed(*mark),
             Reply::Bytes(_)
             | Reply::Filled
             | Reply::Evicted
@@ -245,10 +305,20 @@ impl Reply {
             | Reply::Acked
             | Reply::Resumed
             | Reply::Going
-            | Reply::Committed(_)
-            | Reply::Done(_)
-            | Reply::Nothing
-            | Reply::Refused(_) => None,
+            | Reply::Done(_) => Outcome::Other,
+            Reply::Nothing => Outcome::Nothing,
+            Reply::Refused(refusal) => Outcome::Refused(*refusal),
+        }
+    }
+
+    /// What it says of stores and lengths that no mark holds yet: that there are some, that there are none, or nothing.
+    pub fn decides(&self) -> Option<bool>
+        ensures { result ≡ decides self.now }
+    {
+        match self.outcome() {
+            Outcome::Unmarked => Some(true),
+            Outcome::Marked(_) => Some(false),
+            Outcome::Committed(_) | Outcome::Other | Outcome::Nothing | Outcome::Refused(_) => None,
         }
     }
 

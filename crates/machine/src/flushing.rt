@@ -1,5 +1,5 @@
 // Steps of write-outs.
-ghost use Rattle.std.specs.Prelude.{◌≡◌, ◌≢◌, ◌*◌, ◌≤◌, ◌<◌, ℕ, List, [], length, true, false, not, None, Err};
+ghost use Rattle.std.specs.Prelude.{◌≡◌, ◌*◌, ◌≤◌, ◌<◌, ℕ, List, length, true, not};
 ghost use Rattle.device.specs.Did.{Did};
 ghost use Rattle.volume_codec.specs.Super.{block_count};
 ghost use Rattle.journal.specs.WriteOuts.{next_work};
@@ -7,12 +7,12 @@ ghost use Rattle.checkpoint.specs.Checkpoint.{AreCopiesOfFrozen};
 ghost use Rattle.fault.specs.Fault.{is_in_memory};
 ghost use Rattle.machine.specs.declared.act.Act.TheVariants.{Flush};
 ghost use Rattle.machine.specs.Calls.{has_failed};
-ghost use Rattle.machine.specs.Refusals.{reason_against};
 ghost use Rattle.machine.specs.inside.Sound.{IsMemory, IsSound};
 ghost use Rattle.machine.specs.Rules.{bytes_at_mark, is_page_next, work_asked, Acts};
 ghost use Rattle.machine.specs.Steps.{step_work};
 ghost use Rattle.machine.specs.inside.Layers.{state_in, reply_to, AnswersBy, KeepsReserved};
-ghost use Rattle.machine.specs.inside.Flushing.{HasSmallMark, IsThere, bytes_from, reply_of_flush, memory_after, checkpoint_after};
+ghost use Rattle.machine.specs.inside.Flushing.{CanStep, IsStepped, HasSmallMark, IsThere};
+ghost use Rattle.machine.specs.inside.Flushing.{bytes_from, reply_of_flush, memory_after, checkpoint_after};
 
 use crate::Reply;
 use crate::layers::Layers;
@@ -107,17 +107,8 @@ impl<D: Device, A: Allocator + Copy> Layers<D, A> {
         requires there { IsThere self.old.frames source }
         requires bytes { next_work self.old.write_outs (bytes_from self.old.frames source)
             ≡ work_asked (state_in self.old) }
-        requires sound { IsSound (state_in self.old) }
-        requires long { 4096 * block_count self.old.table ≤ length (D.seen self.old.device) }
-        requires whole { self.old.write_outs.broken ≡ false }
-        requires some { self.old.write_outs.batches ≢ [] }
-        ensures rules { (p : ℕ) → reason_against (state_in self.old) p Flush ≡ None
-            → AnswersBy (D.is_honest self.old.device)
-            (λ d d'. Acts (state_in self.old) d p Flush (reply_to result) (state_in self.new) d')
-            (D.seen self.old.device) (D.seen self.new.device) }
-        ensures did { Did D.Device self.old.device (step_work (state_in self.old) Flush (reply_to result))
-            (not (has_failed (reply_to result))) self.new.device }
-        ensures kept { KeepsReserved self.old self.new }
+        requires ready { CanStep D.seen self.old }
+        ensures { IsStepped D.Device self.old (reply_to result) self.new }
     {
         let bytes = bytes_from(&self.frames, source);
         let answer = self.write_outs.step(&mut self.device, bytes);
@@ -129,17 +120,8 @@ impl<D: Device, A: Allocator + Copy> Layers<D, A> {
     // the file's end, then zeros. A page that ends before the file does is written from where it lies.
     fn step_record(&mut self) -> Result<Reply, Refusal>
         requires record { is_page_next (state_in self.old) ≡ true }
-        requires sound { IsSound (state_in self.old) }
-        requires long { 4096 * block_count self.old.table ≤ length (D.seen self.old.device) }
-        requires whole { self.old.write_outs.broken ≡ false }
-        requires some { self.old.write_outs.batches ≢ [] }
-        ensures rules { (p : ℕ) → reason_against (state_in self.old) p Flush ≡ None
-            → AnswersBy (D.is_honest self.old.device)
-            (λ d d'. Acts (state_in self.old) d p Flush (reply_to result) (state_in self.new) d')
-            (D.seen self.old.device) (D.seen self.new.device) }
-        ensures did { Did D.Device self.old.device (step_work (state_in self.old) Flush (reply_to result))
-            (not (has_failed (reply_to result))) self.new.device }
-        ensures kept { KeepsReserved self.old self.new }
+        requires ready { CanStep D.seen self.old }
+        ensures { IsStepped D.Device self.old (reply_to result) self.new }
     {
         let page = self.checkpoint.frozen()[0];
         let left = self
@@ -155,17 +137,8 @@ impl<D: Device, A: Allocator + Copy> Layers<D, A> {
 
     // The next step of the write-outs, of which some aren't done.
     fn step_write_outs(&mut self) -> Result<Reply, Refusal>
-        requires sound { IsSound (state_in self.old) }
-        requires long { 4096 * block_count self.old.table ≤ length (D.seen self.old.device) }
-        requires whole { self.old.write_outs.broken ≡ false }
-        requires some { self.old.write_outs.batches ≢ [] }
-        ensures rules { (p : ℕ) → reason_against (state_in self.old) p Flush ≡ None
-            → AnswersBy (D.is_honest self.old.device)
-            (λ d d'. Acts (state_in self.old) d p Flush (reply_to result) (state_in self.new) d')
-            (D.seen self.old.device) (D.seen self.new.device) }
-        ensures did { Did D.Device self.old.device (step_work (state_in self.old) Flush (reply_to result))
-            (not (has_failed (reply_to result))) self.new.device }
-        ensures kept { KeepsReserved self.old self.new }
+        requires { CanStep D.seen self.old }
+        ensures { IsStepped D.Device self.old (reply_to result) self.new }
     {
         if self.is_page_next() {
             return self.step_record();

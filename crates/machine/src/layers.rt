@@ -1,5 +1,5 @@
 // The layers of a machine, which its acts use together.
-ghost use Rattle.std.specs.Prelude.{◌≡◌, ◌<◌, length};
+ghost use Rattle.std.specs.Prelude.{◌≡◌, ◌<◌, if◌then◌else◌, length};
 ghost use Rattle.shootdown.specs.Shootdown.{IsShootdown};
 ghost use Rattle.shootdown.specs.Coherence.{Coheres};
 ghost use Rattle.checkpoint.specs.Backing.{AreBacked};
@@ -7,6 +7,7 @@ ghost use Rattle.machine.specs.State.{length_of};
 ghost use Rattle.machine.specs.inside.Sound.{IsSound};
 ghost use Rattle.machine.specs.inside.Layers.{state_in};
 
+use crate::Reply;
 use crate::paging::length_at;
 use checkpoint::Checkpoint;
 use device::Device;
@@ -34,6 +35,13 @@ pub(crate) struct Layers<D: Device, A: Allocator + Copy> {
     // Whether a length was set since the last mark.
     pub(crate) resized: bool,
     pub(crate) device: D,
+}
+
+// The reply where something was done, and `Nothing` where there was nothing to do.
+pub(crate) fn reply_if(done: bool, reply: Reply) -> Reply
+    ensures { result ≡ (if done then reply else Reply.Nothing) }
+{
+    if done { reply } else { Reply::Nothing }
 }
 
 impl<D: Device, A: Allocator + Copy> Layers<D, A> {

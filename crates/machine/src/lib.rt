@@ -23,7 +23,7 @@ mod stepping;
 mod switching;
 mod tending;
 
-pub use act::{Act, Reply, Shape, Step};
+pub use act::{Access, Act, Outcome, Reply, Shape, Step};
 pub use few_bytes::FewBytes;
 pub use laws::{
     calls_of_steps, counts_of_a_write_out, faults_are_served, nothing_stored, opened_later,

@@ -177,7 +177,7 @@ impl<D: Device, A: Allocator + Copy> Machine<D, A> {
         ensures len { length (D.seen self.new.device) ≡ length (D.seen self.old.device) }
     {
         for (i, step) in steps.iter().enumerate() {
-            replies[i] = self.step(step);
+            replies[i] = self.enter(step);
         }
     }
 

@@ -79,38 +79,8 @@ fn change(
     ]
 }
 
-// Whether each page has the entry that the changes say.
-fn has_scanned(
-    table: &Table<Global>,
-    changes: &[(PageNumber, Entry)],
-    from: PageNumber,
-    to: PageNumber,
-) -> bool {
-    for page in 8..17 {
-        if table.get(page) != scanned(changes, from, to, page) {
-            return false;
-        }
-    }
-    true
-}
-
-// Whether those of pages 11 and 12 are listed as dirty that the changes leave dirty.
-fn lists_dirty(
-    table: &Table<Global>,
-    changes: &[(PageNumber, Entry)],
-    from: PageNumber,
-    to: PageNumber,
-) -> bool {
-    let mut listed = table.dirty_pages(11..13);
-    for page in 11..13 {
-        if scanned(changes, from, to, page).dirty() && listed.next() != Some(page) {
-            return false;
-        }
-    }
-    listed.next().is_none()
-}
-
-// Changes an empty table. Whether it agrees with the list of what was set then.
+// Changes an empty table. Whether each page has the entry then that the list of what was set says, and those of pages
+// 11 and 12 are listed as dirty that are so by it.
 fn agrees(
     rt: &impl Abort,
     table: &mut Table<Global>,
@@ -120,7 +90,15 @@ fn agrees(
 ) -> bool {
     let (from, to) = (cleared.start, cleared.end);
     let changes = change(rt, table, first, second, cleared);
-    has_scanned(table, &changes, from, to) && lists_dirty(table, &changes, from, to)
+    let mut listed = table.dirty_pages(11..13);
+    for page in 8..17 {
+        let wanted = scanned(&changes, from, to, page);
+        let is_listed = 11 <= page && page < 13 && wanted.dirty();
+        if table.get(page) != wanted || is_listed && listed.next() != Some(page) {
+            return false;
+        }
+    }
+    listed.next().is_none()
 }
 
 #[test]

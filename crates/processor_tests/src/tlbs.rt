@@ -46,7 +46,7 @@ fn full_tlb_drops_the_oldest(rt: HostRuntime) {
     assert!(rt; drops_the_oldest(&mut tlb));
 }
 
-// Whether a page is invalidated, then the other space's entries, where CR3 is loaded without keeping them, and then all.
+// Whether a page is invalidated, then the other space's entries, where CR3 is loaded without keeping them, then all.
 fn drops_what_is_named(tlb: &mut Tlb<Global>) -> bool {
     tlb.fill(FIRST);
     tlb.fill(OTHER);

@@ -18,24 +18,14 @@ use volume_codec::{
 // What is known of a file: its name, its capacity, how many pages it has, and its first home block.
 type Known = (&'static str, u64, u32, u32);
 
-// The sample's super block in layout 1.
-fn sample_one() -> [u8; 4096] {
+// The sample's super block in layout 1, 2 or 3.
+fn sample(layout: u64) -> [u8; 4096] {
     let mut block = [0; 4096];
-    put_super_one(&mut block);
-    block
-}
-
-// The sample's super block in layout 2.
-fn sample_two() -> [u8; 4096] {
-    let mut block = [0; 4096];
-    put_super_two(&mut block);
-    block
-}
-
-// The sample's super block in layout 3.
-fn sample_three() -> [u8; 4096] {
-    let mut block = [0; 4096];
-    put_super_three(&mut block);
+    match layout {
+        1 => put_super_one(&mut block),
+        2 => put_super_two(&mut block),
+        _ => put_super_three(&mut block),
+    }
     block
 }
 
@@ -71,9 +61,17 @@ fn is_file<A: Allocator + Copy>(table: &Super<A>, number: usize, wanted: Known) 
         && table.first_home(number) == wanted.3
 }
 
-// Whether a table has these two files.
-fn has_files<A: Allocator + Copy>(table: &Super<A>, files: [Known; 2]) -> bool {
-    is_file(table, 0, files[0]) && is_file(table, 1, files[1])
+// Where the sample has its parts in layout 1, 2 or 3, whose table has these counts and files.
+fn geometry_read<R: Abort + AllocGlobal>(
+    rt: &R,
+    layout: u64,
+    counts: (Layout, usize, u32, u32),
+    files: [Known; 2],
+) -> Geometry {
+    let table = table_of(rt, &sample(layout));
+    assert!(rt; counts_of(&table) == counts);
+    assert!(rt; is_file(&table, 0, files[0]) && is_file(&table, 1, files[1]));
+    table.geometry()
 }
 
 // Whether a table was written, and as this block.
@@ -152,14 +150,9 @@ fn is_written_one<A: Allocator + Copy>(alloc: A, block: &[u8; 4096]) -> bool {
 
 #[test]
 fn layout_1_is_written_and_read(rt: HostRuntime) {
-    let block = sample_one();
-    let table = table_of(&rt, &block);
-    assert!(rt;
-        is_written_one(rt.alloc(), &block)
-            && counts_of(&table) == (Layout::One, 2, 4, 10)
-            && has_files(&table, [("a", 5000, 2, 7), ("b", 4096, 1, 9)])
-            && is_sample_one(&table.geometry())
-    );
+    let files = [("a", 5000, 2, 7), ("b", 4096, 1, 9)];
+    let geometry = geometry_read(&rt, 1, (Layout::One, 2, 4, 10), files);
+    assert!(rt; is_written_one(rt.alloc(), &sample(1)) && is_sample_one(&geometry));
 }
 
 // Whether it is written in layout 2 as this block.
@@ -172,14 +165,9 @@ fn is_written_two<A: Allocator + Copy>(alloc: A, block: &[u8; 4096]) -> bool {
 
 #[test]
 fn layout_2_is_written_and_read(rt: HostRuntime) {
-    let block = sample_two();
-    let table = table_of(&rt, &block);
-    assert!(rt;
-        is_written_two(rt.alloc(), &block)
-            && counts_of(&table) == (Layout::Two, 2, 4, 16)
-            && has_files(&table, [("a", 5000, 2, 13), ("b", 4096, 1, 15)])
-            && is_sample_two(&table.geometry())
-    );
+    let files = [("a", 5000, 2, 13), ("b", 4096, 1, 15)];
+    let geometry = geometry_read(&rt, 2, (Layout::Two, 2, 4, 16), files);
+    assert!(rt; is_written_two(rt.alloc(), &sample(2)) && is_sample_two(&geometry));
 }
 
 fn is_sample_three(geometry: &Geometry) -> bool {
@@ -192,13 +180,11 @@ fn is_sample_three(geometry: &Geometry) -> bool {
 
 #[test]
 fn layout_3_is_written_and_read(rt: HostRuntime) {
-    let block = sample_three();
-    let table = table_of(&rt, &block);
+    let files = [("a", 12_288, 3, 14), ("b", 4096, 1, 17)];
+    let geometry = geometry_read(&rt, 3, (Layout::Three, 2, 4, 18), files);
     assert!(rt;
-        is_block(write_super_as(rt.alloc(), 3, &GROWING, 4), &block)
-            && counts_of(&table) == (Layout::Three, 2, 4, 18)
-            && has_files(&table, [("a", 12_288, 3, 14), ("b", 4096, 1, 17)])
-            && is_sample_three(&table.geometry())
+        is_block(write_super_as(rt.alloc(), 3, &GROWING, 4), &sample(3))
+            && is_sample_three(&geometry)
     );
 }
 
@@ -244,7 +230,7 @@ fn are_damaged<A: Allocator + Copy>(alloc: A, table: &Super<A>) -> bool {
 #[test]
 fn lengths_are_written_and_read(rt: HostRuntime) {
     let block = sample_lengths();
-    let table = table_of(&rt, &sample_three());
+    let table = table_of(&rt, &sample(3));
     assert!(rt;
         write_lengths(&[5000, 4096]) == block
             && write_lengths_of(&GROWING) == block
@@ -264,7 +250,7 @@ fn are_capacities<A: Allocator + Copy>(alloc: A, table: &Super<A>, wanted: &[u64
 
 #[test]
 fn capacities_are_listed(rt: HostRuntime) {
-    let table = table_of(&rt, &sample_three());
+    let table = table_of(&rt, &sample(3));
     assert!(rt; are_capacities(rt.alloc(), &table, &[12_288, 4096]));
 }
 
@@ -432,7 +418,7 @@ fn written_descriptor(rt: &impl Abort, geometry: &Geometry) -> [u8; 4096] {
 
 #[test]
 fn a_descriptor_is_written(rt: HostRuntime) {
-    let geometry = table_of(&rt, &sample_one()).geometry();
+    let geometry = table_of(&rt, &sample(1)).geometry();
     assert!(rt; written_descriptor(&rt, &geometry) == sample_descriptor());
 }
 

@@ -7,13 +7,14 @@ use Rattle.machine.proofs.Names.{IsAccess, serves, translated_by, CachedEntry, c
 use Rattle.machine.proofs.Names.{not_running, Frame, FramesState, frame_at, bytes_of, overwrite, overwrite_frame}
 use Rattle.machine.proofs.Names.{with_bytes, leaves_at_start, Rules, Reply, length-take, ShootdownState}
 use Rattle.machine.proofs.Names.{Layers, state_in, whole_in, AreLayers, drop-drop, nat_tests, zero, suc}
+use Rattle.machine.proofs.Names.{LeavesOnly, TornFromWork, Work}
 use Rattle.std.proofs.Math.Nat.{min-le_left}
 use Rattle.cpu.specs.Access.{frame_served, walking}
 use Rattle.cpu.specs.AtOnce.{frame_cached, in_page, count_at_once, stored_at_once, loaded_at_once}
 use Rattle.machine.specs.AtOnce.{store_steps, store_replies, load_steps, load_replies}
 use Rattle.machine.specs.declared.act.Act.TheVariants as acts
 use Rattle.machine.specs.declared.act.Reply.TheVariants as replies
-use Rattle.machine.proofs.code.Acting.{SinceNow}
+use Rattle.machine.proofs.code.Acting.{SinceNow, MakesNoCall, no_work, device_stays, calls_stay}
 use Rattle.machine.proofs.sound.Kept.{sound_kept}
 
 -- ---- frames with bytes written twice
@@ -137,41 +138,26 @@ module _ {D : Type 0} (disk : Ghosts D) (since_now : SinceNow disk) (device : D)
   abbrev pub over : State → Whole D
   over s = record { state = s; device = device }
 
-  -- a load or a store of a byte, with its reply
-  data IsByte : Step → Reply → Type 0 where
-    Stores : (va byte : ℕ) → IsByte (record { p = p; act = acts.Store va (byte ∷ []) }) replies.Stored
-    Loads : (va byte : ℕ) → IsByte (record { p = p; act = acts.Load va 1 }) (replies.Bytes (byte ∷ []))
-
-  taken : (s new : State) (step : Step) (reply : Reply) → IsByte step reply
+  -- an act that makes no device call is a step of it
+  taken : (s new : State) (step : Step) (reply : Reply) → MakesNoCall step.act
       → ((d : List ℕ) → Rules s d step reply new d) → StepTaken disk (over s) step reply (over new)
-  taken s new step reply (Stores va byte) rule = record {
-    answered = ([], [], rule []);
-    made = λ honest. record {
-      answered = rule (disk.seen device);
-      left = λ c may. may;
-      durable = λ other sync. absurd (cc);
-      within = leaves_at_start (λ c left. since_now device c left);
-      unread = λ from to refused copy few calls. absurd (cc);
-    };
-    device = refl;
-    calls = (refl, refl);
-    honest = (λ h. h, λ h. h);
-    len = refl;
-  }
-  taken s new step reply (Loads va byte) rule = record {
-    answered = ([], [], rule []);
-    made = λ honest. record {
-      answered = rule (disk.seen device);
-      left = λ c may. may;
-      durable = λ other sync. absurd (cc);
-      within = leaves_at_start (λ c left. since_now device c left);
-      unread = λ from to refused copy few calls. absurd (cc);
-    };
-    device = refl;
-    calls = (refl, refl);
-    honest = (λ h. h, λ h. h);
-    len = refl;
-  }
+  taken s new step reply none rule =
+      let work = no_work s step.act reply none in record {
+        answered = ([], [], rule []);
+        made = λ honest. record {
+          answered = rule (disk.seen device);
+          left = λ c may. subst (λ (w : Work). TornFromWork w (disk.may_leave device) c) (sym work) may;
+          durable = λ other sync. absurd (let both = sym work ∙ sync in cc);
+          within = subst (λ (w : Work). LeavesOnly disk.moment disk.left_since device device
+              (TornFromWork w (disk.may_leave device))) (sym work)
+              (leaves_at_start (λ c left. since_now device c left));
+          unread = λ from to refused copy few calls. absurd (let both = sym work ∙ copy in cc);
+        };
+        device = device_stays disk s step.p step.act reply device none;
+        calls = calls_stay s step.p step.act reply _ _ none;
+        honest = (λ h. h, λ h. h);
+        len = refl;
+      }
 
   -- ---- stores
 
@@ -212,7 +198,7 @@ module _ {D : Type 0} (disk : Ghosts D) (since_now : SinceNow disk) (device : D)
   stores_taken (byte ∷ []) s va frame sound hits small inside =
       let mid = written s frame (va % 4096) (byte ∷ []) in
       let rule = stored_byte s va frame byte 0 hits small inside in (
-        (over mid, taken s mid _ replies.Stored (Stores va byte) rule, refl),
+        (over mid, taken s mid _ replies.Stored tt rule, refl),
         sound_kept s [] (record { p = p; act = acts.Store va (byte ∷ []) }) replies.Stored mid [] sound (rule []),
       )
   stores_taken (byte ∷ next ∷ bytes) s va frame sound hits small inside =
@@ -233,7 +219,7 @@ module _ {D : Type 0} (disk : Ghosts D) (since_now : SinceNow disk) (device : D)
       (whole_page s frame (va % 4096) sound (omega (arith, more)))) in (
         (
           over mid,
-          taken s mid _ replies.Stored (Stores va byte) rule,
+          taken s mid _ replies.Stored tt rule,
           subst (λ (x : State). StepsTaken disk (over mid) (store_steps p (va + 1) (next ∷ bytes))
               (store_replies (next ∷ bytes)) (over x)) same rest.0,
         ),
@@ -281,14 +267,14 @@ module _ {D : Type 0} (disk : Ghosts D) (since_now : SinceNow disk) (device : D)
       → StepsTaken disk (over s) (load_steps p va bytes) (load_replies bytes) (over s)
   loads_taken [] s va frame hits small inside read = refl
   loads_taken (byte ∷ []) s va frame hits small inside read =
-      (over s, taken s s _ _ (Loads va byte) (loaded_byte s va frame byte 0 [] hits small inside read), refl)
+      (over s, taken s s _ _ tt (loaded_byte s va frame byte 0 [] hits small inside read), refl)
   loads_taken (byte ∷ next ∷ bytes) s va frame hits small inside read =
       let page = bytes_of (frame_at s.hardware.memory frame) in
       let more : va % 4096 + (length bytes + 2) ≤ 4096 = omega (arith, inside) in
       let place = next_place va (length bytes) more in
       let rest = rest_of_page page (va % 4096) byte (length (next ∷ bytes)) (next ∷ bytes) read in (
         over s,
-        taken s s _ _ (Loads va byte)
+        taken s s _ _ tt
             (loaded_byte s va frame byte (length bytes + 1) (next ∷ bytes) hits small (omega (arith, inside))
             (first_of_page page (va % 4096) byte (suc (length (next ∷ bytes))) (next ∷ bytes) read)),
         loads_taken (next ∷ bytes) s (va + 1) frame

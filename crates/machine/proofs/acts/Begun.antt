@@ -1,5 +1,5 @@
 -- The moves of changes that begin.
-use Rattle.machine.proofs.Names.{ℕ, ◌≡◌, ◌+◌, ◌-◌, ◌<◌, ◌^◌, ◌||◌, not, leb, true, false, List, [], ◌∷◌, length, Some}
+use Rattle.machine.proofs.Names.{ℕ, ◌≡◌, ◌+◌, ◌-◌, ◌<◌, ◌^◌, ◌||◌, not, leb, true, List, [], ◌∷◌, length, Some}
 use Rattle.machine.proofs.Names.{None, Ok, refl, arith, or_parts, leb-false, Rights, PageRange, FilePage, is_busy}
 use Rattle.machine.proofs.Names.{Change, maps_each, judged_range, judged_protection, judged_range-ok}
 use Rattle.machine.proofs.Names.{judged_protection-ok, not_free, current, is_in_memory, State, refuse_if, why_not}
@@ -8,7 +8,7 @@ use Rattle.machine.proofs.Names.{eqb, ltb, eqb-false, ltb-false, ne_eqb, WriteOu
 use Rattle.machine.proofs.Names.{lengths_blocks, capacity_of, length_of, lacks_frames, lacks_last_page, length_refusal}
 use Rattle.machine.proofs.Names.{resize_refusal, Resizing}
 use Rattle.machine.proofs.Names.{pages_in_file, is_msync, reason_against, MsyncFlags}
-use Rattle.machine.proofs.Names.{begin_change, IsPrepared, pending_in, Beginning, Move, Begin}
+use Rattle.machine.proofs.Names.{begin_change, CanBegin, IsPrepared, pending_in, Beginning, Move, Begin}
 use Rattle.page_entry.specs.declared.refusal.Refusal.TheVariants as refusals
 use Rattle.machine.specs.declared.act.Act.TheVariants as acts
 use Rattle.spaces.specs.declared.change.Change.TheVariants as changes
@@ -23,28 +23,21 @@ empty [] none = refl
 empty (x ∷ xs) none = absurd (omega (arith, none))
 
 module _ {disk : List ℕ} (s : State) (p : ℕ) {new : State} where
-  begins : (change : Change) → not_free s.hardware.shootdown p ≡ None → IsPrepared s change
-      → (change ≡ changes.Checkpoint → s.write_outs.broken ≡ false)
-      → new ≡ begin_change s p change → Move disk s (Beginning p (pending_in (Some change))) new
-  begins change free prepared whole is =
-      Begin (record {
-        p = p;
-        change = change;
-        free = free;
-        prepared = prepared;
-        whole = whole;
-        effect_is = refl;
-        done = is;
-      })
+  begins : (change : Change) → CanBegin s p change → new ≡ begin_change s p change
+      → Move disk s (Beginning p (pending_in (Some change))) new
+  begins change may is = Begin (record { p = p; change = change; may = may; effect_is = refl; done = is })
 
   pub unmap_moves : (pcid va len : ℕ) (range : PageRange) → reason_against s p (acts.Unmap pcid va len) ≡ None
       → judged_range s.hardware.spaces pcid va len ≡ Ok range
       → new ≡ begin_change s p (changes.Unmap pcid range)
       → Move disk s (Beginning p (pending_in (Some (changes.Unmap pcid range)))) new
   unmap_moves pcid va len range none judged is =
-      begins (changes.Unmap pcid range) (first_none (not_free s.hardware.shootdown p)
-      (why_not (judged_range s.hardware.spaces pcid va len) ∷ []) none).0
-      (judged_range-ok s.hardware.spaces pcid va len range judged) (λ e. cc) is
+      begins (changes.Unmap pcid range) (record {
+        free = (first_none (not_free s.hardware.shootdown p)
+            (why_not (judged_range s.hardware.spaces pcid va len) ∷ []) none).0;
+        prepared = judged_range-ok s.hardware.spaces pcid va len range judged;
+        whole = λ e. cc;
+      }) is
 
   pub protect_moves : (pcid va len : ℕ) (prot : Rights) (range : PageRange)
       → reason_against s p (acts.Protect pcid va len prot) ≡ None
@@ -54,9 +47,12 @@ module _ {disk : List ℕ} (s : State) (p : ℕ) {new : State} where
   protect_moves pcid va len prot range none judged is =
       let fit = judged_protection-ok s.hardware.spaces pcid va len prot range judged in
       let user = judged_range-ok s.hardware.spaces pcid va len range fit.0 in
-      begins (changes.Protect pcid range prot) (first_none (not_free s.hardware.shootdown p)
-      (why_not (judged_protection s.hardware.spaces pcid va len prot) ∷ []) none).0
-      (user.0, user.1, fit.1) (λ e. cc) is
+      begins (changes.Protect pcid range prot) (record {
+        free = (first_none (not_free s.hardware.shootdown p)
+            (why_not (judged_protection s.hardware.spaces pcid va len prot) ∷ []) none).0;
+        prepared = (user.0, user.1, fit.1);
+        whole = λ e. cc;
+      }) is
 
   pub reclaim_moves : (owner : FilePage) → reason_against s p (acts.Reclaim owner.file owner.page) ≡ None
       → is_in_memory s.hardware.memory owner ≡ true
@@ -70,7 +66,8 @@ module _ {disk : List ℕ} (s : State) (p : ℕ) {new : State} where
       (refuse_none (leb (length s.table.files) owner.file) refusals.NoFile two.0) in
       let page = leb-false (pages_in_file s.table.files owner.file) owner.page (refuse_none
       (leb (pages_in_file s.table.files owner.file) owner.page) refusals.Einval (first_none no_page [] two.1).0) in
-      begins (changes.Reclaim owner) parts.0 (file, page, there) (λ e. cc) is
+      begins (changes.Reclaim owner)
+      (record { free = parts.0; prepared = (file, page, there); whole = λ e. cc }) is
 
   pub set_length_moves : (file to : ℕ) → reason_against s p (acts.SetLength file to) ≡ None → to ≢ length_of s file
       → new ≡ begin_change s p (changes.SetLength file to) → Move disk s (Beginning p (Some (Resizing file to))) new
@@ -95,7 +92,7 @@ module _ {disk : List ℕ} (s : State) (p : ℕ) {new : State} where
       let resident = first_none absent (full ∷ []) done.1 in
       let some = eqb-false (lengths_blocks s.table.layout) 0
       (refuse_none (eqb (lengths_blocks s.table.layout) 0) refusals.Einval block.0) in
-      begins (changes.SetLength file to) parts.0 (record {
+      let prepared : IsPrepared s (changes.SetLength file to) = record {
         block = positive (lengths_blocks s.table.layout) some;
         there = leb-false (length s.table.files) file
             (refuse_none (leb (length s.table.files) file) refusals.NoFile file_there.0);
@@ -107,7 +104,8 @@ module _ {disk : List ℕ} (s : State) (p : ℕ) {new : State} where
             (refuse_none (ltb 0 (length s.write_outs.batches)) refusals.Busy done.0));
         resident = refuse_none (lacks_last_page s file to) refusals.NotResident resident.0;
         room = refuse_none (lacks_frames s file to) refusals.NoFrame (first_none full [] resident.1).0;
-      }) (λ e. cc) is
+      } in
+      begins (changes.SetLength file to) (record { free = parts.0; prepared = prepared; whole = λ e. cc }) is
 
   pub msync_moves : (va len : ℕ) (flags : MsyncFlags) → reason_against s p (acts.Msync va len flags) ≡ None
       → new ≡ begin_change s p changes.Checkpoint → Move disk s (Beginning p None) new
@@ -124,5 +122,8 @@ module _ {disk : List ℕ} (s : State) (p : ℕ) {new : State} where
       let two = or_parts (is_busy s.write_outs) (leb (2 ^ 32 - 1) s.marks)
       (refuse_none is_full refusals.Busy (first_none busy [] later.1).0) in
       let few : s.marks + 1 < 2 ^ 32 = omega (arith, leb-false (2 ^ 32 - 1) s.marks two.1) in
-      begins changes.Checkpoint parts.0 (few, λ whole. two.0)
-      (λ e. refuse_none s.write_outs.broken refusals.Broken later.0) is
+      begins changes.Checkpoint (record {
+        free = parts.0;
+        prepared = (few, λ whole. two.0);
+        whole = λ e. refuse_none s.write_outs.broken refusals.Broken later.0;
+      }) is

@@ -12,12 +12,13 @@ use Rattle.machine.proofs.Names.{ChangesOnlyAffected-SetsRights, ChangesOnlyAffe
 use Rattle.machine.proofs.Names.{IsInRange, page_at, AreBacked-without_mapping, AreBacked-rights_set, AreBacked-cleared}
 use Rattle.machine.proofs.Names.{AreBacked-frozen, same_page-true, State, UnmapMade, ProtectMade, ReclaimMade}
 use Rattle.machine.proofs.Names.{ReclaimKept, end_change, IsSound, Ending, Changing, Silent, ChangesPlaces, SameDirty}
-use Rattle.machine.proofs.Names.{Move, Moves, End, Drop}
+use Rattle.machine.proofs.Names.{Move, Moves, End, Drop, Change, MayChange, MakesChange}
+use Rattle.spaces.specs.declared.change.Change.TheVariants.{SetLength}
 use Rattle.spaces.specs.declared.change.Change.TheVariants as changes
 use Rattle.machine.proofs.sound.Lists.{same_some, kept_some}
 use Rattle.machine.proofs.sound.Ended.{prepared_change}
 use Rattle.machine.proofs.sound.Frames.{notes_in_use}
-use Rattle.machine.proofs.refining.DirtyFrames.{dirty_rights, dirty_taken, takes_range}
+use Rattle.machine.proofs.refining.DirtyFrames.{dirty_at, dirty_rights, dirty_taken, takes_range}
 
 -- the places of a space that is there change so
 places_changed : (pcid : ℕ) (change : Places → Places) (old new : Spaces) → has_space old pcid ≡ true
@@ -42,16 +43,18 @@ module _ (disk : List ℕ) (s : State) (p : ℕ) (new : State) (sound : IsSound 
   abbrev old : Spaces
   old = s.hardware.spaces
 
+  -- one that leaves lengths alone
+  abbrev makes : (change : Change) → ((file to : ℕ) → change ≢ SetLength file to) → MayChange s p change
+      → MakesChange s
+  makes change other may = record { p = p; change = change; same_lengths = other; may = may }
+
   pub unmapped_moves : UnmapMade s p new → Move disk s (Changing p) new
   unmapped_moves made =
       let change = changes.Unmap made.pcid made.range in
       let spaces = without_mapping old made.pcid made.range in
       let there = (user_space old made.pcid (prepared_change s p change sound made.may).0).1 in
       End (record {
-        p = p;
-        change = change;
-        same_lengths = λ file to e. cc;
-        may = made.may;
+        made = makes change (λ file to e. cc) made.may;
         spaces = spaces;
         checkpoint = made.checkpoint;
         only = ChangesOnlyAffected-without_mapping old made.pcid made.range;
@@ -84,10 +87,7 @@ module _ (disk : List ℕ) (s : State) (p : ℕ) (new : State) (sound : IsSound 
       let sets = made.rights_set in
       let there = (user_space old made.pcid (prepared_change s p change sound made.may).0).1 in
       End (record {
-        p = p;
-        change = change;
-        same_lengths = λ file to e. cc;
-        may = made.may;
+        made = makes change (λ file to e. cc) made.may;
         spaces = made.spaces;
         checkpoint = s.checkpoint;
         only = ChangesOnlyAffected-SetsRights made.pcid made.range made.rights old made.spaces sets;
@@ -117,10 +117,7 @@ module _ (disk : List ℕ) (s : State) (p : ℕ) (new : State) (sound : IsSound 
 
   pub kept_moves : ReclaimKept s p new → Move disk s (Ending p) new
   kept_moves made = End (record {
-    p = p;
-    change = changes.Reclaim made.owner;
-    same_lengths = λ file to e. cc;
-    may = made.may;
+    made = makes (changes.Reclaim made.owner) (λ file to e. cc) made.may;
     spaces = old;
     checkpoint = s.checkpoint;
     only = λ pcid page apart. refl;
@@ -175,15 +172,7 @@ module _ (disk : List ℕ) (s : State) (p : ℕ) (new : State) (sound : IsSound 
     taken_clean : (frame : ℕ) → HasDirtyEntry old (λ pcid page. maps_it pcid page ≡ true) frame → ⊥
     taken_clean frame d =
         let own = its_frame d.pcid d.page d.entry d.present d.there in
-        made.leaves.clean (inr (record {
-          pcid = d.pcid;
-          page = d.page;
-          there = tt;
-          entry = d.entry;
-          present = d.present;
-          same_frame = own;
-          dirty = d.dirty;
-        }))
+        made.leaves.clean (dirty_at old s.checkpoint d.pcid d.page made.frame d.entry d.present own d.dirty)
 
     same_dirty : SameDirty s made.spaces s.checkpoint
     same_dirty frame =
@@ -202,10 +191,7 @@ module _ (disk : List ℕ) (s : State) (p : ℕ) (new : State) (sound : IsSound 
     reclaimed_moves = (
       mid,
       End (record {
-        p = p;
-        change = changes.Reclaim made.owner;
-        same_lengths = λ file to e. cc;
-        may = made.may;
+        made = makes (changes.Reclaim made.owner) (λ file to e. cc) made.may;
         spaces = made.spaces;
         checkpoint = s.checkpoint;
         only = ChangesOnlyAffected-reclaim made.owner old made.spaces made.cleared;

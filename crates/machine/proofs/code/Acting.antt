@@ -10,6 +10,7 @@ use Rattle.page_entry.specs.declared.refusal.Refusal.TheVariants as refusals
 use Rattle.machine.specs.declared.act.Act.TheVariants as acts
 use Rattle.machine.specs.declared.act.Reply.TheVariants as replies
 use Rattle.machine.specs.inside.Layers.{reply_to}
+use Rattle.machine.specs.Rules.{Reaches}
 use Rattle.machine.specs.inside.Acting.{FixCalls}
 
 -- the laws of a device that these lemmas rest on
@@ -51,19 +52,67 @@ module _ {D Z : Type 0} (disk : Ghosts D) (since_now : SinceNow disk) (old new :
     kept = kept;
   }
 
-  pub quiet_done : (step : Step) (act : Act) → step.act ≡ act → (reply : Reply) → IsQuiet old new
-      → ((d : List ℕ) → Acts (state_in old) d step.p act reply (state_in new) d)
-      → step_work (state_in old) act reply ≡ Nothing
-      → ((device : D) → DeviceAfter disk (state_in old) step.p act reply device device)
-      → ((calls faults : ℕ) → CallsOf (state_in old) step.p act reply calls calls faults faults)
-      → ActDone disk old step reply new
-  quiet_done step act is reply quiet rules work after counts =
-      act_as disk old new step act reply is (still_done step.p act reply (record {
-        some_disk = ([], [], rules []);
-        own_disk = λ h. subst (λ (x : D). Acts (state_in old) (disk.seen old.device) step.p act reply (state_in new)
-            (disk.seen x)) (sym quiet.same_device) (rules (disk.seen old.device));
-      }) quiet.same_device work (after _) (counts _ _)
-      (record { same_table = quiet.same_table; still_reserved = quiet.still_reserved }))
+-- an act that makes no device call
+abbrev pub MakesNoCall : Act → Type 0
+MakesNoCall (acts.Fix va write) = ⊥
+MakesNoCall acts.Flush = ⊥
+MakesNoCall act = Unit {0}
+
+pub no_work : (s : State) (act : Act) (reply : Reply) → MakesNoCall act → step_work s act reply ≡ Nothing
+no_work s acts.Flush reply none = absurd none
+no_work s act reply none = refl
+
+pub device_stays : {D : Type 0} (disk : Ghosts D) (s : State) (p : ℕ) (act : Act) (reply : Reply) (device : D)
+    → MakesNoCall act → DeviceAfter disk s p act reply device device
+device_stays disk s p (acts.Fix va write) reply device none = absurd none
+device_stays disk s p acts.Flush reply device none = absurd none
+device_stays disk s p act reply device none = refl
+
+pub calls_stay : (s : State) (p : ℕ) (act : Act) (reply : Reply) (calls faults : ℕ) → MakesNoCall act
+    → CallsOf s p act reply calls calls faults faults
+calls_stay s p (acts.Fix va write) reply calls faults none = absurd none
+calls_stay s p acts.Flush reply calls faults none = absurd none
+calls_stay s p act reply calls faults none = (refl, refl)
+
+-- the rule of an act that makes no device call: a load, a store, a fill or an eviction reaches the hardware alone
+abbrev pub QuietRule : State → ℕ → Act → Reply → State → Type 0
+QuietRule s p (acts.Load va count) reply new = Reaches s p (acts.Load va count) reply new
+QuietRule s p (acts.Store va bytes) reply new = Reaches s p (acts.Store va bytes) reply new
+QuietRule s p (acts.Fill page) reply new = Reaches s p (acts.Fill page) reply new
+QuietRule s p (acts.Evict slot) reply new = Reaches s p (acts.Evict slot) reply new
+QuietRule s p (acts.Fix va write) reply new = ⊥
+QuietRule s p acts.Flush reply new = ⊥
+QuietRule s p act reply new = (d : List ℕ) → Answers s d p act reply new
+
+no_call : (s : State) (p : ℕ) (act : Act) (reply : Reply) (new : State) → QuietRule s p act reply new → MakesNoCall act
+no_call s p (acts.Fix va write) reply new rule = rule
+no_call s p acts.Flush reply new rule = rule
+no_call s p act reply new rule = tt
+
+acts_by : (s : State) (p : ℕ) (act : Act) (reply : Reply) (new : State) → QuietRule s p act reply new → (d : List ℕ)
+    → Acts s d p act reply new d
+acts_by s p (acts.Load va count) reply new rule d = (rule, refl)
+acts_by s p (acts.Store va bytes) reply new rule d = (rule, refl)
+acts_by s p (acts.Fill page) reply new rule d = (rule, refl)
+acts_by s p (acts.Evict slot) reply new rule d = (rule, refl)
+acts_by s p (acts.Fix va write) reply new rule d = absurd rule
+acts_by s p acts.Flush reply new rule d = absurd rule
+acts_by s p act reply new rule d = (rule d, refl)
+
+pub quiet_done : {D Z : Type 0} (disk : Ghosts D) (since_now : SinceNow disk) {old new : Layers D Z} {step : Step}
+    {act : Act} {reply : Reply} → step.act ≡ act → IsQuiet old new
+    → QuietRule (state_in old) step.p act reply (state_in new) → ActDone disk old step reply new
+quiet_done {D} disk since_now {old} {new} {step} {act} {reply} is quiet rule =
+    let s = state_in old in
+    let none = no_call s step.p act reply (state_in new) rule in
+    let by = acts_by s step.p act reply (state_in new) rule in
+    act_as disk old new step act reply is (still_done disk since_now old new step.p act reply (record {
+      some_disk = ([], [], by []);
+      own_disk = λ h. subst (λ (x : D). Acts s (disk.seen old.device) step.p act reply (state_in new) (disk.seen x))
+          (sym quiet.same_device) (by (disk.seen old.device));
+    }) quiet.same_device (no_work s act reply none) (device_stays disk s step.p act reply old.device none)
+    (calls_stay s step.p act reply _ _ none)
+    (record { same_table = quiet.same_table; still_reserved = quiet.still_reserved }))
 
 -- ---- a step of the write-outs
 
@@ -92,13 +141,13 @@ module _ {D : Type 0} (disk : Ghosts D) (old new : D) where
   faults_by work true did = did.faults
   faults_by work false did = did.faults
 
-pub flush_done : {D Z : Type 0} (disk : Ghosts D) (old new : Layers D Z) (step : Step) (reply : Reply)
+pub flush_done : {D Z : Type 0} (disk : Ghosts D) {old new : Layers D Z} {step : Step} {reply : Reply}
     → step.act ≡ acts.Flush
     → AnswersBy (disk.is_honest old.device) (λ d d'. Acts (state_in old) d step.p acts.Flush reply (state_in new) d')
     (disk.seen old.device) (disk.seen new.device)
     → Did disk old.device (step_work (state_in old) acts.Flush reply) (not (has_failed reply)) new.device
     → KeepsReserved old new → ActDone disk old step reply new
-flush_done {D} disk old new step reply is rules did kept =
+flush_done {D} disk {old} {new} {step} {reply} is rules did kept =
     act_as disk old new step acts.Flush reply is (record {
       rules = rules;
       left = did.left;
@@ -135,8 +184,8 @@ failed_if s d p va write (Err why) new fixed reads rule =
     unread true e f = absurd (cc)
     unread false e f = absurd (cc)
 
-pub fix_done : {D Z : Type 0} (disk : Ghosts D) (since_now : SinceNow disk) (old new : Layers D Z) (step : Step)
-    (va : ℕ) (write : Bool) (result : Result Reply Refusal)
+pub fix_done : {D Z : Type 0} (disk : Ghosts D) (since_now : SinceNow disk) {old new : Layers D Z} {step : Step}
+    {va : ℕ} {write : Bool} (result : Result Reply Refusal)
     → step.act ≡ acts.Fix va write
     → AnswersBy (disk.is_honest old.device) (λ d d'. Answers (state_in old) d step.p (acts.Fix va write)
     (reply_to result) (state_in new) × (d' ≡ d)) (disk.seen old.device) (disk.seen new.device)
@@ -146,7 +195,7 @@ pub fix_done : {D Z : Type 0} (disk : Ghosts D) (since_now : SinceNow disk) (old
     → ReadsOnce disk.seen disk.may_leave disk.is_honest disk.moment disk.left_since disk.calls_made disk.faults_met
     (is_err result) old.device new.device)
     → KeepsReserved old new → ActDone disk old step (reply_to result) new
-fix_done {D} disk since_now old new step va write result is rules fixed untouched read kept =
+fix_done {D} disk since_now {old} {new} {step} {va} {write} result is rules fixed untouched read kept =
     act_as disk old new step (acts.Fix va write) (reply_to result) is
     (by (reads_page (state_in old) step.p va write) refl)
   where

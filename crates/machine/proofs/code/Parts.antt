@@ -1,11 +1,14 @@
 -- What the layers' calls say of the lock, of frames, of files and of what is reserved.
 use Rattle.machine.proofs.Names.{ℕ, Some, Ok, Change, HandsOut, State, MayChange, ◌≡◌, Option, sym, IfSome, IfNone}
 use Rattle.machine.proofs.Names.{FilePage, FramesState, frame_at, page_of, HasNoFrame, list_any-found, is_in_memory}
-use Rattle.machine.proofs.Names.{zero, suc, ◌<◌, ◌-◌, List, [], ◌∷◌, length, map, slice_index, ◌==◌, false, cond, refl}
+use Rattle.machine.proofs.Names.{zero, suc, ◌<◌, ◌-◌, List, [], ◌∷◌, length, map, slice_index, ◌==◌, true, false}
+use Rattle.machine.proofs.Names.{cond, refl}
 use Rattle.machine.proofs.Names.{ap, ◌∙◌, arith, nat_tests, TableFile, pages_of, pages_in_file, None, subst, Rights}
 use Rattle.machine.proofs.Names.{PageRange, Lock, Layers, IsReserved, AreReserved, IsQuiet, Bool, Result, Err, Refusal}
-use Rattle.machine.proofs.Names.{Mapped, entry_at, current, Hardware, Fills, Evicts, filled_by, with_hardware}
+use Rattle.machine.proofs.Names.{Mapped, entry_at, current, Hardware, Accesses, Fills, Evicts, filled_by}
 use Rattle.machine.proofs.Names.{◌+◌, ◌++◌, take, slice_get, slice_get_within, get_or_from_slice_get}
+use Rattle.machine.specs.declared.act.Act.TheVariants as acts
+use Rattle.machine.specs.declared.act.Reply.TheVariants as replies
 use Rattle.std.proofs.lemmas.List.{take_more}
 use Rattle.std.specs.Option.{is_some}
 
@@ -95,9 +98,13 @@ pub lock-evicts : (h : Hardware) (p slot : ℕ) (answer : Result Bool Refusal) (
 lock-evicts h p slot (Ok there) new evicts = ap (λ (x : Hardware). x.shootdown.lock) evicts.2
 lock-evicts h p slot (Err why) new evicts = ap (λ (x : Hardware). x.shootdown.lock) evicts.2
 
--- the answer that was given, by what it was found to be
-pub answered_so : (Answers : Bool → Hardware → Type 0) (s : State) (found answer : Bool) (new : Hardware)
-    → found ≡ answer
-    → Answers found new
-    → (hardware : Hardware) × Answers answer hardware × (with_hardware s new ≡ with_hardware s hardware)
-answered_so Answers s found answer new is made = (new, subst (λ b. Answers b new) is made, refl)
+-- what they are answered, by whether there was something to do
+pub fills_so : (h : Hardware) (p page : ℕ) (there : Bool) (new : Hardware) → Fills h p page (Ok there) new
+    → Accesses h p (acts.Fill page) (cond there replies.Filled replies.Nothing) new
+fills_so h p page true new fills = fills
+fills_so h p page false new fills = fills
+
+pub evicts_so : (h : Hardware) (p slot : ℕ) (there : Bool) (new : Hardware) → Evicts h p slot (Ok there) new
+    → Accesses h p (acts.Evict slot) (cond there replies.Evicted replies.Nothing) new
+evicts_so h p slot true new evicts = evicts
+evicts_so h p slot false new evicts = evicts

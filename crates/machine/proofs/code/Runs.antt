@@ -2,17 +2,24 @@
 use Rattle.machine.proofs.Names.{◌≡◌, ◌↔◌, List, [], ◌∷◌, ◌++◌, length, refl, sym, ap, ◌∙◌, subst, Ghosts, Reply, Step}
 use Rattle.machine.proofs.Names.{Whole, StepTaken, StepsTaken}
 
+-- one run after another
+pub taken_then : {D : Type 0} (disk : Ghosts D) (old mid new : Whole D) (steps : List Step) (replies : List Reply)
+    (later : List Step) (observed : List Reply) → StepsTaken disk old steps replies mid
+    → StepsTaken disk mid later observed new
+    → StepsTaken disk old (steps ++ later) (replies ++ observed) new
+taken_then {D} disk old mid new [] [] later observed first rest =
+    let P : Whole D → Type 0 = λ m. StepsTaken disk m later observed new in subst P first rest
+taken_then disk old mid new (step ∷ steps) (reply ∷ replies) later observed (next, here, first) rest =
+    (next, here, taken_then disk next mid new steps replies later observed first rest)
+taken_then disk old mid new steps replies later observed first rest = absurd first
+
 -- one step more
 pub steps_more : {D : Type 0} (disk : Ghosts D) (old : Whole D) (steps : List Step) (replies : List Reply)
     (mid : Whole D) (step : Step) (reply : Reply) (new : Whole D)
     → StepsTaken disk old steps replies mid → StepTaken disk mid step reply new
     → StepsTaken disk old (steps ++ step ∷ []) (replies ++ reply ∷ []) new
-steps_more {D} disk old [] [] mid step reply new taken next =
-    (new, subst (λ (x : Whole D). StepTaken disk x step reply new) taken next, refl)
-steps_more {D} disk old (first ∷ steps) (observed ∷ replies) mid step reply new taken next =
-    (taken.0, taken.1, steps_more disk taken.0 steps replies mid step reply new taken.2 next)
-steps_more {D} disk old [] (observed ∷ replies) mid step reply new taken next = absurd taken
-steps_more {D} disk old (first ∷ steps) [] mid step reply new taken next = absurd taken
+steps_more disk old steps replies mid step reply new taken next =
+    taken_then disk old mid new steps replies (step ∷ []) (reply ∷ []) taken (new, next, refl)
 
 pub honest_taken : {D : Type 0} (disk : Ghosts D) (old : Whole D) (steps : List Step) (replies : List Reply)
     (new : Whole D) → StepsTaken disk old steps replies new

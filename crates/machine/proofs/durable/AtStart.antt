@@ -20,12 +20,11 @@ use Rattle.frames.specs.Frames.{page_of as page_held}
 use Rattle.machine.specs.History.{page_of}
 use Rattle.machine.proofs.refining.ObservedSpaces.{AreProcessorsObserved, AreSpacesObserved, spaces_made}
 use Rattle.machine.proofs.refining.Arranged.{arranged_from}
-use Rattle.machine.proofs.refining.Pages.{HasPages}
+use Rattle.machine.proofs.Names.{HasPages, IsDurable}
 use Rattle.machine.proofs.sound.Lists.{get_or-replicate-same}
 use Rattle.machine.proofs.durable.Lists.{contains_none}
 use Rattle.machine.proofs.sound.Homes.{capacity_at, total_pages-within, page_below}
 use Rattle.machine.proofs.durable.Homes.{nothing_padded, home_is, within_cut}
-use Rattle.machine.proofs.durable.Marks.{IsDurable}
 
 -- ---- what is observed of processors and spaces
 

@@ -16,7 +16,7 @@ use Rattle.machine.proofs.Names.{cut_at_end, IsSound, IsPrepared, next_page}
 use Rattle.machine.proofs.Names.{bytes_with, bytes_at_mark, work_asked, after_record, after_failure, File, journals_of}
 use Rattle.machine.proofs.Names.{AreHomes, Batch, SuperValue, geometry_of, Flushed, Sync, worked, TornFromWork}
 use Rattle.machine.proofs.Names.{LeftWithin, IsConsistent, Checkpoint, Lock, not_running, Event, Mark, Acknowledge}
-use Rattle.machine.proofs.Names.{reason_against, Observed, change_in, IsLost, IsWaiting, IsWritten}
+use Rattle.machine.proofs.Names.{reason_against, Observed, change_in, IsDurable, IsLost, IsWaiting, IsWritten}
 use Rattle.machine.proofs.sound.Sharing.{shared, moving_there}
 use Rattle.machine.proofs.sound.Waiting.{newest_step}
 use Rattle.machine.specs.declared.act.Act.TheVariants as acts
@@ -29,7 +29,6 @@ use Rattle.machine.proofs.durable.Uncommitted.{none_uncommitted, uncommitted_bef
 use Rattle.machine.proofs.durable.Histories.{calm_of, quiet_nothing, quiet_acknowledge, IsFresh}
 use Rattle.machine.proofs.durable.Histories.{written_same, written_new, AreFrozenRecords, SameFiles}
 use Rattle.machine.proofs.durable.Histories.{record_as, acknowledge_same, acknowledge_no_mark, marks_more}
-use Rattle.machine.proofs.durable.Marks.{IsDurable}
 use Rattle.machine.proofs.sound.Admitted.{second_not_refused}
 use Rattle.machine.proofs.sound.Records.{few_at_mark, next_recorded, coming, page_next}
 use Rattle.machine.proofs.sound.Sources.{of_file}
@@ -312,8 +311,8 @@ module _ (files : List File) (observed : Observed) (s : State) (seen : List ℕ)
     fresh_still y there early has =
         let was = uncommitted_before (shared s.write_outs) (next_answer s.write_outs) s.write_outs.batches y there
         early in
-        w.fresh was.before was.there was.early
-        (subst (λ (b : Batch). Contains w.before (Mark b.mark)) (sym was.batch) has)
+        w.fresh was.w was.there was.early
+        (subst (λ (b : Batch). Contains w.before (Mark b.mark)) (sym was.is) has)
 
     -- what waited still does, or is committed now
     waits_now : (n : ℕ) → IsWaiting s.write_outs.batches n

@@ -1,5 +1,5 @@
 -- Histories that grow: the memory after them, the pages that they touch, their prefixes and their marks.
-use Rattle.machine.proofs.Names.{◌≡◌, ℕ, ◌+◌, ◌*◌, ◌/◌, ◌%◌, ◌<◌, ◌≤◌, Bool, true, false, ◌&&◌, eqb, if◌then◌else◌}
+use Rattle.machine.proofs.Names.{◌≡◌, ◌≢◌, ℕ, ◌+◌, ◌*◌, ◌/◌, ◌%◌, ◌<◌, ◌≤◌, Bool, true, false, ◌&&◌, eqb, if◌then◌else◌}
 use Rattle.machine.proofs.Names.{List, [], ◌∷◌, ◌++◌, length, take, refl, sym, ap, ◌∙◌, inl, inr, arith, ◌⊎◌}
 use Rattle.machine.proofs.Names.{cond, subst, append_assoc, ◌↔◌, ◌-◌, get_or, Some, cond-true, cond-false, cond_both}
 use Rattle.machine.proofs.Names.{and_from, and_left, and_right, eq-eqb, ne_eqb, cases_eq, both_ways, eqb-true}
@@ -34,31 +34,40 @@ pub after_store : (memory : Memory) (history : List Event) (file offset : ℕ) (
     → after memory (history ++ Store file offset bytes ∷ []) ≡ stored (after memory history) file offset bytes
 after_store memory history file offset bytes = after-append memory history _
 
+-- a store's place is in its page
+own_place : (file page at : ℕ) → at < 4096 → (eqb file file && eqb page ((4096 * page + at) / 4096)) ≡ true
+own_place file page at small =
+    let place : (4096 * page + at) / 4096 ≡ page = omega arith in
+    and_from (eqb file file) (eqb page ((4096 * page + at) / 4096)) (eq-eqb file file refl)
+    (eq-eqb page ((4096 * page + at) / 4096) (sym place))
+
+-- and in no other page of its file, nor of another one
+other_place : (file page at f p : ℕ) (same : Bool) → (f ≢ file → same ≡ false) → at < 4096
+    → (f ≡ file → p ≡ page → ⊥) → (same && eqb p ((4096 * page + at) / 4096)) ≡ false
+other_place file page at f p same apart small other =
+    let place : (4096 * page + at) / 4096 ≡ page = omega arith in
+    elim (cases_eq f file) [
+      | inl is ↦ and_right same (eqb p ((4096 * page + at) / 4096))
+          (ne_eqb p ((4096 * page + at) / 4096) (λ e. other is (e ∙ place)))
+      | inr ne ↦ and_left same (eqb p ((4096 * page + at) / 4096)) (apart ne)
+    ]
+
 -- the page of a store
 pub stored_there : (memory : Memory) (file page at : ℕ) (bytes : List ℕ) → at < 4096
     → stored memory file (4096 * page + at) bytes file page ≡ overwrite (memory file page) at bytes
 stored_there memory file page at bytes small =
-    let place : (4096 * page + at) / 4096 ≡ page = omega arith in
     let inner : (4096 * page + at) % 4096 ≡ at = omega arith in
     cond-true (eqb file file && eqb page ((4096 * page + at) / 4096))
-    (overwrite (memory file page) ((4096 * page + at) % 4096) bytes) (memory file page)
-    (and_from (eqb file file) (eqb page ((4096 * page + at) / 4096)) (eq-eqb file file refl)
-    (eq-eqb page ((4096 * page + at) / 4096) (sym place)))
+    (overwrite (memory file page) ((4096 * page + at) % 4096) bytes) (memory file page) (own_place file page at small)
     ∙ ap (λ k. overwrite (memory file page) k bytes) inner
 
 -- every other page
 pub stored_elsewhere : (memory : Memory) (file page at : ℕ) (bytes : List ℕ) (f p : ℕ) → at < 4096
     → (f ≡ file → p ≡ page → ⊥) → stored memory file (4096 * page + at) bytes f p ≡ memory f p
 stored_elsewhere memory file page at bytes f p small other =
-    let place : (4096 * page + at) / 4096 ≡ page = omega arith in
-    let test : (eqb f file && eqb p ((4096 * page + at) / 4096)) ≡ false =
-    elim (cases_eq f file) [
-      | inl same ↦ and_right (eqb f file) (eqb p ((4096 * page + at) / 4096))
-          (ne_eqb p ((4096 * page + at) / 4096) (λ e. other same (e ∙ place)))
-      | inr ne ↦ and_left (eqb f file) (eqb p ((4096 * page + at) / 4096)) (ne_eqb f file ne)
-    ] in
     cond-false (eqb f file && eqb p ((4096 * page + at) / 4096))
-    (overwrite (memory f p) ((4096 * page + at) % 4096) bytes) (memory f p) test
+    (overwrite (memory f p) ((4096 * page + at) % 4096) bytes) (memory f p)
+    (other_place file page at f p (eqb f file) (ne_eqb f file) small other)
 
 -- pages keep their size
 pub length-stored : (memory : Memory) (file page at : ℕ) (bytes : List ℕ) (f p : ℕ)
@@ -103,26 +112,17 @@ resized_mark history number waits = any_mark is_resize history number waits refl
 pub touched_there : (history : List Event) (file page at : ℕ) (bytes : List ℕ) → at < 4096
     → is_touched (history ++ Store file (4096 * page + at) bytes ∷ []) file page ≡ true
 touched_there history file page at bytes small =
-    let place : (4096 * page + at) / 4096 ≡ page = omega arith in
     any_more (is_change_of file page) history (Store file (4096 * page + at) bytes) refl
     ∙ or_right (is_touched history file page) (eqb file file && eqb page ((4096 * page + at) / 4096) || false)
-    (or_left (eqb file file && eqb page ((4096 * page + at) / 4096)) false
-    (and_from (eqb file file) (eqb page ((4096 * page + at) / 4096)) (eq-eqb file file refl)
-    (eq-eqb page ((4096 * page + at) / 4096) (sym place))))
+    (or_left (eqb file file && eqb page ((4096 * page + at) / 4096)) false (own_place file page at small))
 
 pub touched_elsewhere : (history : List Event) (file page at : ℕ) (bytes : List ℕ) (f p : ℕ) → at < 4096
     → (f ≡ file → p ≡ page → ⊥)
     → is_touched (history ++ Store file (4096 * page + at) bytes ∷ []) f p ≡ is_touched history f p
 touched_elsewhere history file page at bytes f p small other =
-    let place : (4096 * page + at) / 4096 ≡ page = omega arith in
-    let test : (eqb file f && eqb p ((4096 * page + at) / 4096)) ≡ false =
-    elim (cases_eq f file) [
-      | inl same ↦ and_right (eqb file f) (eqb p ((4096 * page + at) / 4096))
-          (ne_eqb p ((4096 * page + at) / 4096) (λ e. other same (e ∙ place)))
-      | inr ne ↦ and_left (eqb file f) (eqb p ((4096 * page + at) / 4096)) (ne_eqb file f (λ e. ne (sym e)))
-    ] in
     any_more (is_change_of f p) history (Store file (4096 * page + at) bytes) refl
-    ∙ or_none (is_touched history f p) (eqb file f && eqb p ((4096 * page + at) / 4096)) test
+    ∙ or_none (is_touched history f p) (eqb file f && eqb p ((4096 * page + at) / 4096))
+    (other_place file page at f p (eqb file f) (λ ne. ne_eqb file f (λ e. ne (sym e))) small other)
 
 -- ---- events that store nothing and mark nothing
 

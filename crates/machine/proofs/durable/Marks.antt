@@ -8,7 +8,7 @@ use Rattle.machine.proofs.Names.{Contains-append_left, Contains-append_right, Co
 use Rattle.machine.proofs.Names.{Contains-push_cases, Contains-get_or, All-push, All-weaker, recursion_from_All}
 use Rattle.machine.proofs.Names.{FilePage, File, GeometryValue, journals_of, geometry_of, AreHomes, WriteOut, begun_of}
 use Rattle.machine.proofs.Names.{has_committed, WriteOutsValue, has_uncommitted}
-use Rattle.machine.proofs.Names.{is_busy, next_batch, begun, IsConsistent}
+use Rattle.machine.proofs.Names.{is_busy, next_batch, begun, IsConsistent, IsDurable}
 use Rattle.machine.proofs.Names.{consistent_begun, consistent_other, Checkpoint, Spaces, CheckpointState, Gathers}
 use Rattle.machine.proofs.Names.{without_notes, Event, Memory, Mark, Acknowledge, memory_of, after, has_unmarked}
 use Rattle.machine.proofs.Names.{is_touched, State, home_of, cut_at_end, MarkMade, end_change, with_batch}
@@ -25,14 +25,6 @@ use Rattle.machine.proofs.durable.Histories.{in_history, acknowledged_more, some
 use Rattle.machine.proofs.durable.Uncommitted.{committed_frozen, none_uncommitted, begun_early}
 use Rattle.machine.proofs.durable.Homes.{laid, laid-other, laid-page, laid-lengths, unwritten, within_cut, overlaid}
 use Rattle.machine.proofs.durable.Homes.{overlaid-other, overlaid-at, overlaid-elsewhere, bytes_at_mark-held}
-
--- what the device recovers to goes with what is observed
-pub record IsDurable (files : List File) (observed : Observed) (s : State) (seen : List ℕ)
-    (may_leave : List ℕ → Type 0) : Type 0 where
-  pub old : ℕ → List ℕ
-  pub new : ℕ → List ℕ
-  pub consistent : IsConsistent s.table s.write_outs old new seen may_leave
-  pub written : IsWritten files observed s old new
 
 abbrev no_pages : List FilePage
 no_pages = []
@@ -274,6 +266,17 @@ module _ (files : List File) (observed : Observed) (s : State) (p number : ℕ) 
       waits : (n : ℕ) → Contains (marked_by history number) (Acknowledge n) → ⊥
       waits n has = both_ways (has_unmarked history) (only_itself history number n has).0 unmarked
 
+      -- what holds of contents after a prefix, and that it has what was acknowledged, holds of the longer history
+      still_after : (contents : ℕ → List ℕ) (prefix : List Event)
+          → AreContentsOf files history s.table contents prefix
+          → AreContentsOf files (history ++ marked_by history number) s.table contents prefix
+      still_after = contents_more files history (marked_by history number) s s (record { table = refl; lengths = refl })
+
+      still_acknowledged : (prefix : List Event) → HasAcknowledged prefix history
+          → HasAcknowledged prefix (history ++ marked_by history number)
+      still_acknowledged prefix =
+          acknowledged_more prefix history (marked_by history number) (λ n has. absurd (waits n has))
+
       -- of a broken machine the mark is lost
       pub marked_lost : s.write_outs.broken ≡ true
           → IsDurable files now (marked_with noted spaces s.write_outs) seen may
@@ -285,15 +288,11 @@ module _ (files : List File) (observed : Observed) (s : State) (p number : ℕ) 
             consistent = consistent;
             written = record {
               before = w.before;
-              old_are = contents_more files history (marked_by history number) s s
-                  (record { table = refl; lengths = refl }) old w.before w.old_are;
-              acknowledged = acknowledged_more w.before history (marked_by history number)
-                  (λ n has. absurd (waits n has)) w.acknowledged;
+              old_are = still_after old w.before w.old_are;
+              acknowledged = still_acknowledged w.before w.acknowledged;
               marked = w.marked;
-              new_are = contents_more files history (marked_by history number) s s
-                  (record { table = refl; lengths = refl }) new w.marked w.new_are;
-              grown = acknowledged_more w.marked history (marked_by history number)
-                  (λ n has. absurd (waits n has)) w.grown;
+              new_are = still_after new w.marked w.new_are;
+              grown = still_acknowledged w.marked w.grown;
               marks = w.marks;
               fresh = λ y there early has. none_early y there early;
               only = record {
@@ -406,7 +405,7 @@ module _ (files : List File) (observed : Observed) (s : State) (p number : ℕ) 
             w = begun_of s.write_outs.geometry.slots batch;
             there = Contains-push s.write_outs.batches (begun_of s.write_outs.geometry.slots batch);
             early = begun_early s.write_outs.geometry.slots batch;
-            mark = same;
+            is = same;
           }
 
       pub marked_pages : s.write_outs.broken ≡ false → AreHomes (geometry_of s.table) (mark_homes s pages)
@@ -424,10 +423,8 @@ module _ (files : List File) (observed : Observed) (s : State) (p number : ℕ) 
                 (λ b none. next_other b none) consistent;
             written = record {
               before = w.marked;
-              old_are = contents_more files history (marked_by history number) s s
-                  (record { table = refl; lengths = refl }) new w.marked w.new_are;
-              acknowledged = acknowledged_more w.marked history (marked_by history number)
-                  (λ n has. absurd (waits n has)) w.grown;
+              old_are = still_after new w.marked w.new_are;
+              acknowledged = still_acknowledged w.marked w.grown;
               marked = made;
               new_are = made_contents next_contents next_fits next_lengths next_parts;
               grown = made_acknowledged;

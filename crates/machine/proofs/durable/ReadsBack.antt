@@ -3,17 +3,18 @@ use Rattle.machine.proofs.Names.{ℕ, ◌⊎◌, inl, inr, List, Option, Some, N
 use Rattle.machine.proofs.Names.{sym, ap, ◌∙◌, ◌<◌, length, subst, File, SuperValue, Recovers, RecoversTo, Stage}
 use Rattle.machine.proofs.Names.{Recording, Describing, SyncingRecords, Opening, Committing, current_stage, LeftWithin}
 use Rattle.machine.proofs.Names.{LeftBefore, consistent_left, committed-at}
-use Rattle.machine.proofs.Names.{stage_committed, Event, memory_of, after, Mark}
+use Rattle.machine.proofs.Names.{stage_committed, Event, memory_of, after, Mark, Acknowledge}
 use Rattle.machine.proofs.Names.{files_after, is_touched, State, ReadsBack, IsSound, Observed, AreContentsOf}
 use Rattle.machine.proofs.Names.{HasAcknowledged, HasFiles, IsWritten, IsWaiting, Refines, Contains, All}
 use Rattle.machine.proofs.Names.{option_map_or, option_and_then, both_ways, false_from_ne_true, All-contains}
 use Rattle.machine.proofs.Names.{is_committed, WriteOut, next_stage, has_committed, AreInOrder, IsAcknowledged, IsOld}
 use Rattle.machine.proofs.Names.{IsNew, StopsBefore, StopsWithin, StopsInStep, Stops, Mapped, FilePage, entry_at}
 use Rattle.machine.proofs.Names.{processor_at, IsUsable, Holds, is_held, page_at, MarkMade, IsInFile, HasPart}
-use Rattle.machine.proofs.Names.{AreFrozenProtected}
+use Rattle.machine.proofs.Names.{AreFrozenProtected, IsDurable}
 use Rattle.journal.specs.WriteOuts.{current}
+use Rattle.machine.specs.History.{IsDurablePrefix}
 use Rattle.machine.proofs.durable.FileParts.{prefix_has}
-use Rattle.machine.proofs.durable.Marks.{IsDurable, committed, clean}
+use Rattle.machine.proofs.durable.Marks.{committed, clean}
 use Rattle.machine.proofs.durable.Uncommitted.{current_there, waiting_is_current, none_current}
 use Rattle.machine.proofs.durable.Lists.{some_same}
 
@@ -29,30 +30,48 @@ left_either v old new (Some Opening) c left = left
 left_either v old new (Some Committing) c left = left
 left_either v old new o c left = inr left
 
--- bytes that recover to the contents after a durable prefix read back so
-pub reads_contents : (files : List File) (history : List Event) (s : State) → IsSound s → HasFiles files history s
-    → (contents : ℕ → List ℕ) (prefix : List Event) → AreContentsOf files history s.table contents prefix
-    → HasAcknowledged prefix history
-    → (c : List ℕ) → Recovers s.table contents c → ReadsBack files history c
-reads_contents files history s sound has contents prefix are acknowledged c recovers = record {
-  prefix = prefix;
-  durable = record { rest = are.rest; begins = are.begins; marked = are.marked; acknowledged = acknowledged };
-  recovers = record {
+-- a prefix that has what was acknowledged is durable where contents are those after it
+durable_by : {files : List File} {history prefix : List Event} {v : SuperValue} {contents : ℕ → List ℕ}
+    → AreContentsOf files history v contents prefix → HasAcknowledged prefix history → IsDurablePrefix prefix history
+durable_by are acknowledged =
+    record { rest = are.rest; begins = are.begins; marked = are.marked; acknowledged = acknowledged }
+
+module _ (files : List File) (history : List Event) (s : State) (has : HasFiles files history s)
+    (contents : ℕ → List ℕ) (prefix : List Event) (are : AreContentsOf files history s.table contents prefix)
+    (c : List ℕ) where
+  -- bytes that recover to the contents recover to the files after the prefix
+  recovers_to : Recovers s.table contents c → RecoversTo c (files_after files prefix)
+  recovers_to recovers = record {
     table = s.table;
     contents = contents;
     recovers = recovers;
     lengths = are.fits;
     files_are = prefix_has files s.table has.named history contents prefix are;
-  };
-}
+  }
+
+  -- and read back so, where the prefix is durable
+  reads_contents : HasAcknowledged prefix history → Recovers s.table contents c → ReadsBack files history c
+  reads_contents acknowledged recovers =
+      record { prefix = prefix; durable = durable_by are acknowledged; recovers = recovers_to recovers }
+
+  -- to those at the last acknowledged mark, where it has no other
+  abbrev acknowledged_by : HasAcknowledged prefix history
+      → ((n : ℕ) → Contains prefix (Mark n) → Contains history (Acknowledge n)) → Recovers s.table contents c
+      → IsAcknowledged files history c
+  acknowledged_by acknowledged only recovers = record {
+    prefix = prefix;
+    durable = durable_by are acknowledged;
+    only = only;
+    recovers = recovers_to recovers;
+  }
 
 pub reads_within : (files : List File) (observed : Observed) (s : State) → IsSound s → HasFiles files observed.history s
     → (old new : ℕ → List ℕ) → IsWritten files observed s old new → (c : List ℕ)
     → LeftWithin s.table old new (current_stage s.write_outs) c → ReadsBack files observed.history c
 reads_within files observed s sound has old new w c left =
     elim (left_either s.table old new (current_stage s.write_outs) c left) [
-      | inl is ↦ reads_contents files observed.history s sound has old w.before w.old_are w.acknowledged c is
-      | inr is ↦ reads_contents files observed.history s sound has new w.marked w.new_are w.grown c is
+      | inl is ↦ reads_contents files observed.history s has old w.before w.old_are c w.acknowledged is
+      | inr is ↦ reads_contents files observed.history s has new w.marked w.new_are c w.grown is
     ]
 
 -- what a crash may leave now
@@ -70,27 +89,12 @@ module _ (files : List File) (observed : Observed) (s : State) (sound : IsSound 
     (has : HasFiles files observed.history s)
     (old new : ℕ → List ℕ) (w : IsWritten files observed s old new)
     (ordered : AreInOrder s.write_outs.batches) (c : List ℕ) where
-  recovers_to : (contents : ℕ → List ℕ) (prefix : List Event)
-      → AreContentsOf files observed.history s.table contents prefix
-      → Recovers s.table contents c → RecoversTo c (files_after files prefix)
-  recovers_to contents prefix are recovers = record {
-    table = s.table;
-    contents = contents;
-    recovers = recovers;
-    lengths = are.fits;
-    files_are = prefix_has files s.table has.named observed.history contents prefix are;
-  }
-
   -- where no batch waits, New is the files at the last acknowledged mark
   confirmed : ((n : ℕ) → IsWaiting s.write_outs.batches n → ⊥) → Recovers s.table new c
       → IsAcknowledged files observed.history c
-  confirmed none recovers = record {
-    prefix = w.marked;
-    durable =
-        record { rest = w.new_are.rest; begins = w.new_are.begins; marked = w.new_are.marked; acknowledged = w.grown };
-    only = λ n has. elim (w.only.in_marked n has) [ inl acked ↦ acked | inr wait ↦ absurd (none n wait) ];
-    recovers = recovers_to new w.marked w.new_are recovers;
-  }
+  confirmed none =
+      acknowledged_by files observed.history s has new w.marked w.new_are c w.grown
+      (λ n in_it. elim (w.only.in_marked n in_it) [ inl acked ↦ acked | inr wait ↦ absurd (none n wait) ])
 
   module _ (y : WriteOut) (is : current s.write_outs.batches ≡ Some y) where
     there : Contains s.write_outs.batches y
@@ -98,36 +102,22 @@ module _ (files : List File) (observed : Observed) (s : State) (sound : IsSound 
 
     is_old : has_committed y ≡ false → Recovers s.table old c → IsOld files observed.history y.batch.mark c
     is_old early recovers = record {
-      confirmed = record {
-        prefix = w.before;
-        durable = record {
-          rest = w.old_are.rest;
-          begins = w.old_are.begins;
-          marked = w.old_are.marked;
-          acknowledged = w.acknowledged;
-        };
-        only = w.only.in_before;
-        recovers = recovers_to old w.before w.old_are recovers;
-      };
+      confirmed = acknowledged_by files observed.history s has old w.before w.old_are c w.acknowledged w.only.in_before
+          recovers;
       lacks = w.fresh y there early;
     }
 
     is_new : Recovers s.table new c → IsNew files observed.history y.batch.mark c
     is_new recovers = record {
       prefix = w.marked;
-      durable = record {
-        rest = w.new_are.rest;
-        begins = w.new_are.begins;
-        marked = w.new_are.marked;
-        acknowledged = w.grown;
-      };
+      durable = durable_by w.new_are w.grown;
       has = All-contains (λ (x : WriteOut). Contains w.marked (Mark x.batch.mark)) s.write_outs.batches y w.marks there;
-      only = λ n has. elim (w.only.in_marked n has) [
+      only = λ n in_it. elim (w.only.in_marked n in_it) [
         | inl acked ↦ inl acked
-        | inr wait ↦ inr (sym wait.mark ∙ ap (λ (x : WriteOut). x.batch.mark)
+        | inr wait ↦ inr (sym wait.is ∙ ap (λ (x : WriteOut). x.batch.mark)
             (waiting_is_current s.write_outs.batches ordered y is wait.w wait.there wait.early))
       ];
-      recovers = recovers_to new w.marked w.new_are recovers;
+      recovers = recovers_to files observed.history s has new w.marked w.new_are c recovers;
     }
 
     -- one that is done waits no more, and nor does another
@@ -160,23 +150,24 @@ module _ (files : List File) (observed : Observed) (s : State) (sound : IsSound 
     within_at (Some stage) at left = is_new left
     within_at None at left = confirmed (none_waits at) left
 
-  before_by : (o : Option WriteOut) → current s.write_outs.batches ≡ o
-      → LeftBefore s.table old new (option_and_then next_stage o) c
-      → StopsBefore files observed.history (option_map_or (λ (x : WriteOut). x.batch.mark) o 0)
-      (option_and_then next_stage o) c
-  before_by None is left = confirmed (λ n wait. none_current s.write_outs.batches is wait.w wait.there) left
-  before_by (Some y) is left = before_at y is (next_stage y) refl left
+  -- where there is none, New is what is left
+  none_left : current s.write_outs.batches ≡ None → Recovers s.table new c → IsAcknowledged files observed.history c
+  none_left is = confirmed (λ n wait. none_current s.write_outs.batches is wait.w wait.there)
 
-  within_by : (o : Option WriteOut) → current s.write_outs.batches ≡ o
-      → LeftWithin s.table old new (option_and_then next_stage o) c
-      → StopsWithin files observed.history (option_map_or (λ (x : WriteOut). x.batch.mark) o 0)
-      (option_and_then next_stage o) c
-  within_by None is left = confirmed (λ n wait. none_current s.write_outs.batches is wait.w wait.there) left
-  within_by (Some y) is left = within_at y is (next_stage y) refl left
+  by_current : (Left : Option Stage → Type 0) (Stops : ℕ → Option Stage → Type 0)
+      → (current s.write_outs.batches ≡ None → Left None → Stops 0 None)
+      → ((y : WriteOut) → current s.write_outs.batches ≡ Some y → Left (next_stage y)
+      → Stops y.batch.mark (next_stage y))
+      → (o : Option WriteOut) → current s.write_outs.batches ≡ o → Left (option_and_then next_stage o)
+      → Stops (option_map_or (λ (x : WriteOut). x.batch.mark) o 0) (option_and_then next_stage o)
+  by_current Left Stops none some None is left = none is left
+  by_current Left Stops none some (Some y) is left = some y is left
 
   pub stops_within : LeftWithin s.table old new (current_stage s.write_outs) c
       → StopsInStep files observed.history s.write_outs c
-  stops_within left = within_by (current s.write_outs.batches) refl left
+  stops_within = by_current (λ o. LeftWithin s.table old new o c)
+      (λ mark o. StopsWithin files observed.history mark o c) none_left (λ y is. within_at y is (next_stage y) refl)
+      (current s.write_outs.batches) refl
 
   pub stops_now : MatchBool s.write_outs.broken (LeftWithin s.table old new (current_stage s.write_outs) c)
       (LeftBefore s.table old new (current_stage s.write_outs) c) → Stops files observed.history s.write_outs c
@@ -188,7 +179,9 @@ module _ (files : List File) (observed : Observed) (s : State) (sound : IsSound 
           (StopsBefore files observed.history (option_map_or
           (λ (x : WriteOut). x.batch.mark) (current s.write_outs.batches) 0) (current_stage s.write_outs) c)
       by true left = stops_within left
-      by false left = before_by (current s.write_outs.batches) refl left
+      by false left = by_current (λ o. LeftBefore s.table old new o c)
+          (λ mark o. StopsBefore files observed.history mark o c) none_left (λ y is. before_at y is (next_stage y) refl)
+          (current s.write_outs.batches) refl left
 
 -- what a crash now leaves of a tracked machine
 pub refines_stops : (files : List File) (observed : Observed) (s : State) (seen : List ℕ) (may : List ℕ → Type 0)

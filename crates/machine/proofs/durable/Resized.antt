@@ -13,9 +13,8 @@ use Rattle.machine.proofs.durable.Cuts as cuts
 use Rattle.machine.proofs.durable.Cuts.{cut, cut-whole, take-cut, cut_file-there, cut_file-other}
 use Rattle.machine.proofs.durable.Histories.{begins_more, acknowledged_more, marks_more, written_as}
 use Rattle.machine.proofs.durable.Homes.{home_is}
-use Rattle.machine.proofs.durable.Marks.{IsDurable}
 use Rattle.machine.proofs.sound.ByResize.{resizable, none_frozen_then, after_it, length_there, length_elsewhere}
-use Rattle.machine.proofs.refining.Pages.{HasPages}
+use Rattle.machine.proofs.Names.{HasPages, IsDurable}
 
 -- fewer of the same first bytes
 take_fewer : (m n : ℕ) (xs ys : List ℕ) → m ≤ n → take n xs ≡ take n ys → take m xs ≡ take m ys

@@ -11,7 +11,7 @@ use Rattle.machine.proofs.Names.{HasStepped, FlushFailed, MarkMade, with_batch}
 use Rattle.machine.proofs.Names.{work_asked, reply_to, after_record, after_failure}
 use Rattle.machine.proofs.Names.{Observed, observe, ended_by, ReadsBack}
 use Rattle.machine.proofs.Names.{StepIsSafe, StopsInStep, step_work, StepMade, StepTaken, IsSound, IsArranged}
-use Rattle.machine.proofs.Names.{lengths_of, mark_homes, is_page_next, Refines}
+use Rattle.machine.proofs.Names.{lengths_of, mark_homes, is_page_next, HasPages, IsDurable, Refines}
 use Rattle.machine.proofs.Names.{after_effects, IsMoved, Performed, Moved, Marked, Failed}
 use Rattle.page_entry.specs.declared.refusal.Refusal.TheVariants as refusals
 use Rattle.journal.specs.declared.flushed.Flushed.TheVariants as flushed
@@ -24,7 +24,7 @@ use Rattle.machine.proofs.sound.Kept.{performed_sound}
 use Rattle.machine.proofs.acts.All.{performed}
 use Rattle.machine.proofs.durable.Histories.{written_as, marked_by, after_marked, lengths_marked, resized_mark}
 use Rattle.machine.proofs.durable.Histories.{AreQuiet, quiet_nothing, quiet_acknowledge, touched_mark, SameFiles}
-use Rattle.machine.proofs.durable.Marks.{IsDurable, marked_durable}
+use Rattle.machine.proofs.durable.Marks.{marked_durable}
 use Rattle.machine.proofs.durable.Flushes.{flush_within, flush_failed, flush_goes_on, flush_commits}
 use Rattle.machine.proofs.durable.ReadsBack.{reads_within, reads_now, stops_within}
 use Rattle.machine.proofs.refining.DirtyFrames.{clean_after_mark}
@@ -32,7 +32,7 @@ use Rattle.machine.proofs.refining.ObservedSpaces.{spaces_still}
 use Rattle.machine.proofs.refining.Arranged.{spaces_of, with_history, arranged_beside, arranged_end, arranged_resized}
 use Rattle.machine.proofs.refining.Resized.{pages_resized}
 use Rattle.machine.proofs.durable.Resized.{resized_durable}
-use Rattle.machine.proofs.refining.Pages.{HasPages, SamePages, files_kept, pages_quiet, plain_still}
+use Rattle.machine.proofs.refining.Pages.{SamePages, files_kept, pages_quiet, plain_still}
 use Rattle.machine.proofs.refining.Moved.{moves_refine}
 
 -- ---- what a crash may leave is among what it might
@@ -129,43 +129,28 @@ module _ (files : List File) (observed : Observed) (s : State) (disk : List ℕ)
   left_now : IsWithin Nothing
   left_now c left_c = consistent_left s.table t.old t.new s.write_outs disk may t.consistent c left_c
 
-  has : HasPages files observed s
-  has = record { files_are = t.files_are; latest = t.latest; touched = t.touched; plain = t.plain }
+  abbrev has : HasPages files observed s
+  has = t.pages
 
   refines_of : (now : Observed) → IsArranged now new → HasPages files now new → IsDurable files now new disk' may'
       → Refines files now new disk' may'
-  refines_of now arranged pages durable = record {
-    sound = sound';
-    files_are = pages.files_are;
-    arranged = arranged;
-    latest = pages.latest;
-    touched = pages.touched;
-    plain = pages.plain;
-    old = durable.old;
-    new = durable.new;
-    consistent = durable.consistent;
-    written = durable.written;
-  }
+  refines_of now arranged pages durable =
+      record { sound = sound'; arranged = arranged; pages = pages; durable = durable }
 
   -- ---- moves
 
   moving : IsMoved s disk p act reply new disk' → Outcome
   moving by =
       let m = moves_refine files observed s disk may t by.effect new by.moves in
-      outcome_as (after_effects observed by.effect) Nothing (by.observes observed) by.no_work (record {
-        sound = m.sound;
-        files_are = m.files_are;
-        arranged = m.arranged;
-        latest = m.latest;
-        touched = m.touched;
-        plain = m.plain;
+      outcome_as (after_effects observed by.effect) Nothing (by.observes observed) by.no_work
+      (refines_of (after_effects observed by.effect) m.arranged m.pages (record {
         old = m.old;
         new = m.new;
         consistent = subst (λ (l : List ℕ). IsConsistent new.table new.write_outs m.old m.new l may') (sym by.same_disk)
             (consistent_less new.table new.write_outs m.old m.new disk may may'
             (left_by Nothing by.no_work) m.consistent);
         written = m.written;
-      }) left_now
+      })) left_now
 
   -- ---- a mark
 
@@ -430,6 +415,5 @@ module _ {D : Type 0} (disk : Ghosts D) (files : List File) (observed : Observed
         made.within;
     after = λ c left. let now = refines_kept in
         reads_now files (observe observed step reply) new.state (disk.seen new.device)
-        (disk.may_leave new.device) now.sound now.files_are
-        (record { old = now.old; new = now.new; consistent = now.consistent; written = now.written }) c left;
+        (disk.may_leave new.device) now.sound now.files_are now.durable c left;
   }

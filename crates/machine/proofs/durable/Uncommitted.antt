@@ -8,7 +8,7 @@ use Rattle.machine.proofs.Names.{Finishing, is_ahead, is_at, is_committed, answe
 use Rattle.machine.proofs.Names.{has_committed, advanced_of, moving, moved}
 use Rattle.machine.proofs.Names.{answer_of, has_uncommitted, batches_after, HasBlock, IsOlder, AreInOrder}
 use Rattle.machine.proofs.Names.{IsAt, stage_is, committed_parts, IsWaiting, FilePage, State, home_of}
-use Rattle.machine.proofs.Names.{IsSound, waiting_homes, file_homes}
+use Rattle.machine.proofs.Names.{IsSound, waiting_homes, file_homes, HasUncommitted}
 use Rattle.journal.specs.WriteOuts.{current}
 use Rattle.machine.proofs.sound.Sharing.{AreStepped, Makes, each_stepped, moving_there, ending}
 use Rattle.machine.proofs.sound.Waiting.{waiting-none, blocks, committed_steps, committed_still}
@@ -31,18 +31,17 @@ none_uncommitted (x ∷ newer) w none (suc k, lt, e) early =
     none_uncommitted newer w (committed_parts x newer none).1 (k, omega (arith, lt), e) early
 
 -- what a batch was before a step, where it isn't committed after it
-pub record WasUncommitted (batches : List WriteOut) (w : WriteOut) : Type 0 where
-  pub before : WriteOut
-  pub there : Contains batches before
-  pub batch : before.batch ≡ w.batch
-  pub early : has_committed before ≡ false
+abbrev WasUncommitted : List WriteOut → WriteOut → Type 0
+WasUncommitted batches w = HasUncommitted batches (λ x. x.batch ≡ w.batch)
 
-later : (x : WriteOut) (newer : List WriteOut) (w : WriteOut) → WasUncommitted newer w → WasUncommitted (x ∷ newer) w
-later x newer w was = record {
-  before = was.before;
-  there = Contains-append_right (x ∷ []) newer was.before was.there;
-  batch = was.batch;
-  early = was.early;
+-- behind another one, too
+later : (Is : WriteOut → Type 0) (x : WriteOut) (newer : List WriteOut) → HasUncommitted newer Is
+    → HasUncommitted (x ∷ newer) Is
+later Is x newer has = record {
+  w = has.w;
+  there = Contains-append_right (x ∷ []) newer has.w has.there;
+  early = has.early;
+  is = has.is;
 }
 
 stepped_before : (P : WriteOut → Type 0) (xs ys : List WriteOut) → AreStepped P xs ys → (w : WriteOut) → Contains ys w
@@ -50,12 +49,12 @@ stepped_before : (P : WriteOut → Type 0) (xs ys : List WriteOut) → AreSteppe
 stepped_before P [] [] are w there early = absurd (omega (arith, there.1))
 stepped_before P (x ∷ xs) (y ∷ ys) are w there early = elim (first_or y ys w there) [
   | inl e ↦ record {
-    before = x;
+    w = x;
     there = (0, omega arith, refl);
-    batch = (one are.0).0 ∙ ap (λ (z : WriteOut). z.batch) e;
     early = (one are.0).1 (ap has_committed e ∙ early);
+    is = (one are.0).0 ∙ ap (λ (z : WriteOut). z.batch) e;
   }
-  | inr rest ↦ later x xs w (stepped_before P xs ys are.1 w rest early)
+  | inr rest ↦ later (λ z. z.batch ≡ w.batch) x xs (stepped_before P xs ys are.1 w rest early)
 ]
   where
     one : ((y ≡ x) ⊎ ((y ≡ advanced_of x) × P x))
@@ -79,9 +78,9 @@ uncommitted_before shares (Committed mark) batches w there early = moved_before 
 uncommitted_before shares (Done mark) batches w there early =
     moved_before shares batches w (contains_drop 1 (moved shares batches) w there) early
 uncommitted_before shares Device batches w there early =
-    record { before = w; there = there; batch = refl; early = early }
+    record { w = w; there = there; early = early; is = refl }
 uncommitted_before shares Broken batches w there early =
-    record { before = w; there = there; batch = refl; early = early }
+    record { w = w; there = there; early = early; is = refl }
 
 -- ---- a batch that waits
 
@@ -108,14 +107,6 @@ own_step x early = elim (cases_Bool (has_committed (advanced_of x))) [
   | inr still ↦ inl still
 ]
 
-older_waits : (x : WriteOut) (newer : List WriteOut) (n : ℕ) → IsWaiting newer n → IsWaiting (x ∷ newer) n
-older_waits x newer n wait = record {
-  w = wait.w;
-  there = Contains-append_right (x ∷ []) newer wait.w wait.there;
-  early = wait.early;
-  mark = wait.mark;
-}
-
 -- one that isn't ahead isn't committed by its next step
 not_committing : (x : WriteOut) (n : ℕ) → is_at is_ahead x ≡ false → answer_of x ≡ Committed n → ⊥
 not_committing x n behind e = by (next_stage x) behind e
@@ -132,16 +123,16 @@ waits_stepped : (P : WriteOut → Type 0) (xs ys : List WriteOut) → AreStepped
     → IsWaiting ys n ⊎ ((x : WriteOut) × P x × (answer_of x ≡ Committed n))
 waits_stepped P [] [] are n wait = absurd (omega (arith, wait.there.1))
 waits_stepped P (x ∷ xs) (y ∷ ys) are n wait = elim (first_or x xs wait.w wait.there) [
-  | inl e ↦ first are.0 (ap has_committed e ∙ wait.early) (ap (λ (z : WriteOut). z.batch.mark) e ∙ wait.mark)
+  | inl e ↦ first are.0 (ap has_committed e ∙ wait.early) (ap (λ (z : WriteOut). z.batch.mark) e ∙ wait.is)
   | inr rest ↦ elim (waits_stepped P xs ys are.1 n
-      (record { w = wait.w; there = rest; early = wait.early; mark = wait.mark })) [
-        | inl still ↦ inl (older_waits y ys n still)
+      (record { w = wait.w; there = rest; early = wait.early; is = wait.is })) [
+        | inl still ↦ inl (later (λ z. z.batch.mark ≡ n) y ys still)
         | inr answered ↦ inr answered
       ]
 ]
   where
     here : has_committed y ≡ false → y.batch.mark ≡ n → IsWaiting (y ∷ ys) n
-    here early mark = record { w = y; there = (0, omega arith, refl); early = early; mark = mark }
+    here early mark = record { w = y; there = (0, omega arith, refl); early = early; is = mark }
 
     first : ((y ≡ x) ⊎ ((y ≡ advanced_of x) × P x)) → has_committed x ≡ false → x.batch.mark ≡ n
         → IsWaiting (y ∷ ys) n ⊎ ((x : WriteOut) × P x × (answer_of x ≡ Committed n))
@@ -178,7 +169,7 @@ waits_ended shares batches mark n e wait =
     elim (first_or is.oldest is.newer wait.w (subst (λ (l : List WriteOut). Contains l wait.w) is.are wait.there)) [
       | inl same ↦ absurd (both_ways (has_committed wait.w) wait.early (sym (ap has_committed same) ∙ late))
       | inr rest ↦ elim (waits_stepped (λ x. is_at is_ahead x ≡ false) is.newer (drop 1 (moved shares batches))
-          is.stepped n (record { w = wait.w; there = rest; early = wait.early; mark = wait.mark })) [
+          is.stepped n (record { w = wait.w; there = rest; early = wait.early; is = wait.is })) [
             | inl still ↦ still
             | inr answered ↦ absurd (not_committing answered.0 n answered.1 answered.2)
           ]

@@ -9,12 +9,12 @@ use Rattle.machine.proofs.Names.{with_processor, with_tlb, Coheres, Agrees, at-w
 use Rattle.machine.proofs.Names.{Coheres-grown, IsShootdown-filled, Coheres-filled, Holds, page_at, MayBe}
 use Rattle.machine.proofs.Names.{AreBacked-with_entry, cached_of, walked, State, with_hardware, with_shootdown}
 use Rattle.machine.proofs.Names.{with_spaces, IsSound, Effect, Silent, Mapping, AreSpacesObserved, ReplacesProcessor}
-use Rattle.machine.proofs.Names.{ReplacesSpaces, Replace, Remap}
+use Rattle.machine.proofs.Names.{ReplacesSpaces, Replace, Remap, SamePlaces}
 use Rattle.machine.proofs.sound.Lists.{same_some}
 use Rattle.machine.proofs.moves.Silent.{SilentMoves}
 use Rattle.machine.proofs.refining.DirtyFrames.{dirty_alike}
 use Rattle.machine.proofs.sound.Groups.{still_sound, unchanged_sound, shootdown_sound}
-use Rattle.machine.proofs.sound.Groups.{prepared_moved, memory_beside, write_outs_moved}
+use Rattle.machine.proofs.sound.Groups.{prepared_same, memory_beside, write_outs_moved}
 
 -- ---- a machine stays sound
 
@@ -41,11 +41,13 @@ pub spaces_sound : (s : State) (spaces : Spaces) (effect : Effect) (new : State)
     → IsSound s → IsSound new
 spaces_sound s spaces effect new is sound = unchanged_sound _ new is.done (still_sound sound refl refl
     (record {
-      spaces = is.are_spaces;
-      shootdown = sound.spaces.shootdown;
-      coheres = is.coheres;
-      current = λ p below. space_stays effect s.hardware.spaces spaces is.observed _ (sound.spaces.current p below);
-      in_table = is.in_table;
+      tables = record {
+        spaces = is.are_spaces;
+        shootdown = sound.spaces.shootdown;
+        coheres = is.coheres;
+        current = λ p below. space_stays effect s.hardware.spaces spaces is.observed _ (sound.spaces.current p below);
+        in_table = is.in_table;
+      };
       prepared = is.prepared;
     })
     (memory_beside s s.hardware.shootdown spaces s.checkpoint s.write_outs s.marks refl refl
@@ -90,6 +92,7 @@ entry_replaced s pcid page place entry mapped may keeps had sound =
     has_space-with_entry old pcid page (Some entry) (has_space-place_at old pcid page some) in
     let places : (q : ℕ) → (space_at new q).places ≡ (space_at old q).places =
     places-with_entry old pcid page (Some entry) in
+    let same : SamePlaces old new = record { there = there; places = places } in
     record {
       are_spaces = AreSpaces-with_entry old pcid page (Some entry) sound.spaces.spaces some;
       coheres = Coheres-grown old new s.hardware.shootdown (Grows-with_entry old pcid page entry keeps)
@@ -99,20 +102,11 @@ entry_replaced s pcid page place entry mapped may keeps had sound =
           sound.spaces.coheres;
       in_table = λ q at other is.
           sound.spaces.in_table q at other (sym (place_at-with_entry old pcid page (Some entry) q at) ∙ is);
-      prepared = λ lock held. prepared_moved s (with_spaces s new) lock.change (record {
-        users = λ q user. ap (λ is. Rattle.std.specs.Prelude.nat_lt 0 q && is) (there q) ∙ user;
-        places = places;
-        table = refl;
-        in_memory = λ owner is. is;
-        lengths = refl;
-        quiescent = λ whole none. (whole, none);
-        room = refl;
-        marks = refl;
-        free = λ free. free;
-      }) (sound.spaces.prepared lock held);
+      prepared = λ lock held.
+          prepared_same s s.hardware.shootdown new lock.change same (sound.spaces.prepared lock held);
       backed =
           AreBacked-with_entry s.hardware.memory s.checkpoint old pcid page place entry mapped may sound.memory.backed;
-      observed = record { there = there; places = places };
+      observed = same;
       done = refl;
     }
   where

@@ -89,19 +89,21 @@ destroyed_sound s p pcid new allowed rule sound =
     λ q within. elsewhere sd.processors pcid may.unused q _ within in
     unchanged_sound _ new rule.done (still_sound sound refl refl
     (record {
-      spaces = AreSpaces-remove old pcid sound.spaces.spaces (λ zero. absurd (omega (arith, user.0, zero)));
-      shootdown = IsShootdown-destroyed sd pcid sound.spaces.shootdown;
-      coheres = Coheres-destroyed old remaining sd pcid sound.spaces.shootdown apart
-          (λ q page other. entry_at-remove_other old pcid q page other)
-          (λ lock held. IsNoWider-remove lock.change old pcid) sound.spaces.coheres;
-      current = λ q within.
-          let below : q < length sd.processors = omega (arith, within, length-destroyed sd pcid) in
-          let same = current-destroyed sd pcid q below in
-          ap (has_space remaining) same ∙ has_space-remove old pcid (current sd q)
-          ∙ and_from (not (eqb (current sd q) pcid)) (has_space old (current sd q))
-          (not_from_false _ (ne_eqb (current sd q) pcid (apart q below))) (sound.spaces.current q below);
-      in_table = λ q page place is. sound.spaces.in_table q page place
-          (kept_some (eqb q pcid) (place_at old q page) place (sym (place_at-remove old pcid q page) ∙ is));
+      tables = record {
+        spaces = AreSpaces-remove old pcid sound.spaces.spaces (λ zero. absurd (omega (arith, user.0, zero)));
+        shootdown = IsShootdown-destroyed sd pcid sound.spaces.shootdown;
+        coheres = Coheres-destroyed old remaining sd pcid sound.spaces.shootdown apart
+            (λ q page other. entry_at-remove_other old pcid q page other)
+            (λ lock held. IsNoWider-remove lock.change old pcid) sound.spaces.coheres;
+        current = λ q within.
+            let below : q < length sd.processors = omega (arith, within, length-destroyed sd pcid) in
+            let same = current-destroyed sd pcid q below in
+            ap (has_space remaining) same ∙ has_space-remove old pcid (current sd q)
+            ∙ and_from (not (eqb (current sd q) pcid)) (has_space old (current sd q))
+            (not_from_false _ (ne_eqb (current sd q) pcid (apart q below))) (sound.spaces.current q below);
+        in_table = λ q page place is. sound.spaces.in_table q page place
+            (kept_some (eqb q pcid) (place_at old q page) place (sym (place_at-remove old pcid q page) ∙ is));
+      };
       prepared = λ held is. unlocked sd.lock held free is;
     })
     (memory_beside s (destroyed sd pcid) remaining rule.checkpoint s.write_outs s.marks rule.noted.frozen

@@ -53,47 +53,42 @@ same_history : (observed : Observed) (history : List Event) → observed.history
     → record observed { history = history ++ [] } ≡ observed
 same_history observed history same = λ i. record observed { history = (append-nil history ∙ sym same) i }
 
--- an act of moves by which nothing is stored or marked
-pub moved_all : {s : State} {disk : List ℕ} {p : ℕ} {act : Act} {reply : Reply} {new : State}
-    {disk' : List ℕ} (effect : List Effect)
-    → Moves disk s effect new
-    → ((observed : Observed) → observe observed (record { p = p; act = act }) reply
-    ≡ record (after_effects observed effect) { history = observed.history ++ [] })
-    → ((observed : Observed) → (after_effects observed effect).history ≡ observed.history)
-    → step_work s act reply ≡ Nothing → disk' ≡ disk
-    → Performed s disk p act reply new disk'
-moved_all effect moves observes still work same = Moved (record {
-  effect = effect;
-  moves = moves;
-  observes = λ observed. observes observed
-      ∙ same_history (after_effects observed effect) observed.history (still observed);
-  no_work = work;
-  same_disk = same;
-})
+-- the act is observed so, and adds nothing to the history
+abbrev ObservedAs : ℕ → Act → Reply → (Observed → Observed) → Type 0
+ObservedAs p act reply after = (observed : Observed)
+    → observe observed (record { p = p; act = act }) reply
+    ≡ record (after observed) { history = observed.history ++ [] }
 
--- of one move
-pub moved : {s : State} {disk : List ℕ} {p : ℕ} {act : Act} {reply : Reply} {new : State}
-    {disk' : List ℕ} {effect : Effect}
-    → Move disk s effect new
-    → ((observed : Observed) → observe observed (record { p = p; act = act }) reply
-    ≡ record (after_effect observed effect) { history = observed.history ++ [] })
-    → ((observed : Observed) → (after_effect observed effect).history ≡ observed.history)
-    → step_work s act reply ≡ Nothing → disk' ≡ disk
-    → Performed s disk p act reply new disk'
-moved {new = new} {effect = effect} move observes still work same =
-    moved_all (effect ∷ []) (new, move, refl) observes still work same
+module _ {s : State} {disk : List ℕ} {p : ℕ} {act : Act} {reply : Reply} {new : State} {disk' : List ℕ} where
+  -- an act of moves by which nothing is stored or marked
+  pub moved_all : (effect : List Effect) → Moves disk s effect new
+      → ObservedAs p act reply (λ observed. after_effects observed effect)
+      → ((observed : Observed) → (after_effects observed effect).history ≡ observed.history)
+      → step_work s act reply ≡ Nothing → disk' ≡ disk → Performed s disk p act reply new disk'
+  moved_all effect moves observes still work same = Moved (record {
+    effect = effect;
+    moves = moves;
+    observes = λ observed. observes observed
+        ∙ same_history (after_effects observed effect) observed.history (still observed);
+    no_work = work;
+    same_disk = same;
+  })
 
--- of moves that tell nothing
-pub silently : {s : State} {disk : List ℕ} {p : ℕ} {act : Act} {reply : Reply} {new : State} {disk' : List ℕ}
-    → SilentMoves disk s new
-    → ((observed : Observed)
-    → observe observed (record { p = p; act = act }) reply ≡ record observed { history = observed.history ++ [] })
-    → step_work s act reply ≡ Nothing → disk' ≡ disk → Performed s disk p act reply new disk'
-silently silent observes work same = Moved (record {
-  effect = silent.effect;
-  moves = silent.moves;
-  observes = λ observed. observes observed ∙ same_history observed observed.history refl
-      ∙ sym (silent_after observed silent.effect silent.silent);
-  no_work = work;
-  same_disk = same;
-})
+  -- of one move
+  pub moved : {effect : Effect} → Move disk s effect new
+      → ObservedAs p act reply (λ observed. after_effect observed effect)
+      → ((observed : Observed) → (after_effect observed effect).history ≡ observed.history)
+      → step_work s act reply ≡ Nothing → disk' ≡ disk → Performed s disk p act reply new disk'
+  moved {effect} move = moved_all (effect ∷ []) (new, move, refl)
+
+  -- of moves that tell nothing
+  pub silently : SilentMoves disk s new → ObservedAs p act reply (λ observed. observed)
+      → step_work s act reply ≡ Nothing → disk' ≡ disk → Performed s disk p act reply new disk'
+  silently silent observes work same = Moved (record {
+    effect = silent.effect;
+    moves = silent.moves;
+    observes = λ observed. observes observed ∙ same_history observed observed.history refl
+        ∙ sym (silent_after observed silent.effect silent.silent);
+    no_work = work;
+    same_disk = same;
+  })

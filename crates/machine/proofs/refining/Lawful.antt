@@ -444,13 +444,13 @@ module _ {D : Type 0} (disk : Ghosts D) (files : List File) where
       (steps : List Step) (replies : List Reply) (new : Whole D)
       → Acts s bytes p act reply mid.state (disk.seen mid.device)
       → Throughout (StepIsSafe disk files) observed mid steps replies new → ServesNext p act reply steps replies
-  serves_through observed s bytes p (acts.Fix va write) replies.Fixed mid (next ∷ steps) (reply ∷ rest) new rule run =
+  serves_through observed s bytes p (acts.Fix va write) replies.Fixed mid (next ∷ steps) (reply ∷ more) new rule run =
       λ same access.
       access_answers s bytes p va write mid.state (disk.seen mid.device) next.act reply run.0.state
       (disk.seen run.0.device) rule.0 access
       (subst (λ q. Acts mid.state (disk.seen mid.device) q next.act reply run.0.state (disk.seen run.0.device)) same
       (rule_of observed mid next reply run.0 run.1))
-  serves_through observed s bytes p act reply mid steps rest new rule run = tt
+  serves_through observed s bytes p act reply mid steps more new rule run = tt
 
   pub served_throughout : (observed : Observed) (old : Whole D) (steps : List Step)
       (replies : List Reply) (new : Whole D)

@@ -1,6 +1,6 @@
 -- Each move of a tracked machine keeps it tracked.
 use Rattle.machine.proofs.Names.{ℕ, ◌≡◌, ◌↔◌, ◌%◌, true, List, [], ◌∷◌, ◌++◌, Option, Some, None, refl, sym, ap, ◌∙◌}
-use Rattle.machine.proofs.Names.{Resizing}
+use Rattle.machine.proofs.Names.{Resizing, HasPages}
 use Rattle.machine.proofs.Names.{subst, inl, inr, append-nil, Contains, both_ways, FilePage, Place, FramesState, File}
 use Rattle.machine.proofs.Names.{SuperValue, Change, Checkpoint, running, is_there_below, CheckpointState, IsDirty}
 use Rattle.machine.proofs.Names.{IsInSpace, page_at, Hardware, WriteOutsValue, IsConsistent, Event, State, page_from}
@@ -21,7 +21,7 @@ use Rattle.machine.proofs.refining.Lawful.{place_is}
 use Rattle.machine.proofs.refining.DirtyFrames.{dirty_taken, takes_space}
 use Rattle.machine.proofs.refining.Translations.{has_stored}
 use Rattle.machine.proofs.refining.Arranged.{arranged_moved}
-use Rattle.machine.proofs.refining.Pages.{HasPages, pages_quiet, pages_fixed, pages_left, pages_stored}
+use Rattle.machine.proofs.refining.Pages.{pages_quiet, pages_fixed, pages_left, pages_stored}
 
 -- ---- what a move adds to the history: a store, or nothing
 
@@ -107,9 +107,6 @@ module _ (files : List File) (observed : Observed) (s : State) (seen : List ℕ)
   history_as : (events : List Event) → adds observed effect ≡ events → now.history ≡ observed.history ++ events
   history_as events is = history_after observed effect ∙ ap (λ l. observed.history ++ l) is
 
-  has : HasPages files observed s
-  has = record { files_are = t.files_are; latest = t.latest; touched = t.touched; plain = t.plain }
-
   abbrev new_of : Hardware → CheckpointState → State
   new_of h c = record s { hardware = h; checkpoint = c }
 
@@ -120,7 +117,7 @@ module _ (files : List File) (observed : Observed) (s : State) (seen : List ℕ)
   same_pages h c done none frames dirty =
       subst (HasPages files now) (sym done)
       (pages_quiet files observed now s (new_of h c) [] (history_as [] none) (quiet_nothing observed.history)
-      (record { table = refl; lengths = refl }) refl has (record { frames = frames; dirty = dirty }))
+      (record { table = refl; lengths = refl }) refl t.pages (record { frames = frames; dirty = dirty }))
 
   stored : StoresBytes s effect new → HasPages files now new
   stored is =
@@ -131,7 +128,7 @@ module _ (files : List File) (observed : Observed) (s : State) (seen : List ℕ)
       subst (HasPages files now) (sym is.done)
       (pages_stored files observed now s is.p is.va is.bytes is.hardware w t.sound.memory.memory
       t.sound.memory.in_files is.made.access.inside
-      (history_as _ (ap (adds observed) is.effect_is ∙ ap (λ o. store_at o is.va is.bytes) leads)) has)
+      (history_as _ (ap (adds observed) is.effect_is ∙ ap (λ o. store_at o is.va is.bytes) leads)) t.pages)
 
   pub pages_moved : Move seen s effect new → HasPages files now new
   pages_moved (Replace is) =
@@ -164,7 +161,7 @@ module _ (files : List File) (observed : Observed) (s : State) (seen : List ℕ)
       subst (HasPages files now) (sym is.done)
       (pages_fixed files observed now s _ [] (history_as [] (ap (adds observed) is.effect_is))
       (quiet_nothing observed.history)
-      (record { table = refl; lengths = refl }) refl has t.sound is.owner bytes
+      (record { table = refl; lengths = refl }) refl t.pages t.sound is.owner bytes
       (is_brought s.hardware.memory is.owner bytes is.frame is.absent is.free) (λ frame. (λ d. d, λ d. d))
       (λ absent. page_read files observed s seen may t is.owner is.in_file absent is.whole))
   pages_moved (Copy is) = same_pages _ s.checkpoint is.done (ap (adds observed) is.effect_is) refl
@@ -173,31 +170,29 @@ module _ (files : List File) (observed : Observed) (s : State) (seen : List ℕ)
       subst (HasPages files now) (sym is.done)
       (pages_left files observed now s _ [] (history_as [] (ap (adds observed) is.effect_is))
       (quiet_nothing observed.history)
-      (record { table = refl; lengths = refl }) refl has is.owner is.frame is.leaves refl
+      (record { table = refl; lengths = refl }) refl t.pages is.owner is.frame is.leaves refl
       (λ frame. (λ d. d, λ d. d)))
 
   -- ---- all that is tracked
 
   pub refines_moved : Move seen s effect new → Refines files now new seen may
   refines_moved move =
-      let pages = pages_moved move in
       let leaves = leaves_moved s seen effect new t.sound move in
       record {
         sound = move_sound seen s effect new move t.sound;
-        files_are = pages.files_are;
         arranged = arranged_moved observed s t.arranged seen effect new t.sound move;
-        latest = pages.latest;
-        touched = pages.touched;
-        plain = pages.plain;
-        old = t.old;
-        new = t.new;
-        consistent =
-            subst (λ (o : WriteOutsValue). IsConsistent new.table o t.old t.new seen may) (sym leaves.write_outs)
-            (subst (λ (v : SuperValue). IsConsistent v s.write_outs t.old t.new seen may)
-            (sym leaves.files.table) t.consistent);
-        written = written_left files observed now (adds observed effect) s new t.old t.new
-            (history_after observed effect)
-            (adds_quietly observed effect) leaves t.written;
+        pages = pages_moved move;
+        durable = record {
+          old = t.old;
+          new = t.new;
+          consistent =
+              subst (λ (o : WriteOutsValue). IsConsistent new.table o t.old t.new seen may) (sym leaves.write_outs)
+              (subst (λ (v : SuperValue). IsConsistent v s.write_outs t.old t.new seen may)
+              (sym leaves.files.table) t.consistent);
+          written = written_left files observed now (adds observed effect) s new t.old t.new
+              (history_after observed effect)
+              (adds_quietly observed effect) leaves t.written;
+        };
       }
 
 pub moves_refine : (files : List File) (observed : Observed) (s : State) (seen : List ℕ) (may : List ℕ → Type 0)

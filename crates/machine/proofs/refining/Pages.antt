@@ -12,18 +12,12 @@ use Rattle.machine.proofs.durable.Lists.{some_same}
 use Rattle.machine.proofs.durable.Histories.{SameFiles, in_file_as, AreQuiet, after_store, stored_there}
 use Rattle.machine.proofs.durable.Histories.{stored_elsewhere, length-stored, touched_there}
 use Rattle.machine.proofs.durable.Histories.{touched_elsewhere, lengths_store, resized_store}
+use Rattle.machine.proofs.Names.{HasPages}
 use Rattle.machine.proofs.sound.Frames.{held_in_memory, holds_still}
 use Rattle.machine.proofs.durable.Pages.{IsBrought, held_by_none, absent_before, held_without}
 use Rattle.machine.proofs.durable.Pages.{cases_page, differ, bytes_of-with_bytes}
 use Rattle.machine.proofs.refining.DirtyFrames.{clean_where_free}
 use Rattle.machine.proofs.refining.Translations.{HasStored}
-
--- the machine has these files, and in its frames the memory of what was observed
-pub record HasPages (files : List File) (observed : Observed) (s : State) : Type 0 where
-  pub files_are : HasFiles files observed.history s
-  pub latest : IsLatest files observed s
-  pub touched : AreTouched observed s
-  pub plain : ArePlain files observed s
 
 -- the frames stay, and the same ones are dirty
 pub record SamePages (s new : State) : Type 0 where

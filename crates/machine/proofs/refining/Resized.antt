@@ -22,7 +22,7 @@ use Rattle.machine.proofs.sound.ResizedPages.{zero_is_zeros, stays_before, held_
 use Rattle.machine.proofs.sound.ResizedPages.{held_after, entry_was, entry_stays}
 use Rattle.machine.proofs.sound.ByResize.{resizable, after_it, in_file_now, length_there, length_elsewhere}
 use Rattle.machine.proofs.refining.DirtyFrames.{dirty_at}
-use Rattle.machine.proofs.refining.Pages.{HasPages}
+use Rattle.machine.proofs.Names.{HasPages}
 
 module _ (files : List File) (observed now : Observed) (s : State) (p : ℕ) (new : State) (made : ResizeMade s p new)
     (history : now.history ≡ observed.history ++ SetLength made.file (length_of s made.file) made.to ∷ [])

@@ -14,16 +14,18 @@ use Rattle.machine.proofs.sound.Groups.{unchanged_sound}
 module _ (table : SuperValue) (lengths : List ℕ) (shape : Shape) (is : IsShape table shape) where
   fresh_spaces : AreSpacesSound (fresh table lengths shape)
   fresh_spaces = record {
-    spaces = AreSpaces-first_spaces;
-    shootdown = IsShootdown-fresh shape.cpus shape.tlb (omega (arith, is.some_processors)) is.few_processors
-        (omega (arith, is.some_entries));
-    coheres = Coheres-fresh first_spaces shape.cpus shape.tlb;
-    current = λ p within.
-        let at : processor_at (fresh_shootdown shape.cpus shape.tlb) p ≡ fresh_processor shape.tlb =
-        get_or-replicate shape.cpus p (fresh_processor shape.tlb) (fresh_processor 1)
-        (omega (arith, within, length-replicate shape.cpus (fresh_processor shape.tlb))) in
-        ap (λ x. has_space first_spaces x.space) at ∙ has_space-first_spaces 0 ∙ eq-eqb 0 0 refl;
-    in_table = λ pcid page place mapped. absurd (let none = place_at-first_spaces pcid page in cc);
+    tables = record {
+      spaces = AreSpaces-first_spaces;
+      shootdown = IsShootdown-fresh shape.cpus shape.tlb (omega (arith, is.some_processors)) is.few_processors
+          (omega (arith, is.some_entries));
+      coheres = Coheres-fresh first_spaces shape.cpus shape.tlb;
+      current = λ p within.
+          let at : processor_at (fresh_shootdown shape.cpus shape.tlb) p ≡ fresh_processor shape.tlb =
+          get_or-replicate shape.cpus p (fresh_processor shape.tlb) (fresh_processor 1)
+          (omega (arith, within, length-replicate shape.cpus (fresh_processor shape.tlb))) in
+          ap (λ x. has_space first_spaces x.space) at ∙ has_space-first_spaces 0 ∙ eq-eqb 0 0 refl;
+      in_table = λ pcid page place mapped. absurd (let none = place_at-first_spaces pcid page in cc);
+    };
     prepared = λ lock held. absurd (cc);
   }
 

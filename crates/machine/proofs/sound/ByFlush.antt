@@ -36,6 +36,21 @@ module _ (s : State) (sound : IsSound s) (whole : s.write_outs.broken ≡ false)
   unset : s.resized ≡ true → s.write_outs.broken ≡ false
   unset set = (sound.write_outs.quiescent set).1
 
+  -- once the steps of the batches are made, each that isn't the newest is committed still, and they are as many
+  older_moved : (batches : List WriteOut) → batches ≡ outs_moved s.write_outs → AreOlderCommitted batches
+  older_moved batches same = subst AreOlderCommitted (sym same)
+      (older-stepped (Makes (shared s.write_outs) s.write_outs.batches) s.write_outs.batches (outs_moved s.write_outs)
+      (each_stepped (shared s.write_outs) s.write_outs.batches) sound.write_outs.older)
+
+  few_moved : (batches : List WriteOut) → batches ≡ outs_moved s.write_outs
+      → length batches ≤ length s.write_outs.batches
+  few_moved batches same = omega (
+    arith,
+    ap (λ (l : List WriteOut). length l) same,
+    length-stepped (Makes (shared s.write_outs) s.write_outs.batches) s.write_outs.batches (outs_moved s.write_outs)
+        (each_stepped (shared s.write_outs) s.write_outs.batches),
+  )
+
   -- the first frozen page's record was written
   pub record_sound : (answer : Flushed) (home : ℕ) (rest : List ℕ) → waiting s.write_outs.batches ≡ home ∷ rest
       → waiting (outs_moved s.write_outs) ≡ rest → leb (first_file_home s.table.layout s.table.slots) home ≡ true
@@ -48,7 +63,6 @@ module _ (s : State) (sound : IsSound s) (whole : s.write_outs.broken ≡ false)
       })
   record_sound answer home rest waits after_it page same =
       let batches = s.write_outs.batches in
-      let older = sound.write_outs.older in
       let first = next_page s in
       let memory = without_copy_of s.hardware.memory first in
       let outs = record s.write_outs { batches = batches_after (shared s.write_outs) answer batches } in
@@ -87,15 +101,7 @@ module _ (s : State) (sound : IsSound s) (whole : s.write_outs.broken ≡ false)
       })
       (stepped_write_outs s sound answer s.write_outs.broken (record s.hardware { memory = memory })
       (released s.checkpoint) refl
-      (subst AreOlderCommitted (sym same) (older-stepped (Makes (shared s.write_outs) batches) batches
-      (outs_moved s.write_outs)
-      (each_stepped (shared s.write_outs) batches) older))
-      (omega (
-        arith,
-        ap (λ (l : List WriteOut). length l) same,
-        length-stepped (Makes (shared s.write_outs) batches) batches (outs_moved s.write_outs)
-            (each_stepped (shared s.write_outs) batches),
-      )) unset
+      (older_moved outs.batches same) (few_moved outs.batches same) unset
       (others ∙ sym
       (cond-false s.write_outs.broken [] (file_homes s.table (waiting (batches_after
       (shared s.write_outs) answer batches))) whole)))
@@ -141,17 +147,7 @@ module _ (s : State) (sound : IsSound s) (whole : s.write_outs.broken ≡ false)
         };
       })
   going_sound answer waits same =
-      let batches = s.write_outs.batches in
-      let older = sound.write_outs.older in
-      step_sound answer (subst AreOlderCommitted (sym same) (older-stepped (Makes
-      (shared s.write_outs) batches) batches (outs_moved s.write_outs)
-      (each_stepped (shared s.write_outs) batches) older))
-      (omega (
-        arith,
-        ap (λ (l : List WriteOut). length l) same,
-        length-stepped (Makes (shared s.write_outs) batches) batches (outs_moved s.write_outs)
-            (each_stepped (shared s.write_outs) batches),
-      ))
+      step_sound answer (older_moved _ same) (few_moved _ same)
       (ap (λ (l : List WriteOut). file_homes s.table (waiting l)) same ∙ waits) (λ free. ap
       (λ (l : List WriteOut). is_busy (record s.write_outs { batches = l })) same ∙ free-moved s.write_outs free)
 
@@ -168,8 +164,7 @@ module _ (s : State) (sound : IsSound s) (whole : s.write_outs.broken ≡ false)
         ap (λ (g : GeometryValue). journals_of g.layout) sound.write_outs.geometry,
       ) in
       step_sound (flushed.Done mark) (rest (outs_moved s.write_outs)
-      (older-stepped (Makes (shared s.write_outs) batches) batches (outs_moved s.write_outs) steps
-      sound.write_outs.older))
+      (older_moved (outs_moved s.write_outs) refl))
       (omega (
         arith,
         length-drop 1 (outs_moved s.write_outs),

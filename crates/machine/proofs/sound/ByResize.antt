@@ -62,14 +62,7 @@ module _ (s : State) (p : ℕ) (new : State) (made : ResizeMade s p new) (sound 
       s.write_outs s.marks s.resized made.may only wider are edits.same_spaces
       (λ q at place there. sound.spaces.in_table q at place (sym (place_at-EditsEntries (without_past made.file made.to
       s.hardware.spaces) s.hardware.spaces made.spaces edits q at) ∙ there)) sound in
-      record {
-        spaces = is.spaces;
-        shootdown = is.shootdown;
-        coheres = is.coheres;
-        current = is.current;
-        in_table = is.in_table;
-        prepared = λ lock held. absurd (cc);
-      }
+      record { tables = is.tables; prepared = λ lock held. absurd (cc) }
     where
       none_stays : (b : Bool) → ◌≡◌ {A = Option Mapped} (cond b None None) None
       none_stays true = refl

@@ -69,13 +69,15 @@ ended_spaces s p change spaces memory checkpoint outs marks resized may only wid
     (λ lock held. subst (λ (c : Change). IsNoWider c s.hardware.spaces spaces) (its_change lock held) wider)
     sound.spaces.coheres in
     record {
-      spaces = are;
-      shootdown = IsShootdown-finished sd p
-          (record { holder = p; change = change }) sound.spaces.shootdown is.held refl is.quiet;
-      coheres = Coheres-finished sd p is.there spaces now;
-      current = at-with_processor (λ q y. has_space spaces y.space ≡ true) sd p (woken (processor_at sd p)) is.there
-          (same _ ∙ sound.spaces.current p is.there) (λ q within other. same _ ∙ sound.spaces.current q within);
-      in_table = in_table;
+      tables = record {
+        spaces = are;
+        shootdown = IsShootdown-finished sd p
+            (record { holder = p; change = change }) sound.spaces.shootdown is.held refl is.quiet;
+        coheres = Coheres-finished sd p is.there spaces now;
+        current = at-with_processor (λ q y. has_space spaces y.space ≡ true) sd p (woken (processor_at sd p)) is.there
+            (same _ ∙ sound.spaces.current p is.there) (λ q within other. same _ ∙ sound.spaces.current q within);
+        in_table = in_table;
+      };
       prepared = λ lock held. absurd (cc);
     }
   where

@@ -9,7 +9,7 @@ use Rattle.spaces.specs.declared.change.Change.TheVariants.{SetLength}
 use Rattle.machine.proofs.Names.{is_user_space, Lock, ShootdownState, IsShootdown, current, Coheres, CheckpointState}
 use Rattle.machine.proofs.Names.{is_noted, same_page, AreRising, AreBacked, frame_at, is_in_memory, Hardware, State}
 use Rattle.machine.proofs.Names.{home_of, pages_in_file, with_shootdown, IsPrepared, IsMemorySound, AreWriteOutsSound}
-use Rattle.machine.proofs.Names.{IsSound, FramesState}
+use Rattle.machine.proofs.Names.{IsSound, FramesState, SamePlaces}
 use Rattle.machine.proofs.sound.Sources.{source_stays}
 use Rattle.std.proofs.Common.{Contains}
 
@@ -173,25 +173,19 @@ pub spaces_stay : {s : State} {memory : FramesState} {checkpoint : CheckpointSta
     lock.change)
     → AreSpacesSound
     (record s { hardware = record s.hardware { memory = memory }; checkpoint = checkpoint; write_outs = outs })
-spaces_stay is prepared = record {
-  spaces = is.spaces;
-  shootdown = is.shootdown;
-  coheres = is.coheres;
-  current = is.current;
-  in_table = is.in_table;
-  prepared = prepared;
-}
+spaces_stay is prepared = record { tables = is.tables; prepared = prepared }
 
 -- ---- processors
 
--- it depends on no processor
-pub prepared_same : (s : State) (shootdown : ShootdownState) (change : Change) → IsPrepared s change
-    → IsPrepared (with_shootdown s shootdown) change
-prepared_same s shootdown change =
-    prepared_moved s (with_shootdown s shootdown) change
+-- it depends on no processor, and of spaces on which there are and what they map
+pub prepared_same : (s : State) (shootdown : ShootdownState) (spaces : Spaces) (change : Change)
+    → SamePlaces s.hardware.spaces spaces → IsPrepared s change
+    → IsPrepared (record s { hardware = record s.hardware { shootdown = shootdown; spaces = spaces } }) change
+prepared_same s shootdown spaces change same =
+    prepared_moved s (record s { hardware = record s.hardware { shootdown = shootdown; spaces = spaces } }) change
     (record {
-      users = λ pcid user. user;
-      places = λ pcid. refl;
+      users = λ pcid user. ap (λ is. Rattle.std.specs.Prelude.nat_lt 0 pcid && is) (same.there pcid) ∙ user;
+      places = same.places;
       table = refl;
       in_memory = λ owner there. there;
       lengths = refl;
@@ -209,12 +203,15 @@ pub shootdown_sound : (s : State) (shootdown : ShootdownState) → IsShootdown s
     → IsSound (with_shootdown s shootdown)
 shootdown_sound s shootdown is coheres current prepared sound = still_sound sound refl refl
     (record {
-      spaces = sound.spaces.spaces;
-      shootdown = is;
-      coheres = coheres;
-      current = current;
-      in_table = sound.spaces.in_table;
-      prepared = λ lock held. prepared_same s shootdown lock.change (prepared lock held);
+      tables = record {
+        spaces = sound.spaces.spaces;
+        shootdown = is;
+        coheres = coheres;
+        current = current;
+        in_table = sound.spaces.in_table;
+      };
+      prepared = λ lock held. prepared_same s shootdown s.hardware.spaces lock.change
+          (record { there = λ q. refl; places = λ q. refl }) (prepared lock held);
     })
     (memory_same s shootdown s.write_outs s.marks sound.memory)
     (write_outs_moved s (record s.hardware { shootdown = shootdown }) s.checkpoint refl

@@ -5,7 +5,7 @@ use Rattle.machine.proofs.Names.{cond_both, cond-true, cond-false, or_parts, Con
 use Rattle.machine.proofs.Names.{advanced_of}
 use Rattle.machine.proofs.Names.{is_ahead, may_share, WriteOutsValue, is_at, gives_way, joined, moving, moved}
 use Rattle.machine.proofs.Names.{shares_syncs, has_writes, not, ◌&&◌, arith, or_from, and_right, not_from_true}
-use Rattle.machine.proofs.Names.{both_ways, Flushed, Done, Broken, Stage, Recording, Describing, SyncingRecords}
+use Rattle.machine.proofs.Names.{both_ways, Done, Broken, Stage, Recording, Describing, SyncingRecords}
 use Rattle.machine.proofs.Names.{Opening, Committing, Applying, SyncingHomes, Closing, Finishing, answer_at}
 use Rattle.machine.proofs.Names.{is_committed}
 use Rattle.machine.proofs.Names.{next_stage, has_committed, has_uncommitted, answer_of, option_map_or}

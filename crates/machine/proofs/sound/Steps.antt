@@ -1,8 +1,8 @@
 -- What a step of the write-outs leaves of processors, batches and copies.
 use Rattle.machine.proofs.Names.{ℕ, zero, suc, ◌≡◌, ◌-◌, ◌<◌, ◌≤◌, eqb, Bool, true, false, cond, List, [], ◌∷◌, length}
 use Rattle.machine.proofs.Names.{map, drop, get_or, Option, Some, None, refl, ap, ◌∙◌, arith, All, list_any}
-use Rattle.machine.proofs.Names.{option_map_or, option_and_then, or_parts, or_from, eqb-false, ne_eqb, cond-false}
-use Rattle.machine.proofs.Names.{both_ways, false_from_ne_true, length-drop, FilePage, FramesState, Frame}
+use Rattle.machine.proofs.Names.{option_map_or, option_and_then, or_parts, or_from, eqb-false, ne_eqb}
+use Rattle.machine.proofs.Names.{length-drop, FilePage, FramesState, Frame}
 use Rattle.machine.proofs.Names.{without_copies, journals_of, geometry_of, AreHomes, Batch, Flushed, WriteOut}
 use Rattle.machine.proofs.Names.{next_record, answer_of, WriteOutsValue, has_uncommitted, Stage, record_at}
 use Rattle.machine.proofs.Names.{batches_after, is_busy, committed_parts, moving, CheckpointState, is_of_page}
@@ -13,7 +13,7 @@ use Rattle.machine.proofs.sound.Lists.{once_frames, once_copies, memory_from, Ar
 use Rattle.machine.proofs.sound.Groups.{prepared_moved, spaces_stay}
 use Rattle.machine.proofs.sound.Sources.{source_stays}
 use Rattle.machine.proofs.Names.{IsSource, file_homes, count_by, is_none}
-use Rattle.machine.proofs.sound.Sharing.{shared, outs_moved, AreStepped, Makes, each_stepped, stepped_rest}
+use Rattle.machine.proofs.sound.Sharing.{shared, outs_moved, Makes, each_stepped}
 use Rattle.machine.proofs.sound.Sharing.{length-stepped, ending}
 use Rattle.machine.proofs.sound.Waiting.{waiting, committed-stepped, all_after}
 

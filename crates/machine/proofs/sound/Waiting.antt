@@ -9,7 +9,7 @@ use Rattle.machine.proofs.Names.{Finishing, Flushed, is_committed, WriteOut, nex
 use Rattle.machine.proofs.Names.{record_at, next_record, has_uncommitted, batches_after, IsAt, stage_is, is_ahead}
 use Rattle.machine.proofs.Names.{is_at}
 use Rattle.machine.proofs.Names.{joined, moving, moved, committed_parts, batch_before, AreOlderCommitted}
-use Rattle.machine.proofs.sound.Sharing.{AreStepped, Makes, each_stepped, IsStep, step_of, joined-none}
+use Rattle.machine.proofs.sound.Sharing.{AreStepped, Makes, each_stepped, step_of, joined-none}
 
 -- ---- one write-out
 

@@ -11,11 +11,11 @@ use Rattle.machine.specs.declared.act.Reply.{Reply}
 use Rattle.machine.specs.declared.act.Reply.TheVariants as replies
 use Rattle.machine.specs.declared.act.Step.{Step}
 use Rattle.machine.specs.declared.layers.Layers.{Layers}
-use Rattle.machine.specs.Rules.{Rules}
+use Rattle.machine.specs.Rules.{Answers, Rules}
 use Rattle.machine.specs.Calls.{CallsOf, has_failed}
 use Rattle.machine.specs.Steps.{step_work}
 use Rattle.machine.specs.Devices.{DeviceAfter}
-use Rattle.machine.specs.inside.Layers.{state_in, AnswersBy, KeepsReserved}
+use Rattle.machine.specs.inside.Layers.{state_in, AnswersBy, IsQuiet, KeepsReserved}
 
 pub record ActDone {D Z : Type 0} (disk : Ghosts D) (old : Layers D Z) (step : Step) (reply : Reply)
     (new : Layers D Z) : Type 0 where
@@ -36,6 +36,12 @@ pub record ActDone {D Z : Type 0} (disk : Ghosts D) (old : Layers D Z) (step : S
   pub calls : CallsOf (state_in old) step.p step.act reply (disk.calls_made old.device) (disk.calls_made new.device)
       (disk.faults_met old.device) (disk.faults_met new.device)
   pub kept : KeepsReserved old new
+
+-- an act that leaves the device alone is answered by the rules
+pub record IsAnsweredQuietly {D Z : Type 0} (old : Layers D Z) (p : ℕ) (act : Act) (reply : Reply) (new : Layers D Z)
+    : Type 0 where
+  pub rules : (disk : List ℕ) → Answers (state_in old) disk p act reply (state_in new)
+  pub quiet : IsQuiet old new
 
 -- the act asks for a mapping
 abbrev pub IsMap : Act → Type 0

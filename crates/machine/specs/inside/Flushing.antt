@@ -1,5 +1,9 @@
 -- What private calls promise of a step of the write-outs.
-use Rattle.std.specs.Prelude.{ℕ, ◌≡◌, ◌≢◌, ◌+◌, ◌-◌, ◌<◌, ◌↔◌, ◌^◌, Bool, true, false, List, length, Result, Ok, Err}
+use Rattle.std.specs.Prelude.{ℕ, ◌≡◌, ◌≢◌, ◌*◌, ◌≤◌, ◌<◌, ◌^◌, Bool, true, false, not, List, [], length, None}
+use Rattle.std.specs.Prelude.{Result, Ok, Err}
+use Rattle.device.specs.Did.{Did}
+use Rattle.device.specs.declared.device.Device.{Ghosts}
+use Rattle.volume_codec.specs.Super.{block_count}
 use Rattle.page_entry.specs.declared.refusal.Refusal.{Refusal}
 use Rattle.page_entry.specs.declared.refusal.Refusal.TheVariants as refusals
 use Rattle.page_entry.specs.declared.numbers.FilePage.{FilePage}
@@ -8,11 +12,34 @@ use Rattle.journal.specs.declared.flushed.Flushed.{Flushed}
 use Rattle.journal.specs.declared.flushed.Flushed.TheVariants as flushed
 use Rattle.checkpoint.specs.Checkpoint.{CheckpointState, without_copy_of, released, thawed}
 use Rattle.fault.specs.Fault.{is_in_memory}
+use Rattle.machine.specs.declared.act.Act.TheVariants as acts
 use Rattle.machine.specs.declared.act.Reply.{Reply}
 use Rattle.machine.specs.declared.act.Reply.TheVariants as replies
 use Rattle.machine.specs.declared.flushing.Source.{Source}
 use Rattle.machine.specs.declared.flushing.Source.TheVariants as sources
-use Rattle.machine.specs.Rules.{bytes_at_mark}
+use Rattle.machine.specs.declared.layers.Layers.{Layers}
+use Rattle.machine.specs.Refusals.{reason_against}
+use Rattle.machine.specs.Rules.{Acts, bytes_at_mark}
+use Rattle.machine.specs.Calls.{has_failed}
+use Rattle.machine.specs.Steps.{step_work}
+use Rattle.machine.specs.inside.Sound.{IsSound}
+use Rattle.machine.specs.inside.Layers.{state_in, AnswersBy, KeepsReserved}
+
+-- the write-outs can make their next step: some aren't done, and no device call of one has failed
+pub record CanStep {D Z : Type 0} (seen : D → List ℕ) (m : Layers D Z) : Type 0 where
+  pub sound : IsSound (state_in m)
+  pub long : 4096 * block_count m.table ≤ length (seen m.device)
+  pub whole : m.write_outs.broken ≡ false
+  pub some : m.write_outs.batches ≢ []
+
+-- a step of the write-outs, by the rules for whichever processor may make it, and with the device calls of its work
+pub record IsStepped {D Z : Type 0} (disk : Ghosts D) (old : Layers D Z) (reply : Reply) (new : Layers D Z)
+    : Type 0 where
+  pub rules : (p : ℕ) → reason_against (state_in old) p acts.Flush ≡ None
+      → AnswersBy (disk.is_honest old.device) (λ d d'. Acts (state_in old) d p acts.Flush reply (state_in new) d')
+      (disk.seen old.device) (disk.seen new.device)
+  pub did : Did disk old.device (step_work (state_in old) acts.Flush reply) (not (has_failed reply)) new.device
+  pub kept : KeepsReserved old new
 
 -- the mark of an answer has 32 bits
 abbrev pub HasSmallMark : Flushed → Type 0

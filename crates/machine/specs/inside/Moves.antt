@@ -147,13 +147,18 @@ pub record DestroysSpace (s : State) (effect : Effect) (new : State) : Type 0 wh
 
 -- ---- changes
 
-pub record BeginsChange (s : State) (effect : Effect) (new : State) : Type 0 where
-  pub p : ℕ
-  pub change : Change
+-- processor p may begin a change
+pub record CanBegin (s : State) (p : ℕ) (change : Change) : Type 0 where
   pub free : not_free s.hardware.shootdown p ≡ None
   pub prepared : IsPrepared s change
   -- no checkpoint is begun of a broken machine
   pub whole : change ≡ Checkpoint → s.write_outs.broken ≡ false
+
+pub record BeginsChange (s : State) (effect : Effect) (new : State) : Type 0 where
+  pub p : ℕ
+  pub change : Change
+  pub may : CanBegin s p change
+  pub open may use *
   pub effect_is : effect ≡ Beginning p (pending_in (Some change))
   pub done : new ≡ begin_change s p change
 
@@ -172,12 +177,17 @@ ending_of p (Reclaim owner) = Ending p
 ending_of p (SetLength file to) = Changing p
 ending_of p Checkpoint = Ending p
 
--- a change ends that leaves lengths alone, and with it entries change that it affects; frames stay
-pub record EndsChange (s : State) (effect : Effect) (new : State) : Type 0 where
+-- a change that leaves lengths alone is made by the processor that began it
+pub record MakesChange (s : State) : Type 0 where
   pub p : ℕ
   pub change : Change
   pub same_lengths : (file to : ℕ) → change ≢ SetLength file to
   pub may : MayChange s p change
+
+-- it ends, and with it entries change that it affects; frames stay
+pub record EndsChange (s : State) (effect : Effect) (new : State) : Type 0 where
+  pub made : MakesChange s
+  pub open made use *
   pub spaces : Spaces
   pub checkpoint : CheckpointState
   pub only : ChangesOnlyAffected change s.hardware.spaces spaces

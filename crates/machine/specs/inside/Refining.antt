@@ -90,6 +90,13 @@ ArePlain files observed s = (owner : FilePage) → IsInFile s owner → is_in_me
     → after (memory_of files) observed.history owner.file owner.page
     ≡ cut_at_end s owner (after (memory_of files) observed.history owner.file owner.page)
 
+-- the machine has these files, and in its frames the memory of what was observed
+pub record HasPages (files : List File) (observed : Observed) (s : State) : Type 0 where
+  pub files_are : HasFiles files observed.history s
+  pub latest : IsLatest files observed s
+  pub touched : AreTouched observed s
+  pub plain : ArePlain files observed s
+
 -- ---- what the device recovers to
 
 -- the contents have the parts of the files of a table, with these lengths, in this memory
@@ -118,12 +125,16 @@ pub record IsLost (s : State) : Type 0 where
   pub broken : s.write_outs.broken ≡ true
   pub no_mark : change_in s.hardware.shootdown.lock ≢ Some Checkpoint
 
--- a batch of this mark isn't committed
-pub record IsWaiting (batches : List WriteOut) (number : ℕ) : Type 0 where
+-- one of these batches isn't committed, and this holds of it
+pub record HasUncommitted (batches : List WriteOut) (Is : WriteOut → Type 0) : Type 0 where
   pub w : WriteOut
   pub there : Contains batches w
   pub early : has_committed w ≡ false
-  pub mark : w.batch.mark ≡ number
+  pub is : Is w
+
+-- a batch of this mark isn't committed
+abbrev pub IsWaiting : List WriteOut → ℕ → Type 0
+IsWaiting batches number = HasUncommitted batches (λ w. w.batch.mark ≡ number)
 
 -- Each mark of the history is acknowledged, or its batch isn't committed, or it was lost. The first prefix has
 -- acknowledged marks alone, the second these and the one whose batch isn't committed.
@@ -164,17 +175,20 @@ pub record IsWritten (files : List File) (observed : Observed) (s : State) (old 
   pub frozen : All (λ owner. new (home_of s.table owner)
       ≡ cut_at_end s owner (bytes_at_mark s.hardware.memory owner)) s.checkpoint.frozen
 
--- a machine over a device that reads `seen`, and of which a crash may leave these lists, agrees with what was observed
-pub record Refines (files : List File) (observed : Observed) (s : State) (seen : List ℕ)
+-- what the device recovers to goes with what is observed
+pub record IsDurable (files : List File) (observed : Observed) (s : State) (seen : List ℕ)
     (may_leave : List ℕ → Type 0) : Type 0 where
-  pub sound : IsSound s
-  pub files_are : HasFiles files observed.history s
-  pub arranged : IsArranged observed s
-  pub latest : IsLatest files observed s
-  pub touched : AreTouched observed s
-  pub plain : ArePlain files observed s
-  -- what the device recovers to
   pub old : ℕ → List ℕ
   pub new : ℕ → List ℕ
   pub consistent : IsConsistent s.table s.write_outs old new seen may_leave
   pub written : IsWritten files observed s old new
+
+-- a machine over a device that reads `seen`, and of which a crash may leave these lists, agrees with what was observed
+pub record Refines (files : List File) (observed : Observed) (s : State) (seen : List ℕ)
+    (may_leave : List ℕ → Type 0) : Type 0 where
+  pub sound : IsSound s
+  pub arranged : IsArranged observed s
+  pub pages : HasPages files observed s
+  pub open pages use *
+  pub durable : IsDurable files observed s seen may_leave
+  pub open durable use *

@@ -14,10 +14,10 @@ use Rattle.journal.specs.WriteOut.{WriteOut, has_committed}
 use Rattle.journal.specs.WriteOuts.{is_busy}
 use Rattle.spaces.specs.declared.change.Change.{Change}
 use Rattle.spaces.specs.declared.change.Change.TheVariants.{Unmap, Protect, Reclaim, SetLength, Checkpoint}
-use Rattle.spaces.specs.Spaces.{AreSpaces, has_space, space_at, place_at}
+use Rattle.spaces.specs.Spaces.{Spaces, AreSpaces, has_space, space_at, place_at}
 use Rattle.spaces.specs.Requests.{is_user_space}
 use Rattle.shootdown.specs.declared.lock.Lock.{Lock}
-use Rattle.shootdown.specs.Shootdown.{IsShootdown, current}
+use Rattle.shootdown.specs.Shootdown.{ShootdownState, IsShootdown, current}
 use Rattle.shootdown.specs.Coherence.{Coheres}
 use Rattle.checkpoint.specs.Checkpoint.{Holds, is_noted, is_frozen, AreRising}
 use Rattle.checkpoint.specs.Backing.{AreBacked}
@@ -66,16 +66,20 @@ IsPrepared s (SetLength file to) = IsResizable s file to
 IsPrepared s Checkpoint = (s.marks + 1 < 2 ^ 32) × (s.write_outs.broken ≡ false → is_busy s.write_outs ≡ false)
 
 -- ---- facts that depend on the processors and the page tables
-pub record AreSpacesSound (s : State) : Type 0 where
-  pub spaces : AreSpaces s.hardware.spaces
-  pub shootdown : IsShootdown s.hardware.shootdown
-  pub coheres : Coheres s.hardware.spaces s.hardware.shootdown
+
+-- they go with each other, and with the table of a volume
+pub record AreTablesSound (table : SuperValue) (m : Spaces) (x : ShootdownState) : Type 0 where
+  pub spaces : AreSpaces m
+  pub shootdown : IsShootdown x
+  pub coheres : Coheres m x
   -- each processor is in a space that is there
-  pub current : (p : ℕ) → p < length s.hardware.shootdown.processors
-      → has_space s.hardware.spaces (current s.hardware.shootdown p) ≡ true
+  pub current : (p : ℕ) → p < length x.processors → has_space m (current x p) ≡ true
   -- only files of the table are mapped
-  pub in_table : (pcid page : ℕ) (place : Place) → place_at s.hardware.spaces pcid page ≡ Some place
-      → place.file < length s.table.files
+  pub in_table : (pcid page : ℕ) (place : Place) → place_at m pcid page ≡ Some place → place.file < length table.files
+
+pub record AreSpacesSound (s : State) : Type 0 where
+  pub tables : AreTablesSound s.table s.hardware.spaces s.hardware.shootdown
+  pub open tables use *
   -- a change that is under way was judged
   pub prepared : (lock : Lock) → s.hardware.shootdown.lock ≡ Some lock → IsPrepared s lock.change
 

@@ -1,4 +1,4 @@
-use Rattle.machine.proofs.Refinement.{taken_then}
+use Rattle.machine.proofs.code.Runs.{taken_then}
 use Rattle.machine.proofs.laws.steps_after_steps.Goals as goal
 
 pub returns : goal.returns

@@ -1,3 +1,4 @@
+use Rattle.std.proofs.Common.{rules}
 use Rattle.machine.proofs.Names.{[], ◌∷◌, err_from_is_err_and, not_running, refuse_if, state_in}
 use Rattle.page_entry.specs.declared.refusal.Refusal.TheVariants as refusals
 use Rattle.machine.proofs.code.Refusals.{found}
@@ -23,3 +24,9 @@ returns-in_err-admit-clause-did g c =
     let calm = calm-not_running s.hardware.shootdown c.args.p _ c.in_err-admit.ensures.err in
     let p = err_from_is_err_and c.from_residual.result c.from_residual.ensures.1 in
     rw (p.1, p.2) (flush_untouched g.D.Device g.met.D.Device.since_now s _ c.args.self.now.device calm)
+
+pub returns-clause-rules : goal.returns-clause-rules
+returns-clause-rules g c = c.step_write_outs.ensures.rules c.args.p (search rules)
+
+pub returns-clause-did : goal.returns-clause-did
+returns-clause-did g c = c.step_write_outs.ensures.did

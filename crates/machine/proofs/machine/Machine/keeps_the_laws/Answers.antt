@@ -18,8 +18,7 @@ returns-clause-left g c = λ files start steps replies list on.
     let t = (follows g.D.Device files start steps replies now on).refines in
     reads_now files (observe_all (observed_first files start.state) steps replies) now.state
     (g.D.Device.seen now.device)
-    (g.D.Device.may_leave now.device) t.sound t.files_are
-    (record { old = t.old; new = t.new; consistent = t.consistent; written = t.written }) list
+    (g.D.Device.may_leave now.device) t.sound t.files_are t.durable list
 
 pub returns-clause-served : goal.returns-clause-served
 returns-clause-served g c = λ files start steps replies on.

@@ -1,7 +1,7 @@
 use Rattle.machine.proofs.Names.{◌≡◌, ◌<◌, ◌+◌, ◌++◌, ◌∷◌, [], List, length, take, set, refl, subst, arith}
 use Rattle.machine.proofs.Names.{common_steps, take_all, Reply, Step, StepsTaken}
 use Rattle.machine.proofs.machine.Machine.make_all.Goals as goal
-use Rattle.machine.proofs.code.Runs.{steps_more, honest_taken, len_taken}
+use Rattle.machine.proofs.code.Runs.{honest_taken, len_taken}
 
 pub loop-i-init : goal.loop-i-init
 loop-i-init g c = record { taken = refl; within = omega arith }
@@ -13,19 +13,11 @@ loop-i-preserved g c =
     let steps : take (i + 1) c.args.steps.now ≡ take i c.args.steps.now ++ c.index-steps-i.result ∷ [] =
     grind (arith, common_steps) in
     let room : i < length c.loop-i.replies = omega arith in
-    let replies : take (i + 1) (set c.loop-i.replies i c.step.result) ≡ take i c.loop-i.replies ++ c.step.result ∷ [] =
+    let reply = c.enter.result in
+    let replies : take (i + 1) (set c.loop-i.replies i reply) ≡ take i c.loop-i.replies ++ reply ∷ [] =
     grind (arith, common_steps) in
     record {
-      taken = rw (steps, replies) (steps_more g.D.Device c.args.self.now _ _ c.loop-i.self _ c.step.result
-          c.step.new.self c.loop-i.invariant.taken
-          (record {
-            answered = c.step.ensures.rules;
-            made = c.step.ensures.made;
-            device = c.step.ensures.device;
-            calls = c.step.ensures.calls;
-            honest = c.step.ensures.honest;
-            len = c.step.ensures.len;
-          }));
+      taken = rw (steps, replies) (c.enter.ensures.longer c.args.self.now _ _ c.loop-i.invariant.taken);
       within = omega arith;
     }
 

@@ -1,5 +1,5 @@
 use Rattle.machine.proofs.machine.Machine.run.Goals as goal
-use Rattle.machine.proofs.Refinement.{taken_then}
+use Rattle.machine.proofs.code.Runs.{taken_then}
 
 pub returns-clause-headline : goal.returns-clause-headline
 returns-clause-headline g c = λ files begins.
