@@ -4,7 +4,7 @@ ghost use Rattle.driver.specs.inside.Begun.{GoesOn};
 use crate::acts::{Answer, Stop, made, waited};
 use bitflags::Flags;
 use device::Device;
-use machine::{Act, MsyncFlags, Reply};
+use machine::{Access, Act, MsyncFlags, Reply};
 use page_entry::Refusal;
 use scripts::Command;
 use service::{Cpu, Origin};
@@ -198,32 +198,9 @@ fn fix_for(act: &Act, reply: &Reply) -> Option<Act> {
     if !matches!(reply, Reply::Refused(Refusal::Fault(_))) {
         return None;
     }
-    match act {
-        Act::Load { va, .. } => Some(Act::Fix {
-            va: *va,
-            write: false,
-        }),
-        Act::Store { va, .. } => Some(Act::Fix {
-            va: *va,
-            write: true,
-        }),
-        Act::Fill { .. }
-        | Act::Evict { .. }
-        | Act::Switch { .. }
-        | Act::Idle
-        | Act::Wake
-        | Act::Fix { .. }
-        | Act::Create
-        | Act::Destroy { .. }
-        | Act::Map { .. }
-        | Act::Unmap { .. }
-        | Act::Protect { .. }
-        | Act::Reclaim { .. }
-        | Act::SetLength { .. }
-        | Act::Msync { .. }
-        | Act::Ack
-        | Act::Change
-        | Act::Resume
-        | Act::Flush => None,
+    match act.access() {
+        Access::Load(va) => Some(Act::Fix { va, write: false }),
+        Access::Store(va) => Some(Act::Fix { va, write: true }),
+        Access::Translation | Access::Other => None,
     }
 }

@@ -7,8 +7,8 @@ ghost use Rattle.machine.specs.declared.act.Reply.{Reply};
 ghost use Rattle.service.specs.Gathering.{answered_calls, idle_cpu};
 ghost use Rattle.service.specs.Trace.{steps_of, replies_of};
 ghost use Rattle.driver.specs.declared.running.Ended.{Ended};
-ghost use Rattle.driver.specs.Driver.{RunsFrom, AreSetUp, IsEnd, IsLeft, HasNotShared, HasNotRun};
-ghost use Rattle.driver.specs.inside.Begun.{HaveBegun, GoesOn, AreReady};
+ghost use Rattle.driver.specs.Driver.{AreSetUp, IsEnd, IsLeft, HasNotShared, HasNotRun};
+ghost use Rattle.driver.specs.inside.Begun.{HaveBegun, GoesOn, AreReady, HasRanFrom};
 
 use crate::acts::{Stop, is_trace_full};
 use crate::commands::worked;
@@ -97,10 +97,7 @@ fn named<D: Device + Send + Drop, R: Threads + Wait + Sync>(
     turns: u64,
 ) -> Result<Ran<D>, NotRun<D>>
     requires fresh { IsFresh machine.state }
-    ensures ran { IfOk result (λ ran. RunsFrom D.Device machine (steps_of ran.trace.items)
-        (replies_of ran.trace.items) ran.device) }
-    ensures set_up { IfOk result (λ ran. AreSetUp (length machine.state.hardware.shootdown.processors)
-        script.now.steps.items script.now.trace ran.trace.items) }
+    ensures ran { IfOk result (HasRanFrom D.Device machine script.now.steps.items script.now.trace) }
     ensures ended { IfOk result (λ ran. IsEnd script.now.trace (length ran.trace.items) ran.ended) }
     ensures refused { IfErr result (HasNotShared D.Device machine script.now.trace) }
 {
@@ -121,10 +118,7 @@ fn serve<D: Device + Send + Drop, L: Origin<D> + Send + Sync, R: Threads + Wait 
     requires name { blank.name ≡ L.name }
     requires parts { (blank.parts ≡ L.parts) × (L.all ≡ L.parts)
         × (blank.parts ≡ length machine.state.hardware.shootdown.processors) }
-    ensures ran { IfOk result (λ ran. RunsFrom D.Device machine (steps_of ran.trace.items)
-        (replies_of ran.trace.items) ran.device) }
-    ensures set_up { IfOk result (λ ran. AreSetUp (length machine.state.hardware.shootdown.processors)
-        script.now.steps.items script.now.trace ran.trace.items) }
+    ensures ran { IfOk result (HasRanFrom D.Device machine script.now.steps.items script.now.trace) }
     ensures ended { IfOk result (λ ran. IsEnd script.now.trace (length ran.trace.items) ran.ended) }
     ensures refused { IfErr result (HasNotShared D.Device machine script.now.trace) }
 {
@@ -266,10 +260,7 @@ fn gathered<D: Device + Drop, L: Origin<D>, R: Wait>(
     requires all { L.all ≡ L.parts }
     requires ready { AreReady script.now.steps.items script.now.trace cpus.items }
     ensures ran { IfOk result (λ ran. (start : Whole D) → L.start ≡ Some start
-        → RunsFrom D.Device start (steps_of ran.trace.items) (replies_of ran.trace.items) ran.device) }
-    ensures set_up { IfOk result (λ ran. (start : Whole D) → L.start ≡ Some start
-        → AreSetUp (length start.state.hardware.shootdown.processors) script.now.steps.items script.now.trace
-        ran.trace.items) }
+        → HasRanFrom D.Device start script.now.steps.items script.now.trace ran) }
     ensures ended { IfOk result (λ ran. IsEnd script.now.trace (length ran.trace.items) ran.ended) }
     ensures refused { IfErr result (λ refused. (start : Whole D) → L.start ≡ Some start → (capacity : ℕ)
         → HasNotShared D.Device start capacity refused) }

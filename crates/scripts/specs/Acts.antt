@@ -14,41 +14,20 @@ abbrev pub without_more : Act → List Data → Option Act
 without_more act [] = Some act
 without_more act _ = None
 
--- an address and a count
-abbrev pub load_of : List Data → Option Act
-load_of (va ∷ count ∷ []) = if_some (long_of va) (λ va. if_some (byte_of count) (λ count. Some (Load va count)))
-load_of _ = None
+-- one argument, two and three, each read in its way
+abbrev pub of_one : {A : Type 0} → (Data → Option A) → (A → Act) → List Data → Option Act
+of_one first act (x ∷ []) = if_some (first x) (λ a. Some (act a))
+of_one first act _ = None
 
--- an address and bytes
-abbrev pub store_of : List Data → Option Act
-store_of (va ∷ bytes ∷ []) = if_some (long_of va) (λ va. if_some (few_bytes_of bytes) (λ bytes. Some (Store va bytes)))
-store_of _ = None
+abbrev pub of_two : {A B : Type 0} → (Data → Option A) → (Data → Option B) → (A → B → Act) → List Data → Option Act
+of_two first second act (x ∷ y ∷ []) = if_some (first x) (λ a. if_some (second y) (λ b. Some (act a b)))
+of_two first second act _ = None
 
--- a page: an address divided by 4,096
-abbrev pub fill_of : List Data → Option Act
-fill_of (page ∷ []) = if_some (long_of page) (λ page. Some (Fill page))
-fill_of _ = None
-
--- a slot
-abbrev pub evict_of : List Data → Option Act
-evict_of (slot ∷ []) = if_some (byte_of slot) (λ slot. Some (Evict slot))
-evict_of _ = None
-
--- a space and whether entries are kept
-abbrev pub switch_of : List Data → Option Act
-switch_of (space ∷ keep ∷ []) = if_some (short_of space)
-    (λ space. if_some (keep_of keep) (λ keep. Some (Switch space keep)))
-switch_of _ = None
-
--- an address and whether it is for a write
-abbrev pub fix_of : List Data → Option Act
-fix_of (va ∷ write ∷ []) = if_some (long_of va) (λ va. if_some (write_of write) (λ write. Some (Fix va write)))
-fix_of _ = None
-
--- a space
-abbrev pub destroy_of : List Data → Option Act
-destroy_of (space ∷ []) = if_some (short_of space) (λ space. Some (Destroy space))
-destroy_of _ = None
+abbrev pub of_three : {A B C : Type 0} → (Data → Option A) → (Data → Option B) → (Data → Option C) → (A → B → C → Act)
+    → List Data → Option Act
+of_three first second third act (x ∷ y ∷ z ∷ []) =
+    if_some (first x) (λ a. if_some (second y) (λ b. if_some (third z) (λ c. Some (act a b c))))
+of_three first second third act _ = None
 
 -- a space, an address and a length, a file and an offset, rights, and the access with which the file was opened
 abbrev pub map_of : List Data → Option Act
@@ -59,13 +38,6 @@ map_of (space ∷ va ∷ len ∷ file ∷ offset ∷ prot ∷ access ∷ []) =
     Some (Map space va len file offset prot access))))))))
 map_of _ = None
 
--- a space, an address and a length
-abbrev pub unmap_of : List Data → Option Act
-unmap_of (space ∷ va ∷ len ∷ []) =
-    if_some (short_of space) (λ space. if_some (long_of va)
-    (λ va. if_some (long_of len) (λ len. Some (Unmap space va len))))
-unmap_of _ = None
-
 -- a space, an address and a length, and rights
 abbrev pub protect_of : List Data → Option Act
 protect_of (space ∷ va ∷ len ∷ prot ∷ []) =
@@ -73,36 +45,37 @@ protect_of (space ∷ va ∷ len ∷ prot ∷ []) =
     if_some (prot_of prot) (λ prot. Some (Protect space va len prot)))))
 protect_of _ = None
 
--- a file and one of its pages
-abbrev pub reclaim_of : List Data → Option Act
-reclaim_of (file ∷ page ∷ []) = if_some (short_of file)
-    (λ file. if_some (page_number_of page) (λ page. Some (Reclaim file page)))
-reclaim_of _ = None
-
--- an address, a length and flags
-abbrev pub msync_of : List Data → Option Act
-msync_of (va ∷ len ∷ flags ∷ []) =
-    if_some (long_of va) (λ va. if_some (long_of len)
-    (λ len. if_some (flags_of flags) (λ flags. Some (Msync va len flags))))
-msync_of _ = None
-
--- a file and its new length in bytes
-abbrev pub set_length_of : List Data → Option Act
-set_length_of (file ∷ length ∷ []) =
-    if_some (short_of file) (λ file. if_some (long_of length) (λ length. Some (SetLength file length)))
-set_length_of _ = None
-
--- acts by their names
+-- acts by their names, each with its arguments
 abbrev pub acts_by_name : List (List ℕ × (List Data → Option Act))
 acts_by_name =
-    (codes "load", load_of) ∷ (codes "store", store_of) ∷ (codes "fill", fill_of) ∷ (codes "evict", evict_of)
-    ∷ (codes "switch", switch_of) ∷ (codes "idle", without_more Idle)
-    ∷ (codes "wake", without_more Wake) ∷ (codes "fix", fix_of)
-    ∷ (codes "create", without_more Create) ∷ (codes "destroy", destroy_of) ∷ (codes "map", map_of)
-    ∷ (codes "unmap", unmap_of)
-    ∷ (codes "protect", protect_of) ∷ (codes "reclaim", reclaim_of) ∷ (codes "msync", msync_of)
-    ∷ (codes "setlength", set_length_of) ∷ (codes "ack", without_more Ack)
-    ∷ (codes "change", without_more Change) ∷ (codes "resume", without_more Resume)
+    -- an address and a count; an address and bytes
+    (codes "load", of_two long_of byte_of Load)
+    ∷ (codes "store", of_two long_of few_bytes_of Store)
+    -- a page: an address divided by 4,096; a slot
+    ∷ (codes "fill", of_one long_of Fill)
+    ∷ (codes "evict", of_one byte_of Evict)
+    -- a space and whether entries are kept
+    ∷ (codes "switch", of_two short_of keep_of Switch)
+    ∷ (codes "idle", without_more Idle)
+    ∷ (codes "wake", without_more Wake)
+    -- an address and whether it is for a write
+    ∷ (codes "fix", of_two long_of write_of Fix)
+    ∷ (codes "create", without_more Create)
+    -- a space
+    ∷ (codes "destroy", of_one short_of Destroy)
+    ∷ (codes "map", map_of)
+    -- a space, an address and a length
+    ∷ (codes "unmap", of_three short_of long_of long_of Unmap)
+    ∷ (codes "protect", protect_of)
+    -- a file and one of its pages
+    ∷ (codes "reclaim", of_two short_of page_number_of Reclaim)
+    -- an address, a length and flags
+    ∷ (codes "msync", of_three long_of long_of flags_of Msync)
+    -- a file and its new length in bytes
+    ∷ (codes "setlength", of_two short_of long_of SetLength)
+    ∷ (codes "ack", without_more Ack)
+    ∷ (codes "change", without_more Change)
+    ∷ (codes "resume", without_more Resume)
     ∷ (codes "flush", without_more Flush) ∷ []
 
 -- the act of a name and arguments

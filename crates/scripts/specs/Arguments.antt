@@ -38,9 +38,11 @@ abbrev pub flags_of : Data → Option MsyncFlags
 flags_of value = option_map (λ bits. record { 0 = bits }) (byte_of value)
 
 -- what the row of a table whose word this is has beside the word
+abbrev pub beside : {X : Type 0} → List (List ℕ × X) → List ℕ → Option X
+beside table word = option_map (λ row. row.1) (find (λ row. bytes_eq word row.0) table)
+
 abbrev pub one_of : {X : Type 0} → List (List ℕ × X) → Data → Option X
-one_of table value = if_some (as_str value)
-    (λ text. option_map (λ row. row.1) (find (λ row. bytes_eq text row.0) table))
+one_of table value = if_some (as_str value) (beside table)
 
 -- rights of a mapping: writing alone counts as both
 abbrev pub prot_of : Data → Option Rights

@@ -1,14 +1,14 @@
 -- Scripts for threads: a machine's shape, the room of the trace, steps to make first, and a program of commands for
 -- each processor.
 use Rattle.std.specs.Prelude.{ℕ, ◌&&◌, ◌==◌, nat_lt, List, [], ◌∷◌, length, Bool}
-use Rattle.std.specs.Prelude.{find, if◌then◌else◌, codes, Option, Some, None}
-use Rattle.std.specs.List.{list_all}
+use Rattle.std.specs.Prelude.{if◌then◌else◌, codes, Option, Some, None}
+use Rattle.std.specs.List.{list_all, list_any}
 use Rattle.std.specs.Str.{bytes_eq}
 use Rattle.serde_json.specs.Data.{Data}
 use Rattle.serde_json.specs.Read.{read}
 use Rattle.serde_json.specs.Find.{get, as_str, as_array}
 use Rattle.scripts.specs.Arguments.{if_some, byte_of, long_of, list_of, all_of}
-use Rattle.scripts.specs.Acts.{load_of, store_of, switch_of, map_of, unmap_of, protect_of, reclaim_of, msync_of}
+use Rattle.scripts.specs.Acts.{act_of}
 use Rattle.scripts.specs.Forms.{has_form}
 use Rattle.scripts.specs.Script.{size_of, shape_of, steps_of}
 use Rattle.scripts.specs.declared.command.Command.{Command}
@@ -23,17 +23,15 @@ abbrev pub await_of : List Data → Option Command
 await_of (va ∷ byte ∷ []) = if_some (long_of va) (λ va. if_some (byte_of byte) (λ byte. Some (Await va byte)))
 await_of _ = None
 
--- the acts that are commands, by their names
-abbrev pub commanded_by_name : List (List ℕ × (List Data → Option Act))
-commanded_by_name =
-    (codes "load", load_of) ∷ (codes "store", store_of) ∷ (codes "switch", switch_of) ∷ (codes "map", map_of)
-    ∷ (codes "unmap", unmap_of) ∷ (codes "protect", protect_of) ∷ (codes "reclaim", reclaim_of)
-    ∷ (codes "msync", msync_of) ∷ []
+-- the names of the acts that are commands
+abbrev pub commanded : List (List ℕ)
+commanded = codes "load" ∷ codes "store" ∷ codes "switch" ∷ codes "map" ∷ codes "unmap" ∷ codes "protect"
+    ∷ codes "reclaim" ∷ codes "msync" ∷ []
 
 -- the act of a command's name and arguments
 abbrev pub commanded_of : List ℕ → List Data → Option Act
 commanded_of name arguments =
-    if_some (find (λ row. bytes_eq name row.0) commanded_by_name) (λ row. row.1 arguments)
+    if list_any (λ known. bytes_eq name known) commanded then act_of name arguments else None
 
 -- the command of a name and arguments
 abbrev pub command_named : List ℕ → List Data → Option Command

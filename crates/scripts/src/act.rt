@@ -1,8 +1,8 @@
 // The acts of a script.
-ghost use Rattle.std.specs.Prelude.{◌≡◌, map, [], ◌∷◌};
+ghost use Rattle.std.specs.Prelude.{◌≡◌, map, [], ◌∷◌, codes};
 ghost use Rattle.std.specs.Result.{result_ok};
 ghost use Rattle.serde_json.specs.View.{view};
-ghost use Rattle.scripts.specs.Acts.{load_of, store_of, fill_of, evict_of, switch_of, fix_of, destroy_of, map_of, unmap_of, protect_of, reclaim_of, msync_of, set_length_of, without_more, act_of};
+ghost use Rattle.scripts.specs.Acts.{without_more, act_of};
 
 use crate::argument::{access, byte, bytes, flags, keep, long, page, prot, short, write};
 use crate::script_fault::StepFault;
@@ -38,8 +38,8 @@ pub fn act(name: &str, arguments: &[Value]) -> Result<Act, StepFault>
     }
 }
 
-pub fn load(arguments: &[Value]) -> Result<Act, StepFault>
-    ensures { result_ok result ≡ load_of (map view arguments.now) }
+fn load(arguments: &[Value]) -> Result<Act, StepFault>
+    ensures { result_ok result ≡ act_of (codes "load") (map view arguments.now) }
 {
     match arguments {
         [va, count] => load_from(va, count),
@@ -48,7 +48,7 @@ pub fn load(arguments: &[Value]) -> Result<Act, StepFault>
 }
 
 fn load_from(va: &Value, count: &Value) -> Result<Act, StepFault>
-    ensures { result_ok result ≡ load_of (view va.now ∷ view count.now ∷ []) }
+    ensures { result_ok result ≡ act_of (codes "load") (view va.now ∷ view count.now ∷ []) }
 {
     Ok(Act::Load {
         va: long(va, "the address")?,
@@ -56,8 +56,8 @@ fn load_from(va: &Value, count: &Value) -> Result<Act, StepFault>
     })
 }
 
-pub fn store(arguments: &[Value]) -> Result<Act, StepFault>
-    ensures { result_ok result ≡ store_of (map view arguments.now) }
+fn store(arguments: &[Value]) -> Result<Act, StepFault>
+    ensures { result_ok result ≡ act_of (codes "store") (map view arguments.now) }
 {
     match arguments {
         [va, list] => store_from(va, list),
@@ -66,7 +66,7 @@ pub fn store(arguments: &[Value]) -> Result<Act, StepFault>
 }
 
 fn store_from(va: &Value, list: &Value) -> Result<Act, StepFault>
-    ensures { result_ok result ≡ store_of (view va.now ∷ view list.now ∷ []) }
+    ensures { result_ok result ≡ act_of (codes "store") (view va.now ∷ view list.now ∷ []) }
 {
     let va = long(va, "the address")?;
     match bytes(list) {
@@ -76,7 +76,7 @@ fn store_from(va: &Value, list: &Value) -> Result<Act, StepFault>
 }
 
 fn fill(arguments: &[Value]) -> Result<Act, StepFault>
-    ensures { result_ok result ≡ fill_of (map view arguments.now) }
+    ensures { result_ok result ≡ act_of (codes "fill") (map view arguments.now) }
 {
     match arguments {
         [page] => fill_from(page),
@@ -85,7 +85,7 @@ fn fill(arguments: &[Value]) -> Result<Act, StepFault>
 }
 
 fn fill_from(page: &Value) -> Result<Act, StepFault>
-    ensures { result_ok result ≡ fill_of (view page.now ∷ []) }
+    ensures { result_ok result ≡ act_of (codes "fill") (view page.now ∷ []) }
 {
     Ok(Act::Fill {
         page: long(page, "the page")?,
@@ -93,7 +93,7 @@ fn fill_from(page: &Value) -> Result<Act, StepFault>
 }
 
 fn evict(arguments: &[Value]) -> Result<Act, StepFault>
-    ensures { result_ok result ≡ evict_of (map view arguments.now) }
+    ensures { result_ok result ≡ act_of (codes "evict") (map view arguments.now) }
 {
     match arguments {
         [slot] => evict_from(slot),
@@ -102,15 +102,15 @@ fn evict(arguments: &[Value]) -> Result<Act, StepFault>
 }
 
 fn evict_from(slot: &Value) -> Result<Act, StepFault>
-    ensures { result_ok result ≡ evict_of (view slot.now ∷ []) }
+    ensures { result_ok result ≡ act_of (codes "evict") (view slot.now ∷ []) }
 {
     Ok(Act::Evict {
         slot: byte(slot, "the slot")?,
     })
 }
 
-pub fn switch(arguments: &[Value]) -> Result<Act, StepFault>
-    ensures { result_ok result ≡ switch_of (map view arguments.now) }
+fn switch(arguments: &[Value]) -> Result<Act, StepFault>
+    ensures { result_ok result ≡ act_of (codes "switch") (map view arguments.now) }
 {
     match arguments {
         [space, word] => switch_from(space, word),
@@ -119,7 +119,7 @@ pub fn switch(arguments: &[Value]) -> Result<Act, StepFault>
 }
 
 fn switch_from(space: &Value, word: &Value) -> Result<Act, StepFault>
-    ensures { result_ok result ≡ switch_of (view space.now ∷ view word.now ∷ []) }
+    ensures { result_ok result ≡ act_of (codes "switch") (view space.now ∷ view word.now ∷ []) }
 {
     Ok(Act::Switch {
         space: short(space, "the space")?,
@@ -128,7 +128,7 @@ fn switch_from(space: &Value, word: &Value) -> Result<Act, StepFault>
 }
 
 fn fix(arguments: &[Value]) -> Result<Act, StepFault>
-    ensures { result_ok result ≡ fix_of (map view arguments.now) }
+    ensures { result_ok result ≡ act_of (codes "fix") (map view arguments.now) }
 {
     match arguments {
         [va, word] => fix_from(va, word),
@@ -137,7 +137,7 @@ fn fix(arguments: &[Value]) -> Result<Act, StepFault>
 }
 
 fn fix_from(va: &Value, word: &Value) -> Result<Act, StepFault>
-    ensures { result_ok result ≡ fix_of (view va.now ∷ view word.now ∷ []) }
+    ensures { result_ok result ≡ act_of (codes "fix") (view va.now ∷ view word.now ∷ []) }
 {
     Ok(Act::Fix {
         va: long(va, "the address")?,
@@ -146,7 +146,7 @@ fn fix_from(va: &Value, word: &Value) -> Result<Act, StepFault>
 }
 
 fn destroy(arguments: &[Value]) -> Result<Act, StepFault>
-    ensures { result_ok result ≡ destroy_of (map view arguments.now) }
+    ensures { result_ok result ≡ act_of (codes "destroy") (map view arguments.now) }
 {
     match arguments {
         [space] => destroy_from(space),
@@ -155,15 +155,15 @@ fn destroy(arguments: &[Value]) -> Result<Act, StepFault>
 }
 
 fn destroy_from(space: &Value) -> Result<Act, StepFault>
-    ensures { result_ok result ≡ destroy_of (view space.now ∷ []) }
+    ensures { result_ok result ≡ act_of (codes "destroy") (view space.now ∷ []) }
 {
     Ok(Act::Destroy {
         space: short(space, "the space")?,
     })
 }
 
-pub fn map(arguments: &[Value]) -> Result<Act, StepFault>
-    ensures { result_ok result ≡ map_of (map view arguments.now) }
+fn map(arguments: &[Value]) -> Result<Act, StepFault>
+    ensures { result_ok result ≡ act_of (codes "map") (map view arguments.now) }
 {
     match arguments {
         [space, va, len, file, offset, rights, opened] => map_from(
@@ -185,7 +185,7 @@ fn map_from(
     rights: &Value,
     opened: &Value,
 ) -> Result<Act, StepFault>
-    ensures { result_ok result ≡ map_of (view space.now ∷ view va.now ∷ view len.now
+    ensures { result_ok result ≡ act_of (codes "map") (view space.now ∷ view va.now ∷ view len.now
         ∷ view file.now ∷ view offset.now ∷ view rights.now ∷ view opened.now ∷ []) }
 {
     Ok(Act::Map {
@@ -199,8 +199,8 @@ fn map_from(
     })
 }
 
-pub fn unmap(arguments: &[Value]) -> Result<Act, StepFault>
-    ensures { result_ok result ≡ unmap_of (map view arguments.now) }
+fn unmap(arguments: &[Value]) -> Result<Act, StepFault>
+    ensures { result_ok result ≡ act_of (codes "unmap") (map view arguments.now) }
 {
     match arguments {
         [space, va, len] => unmap_from(space, va, len),
@@ -209,7 +209,7 @@ pub fn unmap(arguments: &[Value]) -> Result<Act, StepFault>
 }
 
 fn unmap_from(space: &Value, va: &Value, len: &Value) -> Result<Act, StepFault>
-    ensures { result_ok result ≡ unmap_of (view space.now ∷ view va.now ∷ view len.now ∷ []) }
+    ensures { result_ok result ≡ act_of (codes "unmap") (view space.now ∷ view va.now ∷ view len.now ∷ []) }
 {
     Ok(Act::Unmap {
         space: short(space, "the space")?,
@@ -218,8 +218,8 @@ fn unmap_from(space: &Value, va: &Value, len: &Value) -> Result<Act, StepFault>
     })
 }
 
-pub fn protect(arguments: &[Value]) -> Result<Act, StepFault>
-    ensures { result_ok result ≡ protect_of (map view arguments.now) }
+fn protect(arguments: &[Value]) -> Result<Act, StepFault>
+    ensures { result_ok result ≡ act_of (codes "protect") (map view arguments.now) }
 {
     match arguments {
         [space, va, len, rights] => protect_from(space, va, len, rights),
@@ -228,7 +228,7 @@ pub fn protect(arguments: &[Value]) -> Result<Act, StepFault>
 }
 
 fn protect_from(space: &Value, va: &Value, len: &Value, rights: &Value) -> Result<Act, StepFault>
-    ensures { result_ok result ≡ protect_of (view space.now ∷ view va.now ∷ view len.now ∷ view rights.now ∷ []) }
+    ensures { result_ok result ≡ act_of (codes "protect") (view space.now ∷ view va.now ∷ view len.now ∷ view rights.now ∷ []) }
 {
     Ok(Act::Protect {
         space: short(space, "the space")?,
@@ -238,8 +238,8 @@ fn protect_from(space: &Value, va: &Value, len: &Value, rights: &Value) -> Resul
     })
 }
 
-pub fn reclaim(arguments: &[Value]) -> Result<Act, StepFault>
-    ensures { result_ok result ≡ reclaim_of (map view arguments.now) }
+fn reclaim(arguments: &[Value]) -> Result<Act, StepFault>
+    ensures { result_ok result ≡ act_of (codes "reclaim") (map view arguments.now) }
 {
     match arguments {
         [file, number] => reclaim_from(file, number),
@@ -248,7 +248,7 @@ pub fn reclaim(arguments: &[Value]) -> Result<Act, StepFault>
 }
 
 fn reclaim_from(file: &Value, number: &Value) -> Result<Act, StepFault>
-    ensures { result_ok result ≡ reclaim_of (view file.now ∷ view number.now ∷ []) }
+    ensures { result_ok result ≡ act_of (codes "reclaim") (view file.now ∷ view number.now ∷ []) }
 {
     Ok(Act::Reclaim {
         file: short(file, "the file")?,
@@ -256,8 +256,8 @@ fn reclaim_from(file: &Value, number: &Value) -> Result<Act, StepFault>
     })
 }
 
-pub fn msync(arguments: &[Value]) -> Result<Act, StepFault>
-    ensures { result_ok result ≡ msync_of (map view arguments.now) }
+fn msync(arguments: &[Value]) -> Result<Act, StepFault>
+    ensures { result_ok result ≡ act_of (codes "msync") (map view arguments.now) }
 {
     match arguments {
         [va, len, bits] => msync_from(va, len, bits),
@@ -266,7 +266,7 @@ pub fn msync(arguments: &[Value]) -> Result<Act, StepFault>
 }
 
 fn msync_from(va: &Value, len: &Value, bits: &Value) -> Result<Act, StepFault>
-    ensures { result_ok result ≡ msync_of (view va.now ∷ view len.now ∷ view bits.now ∷ []) }
+    ensures { result_ok result ≡ act_of (codes "msync") (view va.now ∷ view len.now ∷ view bits.now ∷ []) }
 {
     Ok(Act::Msync {
         va: long(va, "the address")?,
@@ -275,8 +275,8 @@ fn msync_from(va: &Value, len: &Value, bits: &Value) -> Result<Act, StepFault>
     })
 }
 
-pub fn set_length(arguments: &[Value]) -> Result<Act, StepFault>
-    ensures { result_ok result ≡ set_length_of (map view arguments.now) }
+fn set_length(arguments: &[Value]) -> Result<Act, StepFault>
+    ensures { result_ok result ≡ act_of (codes "setlength") (map view arguments.now) }
 {
     match arguments {
         [file, length] => set_length_from(file, length),
@@ -285,7 +285,7 @@ pub fn set_length(arguments: &[Value]) -> Result<Act, StepFault>
 }
 
 fn set_length_from(file: &Value, length: &Value) -> Result<Act, StepFault>
-    ensures { result_ok result ≡ set_length_of (view file.now ∷ view length.now ∷ []) }
+    ensures { result_ok result ≡ act_of (codes "setlength") (view file.now ∷ view length.now ∷ []) }
 {
     Ok(Act::SetLength {
         file: short(file, "the file")?,

@@ -6,10 +6,11 @@ ghost use Rattle.scripts.specs.Arguments.{all_of};
 ghost use Rattle.scripts.specs.Threads.{await_of, commanded_of, command_named, items_command, command_of, program_of, programs_of};
 ghost use Rattle.scripts.specs.ScriptFault.{IsMemory};
 
-use crate::act::{load, map, msync, protect, reclaim, store, switch, unmap};
+use crate::act::act;
 use crate::argument::{byte, long};
 use crate::form::Form;
-use crate::member::{list, shown};
+use crate::items::{Item, read_items};
+use crate::member::list;
 use crate::script_fault::{ScriptFault, StepFault};
 use machine::Act;
 use serde_json::Value;
@@ -58,73 +59,47 @@ fn programs<A: Allocator + Copy>(
     Ok(programs)
 }
 
-// The program of this number.
+// The program of this number. A fault says which command is refused first, counted from 1.
 #[tactic(auto, using(crate::proofs::AllOf::list_of_items))]
 fn program<A: Allocator + Copy>(
     global: Global,
     alloc: A,
-    number: u64,
+    program: u64,
     value: &Value,
 ) -> Result<Vec<Command, A>, ScriptFault>
-    ensures ok { IfOk result (λ program. program_of (view value.now) ≡ Some program.items) }
+    ensures ok { IfOk result (λ commands. program_of (view value.now) ≡ Some commands.items) }
     ensures err { IfErr result (λ fault. IsMemory fault ⊎ (program_of (view value.now) ≡ None)) }
 {
-    match value.as_array() {
-        Some(items) => commands(global, alloc, number, items),
-        None => Err(ScriptFault::Program(number)),
-    }
-}
-
-// All commands of a program, in order. A fault says which is refused first, counted from 1.
-#[tactic(auto, using(crate::proofs::AllOf::all_of_next, crate::proofs::AllOf::all_of_fails))]
-fn commands<A: Allocator + Copy>(
-    global: Global,
-    alloc: A,
-    program: u64,
-    values: &[Value],
-) -> Result<Vec<Command, A>, ScriptFault>
-    ensures ok { IfOk result (λ commands. all_of command_of (map view values.now) ≡ Some commands.items) }
-    ensures err { IfErr result (λ fault. IsMemory fault ⊎ (all_of command_of (map view values.now) ≡ None)) }
-{
-    let mut commands = Vec::with_capacity(alloc, values.len()).map_err(ScriptFault::Memory)?;
-    for (i, value) in values.iter().enumerate() {
-        let command = match read_command(value) {
-            Ok(command) => command,
-            Err(cause) => return Err(refused_command(global, program, i as u64 + 1, value, cause)),
-        };
-        if commands.push(command).is_err() {
-            return Err(ScriptFault::Memory(AllocError));
-        }
-    }
-    Ok(commands)
-}
-
-// The command of this number is refused, as it stands in the script.
-fn refused_command(
-    global: Global,
-    program: u64,
-    number: u64,
-    value: &Value,
-    cause: StepFault,
-) -> ScriptFault {
-    match shown(global, value) {
-        Ok(found) => ScriptFault::Command {
+    let items = value.as_array().ok_or(ScriptFault::Program(program))?;
+    match read_items(global, alloc, items) {
+        Ok(commands) => Ok(commands),
+        Err(
+            ScriptFault::Step {
+                number,
+                found,
+                cause,
+            },
+        ) => Err(ScriptFault::Command {
             program,
             number,
             found,
             cause,
-        },
-        Err(fault) => ScriptFault::Memory(fault),
+        }),
+        Err(fault) => Err(fault),
     }
 }
 
-#[tactic(auto, using(crate::proofs::AllOf::list_of_items))]
-fn read_command(value: &Value) -> Result<Command, StepFault>
-    ensures { result_ok result ≡ command_of (view value.now) }
-{
-    match value.as_array() {
-        Some(items) => command_from(items),
-        None => Err(StepFault::CommandForm),
+impl Item for Command {
+    ghost use Rattle.scripts.specs.Threads.{command_of};
+
+    ghost item_of = { command_of };
+
+    #[tactic(auto, using(crate::proofs::AllOf::list_of_items))]
+    fn read(value: &Value) -> Result<Self, StepFault> {
+        match value.as_array() {
+            Some(items) => command_from(items),
+            None => Err(StepFault::CommandForm),
+        }
     }
 }
 
@@ -154,14 +129,9 @@ fn commanded(name: &str, arguments: &[Value]) -> Result<Act, StepFault>
     ensures { result_ok result ≡ commanded_of name.now (map view arguments.now) }
 {
     match name {
-        "load" => load(arguments),
-        "store" => store(arguments),
-        "switch" => switch(arguments),
-        "map" => map(arguments),
-        "unmap" => unmap(arguments),
-        "protect" => protect(arguments),
-        "reclaim" => reclaim(arguments),
-        "msync" => msync(arguments),
+        "load" | "store" | "switch" | "map" | "unmap" | "protect" | "reclaim" | "msync" => {
+            act(name, arguments)
+        }
         _ => Err(StepFault::CommandName),
     }
 }

@@ -5,9 +5,9 @@ ghost use Rattle.scripts.specs.ScriptFault.{IsMemory};
 ghost use Rattle.serde_json.specs.View.{view};
 
 use crate::form::{Form, judge_form};
-use crate::member::{parsed, shape};
+use crate::member::{list, parsed, shape};
 use crate::script_fault::ScriptFault;
-use crate::step::steps_member;
+use crate::step::read_steps;
 use machine::{Shape, Step};
 use serde_json::Value;
 use std::alloc::{Allocator, Global};
@@ -38,7 +38,7 @@ impl<A: Allocator + Copy> Script<A> {
         judge_form(global, Form::Script, value)?;
         Ok(Script {
             shape: shape(global, Form::Script, value)?,
-            steps: steps_member(global, alloc, Form::Script, value)?,
+            steps: read_steps(global, alloc, list(Form::Script, value, "steps")?)?,
         })
     }
 }

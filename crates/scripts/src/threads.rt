@@ -7,9 +7,9 @@ ghost use Rattle.scripts.specs.ScriptFault.{IsMemory};
 
 use crate::command::{Command, programs_member};
 use crate::form::{Form, judge_form};
-use crate::member::{parsed, shape, size};
+use crate::member::{list, parsed, shape, size};
 use crate::script_fault::ScriptFault;
-use crate::step::steps_member;
+use crate::step::read_steps;
 use machine::{Shape, Step};
 use serde_json::Value;
 use std::alloc::{Allocator, Global};
@@ -56,7 +56,7 @@ impl<A: Allocator + Copy> ThreadScript<A> {
         judge_form(global, form, value)?;
         let shape = shape(global, form, value)?;
         let trace = size(global, form, value, "trace")?;
-        let steps = steps_member(global, alloc, form, value)?;
+        let steps = read_steps(global, alloc, list(form, value, "steps")?)?;
         let programs = programs_member(global, alloc, value)?;
         judge_processors(shape.cpus, &steps, &programs)?;
         Ok(ThreadScript {

@@ -1,10 +1,9 @@
 // One entry of a trace, and whether it is progress.
 ghost use Rattle.std.specs.Prelude.{◌≡◌, ◌<◌, ◌+◌, if◌then◌else◌};
-ghost use Rattle.service.specs.Trace.{is_progress, may_be_seen};
+ghost use Rattle.service.specs.Trace.{has_done, is_progress, may_be_seen};
 
-use crate::effect::effect_of;
-use machine::{Act, Reply, Step};
-use page_entry::ProcessorNumber;
+use machine::{Access, Act, Outcome, Reply, Step};
+use page_entry::{ProcessorNumber, Refusal};
 
 /// A step that was made, and what it was answered.
 #[derive(Clone, Copy, PartialEq, Eq)]
@@ -36,32 +35,27 @@ pub(crate) fn step_of(p: ProcessorNumber, act: &Act) -> Step
 fn is_progress(act: &Act, reply: &Reply) -> bool
     ensures { result ≡ is_progress act.now reply.now }
 {
-    may_be_seen(act) && effect_of(reply).has_done
+    may_be_seen(act) && has_done(reply)
+}
+
+// Whether something was done, or a device call failed.
+fn has_done(reply: &Reply) -> bool
+    ensures { result ≡ has_done reply.now }
+{
+    match reply.outcome() {
+        Outcome::Refused(refusal) => matches!(refusal, Refusal::Device),
+        Outcome::Nothing => false,
+        Outcome::Unmarked | Outcome::Marked(_) | Outcome::Committed(_) | Outcome::Other => true,
+    }
 }
 
 // Whether an act may change what another processor sees.
 fn may_be_seen(act: &Act) -> bool
     ensures { result ≡ may_be_seen act.now }
 {
-    match act {
-        Act::Load { .. } | Act::Fill { .. } | Act::Evict { .. } => false,
-        Act::Store { .. }
-        | Act::Switch { .. }
-        | Act::Idle
-        | Act::Wake
-        | Act::Fix { .. }
-        | Act::Create
-        | Act::Destroy { .. }
-        | Act::Map { .. }
-        | Act::Unmap { .. }
-        | Act::Protect { .. }
-        | Act::Reclaim { .. }
-        | Act::SetLength { .. }
-        | Act::Msync { .. }
-        | Act::Ack
-        | Act::Change
-        | Act::Resume
-        | Act::Flush => true,
+    match act.access() {
+        Access::Load(_) | Access::Translation => false,
+        Access::Store(_) | Access::Other => true,
     }
 }
 

@@ -5,7 +5,6 @@
 //! A call that takes `rt` may wait for another thread: what it ensures holds if it returns.
 #![tactic(auto)]
 
-mod effect;
 mod entry;
 mod gathering;
 mod locked;

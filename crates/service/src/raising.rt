@@ -4,8 +4,7 @@ ghost use Rattle.service.specs.Marks.{has_unmarked};
 ghost use Rattle.service.specs.inside.Raising.{raise_by};
 
 use crate::Entry;
-use crate::effect::{MarkEffect, effect_of};
-use machine::Reply;
+use machine::{Outcome, Reply};
 
 // Nothing, the number of the last mark, or both numbers, to that of a mark that is acknowledged.
 #[derive(Clone, Copy)]
@@ -34,15 +33,18 @@ pub(crate) fn has_unmarked(trace: &[Entry]) -> bool
 pub(crate) fn raise_by(before: &[Entry], reply: &Reply) -> Raise
     ensures { result ≡ raise_by (has_unmarked before.now) reply.now }
 {
-    match effect_of(reply).mark {
-        MarkEffect::Nothing => Raise::Nothing,
-        MarkEffect::Made(mark) => {
+    match reply.outcome() {
+        Outcome::Marked(mark) => {
+            let mark = u64::from(mark);
             if has_unmarked(before) {
                 Raise::Stalled(mark)
             } else {
                 Raise::Committed(mark)
             }
         }
-        MarkEffect::Committed(mark) => Raise::Committed(mark),
+        Outcome::Committed(mark) => Raise::Committed(u64::from(mark)),
+        Outcome::Unmarked | Outcome::Other | Outcome::Nothing | Outcome::Refused(_) => {
+            Raise::Nothing
+        }
     }
 }

@@ -21,16 +21,25 @@ module _ (p file to : ℕ) where
       → AreTries p file to steps replies
   tries_paging = each_so (IsPaging p) (IsTry p file to) (λ step reply paging. inr paging)
 
+  -- such steps come before those of which something holds
+  tries_then : (P : List Step → List Reply → Type 0)
+      → ((step : Step) (reply : Reply) (steps : List Step) (replies : List Reply) → IsTry p file to step reply
+      → P steps replies → P (step ∷ steps) (reply ∷ replies))
+      → (steps : List Step) (replies : List Reply) (steps' : List Step) (replies' : List Reply)
+      → AreTries p file to steps replies → P steps' replies' → P (steps ++ steps') (replies ++ replies')
+  tries_then P one [] [] steps' replies' first later = later
+  tries_then P one (step ∷ steps) (reply ∷ replies) steps' replies' first later =
+      one step reply (steps ++ steps') (replies ++ replies') first.0
+      (tries_then P one steps replies steps' replies' first.1 later)
+  tries_then P one [] (reply ∷ replies) steps' replies' first later = absurd first
+  tries_then P one (step ∷ steps) [] steps' replies' first later = absurd first
+
   -- ---- it is begun
 
   pub begins_later : (steps : List Step) (replies : List Reply) (steps' : List Step) (replies' : List Reply)
       → AreTries p file to steps replies → BeginsLength p file to steps' replies'
       → BeginsLength p file to (steps ++ steps') (replies ++ replies')
-  begins_later [] [] steps' replies' first later = later
-  begins_later (step ∷ steps) (reply ∷ replies) steps' replies' first later =
-      inl (first.0, begins_later steps replies steps' replies' first.1 later)
-  begins_later [] (reply ∷ replies) steps' replies' first later = absurd first
-  begins_later (step ∷ steps) [] steps' replies' first later = absurd first
+  begins_later = tries_then (BeginsLength p file to) (λ step reply steps replies try more. inl (try, more))
 
   -- and changed
   pub begins_then : (answer : Reply) (steps : List Step) (replies : List Reply) (steps' : List Step)
@@ -51,11 +60,8 @@ module _ (p file to : ℕ) where
   pub attempts_later : (answer : Reply) (steps : List Step) (replies : List Reply) (steps' : List Step)
       (replies' : List Reply) → AreTries p file to steps replies → AttemptsLength p file to answer steps' replies'
       → AttemptsLength p file to answer (steps ++ steps') (replies ++ replies')
-  attempts_later answer [] [] steps' replies' first later = later
-  attempts_later answer (step ∷ steps) (reply ∷ replies) steps' replies' first later =
-      inl (first.0, attempts_later answer steps replies steps' replies' first.1 later)
-  attempts_later answer [] (reply ∷ replies) steps' replies' first later = absurd first
-  attempts_later answer (step ∷ steps) [] steps' replies' first later = absurd first
+  attempts_later answer =
+      tries_then (AttemptsLength p file to answer) (λ step reply steps replies try more. inl (try, more))
 
   pub attempts_one : (answer : Reply) → AttemptsLength p file to answer (set_length_by p file to ∷ []) (answer ∷ [])
   attempts_one answer = inr (refl, refl, inl (refl, refl))
@@ -158,8 +164,5 @@ module _ (p file to : ℕ) where
   pub refuses_later : (answer : Reply) (steps : List Step) (replies : List Reply) (steps' : List Step)
       (replies' : List Reply) → AreTries p file to steps replies → RefusesLength p file to answer steps' replies'
       → RefusesLength p file to answer (steps ++ steps') (replies ++ replies')
-  refuses_later answer [] [] steps' replies' first later = later
-  refuses_later answer (step ∷ steps) (reply ∷ replies) steps' replies' first later =
-      inl (first.0, refuses_later answer steps replies steps' replies' first.1 later)
-  refuses_later answer [] (reply ∷ replies) steps' replies' first later = absurd first
-  refuses_later answer (step ∷ steps) [] steps' replies' first later = absurd first
+  refuses_later answer =
+      tries_then (RefusesLength p file to answer) (λ step reply steps replies try more. inl (try, more))

@@ -313,42 +313,39 @@ resume_made s d p (replies.Refused why) new d' free is rule = absurd (none≢som
     s.hardware.shootdown p (there_unless_active s.hardware.shootdown p (stalled_not_active _ is)) free) ∙ rule.0.0))
 resume_made s d p reply new d' free is rule = absurd rule.0.1
 
+-- the change for which the lock is held was made, and answered so
+as_made : (s new : State) (p : ℕ) (made change : Change) (reply : Reply) → HoldsLock p made s → HoldsLock p change s
+    → reports_changed reply ≡ true → reports_made made reply ≡ true
+    → new.hardware.shootdown ≡ finished s.hardware.shootdown p
+    → (reports_changed reply ≡ true) × (reports_made change reply ≡ true)
+    × (new.hardware.shootdown ≡ finished s.hardware.shootdown p)
+as_made s new p made change reply is held changed reports done =
+    (changed, made_for s p made change reply is held reports, done)
+
 -- the change is made once nobody is interrupted
 change_made : (s : State) (d : List ℕ) (p : ℕ) (reply : Reply) (new : State) (d' : List ℕ) (change : Change)
     → IsShootdown s.hardware.shootdown → HoldsLock p change s → interrupted s.hardware.shootdown ≡ 0
     → Acts s d p acts.Change reply new d'
     → (reports_changed reply ≡ true) × (reports_made change reply ≡ true)
     × (new.hardware.shootdown ≡ finished s.hardware.shootdown p)
-change_made s d p replies.Unmapped new d' change is held calm rule = let made = rule.0.1 in (
-  refl,
-  made_for s p (changes.Unmap made.pcid made.range) change replies.Unmapped made.may.lock held refl,
-  shootdown_is made.done,
-)
-change_made s d p replies.Protected new d' change is held calm rule = let made = rule.0.1 in (
-  refl,
-  made_for s p (changes.Protect made.pcid made.range made.rights) change replies.Protected made.may.lock held refl,
-  shootdown_is made.done,
-)
-change_made s d p replies.Resized new d' change is held calm rule = let made = rule.0.1 in (
-  refl,
-  made_for s p (changes.SetLength made.file made.to) change replies.Resized made.may.lock held refl,
-  shootdown_is made.done,
-)
-change_made s d p replies.Reclaimed new d' change is held calm rule = let made = rule.0.1 in (
-  refl,
-  made_for s p (changes.Reclaim made.owner) change replies.Reclaimed made.may.lock held refl,
-  shootdown_is made.done,
-)
-change_made s d p replies.Kept new d' change is held calm rule = let made = rule.0.1 in (
-  refl,
-  made_for s p (changes.Reclaim made.owner) change replies.Kept made.may.lock held refl,
-  shootdown_is made.done,
-)
-change_made s d p (replies.Marked mark) new d' change is held calm rule = let made = rule.0.1 in (
-  refl,
-  made_for s p changes.Checkpoint change (replies.Marked mark) made.may.lock held refl,
-  shootdown_is made.done,
-)
+change_made s d p replies.Unmapped new d' change is held calm rule = let made = rule.0.1 in
+    as_made s new p (changes.Unmap made.pcid made.range) change replies.Unmapped made.may.lock held refl refl
+    (shootdown_is made.done)
+change_made s d p replies.Protected new d' change is held calm rule = let made = rule.0.1 in
+    as_made s new p (changes.Protect made.pcid made.range made.rights) change replies.Protected made.may.lock held
+    refl refl (shootdown_is made.done)
+change_made s d p replies.Resized new d' change is held calm rule = let made = rule.0.1 in
+    as_made s new p (changes.SetLength made.file made.to) change replies.Resized made.may.lock held refl refl
+    (shootdown_is made.done)
+change_made s d p replies.Reclaimed new d' change is held calm rule = let made = rule.0.1 in
+    as_made s new p (changes.Reclaim made.owner) change replies.Reclaimed made.may.lock held refl refl
+    (shootdown_is made.done)
+change_made s d p replies.Kept new d' change is held calm rule = let made = rule.0.1 in
+    as_made s new p (changes.Reclaim made.owner) change replies.Kept made.may.lock held refl refl
+    (shootdown_is made.done)
+change_made s d p (replies.Marked mark) new d' change is held calm rule = let made = rule.0.1 in
+    as_made s new p changes.Checkpoint change (replies.Marked mark) made.may.lock held refl refl
+    (shootdown_is made.done)
 change_made s d p replies.Nothing new d' change is held calm rule = absurd (none≢some _ (sym rule.0.1.0 ∙ held))
 change_made s d p (replies.Refused why) new d' change is held calm rule =
     absurd (none≢some why (sym (change_none s.hardware.shootdown p is change held calm) ∙ rule.0.0))

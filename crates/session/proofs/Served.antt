@@ -4,8 +4,11 @@ use Rattle.std.proofs.Common.{OnOk, is_ok, sym, ◌∙◌, arith}
 use Rattle.std.proofs.lemmas.List.{take_all}
 use Rattle.device.specs.declared.device.Device.{Ghosts}
 use Rattle.machine.specs.declared.act.Reply.{Reply}
+use Rattle.machine.specs.declared.act.Shape.{Shape}
 use Rattle.machine.specs.declared.act.Step.{Step}
+use Rattle.machine.specs.Runs.{StepsTaken}
 use Rattle.machine.specs.State.{State, Whole}
+use Rattle.engine.specs.Engine.{HasStarted, HasRun}
 use Rattle.session.specs.declared.notes.Notes.{Notes}
 use Rattle.std.specs.Io.KnownBytes.{Appends}
 use Rattle.session.specs.Answers.{AnswersRequest, AnswersLine, WritesAnswer, WritesAnswerOf}
@@ -15,7 +18,6 @@ use Rattle.session.specs.Locks.{AsksSteps, KeepsPhases, KeepsPhasesFor}
 use Rattle.session.specs.Ranges.{MakesStepsThat}
 use Rattle.session.specs.Requests.{Asked, asks_steps, asks_load, asks_store, asks_commit, asks_length, request_in}
 use Rattle.session.specs.Serving.{ServesLine}
-use Rattle.session.specs.Steps.{Makes}
 use Rattle.session.specs.inside.Made.{HasMade}
 use Rattle.session.proofs.Commits.{answers_of_commit}
 use Rattle.session.proofs.Stretches.{does_more}
@@ -86,24 +88,27 @@ line_answers disk old new before after line (Ok done) a b it =
     record { steps = it.steps; replies = it.replies; makes = it.makes; holds = it.holds.answered }
 line_answers disk old new before after line (Err why) a b it = tt
 
--- what holds of all steps that were made, and of those that were answered
-pub one_list : {D T E : Type 0} (disk : Ghosts D) (old new : Whole D) (before after : Notes) (result : Result T E)
-    (ran answers : List Step → List Reply → Type 0)
-    → ((steps : List Step) (replies : List Reply) → Makes disk old before steps replies new after → ran steps replies)
+-- all steps that were made are a run, and those that were answered answer
+pub one_list : {D T E : Type 0} (disk : Ghosts D)
+    → ((before : D) (shape : Shape) (start last : Whole D) (steps : List Step) (replies : List Reply)
+    → HasStarted disk before shape start → StepsTaken disk start steps replies last
+    → HasRun disk before shape steps replies last.device)
+    → (old new : Whole D) (before after : Notes) (result : Result T E) (answers : List Step → List Reply → Type 0)
     → HasMade disk old before new after
     → OnOk result (MakesStepsThat disk old before answers new after) → MakesStepsThat disk old before
-    (λ steps replies. ran steps replies × OnOk result (answers steps replies)) new after
-one_list disk old new before after (Ok done) ran answers runs made it = record {
+    (λ steps replies. ((first : D) (shape : Shape) → HasStarted disk first shape old
+    → HasRun disk first shape steps replies new.device) × OnOk result (answers steps replies)) new after
+one_list disk runs old new before after (Ok done) answers made it = record {
   steps = it.steps;
   replies = it.replies;
   makes = it.makes;
-  holds = (runs it.steps it.replies it.makes, it.holds);
+  holds = (λ first shape started. runs first shape old new it.steps it.replies started it.makes.taken, it.holds);
 }
-one_list disk old new before after (Err why) ran answers runs made it = record {
+one_list disk runs old new before after (Err why) answers made it = record {
   steps = made.steps;
   replies = made.replies;
   makes = made.makes;
-  holds = (runs made.steps made.replies made.makes, tt);
+  holds = (λ first shape started. runs first shape old new made.steps made.replies started made.makes.taken, tt);
 }
 
 -- ---- the lock and the phases

@@ -4,7 +4,7 @@ use Rattle.device.specs.declared.device.Device.{Ghosts}
 use Rattle.machine.specs.declared.act.Reply.{Reply}
 use Rattle.machine.specs.declared.act.Step.{Step}
 use Rattle.machine.specs.State.{Whole}
-use Rattle.machine.specs.Runs.{StepsTaken}
+use Rattle.machine.proofs.Public.{taken_then}
 use Rattle.session.specs.declared.notes.Notes.{Notes}
 use Rattle.session.specs.Notes.{noted_after, noted_all}
 use Rattle.session.specs.Ranges.{MakesStepsThat}
@@ -15,17 +15,6 @@ noted_then : (before : Notes) (replies more : List Reply)
     → noted_all before (replies ++ more) ≡ noted_all (noted_all before replies) more
 noted_then before [] more = refl
 noted_then before (reply ∷ replies) more = noted_then (noted_after before reply) replies more
-
-taken_then : {D : Type 0} (disk : Ghosts D) (old mid new : Whole D) (steps : List Step) (replies : List Reply)
-    (later : List Step) (replied : List Reply) → StepsTaken disk old steps replies mid
-    → StepsTaken disk mid later replied new
-    → StepsTaken disk old (steps ++ later) (replies ++ replied) new
-taken_then {D} disk old mid new [] [] later replied first rest =
-    let P : Whole D → Type 0 = λ m. StepsTaken disk m later replied new in subst P first rest
-taken_then disk old mid new (step ∷ steps) (reply ∷ replies) later replied (next, here, first) rest =
-    (next, here, taken_then disk next mid new steps replies later replied first rest)
-taken_then disk old mid new [] (reply ∷ replies) later replied first rest = absurd first
-taken_then disk old mid new (step ∷ steps) [] later replied first rest = absurd first
 
 -- no step
 pub makes_none : {D : Type 0} (disk : Ghosts D) (old : Whole D) (before : Notes)

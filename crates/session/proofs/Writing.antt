@@ -194,8 +194,6 @@ not_memory fault.NotAList not is = is
 not_memory fault.Empty not is = is
 not_memory (fault.Step why) not is = is
 not_memory (fault.Steps number found why) not is = is
-not_memory (fault.Arguments act arguments) not is = is
-not_memory (fault.Number what most) not is = is
 not_memory (fault.Bytes most) not is = is
 
 asks_nothing : (line : List ℕ) (cause : RequestFault) → IsMemory cause ⊎ AsksNothing line → ¬ (IsMemory cause)

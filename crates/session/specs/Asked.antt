@@ -29,8 +29,6 @@ IsMemory fault.NotAList = ⊥
 IsMemory fault.Empty = ⊥
 IsMemory (fault.Step cause) = ⊥
 IsMemory (fault.Steps number found cause) = ⊥
-IsMemory (fault.Arguments act arguments) = ⊥
-IsMemory (fault.Number what most) = ⊥
 IsMemory (fault.Bytes most) = ⊥
 
 -- these are the first of the steps that were asked for

@@ -34,17 +34,20 @@ digits_of digits = if nat_le (length digits) 131072 then result_ok (decode_of di
 abbrev pub bytes_in_digits : Data → Option (List ℕ)
 bytes_in_digits value = if_some (as_str value) digits_of
 
+-- what a processor and two arguments ask for
+abbrev pub with_two : (ℕ → Data → Data → Option Asked) → Data → List Data → Option Asked
+with_two what p (first ∷ second ∷ []) = if_some (byte_of p) (λ p. what p first second)
+with_two what p _ = None
+
 -- an address and a count
 abbrev pub load_of : Data → List Data → Option Asked
-load_of p (va ∷ count ∷ []) = if_some (byte_of p)
-    (λ p. if_some (long_of va) (λ va. if_some (count_of count) (λ count. Some (asks_load p va count))))
-load_of p _ = None
+load_of = with_two (λ p va count.
+    if_some (long_of va) (λ va. if_some (count_of count) (λ count. Some (asks_load p va count))))
 
 -- an address and the digits of bytes
 abbrev pub store_of : Data → List Data → Option Asked
-store_of p (va ∷ digits ∷ []) = if_some (byte_of p)
-    (λ p. if_some (long_of va) (λ va. if_some (bytes_in_digits digits) (λ bytes. Some (asks_store p va bytes))))
-store_of p _ = None
+store_of = with_two (λ p va digits.
+    if_some (long_of va) (λ va. if_some (bytes_in_digits digits) (λ bytes. Some (asks_store p va bytes))))
 
 abbrev pub commit_of : Data → List Data → Option Asked
 commit_of p [] = if_some (byte_of p) (λ p. Some (asks_commit p))
@@ -52,9 +55,8 @@ commit_of p _ = None
 
 -- a file and its new length in bytes
 abbrev pub set_length_of : Data → List Data → Option Asked
-set_length_of p (file ∷ length ∷ []) = if_some (byte_of p)
-    (λ p. if_some (short_of file) (λ file. if_some (long_of length) (λ length. Some (asks_length p file length))))
-set_length_of p _ = None
+set_length_of = with_two (λ p file length.
+    if_some (short_of file) (λ file. if_some (long_of length) (λ length. Some (asks_length p file length))))
 
 -- one step, as in a script
 abbrev pub step_alone : Data → Option Asked

@@ -3,7 +3,7 @@ ghost use Rattle.std.specs.Prelude.{ℕ, ◌≡◌, false, List, length};
 ghost use Rattle.machine.specs.AtOnce.{store_replies};
 ghost use Rattle.session.specs.Notes.{noted_after, noted_all, failed_by};
 
-use machine::Reply;
+use machine::{Outcome, Reply};
 use page_entry::Refusal;
 
 /// What a session has to know of the steps that were made before.
@@ -54,32 +54,12 @@ impl Notes {
 fn failed_by(before: bool, reply: &Reply) -> bool
     ensures { result ≡ failed_by before reply.now }
 {
-    match reply {
-        Reply::Refused(refusal) => before || matches!(refusal, Refusal::Device),
-        Reply::Bytes(_)
-        | Reply::Stored
-        | Reply::Filled
-        | Reply::Evicted
-        | Reply::Switched
-        | Reply::Idled
-        | Reply::Woken
-        | Reply::Fixed
-        | Reply::Space(_)
-        | Reply::Destroyed
-        | Reply::Mapped
-        | Reply::Begun
-        | Reply::Fine
-        | Reply::Unmapped
-        | Reply::Protected
-        | Reply::Resized
-        | Reply::Reclaimed
-        | Reply::Kept
-        | Reply::Marked(_)
-        | Reply::Acked
-        | Reply::Resumed
-        | Reply::Going
-        | Reply::Committed(_)
-        | Reply::Done(_)
-        | Reply::Nothing => before,
+    match reply.outcome() {
+        Outcome::Refused(refusal) => before || matches!(refusal, Refusal::Device),
+        Outcome::Unmarked
+        | Outcome::Marked(_)
+        | Outcome::Committed(_)
+        | Outcome::Other
+        | Outcome::Nothing => before,
     }
 }

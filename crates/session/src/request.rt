@@ -1,20 +1,22 @@
 // Requests, and how they are read.
-ghost use Rattle.std.specs.Prelude.{◌≡◌, ◌≤◌, ◌⊎◌, [], ◌∷◌, map, Some, None, IfOk, IfErr, IsUtf8};
+ghost use Rattle.std.specs.Prelude.{◌≡◌, ◌⊎◌, map, Some, None, IfOk, IfErr, IsUtf8};
 ghost use Rattle.std.specs.Result.{result_ok};
 ghost use Rattle.serde_json.specs.Find.{as_str};
 ghost use Rattle.serde_json.specs.View.{view};
-ghost use Rattle.scripts.specs.Arguments.{whole_number, byte_of, short_of, long_of, all_of};
-ghost use Rattle.scripts.specs.Script.{step_of};
+ghost use Rattle.scripts.specs.Arguments.{byte_of};
 ghost use Rattle.session.specs.Asked.{asked, IsMemory};
 ghost use Rattle.scripts.specs.ScriptFault.{IsMemory as IsNoMemory};
 ghost use Rattle.session.specs.Requests.{shape_in, request_in, request_of, items_request, steps_together, step_alone, named_request};
-ghost use Rattle.session.specs.Requests.{load_of, store_of, commit_of, set_length_of, bytes_in_digits, digits_of};
+ghost use Rattle.session.specs.Requests.{with_two, load_of, store_of, commit_of, set_length_of, bytes_in_digits, digits_of};
 
 use crate::request_fault::RequestFault;
 use hex::FromHexError;
 use machine::{Shape, Step};
 use page_entry::ProcessorNumber;
-use scripts::{Form, ScriptFault, StepFault, judge_form, parsed, read_step, shape, shown};
+use scripts::{
+    Form, ScriptFault, StepFault, byte, judge_form, long, number, parsed, read_step, read_steps,
+    shape, short,
+};
 use serde_json::Value;
 use std::alloc::{AllocError, Allocator, Global};
 use std::str;
@@ -123,43 +125,20 @@ fn steps_together<A: Allocator + Copy>(
     ensures ok { IfOk result (λ request. steps_together (map view items.now) ≡ Some (asked request)) }
     ensures err { IfErr result (λ fault. IsMemory fault ⊎ (steps_together (map view items.now) ≡ None)) }
 {
-    match steps(global, alloc, items) {
+    match read_steps(global, alloc, items) {
         Ok(steps) => Ok(Request::Steps(steps)),
-        Err(fault) => Err(fault),
-    }
-}
-
-#[tactic(auto, using(scripts::proofs::AllOf::all_of_next, scripts::proofs::AllOf::all_of_fails))]
-fn steps<A: Allocator + Copy>(
-    global: Global,
-    alloc: A,
-    items: &[Value],
-) -> Result<Vec<Step, A>, RequestFault>
-    ensures ok { IfOk result (λ steps. all_of step_of (map view items.now) ≡ Some steps.items) }
-    ensures err { IfErr result (λ fault. IsMemory fault ⊎ (all_of step_of (map view items.now) ≡ None)) }
-{
-    let mut steps = Vec::with_capacity(alloc, items.len()).map_err(RequestFault::Memory)?;
-    for (i, item) in items.iter().enumerate() {
-        let step = match read_step(item) {
-            Ok(step) => step,
-            Err(cause) => return Err(refused_step(global, i as u64 + 1, item, cause)),
-        };
-        if steps.push(step).is_err() {
-            return Err(RequestFault::Memory(AllocError));
-        }
-    }
-    Ok(steps)
-}
-
-// The step of this number is refused, as it stands in the request.
-fn refused_step(global: Global, number: u64, value: &Value, cause: StepFault) -> RequestFault {
-    match shown(global, value) {
-        Ok(found) => RequestFault::Steps {
+        Err(
+            ScriptFault::Step {
+                number,
+                found,
+                cause,
+            },
+        ) => Err(RequestFault::Steps {
             number,
             found,
             cause,
-        },
-        Err(fault) => RequestFault::Memory(fault),
+        }),
+        Err(_) => Err(RequestFault::Memory(AllocError)),
     }
 }
 
@@ -177,10 +156,10 @@ fn named<A: Allocator + Copy>(
         (view p.now) (map view arguments.now) ≡ None)) }
 {
     match name.as_str() {
-        Some("loads") => load_of(p, arguments),
+        Some("loads") => Ok(load_of(p, arguments)?),
         Some("stores") => store_of(alloc, p, arguments),
-        Some("commit") => commit_of(p, arguments),
-        Some("setlength") => set_length_of(p, arguments),
+        Some("commit") => Ok(commit_of(p, arguments)?),
+        Some("setlength") => Ok(set_length_of(p, arguments)?),
         _ => step_alone(alloc, value),
     }
 }
@@ -200,30 +179,14 @@ fn step_alone<A: Allocator + Copy>(alloc: A, value: &Value) -> Result<Request<A>
     Ok(Request::Steps(steps))
 }
 
-fn load_of<A: Allocator + Copy>(p: &Value, arguments: &[Value]) -> Result<Request<A>, RequestFault>
+fn load_of<A: Allocator + Copy>(p: &Value, arguments: &[Value]) -> Result<Request<A>, StepFault>
     ensures ok { IfOk result (λ request. load_of (view p.now) (map view arguments.now) ≡ Some (asked request)) }
     ensures err { IfErr result (λ fault. load_of (view p.now) (map view arguments.now) ≡ None) }
 {
-    match arguments {
-        [va, count] => load_from(p, va, count),
-        _ => Err(wrong_arguments("loads", "an address and a count")),
-    }
-}
-
-fn load_from<A: Allocator + Copy>(
-    p: &Value,
-    va: &Value,
-    count: &Value,
-) -> Result<Request<A>, RequestFault>
-    ensures ok { IfOk result (λ request. load_of (view p.now) (view va.now ∷ view count.now ∷ [])
-        ≡ Some (asked request)) }
-    ensures err { IfErr result (λ fault. load_of (view p.now) (view va.now ∷ view count.now ∷ []) ≡ None) }
-{
-    Ok(Request::Load {
-        p: processor(p)?,
-        va: address(va)?,
-        count: number(count, MOST_BYTES, "the count")?,
-    })
+    let (p, va, count) = with_two(p, arguments, "loads", "an address and a count")?;
+    let va = long(va, "the address")?;
+    let count = number(count, MOST_BYTES, "the count")?;
+    Ok(Request::Load { p, va, count })
 }
 
 fn store_of<A: Allocator + Copy>(
@@ -234,34 +197,14 @@ fn store_of<A: Allocator + Copy>(
     ensures ok { IfOk result (λ request. store_of (view p.now) (map view arguments.now) ≡ Some (asked request)) }
     ensures err { IfErr result (λ fault. IsMemory fault ⊎ (store_of (view p.now) (map view arguments.now) ≡ None)) }
 {
-    match arguments {
-        [va, digits] => store_from(alloc, p, va, digits),
-        _ => Err(wrong_arguments("stores", "an address and a string of hexadecimal digits")),
-    }
+    let wanted = "an address and a string of hexadecimal digits";
+    let (p, va, digits) = with_two(p, arguments, "stores", wanted)?;
+    let va = long(va, "the address")?;
+    let bytes = bytes_of(alloc, digits)?;
+    Ok(Request::Store { p, va, bytes })
 }
 
-fn store_from<A: Allocator + Copy>(
-    alloc: A,
-    p: &Value,
-    va: &Value,
-    digits: &Value,
-) -> Result<Request<A>, RequestFault>
-    ensures ok { IfOk result (λ request. store_of (view p.now) (view va.now ∷ view digits.now ∷ [])
-        ≡ Some (asked request)) }
-    ensures err { IfErr result (λ fault. IsMemory fault
-        ⊎ (store_of (view p.now) (view va.now ∷ view digits.now ∷ []) ≡ None)) }
-{
-    Ok(Request::Store {
-        p: processor(p)?,
-        va: address(va)?,
-        bytes: bytes_of(alloc, digits)?,
-    })
-}
-
-fn commit_of<A: Allocator + Copy>(
-    p: &Value,
-    arguments: &[Value],
-) -> Result<Request<A>, RequestFault>
+fn commit_of<A: Allocator + Copy>(p: &Value, arguments: &[Value]) -> Result<Request<A>, StepFault>
     ensures ok { IfOk result (λ request. commit_of (view p.now) (map view arguments.now) ≡ Some (asked request)) }
     ensures err { IfErr result (λ fault. commit_of (view p.now) (map view arguments.now) ≡ None) }
 {
@@ -274,58 +217,42 @@ fn commit_of<A: Allocator + Copy>(
 fn set_length_of<A: Allocator + Copy>(
     p: &Value,
     arguments: &[Value],
-) -> Result<Request<A>, RequestFault>
+) -> Result<Request<A>, StepFault>
     ensures ok { IfOk result (λ request. set_length_of (view p.now) (map view arguments.now) ≡ Some (asked request)) }
     ensures err { IfErr result (λ fault. set_length_of (view p.now) (map view arguments.now) ≡ None) }
 {
+    let (p, file, length) = with_two(p, arguments, "setlength", "a file and a length")?;
+    let file = short(file, "the file")?;
+    let length = long(length, "the length")?;
+    Ok(Request::SetLength { p, file, length })
+}
+
+// The processor of a request that has two arguments, and these. A fault says which are wanted.
+fn with_two<'a>(
+    p: &Value,
+    arguments: &'a [Value],
+    name: &'static str,
+    wanted: &'static str,
+) -> Result<(ProcessorNumber, &'a Value, &'a Value), StepFault>
+    ensures ok { IfOk result (λ taken. (what : _) → with_two what (view p.now) (map view arguments.now)
+        ≡ what taken.0 (view taken.1.now) (view taken.2.now)) }
+    ensures err { IfErr result (λ fault. (what : _) → with_two what (view p.now) (map view arguments.now)
+        ≡ None) }
+{
     match arguments {
-        [file, length] => set_length_from(p, file, length),
-        _ => Err(wrong_arguments("setlength", "a file and a length")),
+        [first, second] => Ok((processor(p)?, first, second)),
+        _ => Err(wrong_arguments(name, wanted)),
     }
 }
 
-fn set_length_from<A: Allocator + Copy>(
-    p: &Value,
-    file: &Value,
-    length: &Value,
-) -> Result<Request<A>, RequestFault>
-    ensures ok { IfOk result (λ request. set_length_of (view p.now) (view file.now ∷ view length.now ∷ [])
-        ≡ Some (asked request)) }
-    ensures err { IfErr result (λ fault. set_length_of (view p.now) (view file.now ∷ view length.now ∷ []) ≡ None) }
-{
-    Ok(Request::SetLength {
-        p: processor(p)?,
-        file: file_number(file)?,
-        length: number(length, u64::MAX, "the length")?,
-    })
-}
-
-fn processor(value: &Value) -> Result<ProcessorNumber, RequestFault>
+fn processor(value: &Value) -> Result<ProcessorNumber, StepFault>
     ensures { result_ok result ≡ byte_of (view value.now) }
 {
-    Ok(number(value, 255, "the processor")? as u8)
+    byte(value, "the processor")
 }
 
-fn file_number(value: &Value) -> Result<u16, RequestFault>
-    ensures { result_ok result ≡ short_of (view value.now) }
-{
-    Ok(number(value, 65_535, "the file")? as u16)
-}
-
-fn address(value: &Value) -> Result<u64, RequestFault>
-    ensures { result_ok result ≡ long_of (view value.now) }
-{
-    number(value, u64::MAX, "the address")
-}
-
-// A whole number up to `most`. `what` names it in a fault.
-fn number(value: &Value, most: u64, what: &'static str) -> Result<u64, RequestFault>
-    ensures { result_ok result ≡ whole_number most (view value.now) }
-{
-    match value.as_u64() {
-        Some(number) if number <= most => Ok(number),
-        _ => Err(RequestFault::Number { what, most }),
-    }
+fn wrong_arguments(act: &'static str, arguments: &'static str) -> StepFault {
+    StepFault::Arguments { act, arguments }
 }
 
 // The bytes that a string of hexadecimal digits is.
@@ -351,8 +278,4 @@ fn bytes_of_digits<A: Allocator + Copy>(alloc: A, digits: &str) -> Result<Vec<u8
         Err(FromHexError::OutOfMemory) => Err(RequestFault::Memory(AllocError)),
         Err(_) => Err(RequestFault::Bytes(MOST_BYTES)),
     }
-}
-
-fn wrong_arguments(act: &'static str, arguments: &'static str) -> RequestFault {
-    RequestFault::Arguments { act, arguments }
 }

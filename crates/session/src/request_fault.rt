@@ -17,22 +17,12 @@ pub enum RequestFault {
     #[error("the list is empty")]
     Empty,
     #[error("{0}")]
-    Step(StepFault),
+    Step(#[from] StepFault),
     #[error("step {number}, {found}: {cause}")]
     Steps {
         number: u64,
         found: String,
         cause: StepFault,
-    },
-    #[error("{act} has the arguments {arguments}")]
-    Arguments {
-        act: &'static str,
-        arguments: &'static str,
-    },
-    #[error("{what} isn't a whole number up to {most}")]
-    Number {
-        what: &'static str,
-        most: u64,
     },
     #[error("the bytes aren't two hexadecimal digits for each of at most {0} bytes")]
     Bytes(u64),

@@ -17,7 +17,7 @@ use crate::request_fault::RequestFault;
 use crate::session::Session;
 use crate::session_fault::SessionFault;
 use device::Device;
-use engine::ran_since_start;
+use engine::steps_are_a_run;
 use std::alloc::{AllocError, Allocator, Global};
 use std::io;
 use std::io::BufRead;
@@ -44,23 +44,7 @@ pub fn serve_on<D: Device, A: Allocator + Copy, I: BufRead, W: io::Write>(
         × OnOk result (AnswersInput session.old.notes (I.remaining input.old) (I.remaining input.new)
         (W.contents out.old) (W.contents out.new) steps replies)) session.new.machine session.new.notes }
 {
-    let served = serve_lines(global, alloc, session, input, out);
-    ran_since_start(session.machine());
-    served
-}
-
-fn serve_lines<D: Device, A: Allocator + Copy, I: BufRead, W: io::Write>(
-    global: Global,
-    alloc: A,
-    session: &mut Session<D, A>,
-    input: &mut I,
-    out: &mut W,
-) -> Result<(), SessionFault>
-    ensures made { HasMade D.Device session.old.machine session.old.notes session.new.machine session.new.notes }
-    ensures answered { OnOk result (MakesStepsThat D.Device session.old.machine session.old.notes
-        (AnswersInput session.old.notes (I.remaining input.old) (I.remaining input.new)
-        (W.contents out.old) (W.contents out.new)) session.new.machine session.new.notes) }
-{
+    steps_are_a_run(session.machine().device());
     let mut line = Vec::new(alloc);
     for _count in 0..u64::MAX {
         match serve_next(global, alloc, session, &mut line, input, out) {

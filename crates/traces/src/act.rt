@@ -6,7 +6,7 @@ ghost use Rattle.mappings.specs.declared.place.Rights.{Rights};
 ghost use Rattle.scripts.specs.Arguments.{prot_of, access_of, keep_of, write_of, byte_of, few_bytes_of};
 ghost use Rattle.scripts.specs.Script.{step_of};
 ghost use Rattle.machine.specs.declared.act.Act.TheVariants.{Load, Store, Fill, Evict, Switch, Idle, Wake, Fix, Create, Destroy, Map, Unmap, Protect, Reclaim, Msync, SetLength, Ack, Change, Resume, Flush};
-ghost use Rattle.traces.specs.inside.Written.{num, list, bytes_data, map_data};
+ghost use Rattle.traces.specs.inside.Written.{num, list, bytes_data};
 
 use crate::word::Word::{Byte, Long, Page, Short, Text};
 use crate::word::list_value;
@@ -164,22 +164,6 @@ fn map_value(
 {
     let prot = rights_word(prot);
     let access = rights_word(access);
-    map_list(global, p, space, va, len, file, offset, prot, access)
-}
-
-fn map_list<'w>(
-    global: Global,
-    p: u8,
-    space: u16,
-    va: u64,
-    len: u64,
-    file: u16,
-    offset: u64,
-    prot: &'w str,
-    access: &'w str,
-) -> Result<Value, AllocError>
-    ensures { IfOk result (λ value. view value ≡ map_data p space va len file offset prot.now access.now) }
-{
     list_value(
         global,
         p,

@@ -8,8 +8,8 @@ ghost use Rattle.traces.specs.TraceFault.{IsMemory};
 
 use crate::trace_fault::TraceFault;
 use machine::Step;
-use scripts::read_step;
-use serde_json::{Category, Value};
+use scripts::{ScriptFault, parsed, read_step};
+use serde_json::Value;
 use std::alloc::{AllocError, Global};
 
 /// An entry of a trace: a step, and the text of its reply.
@@ -25,7 +25,7 @@ impl Line {
         ensures ok { IfOk result (λ line. entry_line text.now ≡ Some (entry_in line)) }
         ensures err { IfErr result (λ fault. IsMemory fault ⊎ (entry_line text.now ≡ None)) }
     {
-        let value = parsed(global, number, text)?;
+        let value = value_of(global, number, text)?;
         Line::from_value(global, number, &value)
     }
 
@@ -63,15 +63,13 @@ impl Line {
 }
 
 // The value that a line's text is.
-fn parsed(global: Global, line: u64, text: &str) -> Result<Value, TraceFault>
+fn value_of(global: Global, line: u64, text: &str) -> Result<Value, TraceFault>
     ensures ok { IfOk result (λ value. read text.now ≡ Some (view value)) }
     ensures err { IfErr result (λ fault. IsMemory fault ⊎ (read text.now ≡ None)) }
 {
-    match Value::from_str(global, text) {
+    match parsed(global, text) {
         Ok(value) => Ok(value),
-        Err(error) => match error.classify() {
-            Category::Memory => Err(TraceFault::Memory(AllocError)),
-            _ => Err(TraceFault::NotJson { line, cause: error }),
-        },
+        Err(ScriptFault::NotJson(cause)) => Err(TraceFault::NotJson { line, cause }),
+        Err(_) => Err(TraceFault::Memory(AllocError)),
     }
 }

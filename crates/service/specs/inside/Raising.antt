@@ -5,20 +5,12 @@ use Rattle.machine.specs.declared.act.Reply.{Reply}
 use Rattle.machine.specs.declared.act.Reply.TheVariants as replies
 use Rattle.service.specs.declared.raising.Raise.{Raise}
 use Rattle.service.specs.declared.raising.Raise.TheVariants as raises
-use Rattle.service.specs.declared.effect.MarkEffect.{MarkEffect}
-use Rattle.service.specs.declared.effect.MarkEffect.TheVariants as marks
 
 -- a mark raises `stalled`, and `committed` with it where nothing was unmarked; a commit raises both
 abbrev pub raise_by : Bool → Reply → Raise
 raise_by unmarked (replies.Marked number) = if unmarked then raises.Stalled number else raises.Committed number
 raise_by unmarked (replies.Committed number) = raises.Committed number
 raise_by unmarked reply = raises.Nothing
-
--- what is raised by what happened to a mark
-abbrev pub raise_to : Bool → MarkEffect → Raise
-raise_to unmarked marks.Nothing = raises.Nothing
-raise_to unmarked (marks.Made number) = if unmarked then raises.Stalled number else raises.Committed number
-raise_to unmarked (marks.Committed number) = raises.Committed number
 
 -- the horizon has reached this
 abbrev pub RaisesUpTo : Raise → ℕ → ℕ → Type 0

@@ -4,7 +4,7 @@ use Rattle.device.specs.declared.device.Device.{Ghosts}
 use Rattle.spaces.specs.declared.change.Change.{Change}
 use Rattle.spaces.specs.declared.change.Change.TheVariants.{Unmap, Protect, Reclaim, SetLength, Checkpoint}
 use Rattle.shootdown.specs.declared.proc_state.ProcState.{ProcState}
-use Rattle.shootdown.specs.declared.proc_state.ProcState.TheVariants.{Active, Interrupted, Stalled, Initiating, Idle}
+use Rattle.shootdown.specs.declared.proc_state.ProcState.TheVariants.{Active, Interrupted, Initiating}
 use Rattle.shootdown.specs.Shootdown.{state_of}
 use Rattle.machine.specs.declared.act.Reply.{Reply}
 use Rattle.machine.specs.declared.act.Reply.TheVariants.{Unmapped, Protected, Resized}
@@ -16,11 +16,9 @@ use Rattle.session.specs.Steps.{reports_reclaim, reports_mark}
 
 -- the phase of a processor after the change that is under way
 abbrev pub phase_after : ProcState → ProcState
-phase_after Active = Active
 phase_after Interrupted = Active
-phase_after Stalled = Stalled
 phase_after Initiating = Active
-phase_after Idle = Idle
+phase_after phase = phase
 
 -- processor p holds the lock for a change
 abbrev pub HoldsLock : ℕ → Change → State → Type 0

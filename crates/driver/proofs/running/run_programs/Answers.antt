@@ -4,7 +4,7 @@ use Rattle.driver.proofs.running.run_programs.Goals as goal
 
 pub returns-in-Ok-named-clause-ran : goal.returns-in-Ok-named-clause-ran
 returns-in-Ok-named-clause-ran g c =
-    c.in-Ok-named.ensures.ran c.args.device c.args.script.now.shape c.in-Ok.ensures.started
+    c.in-Ok-named.ensures.ran.run c.args.device c.args.script.now.shape c.in-Ok.ensures.started
 
 pub returns-in-Err-named-clause-refused : goal.returns-in-Err-named-clause-refused
 returns-in-Err-named-clause-refused g c =
@@ -16,4 +16,4 @@ returns-in-Ok-named-clause-set_up g c =
     let script = c.args.script.now in
     let trace = c.in-Ok-named.ran.trace.items in
     booted_with g.D.Device c.args.device script.shape c.in-Ok.machine script.steps.items script.trace trace
-    c.in-Ok.ensures.started c.in-Ok-named.ensures.set_up
+    c.in-Ok.ensures.started c.in-Ok-named.ensures.ran.set_up

@@ -1,27 +1,18 @@
 use Rattle.std.proofs.Common.{ℕ, ◌≡◌, ◌∙◌, ◌++◌, List, length, take, drop, sym, ap, subst, arith}
 use Rattle.std.proofs.Math.Seq.{take-append_seam}
 use Rattle.service.specs.Gathering.{CpuState}
-use Rattle.driver.specs.inside.Begun.{AreReady}
+use Rattle.driver.specs.inside.Begun.{AreReady, HasRanFrom}
 use Rattle.machine.specs.State.{Whole}
-use Rattle.service.specs.Trace.{steps_of, replies_of}
 use Rattle.driver.specs.declared.running.Ran.{Ran}
-use Rattle.driver.specs.Driver.{AreSetUp, RunsFrom}
 use Rattle.driver.proofs.Runs.{of_the_one}
 use Rattle.driver.proofs.running.serve.Goals as goal
 
 pub returns-in-Ok-clause-ran : goal.returns-in-Ok-clause-ran
 returns-in-Ok-clause-ran g c =
-    let P : Whole g.row.D.Denot → Ran g.row.D.Denot → Type 0 =
-    λ start ran. RunsFrom g.D.Device start (steps_of ran.trace.items) (replies_of ran.trace.items) ran.device in
-    of_the_one c.gathered.result g.L.Origin.start P c.args.machine c.requires.origin.0 c.gathered.ensures.ran
-
-pub returns-in-Ok-clause-set_up : goal.returns-in-Ok-clause-set_up
-returns-in-Ok-clause-set_up g c =
     let script = c.args.script.now in
-    let count : Whole g.row.D.Denot → ℕ = λ start. length start.state.hardware.shootdown.processors in
     let P : Whole g.row.D.Denot → Ran g.row.D.Denot → Type 0 =
-    λ start ran. AreSetUp (count start) script.steps.items script.trace ran.trace.items in
-    of_the_one c.gathered.result g.L.Origin.start P c.args.machine c.requires.origin.0 c.gathered.ensures.set_up
+    λ start ran. HasRanFrom g.D.Device start script.steps.items script.trace ran in
+    of_the_one c.gathered.result g.L.Origin.start P c.args.machine c.requires.origin.0 c.gathered.ensures.ran
 
 pub gathered-requires-clause-ready : goal.gathered-requires-clause-ready
 gathered-requires-clause-ready g c =

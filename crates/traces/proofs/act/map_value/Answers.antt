@@ -18,10 +18,11 @@ returns c =
     let len : a.len < 2 ^ 64 = search rules in
     let file : a.file < 2 ^ 16 = search rules in
     let offset : a.offset < 2 ^ 64 = search rules in
-    IfOk-weaker c.map_list.result (λ value. view value ≡ map_data a.p a.space a.va a.len a.file a.offset first second) _
+    IfOk-weaker c.list_value.result
+    (λ value. view value ≡ map_data a.p a.space a.va a.len a.file a.offset first second) _
     (λ value is. (
       ap step_of is ∙ map_reads a.p a.space a.va a.len a.file a.offset first second a.prot a.access small space va len
           file offset c.rights_word-prot.ensures.prot c.rights_word-access.ensures.access,
       subst (λ d. depth d ≤ 2) (sym is) (omega arith),
     ))
-    c.map_list.ensures
+    c.list_value.ensures

@@ -1,6 +1,6 @@
 use Rattle.session.specs.Answers.{WritesAnswers}
 use Rattle.session.specs.Ranges.{MakesStepsThat}
-use Rattle.session.proofs.serving.serve_lines.Given as goal
+use Rattle.session.proofs.serving.serve_on.Given as goal
 
 abbrev pub invariant-loop-count : goal.invariant-loop-count
 invariant-loop-count g l =

@@ -1,8 +1,0 @@
-use Rattle.std.proofs.Common.{◌≡◌, map, take, Some}
-use Rattle.serde_json.specs.View.{view}
-use Rattle.scripts.specs.Arguments.{all_of}
-use Rattle.scripts.specs.Script.{step_of}
-use Rattle.scripts.proofs.step.steps.Given as goal
-
-abbrev pub invariant-loop-i : goal.invariant-loop-i
-invariant-loop-i g l = all_of step_of (map view (take l.i l.values)) ≡ Some l.steps.items

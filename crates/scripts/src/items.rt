@@ -1,0 +1,58 @@
+// Lists, read item by item.
+ghost use Rattle.std.specs.Prelude.{◌≡◌, ◌⊎◌, map, IfOk, IfErr, Some, None};
+ghost use Rattle.std.specs.Result.{result_ok};
+ghost use Rattle.serde_json.specs.View.{view};
+ghost use Rattle.scripts.specs.Arguments.{all_of};
+ghost use Rattle.scripts.specs.ScriptFault.{IsMemory};
+
+use crate::member::shown;
+use crate::script_fault::{ScriptFault, StepFault};
+use serde_json::Value;
+use std::alloc::{AllocError, Allocator, Global};
+
+/// What an item of a list is: a step, or a command of a program.
+pub trait Item: Copy {
+    ghost use Rattle.std.specs.Prelude.{Option};
+    ghost use Rattle.serde_json.specs.Data.{Data};
+
+    /// The item that a value is.
+    ghost item_of: { Data → Option Self };
+
+    fn read(value: &Value) -> Result<Self, StepFault>
+        ensures { result_ok result ≡ item_of (view value.now) };
+}
+
+/// All items of a list, in order. A fault says which is refused first, as a step, counted from 1.
+#[tactic(auto, using(crate::proofs::AllOf::all_of_next, crate::proofs::AllOf::all_of_fails))]
+pub fn read_items<T: Item, A: Allocator + Copy>(
+    global: Global,
+    alloc: A,
+    values: &[Value],
+) -> Result<Vec<T, A>, ScriptFault>
+    ensures ok { IfOk result (λ items. all_of T.item_of (map view values.now) ≡ Some items.items) }
+    ensures err { IfErr result (λ fault. IsMemory fault ⊎ (all_of T.item_of (map view values.now) ≡ None)) }
+{
+    let mut items = Vec::with_capacity(alloc, values.len()).map_err(ScriptFault::Memory)?;
+    for (i, value) in values.iter().enumerate() {
+        let item = match T::read(value) {
+            Ok(item) => item,
+            Err(cause) => return Err(refused(global, i as u64 + 1, value, cause)),
+        };
+        if items.push(item).is_err() {
+            return Err(ScriptFault::Memory(AllocError));
+        }
+    }
+    Ok(items)
+}
+
+// The step of this number is refused, as it stands in the script.
+fn refused(global: Global, number: u64, value: &Value, cause: StepFault) -> ScriptFault {
+    match shown(global, value) {
+        Ok(found) => ScriptFault::Step {
+            number,
+            found,
+            cause,
+        },
+        Err(fault) => ScriptFault::Memory(fault),
+    }
+}
