@@ -108,10 +108,7 @@ fn format_job<'a, A: Allocator + Copy>(
     alloc: A,
     words: &ArgMatches<'a>,
 ) -> Result<Job<'a, A>, WordFault<'a>> {
-    let layout = text(words, "layout");
-    let layout = decimal(layout).ok_or(WordFault::Layout(layout))?;
-    let slots = text(words, "SLOTS");
-    let slots = decimal(slots).ok_or(WordFault::Slots(slots))?;
+    let (layout, slots) = layout_and_slots(words)?;
     let grows = may_grow(layout);
     let mut files = Vec::new(alloc);
     for word in words.get_strs("FILE").unwrap_or(&[]) {
@@ -130,10 +127,7 @@ fn format_job<'a, A: Allocator + Copy>(
 fn migrate_job<'a, A: Allocator + Copy>(
     words: &ArgMatches<'a>,
 ) -> Result<Job<'a, A>, WordFault<'a>> {
-    let layout = text(words, "layout");
-    let layout = decimal(layout).ok_or(WordFault::Layout(layout))?;
-    let slots = text(words, "SLOTS");
-    let slots = decimal(slots).ok_or(WordFault::Slots(slots))?;
+    let (layout, slots) = layout_and_slots(words)?;
     Ok(Job::Make(Make::Migration(Migration {
         old: text(words, "OLD"),
         new: text(words, "NEW"),
@@ -142,6 +136,15 @@ fn migrate_job<'a, A: Allocator + Copy>(
         trust: words.get_flag("trust"),
         json: words.get_flag("json"),
     })))
+}
+
+// The number of a new volume's layout, and the record slots of each of its journals.
+fn layout_and_slots<'a>(words: &ArgMatches<'a>) -> Result<(u64, u64), WordFault<'a>> {
+    let layout = text(words, "layout");
+    let layout = decimal(layout).ok_or(WordFault::Layout(layout))?;
+    let slots = text(words, "SLOTS");
+    let slots = decimal(slots).ok_or(WordFault::Slots(slots))?;
+    Ok((layout, slots))
 }
 
 // How the crashes of a script are printed.

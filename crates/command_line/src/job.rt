@@ -61,8 +61,8 @@ pub enum Sight {
     Health,
 }
 
-/// A volume that is looked at: what is looked at, the path of its file, whether it is trusted though it may be marked as
-/// suspect, and whether what is printed is JSON.
+/// A volume that is looked at: what is looked at, the path of its file, whether it is trusted though it may be marked
+/// as suspect, and whether what is printed is JSON.
 #[derive(Clone, Copy)]
 pub struct Look<'a> {
     pub sight: Sight,

@@ -2,7 +2,7 @@
 use crate::printed::Printed;
 use crate::text::{Touched, word_of};
 use crash_states::{Call, MOST_MIXTURES, Places, Row};
-use machine::Reply;
+use machine::{Outcome, Reply};
 use std::alloc::Allocator;
 use std::{fmt, io};
 
@@ -53,32 +53,9 @@ pub fn begin_page<W: io::Write>(out: &mut W) -> io::Result<()> {
 
 /// A row for a reply.
 pub fn reply_on_page<W: io::Write>(reply: &Reply, out: &mut W) -> io::Result<()> {
-    let class = match reply {
-        Reply::Committed(_) | Reply::Marked(_) => "reply durable",
-        Reply::Bytes(_)
-        | Reply::Stored
-        | Reply::Filled
-        | Reply::Evicted
-        | Reply::Switched
-        | Reply::Idled
-        | Reply::Woken
-        | Reply::Fixed
-        | Reply::Space(_)
-        | Reply::Destroyed
-        | Reply::Mapped
-        | Reply::Begun
-        | Reply::Fine
-        | Reply::Unmapped
-        | Reply::Protected
-        | Reply::Resized
-        | Reply::Reclaimed
-        | Reply::Kept
-        | Reply::Acked
-        | Reply::Resumed
-        | Reply::Going
-        | Reply::Done(_)
-        | Reply::Nothing
-        | Reply::Refused(_) => "reply",
+    let class = match reply.outcome() {
+        Outcome::Marked(_) | Outcome::Committed(_) => "reply durable",
+        Outcome::Unmarked | Outcome::Other | Outcome::Nothing | Outcome::Refused(_) => "reply",
     };
     writeln!(
         out,

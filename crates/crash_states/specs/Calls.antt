@@ -1,5 +1,8 @@
 -- Device calls, as a disk has them that lists the calls that are made of it.
-use Rattle.std.specs.Prelude.{ℕ, ◌≡◌, Bool, false, List, [], ◌∷◌, ◌++◌, length, map}
+use Rattle.std.specs.Prelude.{ℕ, ◌≡◌, ◌↔◌, ◌+◌, ◌-◌, ◌^◌, ◌<◌, ◌≤◌, Bool, false}
+use Rattle.std.specs.Prelude.{List, [], ◌∷◌, ◌++◌, length, map, Result, IsOk, IsErr}
+use Rattle.device.specs.Device.{LeavesOnly}
+use Rattle.device.specs.declared.device.Device.{Ghosts}
 use Rattle.crash_states.specs.declared.call.Call.{Call}
 use Rattle.crash_states.specs.declared.call.CallKind.{CallKind}
 use Rattle.crash_states.specs.declared.call.CallKind.TheVariants.{Read, Write, Sync}
@@ -41,3 +44,18 @@ listing inner = record { inner = inner; calls = []; refused = false }
 pub record ListsCall {D : Type 0} (call : DeviceCall) (old new : ListedDisk D) : Type 0 where
   pub before : new.refused ≡ false → old.refused ≡ false
   pub more : new.refused ≡ false → new.calls ≡ old.calls ++ call ∷ []
+
+-- The disk under it made a call, within which and after which a crash leaves only lists that have P; it counted the
+-- call, and a fault where it failed.
+pub record HasMadeCall {D T E : Type 0} (disk : Ghosts D) (old new : D) (result : Result T E) (P : List ℕ → Type 0)
+    : Type 0 where
+  pub left : (c : List ℕ) → disk.may_leave new c → P c
+  pub time : LeavesOnly disk.moment disk.left_since old new P
+  pub honest : disk.is_honest new ↔ disk.is_honest old
+  pub len : length (disk.seen new) ≡ length (disk.seen old)
+  -- a count that has come to 2^64-1 stays there
+  pub calls : disk.calls_made old < 2 ^ 64 - 1 → disk.calls_made new ≡ disk.calls_made old + 1
+  pub calls_stay : 2 ^ 64 - 1 ≤ disk.calls_made old → disk.calls_made new ≡ disk.calls_made old
+  pub failed : IsErr result → disk.faults_met old < 2 ^ 64 - 1 → disk.faults_met new ≡ disk.faults_met old + 1
+  pub faults_stay : 2 ^ 64 - 1 ≤ disk.faults_met old → disk.faults_met new ≡ disk.faults_met old
+  pub done : IsOk result → disk.faults_met new ≡ disk.faults_met old

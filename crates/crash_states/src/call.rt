@@ -1,7 +1,7 @@
 // Which device calls a run makes.
-ghost use Rattle.std.specs.Prelude.{◌≡◌, ◌↔◌, ℕ, ◌+◌, ◌-◌, ◌^◌, ◌<◌, ◌≤◌, false, List, length, slice_range, OnOk, IfOk, IfErr, IsOk, IsErr, true};
-ghost use Rattle.device.specs.Device.{written, Torn, TornFrom, Only, LeavesOnly};
-ghost use Rattle.crash_states.specs.Calls.{ListsCall, read_call, write_call, sync_call, call_of, device_calls_of, listing};
+ghost use Rattle.std.specs.Prelude.{◌≡◌, ℕ, ◌+◌, ◌≤◌, false, List, length, slice_range, OnOk, IfOk, IfErr, IsErr, true};
+ghost use Rattle.device.specs.Device.{written, Torn, TornFrom, Only};
+ghost use Rattle.crash_states.specs.Calls.{HasMadeCall, ListsCall, read_call, write_call, sync_call, call_of, device_calls_of, listing};
 
 use device::{Device, DeviceFault};
 use std::alloc::{AllocError, Allocator};
@@ -150,20 +150,7 @@ impl<D: Device, A: Allocator + Copy> Device for Listing<D, A> {
         ensures same { D.seen self.new.inner ≡ D.seen self.old.inner }
         ensures keeps { D.is_honest self.old.inner → (c : List ℕ)
             → D.may_leave self.old.inner c → D.may_leave self.new.inner c }
-        ensures left { (c : List ℕ) → D.may_leave self.new.inner c → D.may_leave self.old.inner c }
-        ensures time { LeavesOnly D.moment D.left_since self.old.inner self.new.inner (D.may_leave self.old.inner) }
-
-        ensures honest { D.is_honest self.new.inner ↔ D.is_honest self.old.inner }
-        ensures len { length (D.seen self.new.inner) ≡ length (D.seen self.old.inner) }
-        ensures calls { D.calls_made self.old.inner < 2 ^ 64 - 1
-            → D.calls_made self.new.inner ≡ D.calls_made self.old.inner + 1 }
-        ensures calls_stay { 2 ^ 64 - 1 ≤ D.calls_made self.old.inner
-            → D.calls_made self.new.inner ≡ D.calls_made self.old.inner }
-        ensures failed { IsErr result → D.faults_met self.old.inner < 2 ^ 64 - 1
-            → D.faults_met self.new.inner ≡ D.faults_met self.old.inner + 1 }
-        ensures faults_stay { 2 ^ 64 - 1 ≤ D.faults_met self.old.inner
-            → D.faults_met self.new.inner ≡ D.faults_met self.old.inner }
-        ensures done { IsOk result → D.faults_met self.new.inner ≡ D.faults_met self.old.inner }
+        ensures made { HasMadeCall D.Device self.old.inner self.new.inner result (D.may_leave self.old.inner) }
 
         // It is listed, and is the call of the disk under it.
         ensures listed { ListsCall (read_call at (length buffer.old)) self.old self.new }
@@ -186,22 +173,8 @@ impl<D: Device, A: Allocator + Copy> Device for Listing<D, A> {
             → Torn at (length bytes.now) (D.seen self.old.inner) (D.seen self.new.inner) }
         ensures keeps { D.is_honest self.old.inner → (c : List ℕ)
             → D.may_leave self.old.inner c → D.may_leave self.new.inner c }
-        ensures left { (c : List ℕ)
-            → D.may_leave self.new.inner c → TornFrom at (length bytes.now) (D.may_leave self.old.inner) c }
-        ensures time { LeavesOnly D.moment D.left_since self.old.inner self.new.inner
+        ensures made { HasMadeCall D.Device self.old.inner self.new.inner result
             (TornFrom at (length bytes.now) (D.may_leave self.old.inner)) }
-
-        ensures honest { D.is_honest self.new.inner ↔ D.is_honest self.old.inner }
-        ensures len { length (D.seen self.new.inner) ≡ length (D.seen self.old.inner) }
-        ensures calls { D.calls_made self.old.inner < 2 ^ 64 - 1
-            → D.calls_made self.new.inner ≡ D.calls_made self.old.inner + 1 }
-        ensures calls_stay { 2 ^ 64 - 1 ≤ D.calls_made self.old.inner
-            → D.calls_made self.new.inner ≡ D.calls_made self.old.inner }
-        ensures failed { IsErr result → D.faults_met self.old.inner < 2 ^ 64 - 1
-            → D.faults_met self.new.inner ≡ D.faults_met self.old.inner + 1 }
-        ensures faults_stay { 2 ^ 64 - 1 ≤ D.faults_met self.old.inner
-            → D.faults_met self.new.inner ≡ D.faults_met self.old.inner }
-        ensures done { IsOk result → D.faults_met self.new.inner ≡ D.faults_met self.old.inner }
 
         // It is listed, and is the call of the disk under it.
         ensures listed { ListsCall (write_call at bytes.now) self.old self.new }
@@ -214,20 +187,7 @@ impl<D: Device, A: Allocator + Copy> Device for Listing<D, A> {
         ensures same { D.is_honest self.old.inner → D.seen self.new.inner ≡ D.seen self.old.inner }
         ensures durable { D.is_honest self.old.inner
             → OnOk result (Only (D.may_leave self.new.inner) (D.seen self.old.inner)) }
-        ensures left { (c : List ℕ) → D.may_leave self.new.inner c → D.may_leave self.old.inner c }
-        ensures time { LeavesOnly D.moment D.left_since self.old.inner self.new.inner (D.may_leave self.old.inner) }
-
-        ensures honest { D.is_honest self.new.inner ↔ D.is_honest self.old.inner }
-        ensures len { length (D.seen self.new.inner) ≡ length (D.seen self.old.inner) }
-        ensures calls { D.calls_made self.old.inner < 2 ^ 64 - 1
-            → D.calls_made self.new.inner ≡ D.calls_made self.old.inner + 1 }
-        ensures calls_stay { 2 ^ 64 - 1 ≤ D.calls_made self.old.inner
-            → D.calls_made self.new.inner ≡ D.calls_made self.old.inner }
-        ensures failed { IsErr result → D.faults_met self.old.inner < 2 ^ 64 - 1
-            → D.faults_met self.new.inner ≡ D.faults_met self.old.inner + 1 }
-        ensures faults_stay { 2 ^ 64 - 1 ≤ D.faults_met self.old.inner
-            → D.faults_met self.new.inner ≡ D.faults_met self.old.inner }
-        ensures done { IsOk result → D.faults_met self.new.inner ≡ D.faults_met self.old.inner }
+        ensures made { HasMadeCall D.Device self.old.inner self.new.inner result (D.may_leave self.old.inner) }
 
         // It is listed, and is the call of the disk under it.
         ensures listed { ListsCall sync_call self.old self.new }

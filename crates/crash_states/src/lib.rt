@@ -1,5 +1,5 @@
-//! Device calls, the parts of a volume that they touch, what crashes within them leave of a disk's bytes, and the rows of
-//! a table of that.
+//! Device calls, the parts of a volume that they touch, what crashes within them leave of a disk's bytes, and the rows
+//! of a table of that.
 #![tactic(auto)]
 
 mod call;

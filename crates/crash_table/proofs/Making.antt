@@ -57,7 +57,7 @@ goes_on disk old mid new p made reply (going, (taken, each), count) after under_
   length-append going (reply ∷ []) ∙ ap (λ n. n + 1) count,
 )
 
-none_marked : (going : List Reply) → AllByRecursion (λ r. is_under_way r ≡ true) going
+pub none_marked : (going : List Reply) → AllByRecursion (λ r. is_under_way r ≡ true) going
     → (i k : ℕ) → slice_get going i ≡ Some (Marked k) → ⊥
 none_marked [] each i k here = let c : None ≡ Some (Marked k) = here in cc
 none_marked (reply ∷ going) each zero k here =
@@ -66,17 +66,14 @@ none_marked (reply ∷ going) each (suc i) k here = none_marked going each.1 i k
 
 -- and the last, that the mark is committed
 pub is_out : {D : Type 0} (disk : Ghosts D) (old mid new : Whole D) (p made : ℕ) (reply : Reply) (number : ℕ)
-    → IsUnderWay disk old p made mid → ComesAfter disk mid (flush_by p) reply new → reply ≡ Committed number
-    → HasCommitted disk old number new
-is_out disk old mid new p made reply number (going, (taken, each), count) after committed =
-    let earlier = map (λ (r : Reply). flush_by p) going in record {
-      earlier = earlier;
-      last = flush_by p;
-      going = going;
-      taken = subst (λ r. StepsTaken disk old (earlier ++ flush_by p ∷ []) (going ++ r ∷ []) new) committed
-          (after old earlier going taken);
-      unmarked = none_marked going each;
-    }
+    → IsUnderWay disk old p made mid → StepTaken disk mid (flush_by p) reply new → reply ≡ Committed number
+    → HasCommitted disk old p number new
+is_out disk old mid new p made reply number (going, goes, count) taken committed = record {
+  going = going;
+  mid = mid;
+  earlier = goes;
+  last = subst (λ r. StepTaken disk mid (flush_by p) r new) committed taken;
+}
 
 -- or it is answered otherwise
 pub is_answered_otherwise : {D : Type 0} (disk : Ghosts D) (old mid new : Whole D) (p made : ℕ) (reply : Reply)

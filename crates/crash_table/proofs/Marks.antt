@@ -5,7 +5,7 @@ use Rattle.std.proofs.Common.{sym, ◌∙◌, ap, subst, arith, append_assoc, ap
 use Rattle.std.specs.Prelude.{slice_get, slice_index_or, Contains}
 use Rattle.std.proofs.lemmas.Result.{IfOk-weaker}
 use Rattle.std.proofs.lemmas.Bool.{cases_order}
-use Rattle.std.proofs.lemmas.List.{take-take, take-append-le, length-take-le, length-replicate}
+use Rattle.std.proofs.lemmas.List.{take-take, take-append-le, length-take-le, length-map, length-replicate}
 use Rattle.std.proofs.lemmas.Option.{slice_get_within}
 use Rattle.std.proofs.lemmas.List.Elements.{Contains-append_left, Contains-append_right, Contains-push}
 use Rattle.device.specs.declared.device.Device.{Ghosts}
@@ -23,10 +23,12 @@ use Rattle.machine.specs.Runs.{StepsTaken}
 use Rattle.machine.specs.State.{Whole}
 use Rattle.machine.specs.Steps.{observed_first}
 use Rattle.machine.specs.Observed.{Observed, observe, observe_all, events_of}
+use Rattle.machine.proofs.Public.{taken_then}
 use Rattle.engine.specs.Engine.{HasStarted}
-use Rattle.engine.proofs.Public.{begins, taken_kept, taken_length}
-use Rattle.crash_table.specs.inside.Kept.{up_to_mark, bytes_at, unmarked_after, IsAcknowledged}
+use Rattle.engine.proofs.Public.{begins, taken_kept}
+use Rattle.crash_table.specs.inside.Kept.{up_to_mark, bytes_at, unmarked_after, flush_by, HasCommitted, IsAcknowledged}
 use Rattle.crash_table.proofs.Histories.{mark_at, up_to_begins, events_of_mark}
+use Rattle.crash_table.proofs.Making.{none_marked}
 use Rattle.crash_table.proofs.Histories.{events_of_commit, observe_then, unmarked_observed, nothing_in}
 
 -- ---- results
@@ -115,15 +117,13 @@ ReadsBackLater {D} disk now = (files : List File) (start : Whole D) (steps : Lis
 -- ---- a machine that was started over files
 
 module _ {D : Type 0} (disk : Ghosts D) where
-  pub taken_then : (old mid new : Whole D) (steps : List Step) (replies : List Reply) (later : List Step)
-      (observed : List Reply) → StepsTaken disk old steps replies mid → StepsTaken disk mid later observed new
-      → StepsTaken disk old (steps ++ later) (replies ++ observed) new
-  taken_then old mid new [] [] later observed first rest =
-      let P : Whole D → Type 0 = λ m. StepsTaken disk m later observed new in subst P first rest
-  taken_then old mid new (step ∷ steps) (reply ∷ replies) later observed (next, here, first) rest =
-      (next, here, taken_then next mid new steps replies later observed first rest)
-  taken_then old mid new [] (r ∷ replies) later observed first rest = absurd first
-  taken_then old mid new (x ∷ steps) [] later observed first rest = absurd first
+  -- the steps that wrote a mark out
+  written_out : (old new : Whole D) (p n : ℕ) (c : HasCommitted disk old p n new)
+      → StepsTaken disk old (map (λ (r : Reply). flush_by p) c.going ++ flush_by p ∷ [])
+      (c.going ++ replies.Committed n ∷ []) new
+  written_out old new p n c =
+      taken_then disk old c.mid new (map (λ (r : Reply). flush_by p) c.going) c.going (flush_by p ∷ [])
+      (replies.Committed n ∷ []) c.earlier.0 (new, c.last, refl)
 
   pub observed_is : (before : D) (shape : Shape) (start : Whole D) → HasStarted disk before shape start
       → (files : List File) → observed_first files start.state ≡ observed_at_start files shape.cpus
@@ -147,18 +147,18 @@ module _ {D : Type 0} (disk : Ghosts D) where
   pub honest_after : (before : D) (shape : Shape) (start : Whole D)
       → HasStarted disk before shape start → disk.is_honest before
       → (steps : List Step) (answers : List Reply) (marked : Whole D) → StepsTaken disk start steps answers marked
-      → (earlier : List Reply) (n : ℕ) (now : Whole D) → IsAcknowledged disk marked earlier n now
+      → (p : ℕ) (earlier : List Reply) (n : ℕ) (now : Whole D) → IsAcknowledged disk marked p earlier n now
       → disk.is_honest now.device
-  honest_after before shape start started honest steps answers marked made earlier n now acknowledged =
+  honest_after before shape start started honest steps answers marked made p earlier n now acknowledged =
       by acknowledged
     where
       first : disk.is_honest marked.device
       first = (taken_kept disk start steps answers marked made).0.1
           (begins disk before shape start started honest).2.honest
 
-      by : IsAcknowledged disk marked earlier n now → disk.is_honest now.device
-      by (inl c) = (taken_kept disk marked (c.earlier ++ c.last ∷ [])
-          (c.going ++ replies.Committed n ∷ []) now c.taken).0.1 first
+      by : IsAcknowledged disk marked p earlier n now → disk.is_honest now.device
+      by (inl c) = (taken_kept disk marked (map (λ (r : Reply). flush_by p) c.going ++ flush_by p ∷ [])
+          (c.going ++ replies.Committed n ∷ []) now (written_out marked now p n c)).0.1 first
       by (inr (down, stays)) = (let P : Whole D → Type 0 = λ w. disk.is_honest w.device in subst P (sym stays) first)
 
 -- ---- the files at a mark that is acknowledged
@@ -379,7 +379,7 @@ module _ {D : Type 0} (disk : Ghosts D) (seen_is_left : (device : D) → disk.is
     (is_new : (i : ℕ) → slice_get (take at answers) i ≡ Some (replies.Marked n) → ⊥)
     (observed : List Reply) (marked now : Whole D) (made : StepsTaken disk start
     (take (length observed) (take (at + 1) steps)) observed marked) (same : observed ≡ take (at + 1) answers)
-    (acknowledged : IsAcknowledged disk marked (take at answers) n now) (left : ReadsBackLater disk now) where
+    (p : ℕ) (acknowledged : IsAcknowledged disk marked p (take at answers) n now) (left : ReadsBackLater disk now) where
   long : length (take (suc at) answers) ≡ suc at
   long = length-take-le (suc at) answers
       (let within = slice_get_within answers at (replies.Marked n) here in omega (arith, within))
@@ -400,7 +400,7 @@ module _ {D : Type 0} (disk : Ghosts D) (seen_is_left : (device : D) → disk.is
 
   honest_now : disk.is_honest now.device
   honest_now = honest_after disk before shape start started honest (take (suc at) steps)
-      (take (suc at) answers) marked first (take at answers) n now acknowledged
+      (take (suc at) answers) marked first p (take at answers) n now acknowledged
 
   back : (all_steps : List Step) (all_answers : List Reply) → StepsTaken disk start all_steps all_answers now
       → ReadsBack files (observe_all (observed_at_start files shape.cpus) all_steps all_answers).history
@@ -416,24 +416,18 @@ module _ {D : Type 0} (disk : Ghosts D) (seen_is_left : (device : D) → disk.is
       → found ≡ files_after files (up_to_mark files shape steps answers at n)
   files_at_mark found recovers = by acknowledged
     where
-      by : IsAcknowledged disk marked (take at answers) n now
+      by : IsAcknowledged disk marked p (take at answers) n now
           → found ≡ files_after files (up_to_mark files shape steps answers at n)
       by (inl c) =
-          let flushes = c.earlier ++ c.last ∷ [] in
+          let earlier = map (λ (r : Reply). flush_by p) c.going in
+          let flushes = earlier ++ flush_by p ∷ [] in
           let more = c.going ++ replies.Committed n ∷ [] in
           let taken = taken_then disk start marked now (take (suc at) steps)
-          (take (suc at) answers) flushes more first c.taken in
-          let counts : length c.going ≡ length c.earlier =
-          (let l = taken_length disk marked flushes more now c.taken in omega (
-            arith,
-            l,
-            length-append c.going (replies.Committed n ∷ []),
-            length-append c.earlier (c.last ∷ []),
-          )) in
-          let none = no_mark_more c.going n c.unmarked in
+          (take (suc at) answers) flushes more first (written_out disk marked now p n c) in
+          let none = no_mark_more c.going n (none_marked c.going c.earlier.1) in
           at_the_mark one files shape steps answers at n below here is_new flushes more none
-          (acked_by_commit one files shape steps answers at n below here is_new flushes more none c.last c.earlier
-          c.going refl refl counts)
+          (acked_by_commit one files shape steps answers at n below here is_new flushes more none
+          (flush_by p) earlier c.going refl refl (sym (length-map c.going (λ (r : Reply). flush_by p))))
           (disk.seen now.device)
           (back (take (suc at) steps ++ flushes) (take (suc at) answers ++ more) taken) found recovers
       by (inr (down, stays)) =

@@ -69,28 +69,10 @@ fn read_file<D: Device + Drop, A: Allocator + Copy>(
 {
     let count = volume.length(file);
     let mut bytes = vec![in alloc; 0; count as usize]?;
-    match read_whole(volume, file, count, &mut bytes) {
+    match volume.read_file(file, 0, &mut bytes) {
         Ok(()) => Ok(bytes),
         Err(refusal) => Err(fault_of(refusal)),
     }
-}
-
-// Reads a file of this length.
-fn read_whole<D: Device + Drop, A: Allocator + Copy>(
-    volume: &mut Volume<D, A>,
-    file: usize,
-    bytes: u64,
-    buffer: &mut [u8],
-) -> Result<(), Refusal>
-    requires there { file < length volume.old.table.files }
-    requires long { slice_get volume.old.lengths file ≡ Some bytes }
-    requires room { length buffer.old ≡ bytes }
-    requires files { D.is_honest volume.old.device → HasLengthsOf volume.old (D.seen volume.old.device) }
-    ensures bytes { D.is_honest volume.old.device → OnOk result
-        (buffer.new ≡ bytes_of (files_of volume.old.table (D.seen volume.old.device)) file) }
-    ensures read { IsVolumeOnlyRead D.Device volume.old volume.new }
-{
-    volume.read_file(file, 0, buffer)
 }
 
 /// Whether these are the same bytes, file by file.

@@ -103,7 +103,7 @@ pub fn acknowledge<D: Device, A: Allocator + Copy>(
     number: u32,
     before: &[Reply],
 ) -> Result<(), CrashFault>
-    ensures acknowledged { OnOk result (IsAcknowledged D.Device machine.old before.now number machine.new) }
+    ensures acknowledged { OnOk result (IsAcknowledged D.Device machine.old p before.now number machine.new) }
     ensures given_up { IfErr result (λ why. (unmarked_after false before.now ≡ true)
         × HasGivenUp D.Device machine.old p number machine.new) }
 {
@@ -120,7 +120,7 @@ fn commit<D: Device, A: Allocator + Copy>(
     p: ProcessorNumber,
     number: u32,
 ) -> Result<(), CrashFault>
-    ensures committed { OnOk result (HasCommitted D.Device machine.old number machine.new) }
+    ensures committed { OnOk result (HasCommitted D.Device machine.old p number machine.new) }
     ensures given_up { IfErr result (λ why. HasGivenUp D.Device machine.old p number machine.new) }
 {
     let step = Step { p, act: Act::Flush };

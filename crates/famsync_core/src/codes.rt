@@ -2,7 +2,7 @@
 ghost use Rattle.std.specs.Prelude.{◌≡◌};
 ghost use Rattle.famsync_core.specs.Codes.{refusal_code, reply_code};
 
-use machine::Reply;
+use machine::{Outcome, Reply};
 use page_entry::Refusal;
 
 pub(crate) const OK: i32 = 0;
@@ -52,32 +52,12 @@ pub(crate) fn code_of_refusal(refusal: &Refusal) -> i32
 pub(crate) fn code_of_reply(reply: &Reply) -> i32
     ensures { result ≡ reply_code reply.now }
 {
-    match reply {
-        Reply::Refused(refusal) => code_of_refusal(refusal),
-        Reply::Bytes(_)
-        | Reply::Stored
-        | Reply::Filled
-        | Reply::Evicted
-        | Reply::Switched
-        | Reply::Idled
-        | Reply::Woken
-        | Reply::Fixed
-        | Reply::Space(_)
-        | Reply::Destroyed
-        | Reply::Mapped
-        | Reply::Begun
-        | Reply::Fine
-        | Reply::Unmapped
-        | Reply::Protected
-        | Reply::Resized
-        | Reply::Reclaimed
-        | Reply::Kept
-        | Reply::Marked(_)
-        | Reply::Acked
-        | Reply::Resumed
-        | Reply::Going
-        | Reply::Committed(_)
-        | Reply::Done(_)
-        | Reply::Nothing => OTHER,
+    match reply.outcome() {
+        Outcome::Refused(refusal) => code_of_refusal(&refusal),
+        Outcome::Unmarked
+        | Outcome::Marked(_)
+        | Outcome::Committed(_)
+        | Outcome::Other
+        | Outcome::Nothing => OTHER,
     }
 }

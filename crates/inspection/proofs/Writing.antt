@@ -1,9 +1,10 @@
 -- What is written to an output, one thing after the other.
 use Rattle.std.proofs.Common.{◌≡◌, ℕ, suc, add-one, ◌+◌, ◌<◌, List, [], ◌∷◌, ◌++◌, length, take, get_or, map}
-use Rattle.std.proofs.Common.{slice_index, Option, sym, ◌∙◌, ap, subst}
+use Rattle.std.proofs.Common.{slice_index, Option, Result, OnOk, sym, ◌∙◌, ap, subst}
 use Rattle.std.specs.List.{flat_map}
 use Rattle.std.specs.Io.KnownBytes.{Appends}
 use Rattle.std.proofs.lemmas.List.{take_more, flat_map_more, map_push, map_more}
+use Rattle.std.proofs.lemmas.Result.{on_ok_weaker}
 use Rattle.volume_codec.specs.Super.{SuperValue}
 use Rattle.file_rows.proofs.Public.{appends_both}
 use Rattle.serde_json.specs.Data.{Data}
@@ -11,6 +12,12 @@ use Rattle.serde_json.specs.View.{view}
 use Rattle.serde_json.specs.declared.value.Value.{Value}
 use Rattle.inspection.specs.Text.{file_line, file_lines}
 use Rattle.inspection.specs.Json.{file_data, files_data}
+
+-- three texts, where the last one is what a call writes that succeeds
+pub appends_all : {T E : Type 0} (a b c d : Option (List ℕ)) (xs ys zs : List ℕ) (last : Result T E) → Appends a b xs
+    → Appends b c ys → OnOk last (Appends c d zs) → OnOk last (Appends a d ((xs ++ ys) ++ zs))
+appends_all a b c d xs ys zs last first second third = on_ok_weaker last
+    (λ (end : Appends c d zs). appends_both a c d (xs ++ ys) zs (appends_both a b c xs ys first second) end) third
 
 -- one file more
 pub file_more : (old mid new : Option (List ℕ)) (v : SuperValue) (lengths : List ℕ) (i n : ℕ)

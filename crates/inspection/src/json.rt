@@ -1,7 +1,9 @@
 // What is found of a volume, as JSON. The members of an object are in the order of their names.
-ghost use Rattle.std.specs.Prelude.{◌≡◌, ◌<◌, length, IfOk};
+ghost use Rattle.std.specs.Prelude.{◌≡◌, ◌<◌, length, map, IfOk};
+ghost use Rattle.serde_json.specs.Data.{Data};
 ghost use Rattle.serde_json.specs.View.{view};
-ghost use Rattle.inspection.specs.Json.{list, file_members, file_data, files_data, home_data, homes_data, closed_data, open_data, journal_data, journals_data, volume_data, info_data, health_data, damage_data};
+ghost use Rattle.volume_codec.specs.Super.{SuperValue};
+ghost use Rattle.inspection.specs.Json.{list, file_members, file_data, files_data, home_data, closed_data, open_data, journal_data, volume_data, info_data, health_data, damage_data};
 
 use crate::file::{capacity_of, name_of};
 use crate::found::{Found, Journal};
@@ -20,21 +22,32 @@ pub fn found_value<A: Allocator + Copy>(
     requires { length found.now.lengths.items ≡ length found.now.table.files }
     ensures { IfOk result (λ value. view value ≡ info_data found.now) }
 {
-    let table = &found.table;
-    let files = files_value(global, table, &found.lengths)?;
-    let journals = journals_value(global, table, &found.journals)?;
-    volume_value(global, table, found.calls, files, journals)
+    let making = Making {
+        global,
+        table: &found.table,
+    };
+    let files = files_value(making, &found.lengths)?;
+    let journals = list_value(making, &found.journals)?;
+    volume_value(making, found.calls, files, journals)
+}
+
+// What values are made with: memory, and the table of the volume.
+#[derive(Clone, Copy)]
+struct Making<'t, A: Allocator + Copy> {
+    global: Global,
+    table: &'t Super<A>,
 }
 
 fn volume_value<A: Allocator + Copy>(
-    global: Global,
-    table: &Super<A>,
+    making: Making<'_, A>,
     calls: u64,
     files: Value,
     journals: Value,
 ) -> Result<Value, AllocError>
-    ensures { IfOk result (λ value. view value ≡ volume_data table.now calls (view files) (view journals)) }
+    ensures { IfOk result (λ value. view value
+        ≡ volume_data making.entry.table.now calls (view files) (view journals)) }
 {
+    let Making { global, table } = making;
     let layout = table.layout().number();
     let slots = table.slots();
     let blocks = table.block_count();
@@ -52,16 +65,16 @@ fn volume_value<A: Allocator + Copy>(
 
 // The files, which have these lengths.
 fn files_value<A: Allocator + Copy>(
-    global: Global,
-    table: &Super<A>,
+    making: Making<'_, A>,
     lengths: &[u64],
 ) -> Result<Value, AllocError>
-    requires { length lengths.now ≡ length table.now.files }
-    ensures { IfOk result (λ value. view value ≡ list (files_data table.now lengths.now (length table.now.files))) }
+    requires { length lengths.now ≡ length making.table.now.files }
+    ensures { IfOk result (λ value. view value
+        ≡ list (files_data making.entry.table.now lengths.now (length making.entry.table.now.files))) }
 {
-    let mut files = Vec::new(global);
-    for file in 0..table.file_count() {
-        let value = file_value(global, table, file, lengths[file])?;
+    let mut files = Vec::new(making.global);
+    for file in 0..making.table.file_count() {
+        let value = file_value(making, file, lengths[file])?;
         files.push(value)?;
     }
     Ok(Value::Array(files))
@@ -69,14 +82,14 @@ fn files_value<A: Allocator + Copy>(
 
 // A file of this length.
 fn file_value<A: Allocator + Copy>(
-    global: Global,
-    table: &Super<A>,
+    making: Making<'_, A>,
     file: usize,
     bytes: u64,
 ) -> Result<Value, AllocError>
-    requires { file < length table.now.files }
-    ensures { IfOk result (λ value. view value ≡ file_data table.now file bytes) }
+    requires { file < length making.table.now.files }
+    ensures { IfOk result (λ value. view value ≡ file_data making.entry.table.now file bytes) }
 {
+    let Making { global, table } = making;
     let name = name_of(table, file);
     let capacity = capacity_of(table, file);
     let pages = table.pages(file);
@@ -103,40 +116,40 @@ fn file_object(
     })
 }
 
-// The journals.
-fn journals_value<A: Allocator + Copy>(
-    global: Global,
-    table: &Super<A>,
-    journals: &[Journal<A>],
-) -> Result<Value, AllocError>
-    ensures { IfOk result (λ value. view value ≡ list (journals_data table.now journals.now)) }
-{
-    let mut items = Vec::new(global);
-    for journal in journals {
-        let value = journal_value(global, table, journal)?;
-        items.push(value)?;
-    }
-    Ok(Value::Array(items))
+// What is listed of a volume with a table.
+trait Item {
+    // As a value.
+    ghost json: { Self → SuperValue → Data };
+
+    fn value<A: Allocator + Copy>(&self, making: Making<'_, A>) -> Result<Value, AllocError>
+        ensures { IfOk result (λ value. view value ≡ json self.now making.entry.table.now) };
 }
 
-fn journal_value<A: Allocator + Copy>(
-    global: Global,
-    table: &Super<A>,
-    journal: &Journal<A>,
+fn list_value<A: Allocator + Copy, I: Item>(
+    making: Making<'_, A>,
+    items: &[I],
 ) -> Result<Value, AllocError>
-    ensures { IfOk result (λ value. view value ≡ journal_data table.now journal.now) }
+    ensures { IfOk result (λ value. view value ≡ list (map (λ item. I.json item making.entry.table.now) items.now)) }
 {
-    match &journal.descriptor {
-        None => closed_value(global, journal.number, journal.gate),
-        Some(descriptor) => {
-            let blocks = homes_value(global, table, descriptor.homes())?;
-            open_value(
-                global,
-                journal.number,
-                journal.gate,
-                descriptor.mark(),
-                blocks,
-            )
+    let mut values = Vec::new(making.global);
+    for item in items {
+        let value = item.value(making)?;
+        values.push(value)?;
+    }
+    Ok(Value::Array(values))
+}
+
+impl<B: Allocator + Copy> Item for Journal<B> {
+    ghost json = { λ journal table. journal_data table journal };
+
+    fn value<A: Allocator + Copy>(&self, making: Making<'_, A>) -> Result<Value, AllocError> {
+        let global = making.global;
+        match &self.descriptor {
+            None => closed_value(global, self.number, self.gate),
+            Some(descriptor) => {
+                let blocks = list_value(making, descriptor.homes())?;
+                open_value(global, self.number, self.gate, descriptor.mark(), blocks)
+            }
         }
     }
 }
@@ -165,36 +178,21 @@ fn open_value(
     })
 }
 
-// Home blocks, each as a page of its file.
-fn homes_value<A: Allocator + Copy>(
-    global: Global,
-    table: &Super<A>,
-    homes: &[u32],
-) -> Result<Value, AllocError>
-    ensures { IfOk result (λ value. view value ≡ list (homes_data table.now homes.now)) }
-{
-    let mut items = Vec::new(global);
-    for home in homes {
-        let value = home_value(global, table, *home)?;
-        items.push(value)?;
-    }
-    Ok(Value::Array(items))
-}
+// A home block, as a page of its file.
+impl Item for u32 {
+    ghost json = { λ home table. home_data table home };
 
-fn home_value<A: Allocator + Copy>(
-    global: Global,
-    table: &Super<A>,
-    home: u32,
-) -> Result<Value, AllocError>
-    ensures { IfOk result (λ value. view value ≡ home_data table.now home) }
-{
-    match place_of(table, home) {
-        Some(place) => {
-            let name = name_of(table, place.file);
-            let page = place.page;
-            json!(in global; {"file": name, "page": page})
+    fn value<A: Allocator + Copy>(&self, making: Making<'_, A>) -> Result<Value, AllocError> {
+        let Making { global, table } = making;
+        let home = *self;
+        match place_of(table, home) {
+            Some(place) => {
+                let name = name_of(table, place.file);
+                let page = place.page;
+                json!(in global; {"file": name, "page": page})
+            }
+            None => json!(in global; {"block": home}),
         }
-        None => json!(in global; {"block": home}),
     }
 }
 

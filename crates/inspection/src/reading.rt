@@ -14,8 +14,8 @@ use recovery::reading::{OpenJournal, read, read_descriptor_of, read_open, read_t
 use std::alloc::Allocator;
 use volume_codec::{Geometry, OPEN_GATE, Super};
 
-/// The table of a device's volume, and its open journals, the newest first. `NotAVolume` and `Damaged` as opening judges
-/// them; but the lengths of the files aren't judged.
+/// The table of a device's volume, and its open journals, the newest first. `NotAVolume` and `Damaged` as opening
+/// judges them; but the lengths of the files aren't judged.
 pub fn read_parts<D: Device, A: Allocator + Copy>(
     alloc: A,
     device: &mut D,

@@ -20,8 +20,8 @@ use volume_files::{
     place, refused_to_open,
 };
 
-/// Prints what is looked at of a volume, and answers the status: 0, and of a volume's health 0, 1 or 3. `note` gets what
-/// is to be said of a sync that failed.
+/// Prints what is looked at of a volume, and answers the status: 0, and of a volume's health 0, 1 or 3. `note` gets
+/// what is to be said of a sync that failed.
 pub fn look<'a, R, A, W>(
     rt: &R,
     alloc: A,
@@ -61,7 +61,8 @@ where
     match look.sight {
         Sight::Health => check_disk(global, alloc, look, &mut disk, out),
         Sight::Bytes => {
-            print_bytes_of(global, alloc, look, &mut disk, out)?;
+            let found = found_on(alloc, look.disk, &mut disk)?;
+            print_found(global, look.json, &found, out)?;
             Ok(0)
         }
         Sight::Files => {
@@ -69,18 +70,6 @@ where
             Ok(0)
         }
     }
-}
-
-// Prints what the bytes of the volume of a device say.
-fn print_bytes_of<'a, D: Device, A: Allocator + Copy, W: io::Write>(
-    global: Global,
-    alloc: A,
-    look: Look<'a>,
-    disk: &mut D,
-    out: &mut W,
-) -> Result<(), FileFailure<'a>> {
-    let found = found_on(alloc, look.disk, disk)?;
-    print_found(global, look.json, &found, out)
 }
 
 // What is found of the volume of a device.

@@ -1,7 +1,7 @@
 // Making a volume, migrating one, and copying a file out of one; each prints how much was made.
 ghost use Rattle.std.specs.Prelude.{◌≡◌};
 
-use crate::print::{print_blocks, print_bytes};
+use crate::print::print_count;
 use command_line::{Make, Migration};
 use std::alloc::Allocator;
 use std::fs::File;
@@ -23,6 +23,7 @@ where
     A: Allocator + Copy,
     W: io::Write,
 {
+    let global = rt.alloc();
     match asked {
         Make::Volume {
             layout,
@@ -37,11 +38,11 @@ where
                 slots,
             };
             let blocks = volume_files::format(rt, alloc, disk, plan)?;
-            print_blocks(rt.alloc(), json, "formatted", blocks, out)
+            print_count(global, json, "formatted", blocks, "blocks", out)
         }
         Make::Migration(asked) => {
             let blocks = volume_files::migrate(rt, alloc, migration(&asked), asked.trust, note)?;
-            print_blocks(rt.alloc(), asked.json, "migrated", blocks, out)
+            print_count(global, asked.json, "migrated", blocks, "blocks", out)
         }
         Make::Copy(asked) => {
             let plan = ExportPlan {
@@ -50,7 +51,7 @@ where
                 out: asked.out,
             };
             let bytes = volume_files::export(rt, alloc, plan, asked.trust, note)?;
-            print_bytes(rt.alloc(), asked.json, bytes, out)
+            print_count(global, asked.json, "exported", bytes, "bytes", out)
         }
     }
 }

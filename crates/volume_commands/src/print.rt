@@ -6,34 +6,20 @@ use std::alloc::{AllocError, Global};
 use std::io;
 use volume_files::FileFailure;
 
-/// Prints how many blocks a volume has, after the word for what was done to it.
-pub fn print_blocks<'a, W: io::Write>(
+/// Prints how much was made: the word for what was done, a count, and what is counted.
+pub fn print_count<'a, W: io::Write>(
     global: Global,
     json: bool,
     done: &str,
-    blocks: u64,
+    count: u64,
+    unit: &str,
     out: &mut W,
 ) -> Result<(), FileFailure<'a>> {
     if json {
-        let value = json!(in global; {"blocks": blocks})?;
+        let value = json!(in global; {unit: count})?;
         return print_value(global, &value, out);
     }
-    writeln!(out, "{done} {blocks} blocks")?;
-    Ok(())
-}
-
-/// Prints how many bytes a file has that was copied.
-pub fn print_bytes<'a, W: io::Write>(
-    global: Global,
-    json: bool,
-    bytes: u64,
-    out: &mut W,
-) -> Result<(), FileFailure<'a>> {
-    if json {
-        let value = json!(in global; {"bytes": bytes})?;
-        return print_value(global, &value, out);
-    }
-    writeln!(out, "exported {bytes} bytes")?;
+    writeln!(out, "{done} {count} {unit}")?;
     Ok(())
 }
 

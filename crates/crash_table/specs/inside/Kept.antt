@@ -43,15 +43,6 @@ is_under_way Going = true
 is_under_way (Done number) = true
 is_under_way reply = false
 
--- A mark was written out: steps were made of which the last is answered that it is committed, and no other one that a
--- mark was made.
-pub record HasCommitted {D : Type 0} (disk : Ghosts D) (old : Whole D) (number : ℕ) (new : Whole D) : Type 0 where
-  pub earlier : List Step
-  pub last : Step
-  pub going : List Reply
-  pub taken : StepsTaken disk old (earlier ++ last ∷ []) (going ++ Committed number ∷ []) new
-  pub unmarked : (i k : ℕ) → slice_get going i ≡ Some (Marked k) → ⊥
-
 -- the step of the write-outs by a processor
 abbrev pub flush_by : ℕ → Step
 flush_by p = record { p = p; act = Flush }
@@ -60,6 +51,13 @@ flush_by p = record { p = p; act = Flush }
 abbrev pub GoesOn : {D : Type 0} → Ghosts D → Whole D → ℕ → List Reply → Whole D → Type 0
 GoesOn disk old p going new = StepsTaken disk old (map (λ reply. flush_by p) going) going new
     × AllByRecursion (λ reply. is_under_way reply ≡ true) going
+
+-- A mark was written out: after steps that committed nothing, one more was answered that the mark is committed.
+pub record HasCommitted {D : Type 0} (disk : Ghosts D) (old : Whole D) (p number : ℕ) (new : Whole D) : Type 0 where
+  pub going : List Reply
+  pub mid : Whole D
+  pub earlier : GoesOn disk old p going mid
+  pub last : StepTaken disk mid (flush_by p) (Committed number) new
 
 -- The most steps that come up to the one that commits a write-out of a volume: a record for each slot, the blocks of
 -- the descriptor, a sync, the gate, and a sync; and where write-outs share that first sync, before it the home blocks
@@ -75,9 +73,9 @@ HasGivenUp {D} disk old p number new =
     ⊎ ((going : List Reply) × (mid : Whole D) × (reply : Reply) × GoesOn disk old p going mid
     × StepTaken disk mid (flush_by p) reply new × (is_under_way reply ≡ false) × (reply ≢ Committed number))
 
--- A mark that was made after these replies is acknowledged: by steps that wrote it out, or at once.
-abbrev pub IsAcknowledged : {D : Type 0} → Ghosts D → Whole D → List Reply → ℕ → Whole D → Type 0
-IsAcknowledged disk old before number new = HasCommitted disk old number new
+-- A mark that was made after these replies is acknowledged: by a processor's steps that wrote it out, or at once.
+abbrev pub IsAcknowledged : {D : Type 0} → Ghosts D → Whole D → ℕ → List Reply → ℕ → Whole D → Type 0
+IsAcknowledged disk old p before number new = HasCommitted disk old p number new
     ⊎ ((unmarked_after false before ≡ false) × (new ≡ old))
 
 -- The steps up to the one of this index were made, and answered as in a run with these replies; its mark, whose number
@@ -90,7 +88,8 @@ pub record HasWrittenOut {D : Type 0} (disk : Ghosts D) (old : Whole D) (steps :
   pub marked : Whole D
   pub made : StepsTaken disk old (take (length replied) (take (at + 1) steps)) replied marked
   pub same : replied ≡ take (at + 1) replies
-  pub acknowledged : IsAcknowledged disk marked (take at replies) number new
+  pub p : ℕ
+  pub acknowledged : IsAcknowledged disk marked p (take at replies) number new
 
 -- the files that are kept are those at the mark that the step of this index made in a run with these replies
 abbrev pub IsKept : {A : Type 0} → List File → Shape → List Step → List Reply → ℕ → MarkFiles A → Type 0

@@ -16,6 +16,7 @@ returns g c =
       marked = c.make.new.machine;
       made = c.in_ok-replied.ensures;
       same = sym c.deref.ensures.value ∙ c.are_same_replies.ensures.0 alike;
+      p = _;
       acknowledged = acknowledged;
     })
     c.acknowledge.ensures.acknowledged

@@ -11,7 +11,7 @@ loop-init g c = not_begun g.D.Device c.args.machine.now c.args.p
 pub returns-then-is_committed-clause-committed : goal.returns-then-is_committed-clause-committed
 returns-then-is_committed-clause-committed g c = is_out g.D.Device c.args.machine.now c.loop.machine
     c.enter-reply.new.self c.args.p c.loop.counter c.enter-reply.result c.args.number c.loop.invariant
-    c.enter-reply.ensures.longer (c.is_committed.ensures.0 c.if-is_committed.true)
+    c.enter-reply.ensures.taken (c.is_committed.ensures.0 c.if-is_committed.true)
 
 pub returns-then-not-is_going-clause-given_up : goal.returns-then-not-is_going-clause-given_up
 returns-then-not-is_going-clause-given_up g c = is_answered_otherwise g.D.Device c.args.machine.now c.loop.machine

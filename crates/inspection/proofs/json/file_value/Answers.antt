@@ -8,7 +8,7 @@ use Rattle.inspection.proofs.json.file_value.Goals as goal
 
 pub returns : goal.returns
 returns g c =
-    let v = c.args.table.now in
+    let v = c.args.making.table.now in
     let i = c.args.file in
     let n = c.args.bytes in
     let cap = slice_index (capacities_in v) i in
