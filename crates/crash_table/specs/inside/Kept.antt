@@ -79,7 +79,7 @@ IsAcknowledged disk old p before number new = HasCommitted disk old p number new
     ⊎ ((unmarked_after false before ≡ false) × (new ≡ old))
 
 -- The steps up to the one of this index were made, and answered as in a run with these replies; its mark, whose number
--- none before it has, is acknowledged.
+-- none before it has, is acknowledged, by steps of the processor that made it.
 pub record HasWrittenOut {D : Type 0} (disk : Ghosts D) (old : Whole D) (steps : List Step) (replies : List Reply)
     (at number : ℕ) (new : Whole D) : Type 0 where
   pub below : at < length steps
@@ -88,8 +88,9 @@ pub record HasWrittenOut {D : Type 0} (disk : Ghosts D) (old : Whole D) (steps :
   pub marked : Whole D
   pub made : StepsTaken disk old (take (length replied) (take (at + 1) steps)) replied marked
   pub same : replied ≡ take (at + 1) replies
-  pub p : ℕ
-  pub acknowledged : IsAcknowledged disk marked p (take at replies) number new
+  pub step : Step
+  pub there : slice_get steps at ≡ Some step
+  pub acknowledged : IsAcknowledged disk marked step.p (take at replies) number new
 
 -- the files that are kept are those at the mark that the step of this index made in a run with these replies
 abbrev pub IsKept : {A : Type 0} → List File → Shape → List Step → List Reply → ℕ → MarkFiles A → Type 0

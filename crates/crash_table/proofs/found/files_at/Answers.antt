@@ -11,6 +11,6 @@ returns-in-Ok-clause-kept g c = λ honest files recovered.
     kept_at_mark g.D.Device g.met.D.Device.seen_is_left c.one_reading.ensures.files
     c.args.device c.args.shape c.in-Ok.machine c.in-Ok.ensures.started honest files recovered
     c.args.steps.now c.args.replies.now c.args.at c.args.number out.below c.requires out.is_new out.replied out.marked
-    c.write_out.new.machine out.made out.same out.p out.acknowledged c.keeps_the_laws.ensures.left
+    c.write_out.new.machine out.made out.same out.step.p out.acknowledged c.keeps_the_laws.ensures.left
     (λ read. map (λ v. v.items) read.items) c.into_device.result c.into_device.ensures
     c.open_files.result c.open_files.ensures

@@ -1,5 +1,6 @@
 use Rattle.std.proofs.Common.{rules, ◌∙◌, sym}
 use Rattle.std.specs.Prelude.{IsTrue}
+use Rattle.std.proofs.lemmas.Option.{slice_get-get_or}
 use Rattle.std.proofs.lemmas.Result.{on_ok_weaker}
 use Rattle.crash_table.proofs.found.write_out.Goals as goal
 
@@ -16,7 +17,8 @@ returns g c =
       marked = c.make.new.machine;
       made = c.in_ok-replied.ensures;
       same = sym c.deref.ensures.value ∙ c.are_same_replies.ensures.0 alike;
-      p = _;
+      step = _;
+      there = slice_get-get_or c.args.steps.now c.args.at c.index-steps-at.result first.0;
       acknowledged = acknowledged;
     })
     c.acknowledge.ensures.acknowledged
