@@ -16,35 +16,27 @@ use std::fs::File;
 use std::io;
 use std::rt::Files;
 use volume_files::{
-    Access, FileFailure, Refused, SyncNote, not_listed, not_opened, not_opened_on_copy, open_disk,
-    place, refused_to_open,
+    Access, FileFailure, Refused, SyncNote, dump, not_listed, not_opened, not_opened_on_copy,
+    open_disk, place, refused_to_open,
 };
 
 /// Prints what is looked at of a volume, and answers the status: 0, and of a volume's health 0, 1 or 3. `note` gets
 /// what is to be said of a sync that failed.
-pub fn look<'a, R, A, W>(
+pub fn look<'a, R: Files<File = File> + AllocGlobal, A: Allocator + Copy, W: io::Write>(
     rt: &R,
     alloc: A,
     look: Look<'a>,
     out: &mut W,
     note: &mut SyncNote,
 ) -> Result<u8, FileFailure<'a>>
-where
-    R: Files<File = File> + AllocGlobal,
-    A: Allocator + Copy,
-    W: io::Write,
     ensures { IfOk result (λ status. status ≤ 3) }
 {
-    if look.sight == Sight::Files && !look.json {
-        volume_files::dump(rt, alloc, look.disk, look.trust, out, note)?;
-        return Ok(0);
-    }
     let place = place(rt, look.disk)?;
     let disk = open_disk(rt, look.disk, &place, Access::Read, look.trust, note)?;
     print_sight(rt.alloc(), alloc, look, disk, out)
 }
 
-// Prints what is looked at of the volume of a device, its files as lines of JSON, and answers the status.
+// Prints what is looked at of the volume of a device, and answers the status.
 fn print_sight<'a, D, A, W>(
     global: Global,
     alloc: A,
@@ -66,7 +58,11 @@ where
             Ok(0)
         }
         Sight::Files => {
-            print_lines(global, alloc, look.disk, disk, out)?;
+            if look.json {
+                print_lines(global, alloc, look.disk, disk, out)?;
+            } else {
+                dump(alloc, look.disk, disk, out)?;
+            }
             Ok(0)
         }
     }

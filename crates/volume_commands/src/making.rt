@@ -11,18 +11,13 @@ use volume_files::{ExportPlan, FileFailure, MigrationPlan, Plan, SyncNote};
 
 /// Makes what is asked for: a volume, one of another, or a copy of a file of one; and prints how many blocks or bytes
 /// that has. `note` gets what is to be said of a sync that failed.
-pub fn make<'a, R, A, W>(
+pub fn make<'a, R: Files<File = File> + AllocGlobal, A: Allocator + Copy, W: io::Write>(
     rt: &R,
     alloc: A,
     asked: Make<'a, A>,
     out: &mut W,
     note: &mut SyncNote,
-) -> Result<(), FileFailure<'a>>
-where
-    R: Files<File = File> + AllocGlobal,
-    A: Allocator + Copy,
-    W: io::Write,
-{
+) -> Result<(), FileFailure<'a>> {
     let global = rt.alloc();
     match asked {
         Make::Volume {

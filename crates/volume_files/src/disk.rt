@@ -12,7 +12,7 @@ use crate::listing::DumpLines;
 use crate::marker::Marker;
 use crate::suspect_flag::SuspectFlag;
 use crate::sync_note::SyncNote;
-use crate::volume_file::{Access, off_streams, open_locked, place};
+use crate::volume_file::{Access, off_streams, open_locked};
 use crate::watched_file::WatchedFile;
 use device::{Device, FileDisk, OverlayDisk};
 use file_rows::{ListFault, list_files};
@@ -27,17 +27,14 @@ pub type VolumeDisk<'a, R> = FileDisk<WatchedFile<File, Marker<'a, R>>>;
 // Rule: suspect volume
 /// Opens the file of a volume at a place, locks it and syncs it. A volume that is marked as suspect is opened only
 /// where it is trusted. `path` names it in a failure, and `note` gets what is to be said of a sync that failed.
-pub fn open_disk<'a, 'b, R>(
+pub fn open_disk<'a, 'b, R: Files<File = File> + AllocGlobal>(
     rt: &'b R,
     path: &'a str,
     place: &'b str,
     access: Access,
     trust: bool,
     note: &mut SyncNote,
-) -> Result<VolumeDisk<'b, R>, FileFailure<'a>>
-where
-    R: Files<File = File> + AllocGlobal,
-{
+) -> Result<VolumeDisk<'b, R>, FileFailure<'a>> {
     let file = open_locked(rt, path, place, access)?;
     let mark = SuspectFlag::of(rt, place)?;
     if !trust && mark.is_there() {
@@ -56,16 +53,13 @@ where
 }
 
 /// Opens the file of a volume at a place to write to it. One that is trusted isn't marked as suspect any more.
-pub fn open_to_write<'a, 'b, R>(
+pub fn open_to_write<'a, 'b, R: Files<File = File> + AllocGlobal>(
     rt: &'b R,
     path: &'a str,
     place: &'b str,
     trust: bool,
     note: &mut SyncNote,
-) -> Result<VolumeDisk<'b, R>, FileFailure<'a>>
-where
-    R: Files<File = File> + AllocGlobal,
-{
+) -> Result<VolumeDisk<'b, R>, FileFailure<'a>> {
     let disk = open_disk(rt, path, place, Access::Write, trust, note)?;
     if trust {
         // It could be synced, so what is read of it from here on is on the disk.
@@ -76,37 +70,16 @@ where
     Ok(disk)
 }
 
-/// Prints the files of a volume, as it would be opened, and leaves its file as it is. What opening writes is kept in
-/// memory.
-pub fn dump<'a, R, A, W>(
-    rt: &R,
-    alloc: A,
-    path: &'a str,
-    trust: bool,
-    out: &mut W,
-    note: &mut SyncNote,
-) -> Result<(), FileFailure<'a>>
-where
-    R: Files<File = File> + AllocGlobal,
-    A: Allocator + Copy,
-    W: Write,
-{
-    let place = place(rt, path)?;
-    let disk = open_disk(rt, path, &place, Access::Read, trust, note)?;
-    print_disk(alloc, path, disk, out)
-}
-
-// Prints the files of the volume of a device, from a copy that keeps in memory what is written.
-fn print_disk<'a, D, A, W>(
+/// Prints the files of the volume of a device, as it would be opened, and leaves its bytes as they are: what opening
+/// writes is kept in memory. `path` names the volume in a failure.
+pub fn dump<'a, D: Device + Drop, A: Allocator + Copy, W: Write>(
     alloc: A,
     path: &'a str,
     device: D,
     out: &mut W,
 ) -> Result<(), FileFailure<'a>>
-where
-    D: Device + Drop,
-    A: Allocator + Copy,
-    W: Write,
+    ensures { D.is_honest device → OnOk result ((files : List VolumeFile)
+        × RecoversTo (D.seen device) files × Appends (W.contents out.old) (W.contents out.new) (dump_text files)) }
 {
     match print_volume(alloc, OverlayDisk::new(alloc, device), out) {
         Ok(Ok(())) => Ok(()),
@@ -169,15 +142,11 @@ pub fn not_opened_on_copy<'a, D: Device, A: Allocator + Copy>(
 }
 
 // Prints the files of the volume of a device, as it would be opened. A refusal to open it hands the device back.
-fn print_volume<D, A, W>(
+fn print_volume<D: Device + Drop, A: Allocator + Copy, W: Write>(
     alloc: A,
     device: D,
     out: &mut W,
 ) -> Result<Result<(), ListFault>, (Refusal, D)>
-where
-    D: Device + Drop,
-    A: Allocator + Copy,
-    W: Write,
     ensures printed { D.is_honest device → IfOk result (λ printed. OnOk printed ((files : List VolumeFile)
         × RecoversTo (D.seen device) files × Appends (W.contents out.old) (W.contents out.new) (dump_text files))) }
     ensures refused { IfErr result (λ refused. Opens D.Device device (Err refused.0) refused.1) }
