@@ -84,23 +84,12 @@ where
             return Ok(status);
         }
         Job::Replay(asked) => {
-            return replay(rt, alloc, asked.disk, asked.script, asked.trust, out, note);
+            return replay(rt, alloc, asked, out, note);
         }
         Job::Make(asked) => make(rt, alloc, asked, out, note)?,
-        Job::Run(asked) => run(rt, alloc, asked.disk, asked.script, asked.trust, out, note)?,
-        Job::Threads(asked) => threads(rt, asked.disk, asked.script, asked.trust, out, note)?,
-        Job::Crashes(asked, form) => {
-            crashes(
-                rt,
-                alloc,
-                asked.disk,
-                asked.script,
-                asked.trust,
-                form,
-                out,
-                note,
-            )?
-        }
+        Job::Run(asked) => run(rt, alloc, asked, out, note)?,
+        Job::Threads(asked) => threads(rt, asked, out, note)?,
+        Job::Crashes(asked, form) => crashes(rt, alloc, asked, form, out, note)?,
         Job::Serve { disk, trust } => serve(rt, alloc, disk, trust, out, note)?,
         Job::Show(text) => out.write_all(text.as_bytes())?,
     }

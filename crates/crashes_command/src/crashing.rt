@@ -1,5 +1,5 @@
 // What a crash within each device call of a script leaves.
-use command_line::Form;
+use command_line::{Form, Scripted};
 use command_parts::{Failure, read_script, refused_to_run};
 use crash_report::{
     Printed, begin_page, end_page, json_end, json_row, reply_on_page, row_on_page, text_end,
@@ -22,25 +22,19 @@ use volume_files::{
 
 /// Makes the run of a script on copies of the volume in a file, in memory: once for each state that a crash within one
 /// of its device calls is to leave, and prints whose mark's files an opening then finds. The file is only read. The
-/// script is read whole before the disk is opened; `path` and `script` are the names of the two files.
-pub fn crashes<'a, R, A, W>(
+/// script is read whole before the disk is opened.
+pub fn crashes<'a, R: Files<File = File> + AllocGlobal, A: Allocator + Copy, W: io::Write>(
     rt: &R,
     alloc: A,
-    path: &'a str,
-    script: &'a str,
-    trust: bool,
+    asked: Scripted<'a>,
     form: Form,
     out: &mut W,
     note: &mut SyncNote,
-) -> Result<(), Failure<'a>>
-where
-    R: Files<File = File> + AllocGlobal,
-    A: Allocator + Copy,
-    W: io::Write,
-{
-    let steps = read_script(rt, alloc, script)?;
+) -> Result<(), Failure<'a>> {
+    let path = asked.disk;
+    let steps = read_script(rt, alloc, asked.script)?;
     let place = place(rt, path)?;
-    let mut disk = open_disk(rt, path, &place, Access::Read, trust, note)?;
+    let mut disk = open_disk(rt, path, &place, Access::Read, asked.trust, note)?;
     let places = match read_table(alloc, &mut disk) {
         Ok(table) => Places { table },
         Err(refusal) => {
@@ -51,7 +45,7 @@ where
     let Some(image) = read_image(alloc, &mut disk)? else {
         return Err(Failure::File(unreadable(path, Refusal::Device)));
     };
-    match print_crashes(alloc, script, &steps, &image, &places, form, out)? {
+    match print_crashes(alloc, asked.script, &steps, &image, &places, form, out)? {
         Ok(()) => Ok(()),
         Err(refusal) => Err(refused_to_run(alloc, refusal, &mut disk, steps.shape).of_file(path)),
     }

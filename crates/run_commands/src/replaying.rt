@@ -5,6 +5,7 @@ ghost use Rattle.machine.specs.Words.{reply_text};
 ghost use Rattle.engine.specs.Engine.{HasNotStarted, HasRun};
 ghost use Rattle.run_commands.specs.inside.Replay.{is_text, texts_of, verdict_by, IsVerdict, Compares};
 
+use command_line::Scripted;
 use command_parts::{Failure, is_failure, refused_to_run};
 use device::{Device, OverlayDisk};
 use engine::Listener;
@@ -162,34 +163,28 @@ fn steps_of<A: Allocator + Copy>(alloc: A, entries: &[Line]) -> Result<Vec<Step,
 
 /// Runs a trace on a copy of the volume in a file, which costs memory for what it writes, and prints whether each reply
 /// has the text of its entry, or the number of the first entry that differs. Answers the status: 0 or 1. The trace is
-/// read whole before the disk is opened; `path` and `trace` are the names of the two files.
-pub fn replay<'a, R, A, W>(
+/// read whole before the disk is opened.
+pub fn replay<'a, R: Files<File = File> + AllocGlobal, A: Allocator + Copy, W: io::Write>(
     rt: &R,
     alloc: A,
-    path: &'a str,
-    trace: &'a str,
-    trust: bool,
+    asked: Scripted<'a>,
     out: &mut W,
     note: &mut SyncNote,
 ) -> Result<u8, Failure<'a>>
-where
-    R: Files<File = File> + AllocGlobal,
-    A: Allocator + Copy,
-    W: io::Write,
     ensures { IfOk result (λ status. status ≤ 1) }
 {
-    let lines = read_trace(rt, alloc, trace)?;
+    let lines = read_trace(rt, alloc, asked.script)?;
     let steps = steps_of(alloc, &lines.entries)?;
-    let place = place(rt, path)?;
-    let disk = open_disk(rt, path, &place, Access::Read, trust, note)?;
+    let place = place(rt, asked.disk)?;
+    let disk = open_disk(rt, asked.disk, &place, Access::Read, asked.trust, note)?;
     let copy = OverlayDisk::new(alloc, disk);
     match replay_on(rt.alloc(), alloc, copy, &lines, &steps) {
-        Ok((replayed, copy)) => said(trace, replayed, copy.was_refused_memory(), out),
+        Ok((replayed, copy)) => said(asked.script, replayed, copy.was_refused_memory(), out),
         Err((Refusal::Device, copy)) if copy.was_refused_memory() => Err(Failure::Memory(
             AllocError,
         )),
         Err((refusal, mut copy)) => {
-            Err(refused_to_run(alloc, refusal, &mut copy, lines.shape).of_file(path))
+            Err(refused_to_run(alloc, refusal, &mut copy, lines.shape).of_file(asked.disk))
         }
     }
 }

@@ -4,6 +4,7 @@ ghost use Rattle.run_commands.specs.inside.Failure.{IsFailedStep};
 
 use crate::printer::Printer;
 use crate::scripted::run_script;
+use command_line::Scripted;
 use command_parts::{Failure, read_script, refused_to_run};
 use std::alloc::Allocator;
 use std::fs::File;
@@ -12,35 +13,27 @@ use std::rt::Files;
 use volume_files::{SyncNote, open_to_write, place};
 
 /// Runs a script on the volume in a file, and prints the reply of each step before the next one is made. The script is
-/// read whole before the disk is opened; `path` and `script` are the names of the two files. `note` gets what is to be
-/// said of syncs that failed.
-pub fn run<'a, R, A, W>(
+/// read whole before the disk is opened. `note` gets what is to be said of syncs that failed.
+pub fn run<'a, R: Files<File = File> + AllocGlobal, A: Allocator + Copy, W: io::Write>(
     rt: &R,
     alloc: A,
-    path: &'a str,
-    script: &'a str,
-    trust: bool,
+    asked: Scripted<'a>,
     out: &mut W,
     note: &mut SyncNote,
-) -> Result<(), Failure<'a>>
-where
-    R: Files<File = File> + AllocGlobal,
-    A: Allocator + Copy,
-    W: io::Write,
-{
-    let steps = read_script(rt, alloc, script)?;
-    let place = place(rt, path)?;
-    let disk = open_to_write(rt, path, &place, trust, note)?;
+) -> Result<(), Failure<'a>> {
+    let steps = read_script(rt, alloc, asked.script)?;
+    let place = place(rt, asked.disk)?;
+    let disk = open_to_write(rt, asked.disk, &place, asked.trust, note)?;
     let mut printer = Printer::new(out);
     match run_script(alloc, disk, &steps, &mut printer) {
         Ok(disk) => {
             *note = disk.into_file().into_note();
-            outcome(script, printer)
+            outcome(asked.script, printer)
         }
         Err((refusal, mut disk)) => {
             let cause = refused_to_run(alloc, refusal, &mut disk, steps.shape);
             *note = disk.into_file().into_note();
-            Err(cause.of_file(path))
+            Err(cause.of_file(asked.disk))
         }
     }
 }

@@ -24,19 +24,14 @@ const INPUT: &str = "-";
 /// Reads the shape of a machine, opens the volume in a file, and answers a request a line until the input ends. The
 /// first line is read before the disk is opened; `path` is the name of its file. `note` gets what is to be said of
 /// syncs that failed.
-pub fn serve<'a, R, A, W>(
+pub fn serve<'a, R: Files<File = File> + Input + AllocGlobal, A: Allocator + Copy, W: io::Write>(
     rt: &R,
     alloc: A,
     path: &'a str,
     trust: bool,
     out: &mut W,
     note: &mut SyncNote,
-) -> Result<(), Failure<'a>>
-where
-    R: Files<File = File> + Input + AllocGlobal,
-    A: Allocator + Copy,
-    W: io::Write,
-{
+) -> Result<(), Failure<'a>> {
     let mut input = match BufReader::new(alloc, rt.reader()) {
         Ok(input) => input,
         Err(cause) => return Err(Failure::Input(cause)),

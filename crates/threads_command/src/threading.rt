@@ -1,5 +1,6 @@
 // Running the programs of a script in threads, on the volume in a file.
 
+use command_line::Scripted;
 use command_parts::{Failure, NotBooted, ShapeCause, is_failure, refused_to_run};
 use driver::{Ended, NotRun, Ran, run_programs};
 use page_entry::Refusal;
@@ -21,13 +22,11 @@ use volume_files::{
 const TURNS: u64 = 100_000_000;
 
 /// Runs the programs of a script in threads on the volume in a file, and prints the trace of all steps that were made,
-/// once all threads have ended. The script is read whole before the disk is opened; `path` and `script` are the names
-/// of the two files. `note` gets what is to be said of syncs that failed. If the call returns.
+/// once all threads have ended. The script is read whole before the disk is opened. `note` gets what is to be said of
+/// syncs that failed. If the call returns.
 pub fn threads<'a, R, W>(
     rt: &R,
-    path: &'a str,
-    script: &'a str,
-    trust: bool,
+    asked: Scripted<'a>,
     out: &mut W,
     note: &mut SyncNote,
 ) -> Result<(), Failure<'a>>
@@ -35,10 +34,10 @@ where
     R: Files<File = File> + AllocGlobal + Threads + Wait + Sync,
     W: io::Write,
 {
-    let programs = read_programs(rt, script)?;
-    let place = place(rt, path)?;
-    let disk = open_to_write(rt, path, &place, trust, note)?;
-    let (disk, mark) = for_threads(disk, path, note)?;
+    let programs = read_programs(rt, asked.script)?;
+    let place = place(rt, asked.disk)?;
+    let disk = open_to_write(rt, asked.disk, &place, asked.trust, note)?;
+    let (disk, mark) = for_threads(disk, asked.disk, note)?;
     match run_programs(rt, rt.alloc(), disk, &programs, TURNS) {
         Ok(ran) => {
             let Ran {
@@ -48,17 +47,9 @@ where
             } = ran;
             *note = device.into_file().into_note(mark);
             print_trace(rt.alloc(), &programs, &trace, out)?;
-            outcome(script, &trace, ended)
+            outcome(asked.script, &trace, ended)
         }
-        Err(refused) => Err(refused_to_thread(
-            rt.alloc(),
-            path,
-            script,
-            &programs,
-            refused,
-            mark,
-            note,
-        )),
+        Err(refused) => Err(refused_to_thread(rt.alloc(), asked, &programs, refused, mark, note)),
     }
 }
 
@@ -104,11 +95,10 @@ fn outcome<'a>(path: &'a str, trace: &[Entry], ended: Ended) -> Result<(), Failu
     }
 }
 
-// Why programs weren't run on the disk at a path, or their run left no trace.
+// Why programs weren't run on the volume that was asked for, or their run left no trace.
 fn refused_to_thread<'a, R>(
     global: Global,
-    path: &'a str,
-    script: &'a str,
+    asked: Scripted<'a>,
     programs: &ThreadScript<Global>,
     refused: NotRun<ThreadDisk>,
     mark: SuspectFlag<'_, R>,
@@ -121,13 +111,13 @@ where
         NotRun::Start(refusal, mut disk) => {
             let cause = refused_to_run(global, refusal, &mut disk, programs.shape);
             *note = disk.into_file().into_note(mark);
-            cause.of_file(path)
+            cause.of_file(asked.disk)
         }
         NotRun::Share(refusal, disk) => {
             *note = disk.into_file().into_note(mark);
             match refusal {
                 Refusal::BadShape => {
-                    NotBooted::Shape(ShapeCause::Trace(programs.trace)).of_file(path)
+                    NotBooted::Shape(ShapeCause::Trace(programs.trace)).of_file(asked.disk)
                 }
                 _ => Failure::Memory(AllocError),
             }
@@ -137,7 +127,7 @@ where
                 *note = disk.into_file().into_note(mark);
             }
             Failure::Gather {
-                path: script,
+                path: asked.script,
                 cause,
             }
         }
