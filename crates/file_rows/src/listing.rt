@@ -1,5 +1,5 @@
 // The files of a volume in their order, and their rows.
-ghost use Rattle.std.specs.Prelude.{◌≡◌, ◌==◌, ◌<◌, ◌+◌, ◌^◌, List, length, slice_get, Some, Err, IfOk, IfErr, OnOk};
+ghost use Rattle.std.specs.Prelude.{◌≡◌, ◌==◌, ◌<◌, List, length, slice_get, Some, Err, IfOk, IfErr, OnOk};
 ghost use Rattle.std.specs.Io.KnownBytes.{Appends};
 ghost use Rattle.std.specs.List.{list_all};
 ghost use Rattle.volume_codec.specs.Files.{File};
@@ -24,17 +24,12 @@ const ROW: usize = 16;
 
 /// Writes the files of the volume of a device, as it would be opened, in the table's order: of each its head, and its
 /// rows of 16 bytes that aren't all zero. A refusal to open the volume hands the device back.
-pub fn list_files<D, A, F, W>(
+pub fn list_files<D: Device + Drop, A: Allocator + Copy, F: Form, W: io::Write>(
     alloc: A,
     device: D,
     form: &F,
     out: &mut W,
 ) -> Result<Result<(), ListFault>, (Refusal, D)>
-where
-    D: Device + Drop,
-    A: Allocator + Copy,
-    F: Form,
-    W: io::Write,
     ensures printed { D.is_honest device → IfOk result (λ printed. OnOk printed ((files : List File)
         × RecoversTo (D.seen device) files × Appends (W.contents out.old) (W.contents out.new)
         (files_listing (F.head_text form.now) (F.row_text form.now) files))) }
@@ -93,43 +88,26 @@ impl<F: Form> PageForm for Rows<'_, F> {
     ghost page_text = { λ rows at page. rows_at (F.row_text rows.form.now) at page (row_count (length page)) };
 
     fn write_page<W: io::Write>(&self, at: u64, page: &[u8], out: &mut W) -> Result<(), ListFault> {
-        write_rows(at, page, self.form, out)
-    }
-}
-
-// Writes the rows of bytes that begin at this offset of a file.
-fn write_rows<F: Form, W: io::Write>(
-    at: u64,
-    bytes: &[u8],
-    form: &F,
-    out: &mut W,
-) -> Result<(), ListFault>
-    requires { at + length bytes.now < 2 ^ 64 }
-    ensures { OnOk result (Appends (W.contents out.old) (W.contents out.new)
-        (rows_at (F.row_text form.now) at bytes.now (row_count (length bytes.now)))) }
-{
-    for row in 0..bytes.len().div_ceil(ROW) {
-        let from = ROW * row;
-        let to = bytes.len().min(from + ROW);
-        show_row(at + from as u64, &bytes[from..to], form, out)?;
-    }
-    Ok(())
-}
-
-// Writes a row, unless its bytes are all zero.
-fn show_row<F: Form, W: io::Write>(
-    at: u64,
-    bytes: &[u8],
-    form: &F,
-    out: &mut W,
-) -> Result<(), ListFault>
-    ensures { OnOk result (Appends (W.contents out.old) (W.contents out.new)
-        (shown (F.row_text form.now) at bytes.now)) }
-{
-    if is_blank(bytes) {
+        for row in 0..page.len().div_ceil(ROW) {
+            let from = ROW * row;
+            let to = page.len().min(from + ROW);
+            self.show_row(at + from as u64, &page[from..to], out)?;
+        }
         Ok(())
-    } else {
-        form.write_row(at, bytes, out)
+    }
+}
+
+impl<F: Form> Rows<'_, F> {
+    // Writes a row, unless its bytes are all zero.
+    fn show_row<W: io::Write>(&self, at: u64, bytes: &[u8], out: &mut W) -> Result<(), ListFault>
+        ensures { OnOk result (Appends (W.contents out.old) (W.contents out.new)
+            (shown (F.row_text self.now.form.now) at bytes.now)) }
+    {
+        if is_blank(bytes) {
+            Ok(())
+        } else {
+            self.form.write_row(at, bytes, out)
+        }
     }
 }
 

@@ -1,5 +1,5 @@
 // Whether a volume is whole, and whether it needs opening.
-ghost use Rattle.std.specs.Prelude.{◌≡◌, IfOk, IfErr};
+ghost use Rattle.std.specs.Prelude.{◌≡◌, Some, IfOk, IfErr};
 ghost use Rattle.std.specs.List.{list_any};
 ghost use Rattle.recovery.specs.Opening.{RefusesOpening};
 ghost use Rattle.recovery.specs.Reading.{IsOnlyRead};
@@ -23,17 +23,16 @@ pub enum Health {
 }
 
 impl fmt::Display for Health {
-    ghost use Rattle.std.specs.Prelude.{Some};
     ghost use Rattle.inspection.specs.Text.{health_words};
 
     ghost output = { λ health. Some (health_words health) };
 
     /// What `check` prints of it.
     fn fmt<W: fmt::Write>(&self, f: &mut fmt::Formatter<W>) -> fmt::Result {
-        match self {
-            Health::Clean => f.write_str("clean"),
-            Health::NeedsOpening => f.write_str("needs opening"),
-        }
+        f.write_str(match self {
+            Health::Clean => "clean",
+            Health::NeedsOpening => "needs opening",
+        })
     }
 }
 

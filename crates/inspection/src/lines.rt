@@ -13,10 +13,10 @@ use file_rows::{Form, ListFault, list_files};
 use page_entry::Refusal;
 use serde_json::{Value, json};
 use std::alloc::{AllocError, Allocator, Global};
-use std::io;
+use std::io::Write;
 
 /// Writes a line with a value that has no float.
-pub fn write_line<W: io::Write>(global: Global, value: &Value, out: &mut W) -> Result<(), ListFault>
+pub fn write_line<W: Write>(global: Global, value: &Value, out: &mut W) -> Result<(), ListFault>
     ensures { has_float (view value.now) ≡ false
         → OnOk result (Appends (W.contents out.old) (W.contents out.new) (json_line (view value.now))) }
 {
@@ -28,16 +28,12 @@ pub fn write_line<W: io::Write>(global: Global, value: &Value, out: &mut W) -> R
 /// Writes the files of the volume of a device, as it would be opened: for each a line with its name and its length, and
 /// one for each row of 16 bytes that aren't all zero, with its offset and the bytes in hexadecimal. A refusal to open
 /// the volume hands the device back.
-pub fn write_file_lines<D, A, W>(
+pub fn write_file_lines<D: Device + Drop, A: Allocator + Copy, W: Write>(
     global: Global,
     alloc: A,
     device: D,
     out: &mut W,
 ) -> Result<Result<(), ListFault>, (Refusal, D)>
-where
-    D: Device + Drop,
-    A: Allocator + Copy,
-    W: io::Write,
     ensures printed { D.is_honest device → IfOk result (λ printed. OnOk printed ((files : List File)
         × RecoversTo (D.seen device) files × Appends (W.contents out.old) (W.contents out.new) (files_json files))) }
     ensures refused { IfErr result (λ refused. Opens D.Device device (Err refused.0) refused.1) }
@@ -56,17 +52,12 @@ impl Form for JsonLines {
 
     ghost row_text = { λ lines. row_json };
 
-    fn write_head<W: io::Write>(
-        &self,
-        name: &str,
-        bytes: u64,
-        out: &mut W,
-    ) -> Result<(), ListFault> {
+    fn write_head<W: Write>(&self, name: &str, bytes: u64, out: &mut W) -> Result<(), ListFault> {
         let head = head_value(self.global, name, bytes)?;
         write_line(self.global, &head, out)
     }
 
-    fn write_row<W: io::Write>(&self, at: u64, bytes: &[u8], out: &mut W) -> Result<(), ListFault> {
+    fn write_row<W: Write>(&self, at: u64, bytes: &[u8], out: &mut W) -> Result<(), ListFault> {
         let line = row_value(self.global, at, bytes)?;
         write_line(self.global, &line, out)
     }

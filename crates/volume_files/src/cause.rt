@@ -86,6 +86,18 @@ impl fmt::Debug for Cause<'_> {
     }
 }
 
+impl<'a> Refused<'a> {
+    // Why no volume is made. Where its shape is refused, this is what is outside the limits.
+    fn to_make(refusal: Refusal, shape: Cause<'a>) -> Self {
+        let cause = match refusal {
+            Refusal::BadShape => Some(shape),
+            Refusal::Device => Some(Cause::Call),
+            _ => None,
+        };
+        Refused { refusal, cause }
+    }
+}
+
 /// Why no volume is made of these files.
 pub fn refused_to_format<'a>(
     refusal: Refusal,
@@ -93,12 +105,7 @@ pub fn refused_to_format<'a>(
     files: &[FileSpec<'a>],
     slots: u64,
 ) -> Refused<'a> {
-    let cause = match refusal {
-        Refusal::BadShape => Some(cause_in_files(layout, files, slots)),
-        Refusal::Device => Some(Cause::Call),
-        _ => None,
-    };
-    Refused { refusal, cause }
+    Refused::to_make(refusal, cause_in_files(layout, files, slots))
 }
 
 /// Why no volume in the layout of this number and with so many slots is made of the files of one in another layout.
@@ -108,12 +115,7 @@ pub fn refused_to_migrate<'a>(
     layout: u64,
     slots: u64,
 ) -> Refused<'a> {
-    let cause = match refusal {
-        Refusal::BadShape => Some(cause_in_migration(old, layout, slots)),
-        Refusal::Device => Some(Cause::Call),
-        _ => None,
-    };
-    Refused { refusal, cause }
+    Refused::to_make(refusal, cause_in_migration(old, layout, slots))
 }
 
 // What of a migration from a layout is outside the limits.

@@ -2,9 +2,9 @@
 use crate::copying::{CopyFault, copy_file};
 use crate::disk::{not_opened_on_copy, open_disk, unreadable};
 use crate::failure::FileFailure;
-use crate::making::{named, new_file, take_after};
 use crate::sync_note::SyncNote;
-use crate::volume_file::{Access, apart, found_at, off_streams, other_kind, place, sync_folder_of};
+use crate::target::{Target, new_file, take_after};
+use crate::volume_file::{Access, apart, found_at, off_streams, other_kind, place};
 use device::{Device, OverlayDisk};
 use file_rows::ListFault;
 use std::alloc::Allocator;
@@ -25,75 +25,50 @@ pub struct ExportPlan<'a> {
 /// place, `.new`, which takes its name once all of it is on the disk: where this fails before or is cut off, a file
 /// that had the name is as it was. A copy doesn't replace the file of the volume, one that another process has locked,
 /// or anything else than a regular file.
-pub fn export<'a, R, A>(
+pub fn export<'a, R: Files<File = File> + AllocGlobal, A: Allocator + Copy>(
     rt: &R,
     alloc: A,
     plan: ExportPlan<'a>,
     trust: bool,
     note: &mut SyncNote,
-) -> Result<u64, FileFailure<'a>>
-where
-    R: Files<File = File> + AllocGlobal,
-    A: Allocator + Copy,
-{
+) -> Result<u64, FileFailure<'a>> {
     let from = place(rt, plan.disk)?;
     let disk = open_disk(rt, plan.disk, &from, Access::Read, trust, note)?;
     copied_out(rt, alloc, plan, disk, &from)
 }
 
 // Copies a file of the volume of a disk, whose own file is at a place, to where it was asked for.
-fn copied_out<'a, R, D, A>(
+fn copied_out<'a, R: Files<File = File> + AllocGlobal, D: Device + Drop, A: Allocator + Copy>(
     rt: &R,
     alloc: A,
     plan: ExportPlan<'a>,
     disk: D,
     from: &str,
-) -> Result<u64, FileFailure<'a>>
-where
-    R: Files<File = File> + AllocGlobal,
-    D: Device + Drop,
-    A: Allocator + Copy,
-{
-    let to = place(rt, plan.out)?;
-    // Both files are locked until the end.
-    let old = old_copy(rt, plan.out, from, &to)?;
-    let (count, _file) = named_copy(rt, alloc, plan, disk, old.as_ref(), &to)?;
-    durably_named(rt, plan, count, &to)
-}
-
-// Makes sure that the name of a copy of so many bytes is on the disk.
-fn durably_named<'a, R: Files<File = File>>(
-    rt: &R,
-    plan: ExportPlan<'a>,
-    count: u64,
-    to: &str,
 ) -> Result<u64, FileFailure<'a>> {
-    match sync_folder_of(rt, to) {
-        Ok(()) => Ok(count),
-        Err(cause) => Err(FileFailure::File {
-            path: plan.out,
-            cause,
-        }),
-    }
+    let to = place(rt, plan.out)?;
+    let target = Target {
+        rt,
+        path: plan.out,
+        place: &to,
+    };
+    // Both files are locked until the end.
+    let old = old_copy(&target, from)?;
+    let (count, _file) = named_copy(&target, alloc, plan, disk, old.as_ref())?;
+    target.sync_name()?;
+    Ok(count)
 }
 
 // Makes the copy in another file, and gives that the name that was asked for. Where it wasn't made, or can't have the
-// name, it is taken away. Where that can't be done either, the next export says that it is there.
-fn named_copy<'a, R, D, A>(
-    rt: &R,
+// name, it is taken away. Where that can't be done either, the next export finds that it is there.
+fn named_copy<'a, R: Files<File = File> + AllocGlobal, D: Device + Drop, A: Allocator + Copy>(
+    target: &Target<'a, '_, R>,
     alloc: A,
     plan: ExportPlan<'a>,
     disk: D,
     old: Option<&File>,
-    to: &str,
-) -> Result<(u64, File), FileFailure<'a>>
-where
-    R: Files<File = File> + AllocGlobal,
-    D: Device + Drop,
-    A: Allocator + Copy,
-{
-    let new = format!(in rt.alloc(); "{to}.new")?;
-    let Some(mut file) = new_file(rt, &new)? else {
+) -> Result<(u64, File), FileFailure<'a>> {
+    let new = target.new_path()?;
+    let Some(mut file) = new_file(target.rt, &new)? else {
         return Err(FileFailure::CopyIsThere {
             path: plan.out,
             new,
@@ -101,60 +76,53 @@ where
     };
     match copied(alloc, plan, disk, old, &mut file) {
         Ok(count) => {
-            let file = named(rt, plan.out, &new, to, Ok(file))?;
+            let file = target.named(&new, Ok(file))?;
             Ok((count, file))
         }
         Err(failure) => {
-            let _ = fs::remove_file(rt, new.as_str());
+            let _ = fs::remove_file(target.rt, new.as_str());
             Err(failure)
         }
     }
 }
 
 // The file that a copy is to replace, locked, if there is one.
-fn old_copy<'a, R>(
-    rt: &R,
-    out: &'a str,
+fn old_copy<'a, R: Files<File = File> + AllocGlobal>(
+    target: &Target<'a, '_, R>,
     from: &str,
-    to: &str,
-) -> Result<Option<File>, FileFailure<'a>>
-where
-    R: Files<File = File>,
-{
-    match found_at(rt, out, to)? {
+) -> Result<Option<File>, FileFailure<'a>> {
+    match found_at(target.rt, target.path, target.place)? {
         Some(found) => {
-            judge_replaced(rt, out, from, &found)?;
-            Ok(Some(locked_copy(rt, out, to)?))
+            judge_replaced(target, from, &found)?;
+            Ok(Some(locked_copy(target)?))
         }
         None => Ok(None),
     }
 }
 
 // Whether a copy may replace what was found: a regular file, and not that of the volume.
-fn judge_replaced<'a, R: Files<File = File>>(
-    rt: &R,
-    out: &'a str,
+fn judge_replaced<'a, R: Files<File = File> + AllocGlobal>(
+    target: &Target<'a, '_, R>,
     from: &str,
     found: &Metadata,
 ) -> Result<(), FileFailure<'a>> {
+    let path = target.path;
     if let Some(kind) = other_kind(found) {
-        return Err(FileFailure::NotReplaced { path: out, kind });
+        return Err(FileFailure::NotReplaced { path, kind });
     }
-    match fs::metadata(rt, from) {
-        Ok(volume) => apart(out, found, &volume),
-        Err(cause) => Err(FileFailure::File { path: out, cause }),
+    match fs::metadata(target.rt, from) {
+        Ok(volume) => apart(path, found, &volume),
+        Err(cause) => Err(target.failed(cause)),
     }
 }
 
-// The file at a place, locked.
-fn locked_copy<'a, R: Files<File = File>>(
-    rt: &R,
-    out: &'a str,
-    to: &str,
+// The file that a copy is to replace, locked.
+fn locked_copy<'a, R: Files<File = File> + AllocGlobal>(
+    target: &Target<'a, '_, R>,
 ) -> Result<File, FileFailure<'a>> {
-    match File::open(rt, to).and_then(off_streams) {
-        Ok(file) => locked(out, file),
-        Err(cause) => Err(FileFailure::File { path: out, cause }),
+    match File::open(target.rt, target.place).and_then(off_streams) {
+        Ok(file) => locked(target.path, file),
+        Err(cause) => Err(target.failed(cause)),
     }
 }
 
@@ -167,27 +135,19 @@ fn locked(out: &str, file: File) -> Result<File, FileFailure<'_>> {
 }
 
 // Makes the copy in a new file, with all of it on the disk, and says how many bytes it has.
-fn copied<'a, D, A>(
+fn copied<'a, D: Device + Drop, A: Allocator + Copy>(
     alloc: A,
     plan: ExportPlan<'a>,
     disk: D,
     old: Option<&File>,
     file: &mut File,
-) -> Result<u64, FileFailure<'a>>
-where
-    D: Device + Drop,
-    A: Allocator + Copy,
-{
-    match after(old, file) {
-        Ok(()) => {
-            let count = written(alloc, plan, disk, file)?;
-            synced(plan, count, file)
-        }
-        Err(cause) => Err(FileFailure::File {
-            path: plan.out,
-            cause,
-        }),
-    }
+) -> Result<u64, FileFailure<'a>> {
+    let path = plan.out;
+    let failed = |cause| FileFailure::File { path, cause };
+    after(old, file).map_err(failed)?;
+    let count = written(alloc, plan, disk, file)?;
+    file.sync_all().map_err(failed)?;
+    Ok(count)
 }
 
 // Gives a new file what it has of an old one, if there is one.
@@ -198,28 +158,13 @@ fn after(old: Option<&File>, file: &File) -> io::Result<()> {
     }
 }
 
-// Makes sure that a copy of so many bytes is on the disk.
-fn synced<'a>(plan: ExportPlan<'a>, count: u64, file: &File) -> Result<u64, FileFailure<'a>> {
-    match file.sync_all() {
-        Ok(()) => Ok(count),
-        Err(cause) => Err(FileFailure::File {
-            path: plan.out,
-            cause,
-        }),
-    }
-}
-
 // Writes the bytes of the file in the volume of a disk to a file, and says how many they are.
-fn written<'a, D, A>(
+fn written<'a, D: Device + Drop, A: Allocator + Copy>(
     alloc: A,
     plan: ExportPlan<'a>,
     disk: D,
     file: &mut File,
-) -> Result<u64, FileFailure<'a>>
-where
-    D: Device + Drop,
-    A: Allocator + Copy,
-{
+) -> Result<u64, FileFailure<'a>> {
     match copy_file(alloc, OverlayDisk::new(alloc, disk), plan.file, file) {
         Ok(Ok(count)) => Ok(count),
         Ok(Err(fault)) => Err(fault.of(plan)),

@@ -12,6 +12,7 @@ mod marker;
 mod migrating;
 mod suspect_flag;
 mod sync_note;
+mod target;
 mod thread_disk;
 mod volume_file;
 mod watched_file;

@@ -3,7 +3,8 @@ ghost use Rattle.std.specs.Prelude.{Some};
 ghost use Rattle.volume_files.specs.Dump.{head_line, row_text, row_line};
 
 use file_rows::{Form, ListFault};
-use std::{fmt, io};
+use std::fmt;
+use std::io::Write;
 
 /// Up to 16 bytes of a file, and the offset of the first.
 #[derive(Clone, Copy)]
@@ -35,17 +36,12 @@ impl Form for DumpLines {
 
     ghost row_text = { λ lines. row_line };
 
-    fn write_head<W: io::Write>(
-        &self,
-        name: &str,
-        bytes: u64,
-        out: &mut W,
-    ) -> Result<(), ListFault> {
+    fn write_head<W: Write>(&self, name: &str, bytes: u64, out: &mut W) -> Result<(), ListFault> {
         writeln!(out, "{name} {bytes}")?;
         Ok(())
     }
 
-    fn write_row<W: io::Write>(&self, at: u64, bytes: &[u8], out: &mut W) -> Result<(), ListFault> {
+    fn write_row<W: Write>(&self, at: u64, bytes: &[u8], out: &mut W) -> Result<(), ListFault> {
         let row = Row { at, bytes };
         writeln!(out, "{row}")?;
         Ok(())

@@ -9,9 +9,9 @@ ghost use Rattle.volume_files.specs.Migration.{MayMigrate};
 use crate::cause::{refused_to_migrate, refused_to_open};
 use crate::disk::{not_opened, open_to_write};
 use crate::failure::FileFailure;
-use crate::making::{durably_name, named, new_file, old_file, ready};
 use crate::marker::Noted;
 use crate::sync_note::SyncNote;
+use crate::target::Target;
 use crate::volume_file::{apart, found_at, place};
 use device::{Device, FileDisk};
 use page_entry::Refusal;
@@ -51,41 +51,36 @@ impl<'a> MigrationPlan<'a> {
 /// says how many blocks that has. The old volume is written to by its opening alone. The new one is made in another
 /// file beside its place, `.new`, which takes its name once all of it is on the disk: where this fails before or is
 /// cut off, a file that had the name is as it was. Two paths of one file are refused before anything is touched.
-pub fn migrate<'a, R, A>(
+pub fn migrate<'a, R: Files<File = File> + AllocGlobal, A: Allocator + Copy>(
     rt: &R,
     alloc: A,
     plan: MigrationPlan<'a>,
     trust: bool,
     note: &mut SyncNote,
-) -> Result<u64, FileFailure<'a>>
-where
-    R: Files<File = File> + AllocGlobal,
-    A: Allocator + Copy,
-{
+) -> Result<u64, FileFailure<'a>> {
     let from = place(rt, plan.old)?;
     let to = place(rt, plan.new)?;
-    judge_apart(rt, plan, &from, &to)?;
+    let target = Target {
+        rt,
+        path: plan.new,
+        place: &to,
+    };
+    judge_apart(&target, plan, &from)?;
     let disk = open_to_write(rt, plan.old, &from, trust, note)?;
-    migrate_disk(rt, alloc, plan, &to, disk, note)
+    migrate_disk(&target, alloc, plan, disk, note)
 }
 
-// Makes the new volume at a place of the one on a disk.
-fn migrate_disk<'a, R, D, A>(
-    rt: &R,
+// Makes the new volume of the one on a disk.
+fn migrate_disk<'a, R: Files<File = File> + AllocGlobal, D: Device + Noted, A: Allocator + Copy>(
+    target: &Target<'a, '_, R>,
     alloc: A,
     plan: MigrationPlan<'a>,
-    to: &str,
     disk: D,
     note: &mut SyncNote,
-) -> Result<u64, FileFailure<'a>>
-where
-    R: Files<File = File> + AllocGlobal,
-    D: Device + Noted,
-    A: Allocator + Copy,
-{
+) -> Result<u64, FileFailure<'a>> {
     match recovery::open(alloc, disk) {
         Ok(mut volume) => {
-            let blocks = made_of(rt, alloc, plan, to, &mut volume);
+            let blocks = made_of(target, alloc, plan, &mut volume);
             *note = volume.into_device().into_note();
             blocks
         }
@@ -98,19 +93,15 @@ where
 }
 
 // Whether the two paths lead to two files.
-fn judge_apart<'a, R>(
-    rt: &R,
+fn judge_apart<'a, R: Files<File = File>>(
+    target: &Target<'a, '_, R>,
     plan: MigrationPlan<'a>,
     from: &str,
-    to: &str,
-) -> Result<(), FileFailure<'a>>
-where
-    R: Files<File = File>,
-{
-    let Some(new) = found_at(rt, plan.new, to)? else {
+) -> Result<(), FileFailure<'a>> {
+    let Some(new) = found_at(target.rt, plan.new, target.place)? else {
         return Ok(());
     };
-    match fs::metadata(rt, from) {
+    match fs::metadata(target.rt, from) {
         Ok(old) => apart(plan.new, &new, &old),
         Err(cause) => Err(FileFailure::File {
             path: plan.old,
@@ -147,74 +138,48 @@ fn blocks_of<D: Device, A: Allocator + Copy>(
     recovery::migrated_blocks(volume, plan.layout, plan.slots)
 }
 
-// Makes the new volume at a place, where its shape is accepted, and says how many blocks it has.
-fn made_of<'a, R, D, A>(
-    rt: &R,
+// Makes the new volume, where its shape is accepted, and counts its blocks.
+fn made_of<'a, R: Files<File = File> + AllocGlobal, D: Device, A: Allocator + Copy>(
+    target: &Target<'a, '_, R>,
     alloc: A,
     plan: MigrationPlan<'a>,
-    to: &str,
     volume: &mut Volume<D, A>,
-) -> Result<u64, FileFailure<'a>>
-where
-    R: Files<File = File> + AllocGlobal,
-    D: Device,
-    A: Allocator + Copy,
-{
-    let path = plan.new;
+) -> Result<u64, FileFailure<'a>> {
     let blocks = match blocks_of(plan, volume) {
         Ok(blocks) => blocks,
         Err(refusal) => return Err(plan.refused(refusal, volume.layout(), false)),
     };
     // Both files are locked until the end.
-    let old = old_file(rt, path, to)?;
-    let _file = named_copy(rt, alloc, plan, to, blocks, old.as_ref(), volume)?;
-    durably_name(rt, path, to)?;
+    let old = target.old_volume()?;
+    let _file = named_copy(target, alloc, plan, blocks, old.as_ref(), volume)?;
+    target.durably_name()?;
     Ok(blocks)
 }
 
 // Makes the new volume, of so many blocks, in a new file, and gives that the name of the old one.
-fn named_copy<'a, R, D, A>(
-    rt: &R,
+fn named_copy<'a, R: Files<File = File> + AllocGlobal, D: Device, A: Allocator + Copy>(
+    target: &Target<'a, '_, R>,
     alloc: A,
     plan: MigrationPlan<'a>,
-    to: &str,
     blocks: u64,
     old: Option<&File>,
     volume: &mut Volume<D, A>,
-) -> Result<File, FileFailure<'a>>
-where
-    R: Files<File = File> + AllocGlobal,
-    D: Device,
-    A: Allocator + Copy,
-{
-    let new = format!(in rt.alloc(); "{to}.new")?;
-    match new_file(rt, &new)? {
-        Some(file) => {
-            let made = match ready(rt, alloc, plan.new, to, blocks, old, file) {
-                Ok(disk) => copied(alloc, plan, volume, disk),
-                Err(failure) => Err(failure),
-            };
-            named(rt, plan.new, &new, to, made)
-        }
-        None => Err(FileFailure::NewIsThere {
-            path: plan.new,
-            new,
-        }),
-    }
+) -> Result<File, FileFailure<'a>> {
+    let (new, file) = target.new_volume()?;
+    let made = match target.ready(alloc, blocks, old, file) {
+        Ok(disk) => copied(alloc, plan, volume, disk),
+        Err(failure) => Err(failure),
+    };
+    target.named(&new, made)
 }
 
 // Copies the volume on to a disk over a new file, and hands the file back, all of it on the disk.
-fn copied<'a, D, A>(
+fn copied<'a, D: Device, A: Allocator + Copy>(
     alloc: A,
     plan: MigrationPlan<'a>,
     volume: &mut Volume<D, A>,
-    disk: FileDisk<File>,
-) -> Result<File, FileFailure<'a>>
-where
-    D: Device,
-    A: Allocator + Copy,
-{
-    let mut disk = disk;
+    mut disk: FileDisk<File>,
+) -> Result<File, FileFailure<'a>> {
     let old = volume.layout();
     match copy(alloc, plan, volume, &mut disk) {
         Ok(()) => Ok(disk.into_file()),

@@ -9,16 +9,16 @@ use Rattle.file_rows.proofs.pages.write_pages.Goals as goal
 pub loop-page-preserved : goal.loop-page-preserved
 loop-page-preserved g c =
     let old = c.args.volume.now in
-    let mid = c.loop-page.volume in
     let before = c.loop-page.invariant in
     let contents = g.W.Write.contents in
-    let page = c.loop-page.page in
-    let file = c.args.file in (
-      volume_read_then g.D.Device old mid c.read_page.new.volume before.0 c.in_default.ensures.read,
+    let file = c.args.file in
+    let page = c.loop-page.page in (
+      volume_read_then g.D.Device old c.loop-page.volume c.read_page.new.volume before.0 c.in_default.ensures.read,
       λ honest.
           let bytes = bytes_of (files_of old.table (g.D.Device.seen old.device)) file in
           let is = c.in_default.ensures.page (before.0.honest.1 honest)
-          ∙ ap (λ files. part_of (bytes_of files file) page) (files_read g.D.Device old mid before.0 honest) in
+          ∙ ap (λ files. part_of (bytes_of files file) page)
+          (files_read g.D.Device old c.loop-page.volume before.0 honest) in
           page_more (g.F.PageForm.page_text c.args.form.now) (contents c.args.out.now) (contents c.loop-page.out)
           (contents c.write_page.new.out) bytes page c.read_page.new.part is (before.1 honest)
           c.in_ok-write_page.ensures,

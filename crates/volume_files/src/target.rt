@@ -1,0 +1,201 @@
+// A file that is made whole in another one beside it, which then takes its name.
+use crate::failure::FileFailure;
+use crate::suspect_flag::SuspectFlag;
+use crate::volume_file::{Access, lock, off_streams, open_locked, sync_folder_of, unless};
+use device::FileDisk;
+use page_entry::PAGE;
+use std::alloc::{AllocError, Allocator};
+use std::fs::{File, Files, OpenOptions, Permissions};
+use std::io::ErrorKind;
+use std::os::unix::fs::{FileExt, MetadataExt, PermissionsExt, fchown};
+use std::{fs, io};
+
+/// A file that is made or replaced: the path that names it in a failure, and the place where it is.
+#[derive(Drop)]
+pub struct Target<'a, 'b, R> {
+    pub rt: &'b R,
+    pub path: &'a str,
+    pub place: &'b str,
+}
+
+impl<'a, R: Files<File = File> + AllocGlobal> Target<'a, '_, R> {
+    /// That a call on it failed.
+    pub fn failed(&self, cause: io::Error) -> FileFailure<'a> {
+        FileFailure::File {
+            path: self.path,
+            cause,
+        }
+    }
+
+    /// The volume that is to be replaced, locked, if there is one.
+    pub fn old_volume(&self) -> Result<Option<File>, FileFailure<'a>> {
+        match fs::exists(self.rt, self.place) {
+            Ok(there) => {
+                if there {
+                    Ok(Some(open_locked(self.rt, self.path, self.place, Access::Write)?))
+                } else {
+                    Ok(None)
+                }
+            }
+            Err(cause) => Err(self.failed(cause)),
+        }
+    }
+
+    /// The path of the file beside it in which it is made.
+    pub fn new_path(&self) -> Result<String, AllocError> {
+        let place = self.place;
+        format!(in self.rt.alloc(); "{place}.new")
+    }
+
+    /// An empty file for a volume that takes its name once it is whole, after that file's path.
+    pub fn new_volume(&self) -> Result<(String, File), FileFailure<'a>> {
+        let new = self.new_path()?;
+        match new_file(self.rt, &new)? {
+            Some(file) => Ok((new, file)),
+            None => Err(FileFailure::NewIsThere {
+                path: self.path,
+                new,
+            }),
+        }
+    }
+
+    /// A disk over a new file of so many blocks, all zeros, which is to replace an old one, if there is one.
+    pub fn ready<A: Allocator + Copy>(
+        &self,
+        alloc: A,
+        blocks: u64,
+        old: Option<&File>,
+        file: File,
+    ) -> Result<FileDisk<File>, FileFailure<'a>> {
+        self.prepare(old, &file)?;
+        fill(alloc, self.path, &file, blocks)?;
+        match FileDisk::over(file) {
+            Ok(disk) => Ok(disk),
+            Err((cause, _)) => Err(self.failed(cause)),
+        }
+    }
+
+    // Locks a new file, and gives it what it has of the old one, if there is one.
+    fn prepare(&self, old: Option<&File>, file: &File) -> Result<(), FileFailure<'a>> {
+        lock(self.path, file, Access::Write)?;
+        match old {
+            Some(old) => take_after(file, old).map_err(|cause| self.failed(cause)),
+            None => self.judge_absent(),
+        }
+    }
+
+    // Nobody else makes a volume at a place while a new file for it is there, but one may have been made before.
+    fn judge_absent(&self) -> Result<(), FileFailure<'a>> {
+        if fs::exists(self.rt, self.place).unwrap_or(true) {
+            Err(FileFailure::InUse { path: self.path })
+        } else {
+            Ok(())
+        }
+    }
+
+    /// Gives the new file, all of which is on the disk, the name of the old one. Where it wasn't made, or can't have
+    /// the name, it is taken away. Where that can't be done either, whoever makes the next one finds it there.
+    pub fn named(
+        &self,
+        new: &str,
+        made: Result<File, FileFailure<'a>>,
+    ) -> Result<File, FileFailure<'a>> {
+        match made.and_then(|file| self.renamed(new, file)) {
+            Ok(file) => Ok(file),
+            Err(failure) => {
+                let _ = fs::remove_file(self.rt, new);
+                Err(failure)
+            }
+        }
+    }
+
+    // Gives the new file the name of the old one.
+    fn renamed(&self, new: &str, file: File) -> Result<File, FileFailure<'a>> {
+        match fs::rename(self.rt, new, self.place) {
+            Ok(()) => Ok(file),
+            Err(cause) => Err(self.failed(cause)),
+        }
+    }
+
+    /// Puts its new name on the disk.
+    pub fn sync_name(&self) -> Result<(), FileFailure<'a>> {
+        sync_folder_of(self.rt, self.place).map_err(|cause| self.failed(cause))
+    }
+
+    /// Puts the name of a new volume on the disk, and takes away the mark that the old one was suspect.
+    pub fn durably_name(&self) -> Result<(), FileFailure<'a>> {
+        self.sync_name()?;
+        SuspectFlag::of(self.rt, self.place)?
+            .remove()
+            .map_err(|cause| self.failed(cause))
+    }
+}
+
+/// An empty file for what takes another's name once it is whole. There is none where a file has this name already.
+pub fn new_file<'a, R: Files<File = File>>(
+    rt: &R,
+    new: &String,
+) -> Result<Option<File>, FileFailure<'a>> {
+    let opened = OpenOptions::new()
+        .read(true)
+        .write(true)
+        .create_new(true)
+        .open(rt, new.as_str())
+        .and_then(off_streams);
+    match opened {
+        Ok(file) => Ok(Some(file)),
+        Err(cause) => not_made(new, cause),
+    }
+}
+
+// Whether a new file wasn't made since one of its name is there already.
+fn not_made<'a>(new: &String, cause: io::Error) -> Result<Option<File>, FileFailure<'a>> {
+    match unless(ErrorKind::AlreadyExists, cause) {
+        Ok(()) => Ok(None),
+        Err(cause) => Err(beside(new, cause)),
+    }
+}
+
+fn beside<'a>(new: &String, cause: io::Error) -> FileFailure<'a> {
+    match new.clone() {
+        Ok(path) => FileFailure::Beside { path, cause },
+        Err(fault) => FileFailure::Memory(fault),
+    }
+}
+
+/// Gives a new file the mode of an old one, and its group and owner where the system allows that.
+pub fn take_after(new: &File, old: &File) -> io::Result<()> {
+    let was = old.metadata()?;
+    unless_denied(fchown(new, None, Some(was.gid())))?;
+    unless_denied(fchown(new, Some(was.uid()), None))?;
+    new.set_permissions(Permissions::from_mode(was.mode() & 0o777))
+}
+
+fn unless_denied(outcome: io::Result<()>) -> io::Result<()> {
+    match outcome {
+        Ok(()) => Ok(()),
+        Err(fault) => unless(ErrorKind::PermissionDenied, fault),
+    }
+}
+
+// The most bytes that are written at once.
+const PIECE: u64 = 1 << 20;
+
+// Writes zeros over all blocks of a new file, journals included, so that a disk without room for them fails here and
+// not in the middle of a commit.
+fn fill<'a, A: Allocator + Copy>(
+    alloc: A,
+    path: &'a str,
+    file: &File,
+    blocks: u64,
+) -> Result<(), FileFailure<'a>> {
+    let bytes = blocks.saturating_mul(PAGE);
+    let zeros = vec![in alloc; 0; bytes.min(PIECE) as usize]?;
+    for piece in 0..bytes.div_ceil(PIECE) {
+        let at = piece.saturating_mul(PIECE);
+        let count = bytes.saturating_sub(at).min(zeros.len() as u64);
+        file.write_all_at(&zeros[..count as usize], at)
+            .map_err(|cause| FileFailure::File { path, cause })?;
+    }
+    Ok(())
+}
