@@ -154,7 +154,7 @@ static int find(bool trust)
 int main(int count, char **words)
 {
     WANT(count >= 3);
-    setvbuf(stdout, NULL, _IOLBF, 0); /* what was acknowledged is told also where the process is killed then */
+    setvbuf(stdout, NULL, _IOLBF, 0); /* what was acknowledged is printed also where the process is killed then */
     snprintf(volume, sizeof volume, "%s", words[1]);
     if (strcmp(words[2], "make") == 0) {
         strcpy(folder, ".");
