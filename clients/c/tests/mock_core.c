@@ -501,7 +501,7 @@ static bool recover(struct core *core, struct journal *journal)
     return sync_disk(core) && put(core, journal->gate, closed, 1) && sync_disk(core);
 }
 
-/* What was written before is made sure of; then comes what each open journal has, the oldest first. */
+/* What was written before is made durable; then comes what each open journal has, the oldest first. */
 static int recover_all(struct core *core)
 {
     struct journal *journal;
