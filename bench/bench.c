@@ -28,7 +28,7 @@ static void sync_all(int disk) {
     if (fsync(disk) != 0) fail("fsync");
 }
 
-static void tell(const char *line) {
+static void print(const char *line) {
     if (write(STDOUT_FILENO, line, strlen(line)) < 0) fail("write");
 }
 
@@ -80,9 +80,9 @@ int main(int count, char **words) {
     for (int mark = 1; mark <= commits; mark++) {
         for (double since = now(); now() - since < pause;) {}
         for (int i = 0; i < pages; i++) memory[i][0] = (unsigned char)mark;
-        tell("marked\n");
+        print("marked\n");
         commit(disk, slots, pages, mark);
-        tell("done\n");
+        print("done\n");
     }
     return 0;
 }

@@ -192,7 +192,7 @@ static void commit_plain(int number)
     write_journal(&plain);
 }
 
-static void settle_plain(void)
+static void finish_plain(void)
 {
     write_home(&plain);
 }
@@ -213,7 +213,7 @@ static void commit_called(int number)
     write_journal(&called);
 }
 
-static void settle_called(void)
+static void finish_called(void)
 {
     write_home(&called);
 }
@@ -224,7 +224,7 @@ static void end_called(void)
 }
 
 const struct way ways_by_hand[] = {
-    {"hand", "hand.vol", begin_plain, commit_plain, settle_plain, end_plain},
-    {"hand-store", "hand_store.vol", begin_called, commit_called, settle_called, end_called},
+    {"hand", "hand.vol", begin_plain, commit_plain, finish_plain, end_plain},
+    {"hand-store", "hand_store.vol", begin_called, commit_called, finish_called, end_called},
     {0},
 };

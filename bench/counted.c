@@ -55,12 +55,12 @@ static ssize_t wrote(int file, ssize_t bytes)
     return bytes;
 }
 
-__attribute__((destructor)) static void tell(void)
+__attribute__((destructor)) static void report(void)
 {
-    static atomic_flag told = ATOMIC_FLAG_INIT;
+    static atomic_flag reported = ATOMIC_FLAG_INIT;
     const char *path = getenv("COUNTED");
     char line[100];
-    if (!path || atomic_flag_test_and_set(&told))
+    if (!path || atomic_flag_test_and_set(&reported))
         return;
     int length = snprintf(line, sizeof line, "%ld %ld %ld\n", (long)all[WRITES], (long)all[BYTES], (long)all[SYNCS]);
     int file = open(path, O_WRONLY | O_CREAT | O_APPEND, 0666);
@@ -70,7 +70,7 @@ __attribute__((destructor)) static void tell(void)
 
 void _exit(int status)
 {
-    tell();
+    report();
     for (;;)
         syscall(SYS_exit_group, status);
 }

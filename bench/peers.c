@@ -73,7 +73,7 @@ void wait_until_home(const char *path)
     must(file >= 0, path);
     while (has_open_gate(file))
         usleep(200);
-    must(syscall(SYS_fdatasync, file) == 0 && close(file) == 0, "settling");
+    must(syscall(SYS_fdatasync, file) == 0 && close(file) == 0, "the sync behind the gates");
 }
 
 static const struct way *way_of(const char *name)
@@ -114,8 +114,8 @@ static double time_of(const struct way *way, int number, int commits)
     double began = now(), ended;
     make_commits(way, number, commits);
     ended = now();
-    if (way->settle)
-        way->settle();
+    if (way->finish_write_out)
+        way->finish_write_out();
     return ended - began;
 }
 
@@ -183,7 +183,7 @@ static void print_counts(const long sums[COUNTS], const long whole[COUNTS])
     printf("%ld %ld %ld\n", whole[WRITES], whole[BYTES], whole[SYNCS]);
 }
 
-/* The last sync of a commit comes after its gate is closed, by which a way may settle: it is waited for. */
+/* The last sync of a commit comes after its gate is closed, where a way may end its wait: it is waited for. */
 static void wait_for_syncs(long before)
 {
     for (int tries = 0; tries < 5000; tries++) {
@@ -200,8 +200,8 @@ static void count_commit(const struct way *way, int number, long sums[COUNTS], l
     struct counts before = counts_now();
     way->commit(number);
     add(sums, before.own, counts_now().own);
-    if (way->settle) {
-        way->settle();
+    if (way->finish_write_out) {
+        way->finish_write_out();
         wait_for_syncs(before.all[SYNCS]);
     }
     add(whole, before.all, counts_now().all);

@@ -10,10 +10,10 @@
 
 struct way {
     const char *name;
-    const char *volume;         /* the volume that is its store; or a null pointer */
-    void (*begin)(void);        /* makes its store, and opens it */
-    void (*commit)(int number); /* stores the number in each page, and commits that */
-    void (*settle)(void);       /* waits for what comes after the acknowledgement, or makes it; or a null pointer */
+    const char *volume;             /* the volume that is its store; or a null pointer */
+    void (*begin)(void);            /* makes its store, and opens it */
+    void (*commit)(int number);     /* stores the number in each page, and commits that */
+    void (*finish_write_out)(void); /* waits for what comes after the acknowledgement, or makes it; or a null pointer */
     void (*end)(void);
 };
 

@@ -84,7 +84,7 @@ ssize_t write(int file, const void *bytes, size_t size) {
     return written;
 }
 
-__attribute__((destructor)) static void tell(void) {
+__attribute__((destructor)) static void report(void) {
     FILE *out = fopen(getenv("TIMES"), "w");
     if (!out) return;
     for (size_t i = 0; i < count; i++) fprintf(out, "%.1f\n", times[i]);

@@ -76,7 +76,7 @@ static void commit_plain(int number)
     commit_memory(&plain, number);
 }
 
-static void settle_plain(void)
+static void finish_plain(void)
 {
     wait_until_home(plain.path);
 }
@@ -119,7 +119,7 @@ static void commit_called(int number)
     must(famsync_msync(called.handle, NULL) == FAMSYNC_OK, "famsync_msync");
 }
 
-static void settle_called(void)
+static void finish_called(void)
 {
     wait_until_home(called.path);
 }
@@ -262,9 +262,9 @@ static void end_lmdb(void)
 #endif
 
 const struct way ways[] = {
-    {"famsync", "famsync.vol", begin_plain, commit_plain, settle_plain, end_plain},
+    {"famsync", "famsync.vol", begin_plain, commit_plain, finish_plain, end_plain},
     {"foreground", "foreground.vol", begin_alone, commit_alone, NULL, end_alone},
-    {"store", "store.vol", begin_called, commit_called, settle_called, end_called},
+    {"store", "store.vol", begin_called, commit_called, finish_called, end_called},
     {"msync", NULL, begin_msync, commit_msync, NULL, end_msync},
 #ifdef HAVE_SQLITE
     {"sqlite-wal", NULL, begin_wal, commit_wal, NULL, end_wal},

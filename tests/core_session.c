@@ -9,7 +9,7 @@
  *
  * The lines are those for which the core has a call: the shape, where 0 frames are as many as there can be; `map` into
  * space 1, `loads`, `stores`, `commit`, `setlength`, and `flush` or a list of it. The core's open makes space 1 and
- * enters it. Replies are those of `serve`, but where the core tells less: `set` of a length, `made` and `nothing` of
+ * enters it. Replies are those of `serve`, but where the core says less: `set` of a length, `made` and `nothing` of
  * steps of write-outs. One line more is taken, `calls`, and answered with the number of calls that were made. A volume
  * that isn't opened is answered `refused CAUSE`.
  */

@@ -59,7 +59,7 @@ static int fails(enum kind kind)
     return 0;
 }
 
-__attribute__((destructor)) static void tell(void)
+__attribute__((destructor)) static void report(void)
 {
     const char *path = getenv("COUNT");
     FILE *out = path ? fopen(path, "w") : NULL;
@@ -72,7 +72,7 @@ __attribute__((destructor)) static void tell(void)
 /* A program that has threads ends by this call alone, which runs no destructors. */
 void _exit(int status)
 {
-    tell();
+    report();
     for (;;)
         syscall(SYS_exit_group, status);
 }

@@ -51,7 +51,7 @@ void *realloc(void *block, size_t size)
     return refuses() ? NULL : __libc_realloc(block, size);
 }
 
-__attribute__((destructor)) static void tell(void)
+__attribute__((destructor)) static void report(void)
 {
     const char *path = getenv("COUNT");
     char text[32];
@@ -68,7 +68,7 @@ __attribute__((destructor)) static void tell(void)
 /* A program that has threads ends by this call alone, which runs no destructors. */
 void _exit(int status)
 {
-    tell();
+    report();
     for (;;)
         syscall(SYS_exit_group, status);
 }

@@ -394,7 +394,7 @@ class Model:
         return "mapped"
 
     def answer(self, line):
-        """The reply to a line: `badline` for one that says why; None for an answer that this model can't tell."""
+        """The reply to a line: `badline` for one that says why; None for an answer that this model doesn't know."""
         try:
             request = request_of(line)
         except Bad:

@@ -11,7 +11,7 @@ fn main() {
     let file = if is_static { "libfamsync.a" } else { "libfamsync.so" };
     let folders = match env::var("FAMSYNC_LIB_DIR") {
         Ok(folder) => vec![checked(folder, file)],
-        Err(_) => told_by_pkg_config(),
+        Err(_) => known_to_pkg_config(),
     };
     for folder in folders {
         println!("cargo:rustc-link-search=native={folder}");
@@ -30,11 +30,11 @@ fn checked(folder: String, file: &str) -> String {
     folder
 }
 
-/// The folders with which the linker is told to look for the library; none where it is in a usual place, or unknown.
-fn told_by_pkg_config() -> Vec<String> {
-    let Ok(told) = Command::new("pkg-config").args(["--libs-only-L", "famsync"]).output() else {
+/// The folders in which the linker has to look for the library; none where it is in a usual place, or unknown.
+fn known_to_pkg_config() -> Vec<String> {
+    let Ok(answer) = Command::new("pkg-config").args(["--libs-only-L", "famsync"]).output() else {
         return Vec::new();
     };
-    let words = String::from_utf8_lossy(&told.stdout).into_owned();
+    let words = String::from_utf8_lossy(&answer.stdout).into_owned();
     words.split_whitespace().filter_map(|word| word.strip_prefix("-L")).map(String::from).collect()
 }

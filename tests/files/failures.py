@@ -32,7 +32,8 @@ def cut_files():
     complains(famsync("info", "v.img"), "damaged: the file has 20000 bytes, and its super block says 40960")
     complains(famsync(*EXPORT), "damaged")
     checked = famsync("check", "v.img")
-    want((checked.status, checked.err) == (3, "") and "damaged: the file has 20000 bytes" in checked.out, "it is told", checked)
+    damaged = "damaged: the file has 20000 bytes" in checked.out
+    want((checked.status, checked.err) == (3, "") and damaged, "it is reported", checked)
 
 
 def no_room():
@@ -151,7 +152,7 @@ def failed_syncs():
                 want(os.path.exists("v.img.suspect"), "the mark is there before the reply")
                 break
         else:
-            want(False, "a reply tells of the failed sync")
+            want(False, "a reply reports the failed sync")
         lines.read()
     want(ended(process).status == 3, "the run ends so")
     # A run that is trusted and whose file can't be synced leaves the mark.

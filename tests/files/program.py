@@ -42,7 +42,7 @@ class Outcome:
 
 
 def build_faults():
-    """Builds the library that makes calls fail, in this folder. Tells whether that succeeded."""
+    """Builds the library that makes calls fail, in this folder. Whether that succeeded."""
     words = ["cc", "-shared", "-fPIC", "-O1", "-Wall", "-Wextra", "-Werror", "-o", "faults.so", f"{TESTS}/faults.c", "-ldl"]
     return subprocess.run(words).returncode == 0
 

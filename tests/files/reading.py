@@ -155,12 +155,12 @@ def looks():
         checked, data = famsync("check", "v.img"), famsync("check", "--json", "v.img")
         if cause == "damaged":
             text = by_run.err.split(": ", 2)[2]
-            want((checked.status, checked.out, checked.err) == (3, text, ""), "check tells it", checked, text)
+            want((checked.status, checked.out, checked.err) == (3, text, ""), "check reports it", checked, text)
             said = {"state": "damaged", "cause": text[len("damaged: ") : -1]}
             want((data.status, json.loads(data.out), data.err) == (3, said, ""), "and as JSON", data)
         else:
             want(checked.err == by_run.err and not checked.out, "check is refused", checked)
-    # A mark is told, and --trust looks all the same.
+    # A mark is reported, and --trust looks all the same.
     volume()
     write("v.img.suspect", "")
     for words in (["info", "v.img"], ["check", "v.img"], EXPORT):
@@ -177,7 +177,7 @@ def looks():
         bad = famsync(*words)
         want(bad.status == 2 and not bad.out, "a bad command line", words, bad)
         if "--json" in words:
-            want(json.loads(bad.err)["status"] == 2, "told as JSON", bad)
+            want(json.loads(bad.err)["status"] == 2, "reported as JSON", bad)
     made = famsync("format", "--json", "v.img", "4", "a=5000", "b=4096")
     want((made.status, json.loads(made.out)) == (0, {"blocks": 10}), "format as JSON", made)
     copied = famsync("export", "--json", "v.img", "a", "a.copy")

@@ -67,7 +67,7 @@ def an_open_volume_is_looked_at():
     yield from leaves("open.img", "a.copy")
 
 
-def a_damaged_volume_is_told():
+def a_damaged_volume_is_reported():
     """A damaged volume, and none."""
     write_bytes("hurt.img", image_of_one([(4095, 1)]))
     yield from prints("check|hurt.img", 3, f"{DAMAGED}\n")
@@ -92,4 +92,4 @@ def a_volume_is_migrated():
     yield from leaves("byte.json", "old.img", "new.img")
 
 
-GROUPS = [a_clean_volume_is_looked_at, an_open_volume_is_looked_at, a_damaged_volume_is_told, a_volume_is_migrated]
+GROUPS = [a_clean_volume_is_looked_at, an_open_volume_is_looked_at, a_damaged_volume_is_reported, a_volume_is_migrated]

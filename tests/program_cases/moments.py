@@ -57,7 +57,7 @@ def an_acknowledgement_comes_before_the_next_step():
     for only in ("read", None):
         moment = first_moment("watched", only, MARKED + COMMIT)
         if moment is None:
-            yield f"no call is made once the commit is told (calls: {only})"
+            yield f"no call is made once the commit is acknowledged (calls: {only})"
         else:
             yield from holds("watched.img", image_of_one(COMMITTED))
             yield from moment.goes_on(0, FIRST_REPLIES, "")
@@ -69,7 +69,7 @@ SYNC_OF_THE_GATE = 4
 
 
 def no_acknowledgement_comes_before_the_sync():
-    """The gate is written and not synced: the commit isn't told yet."""
+    """The gate is written and not synced: the commit isn't acknowledged yet."""
     write("synced.json", FIRST_SCRIPT)
     moment = Moment("synced", SYNC_OF_THE_GATE, "sync")
     if moment.process is None:
@@ -90,7 +90,7 @@ FAILING_SCRIPT = (
 BEFORE_FAILING = "space 1\nmapped\nswitched\nfault 4\n"
 
 
-def a_failed_device_call_is_told():
+def a_failed_device_call_is_reported():
     """Where a device call fails, the run goes on: all replies are printed, and the status is 3 then. The file is cut
     off before the first page is read."""
     write("failing.json", FAILING_SCRIPT)
@@ -114,5 +114,5 @@ GROUPS = [
     the_library_is_built,
     an_acknowledgement_comes_before_the_next_step,
     no_acknowledgement_comes_before_the_sync,
-    a_failed_device_call_is_told,
+    a_failed_device_call_is_reported,
 ]

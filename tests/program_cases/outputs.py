@@ -27,7 +27,7 @@ def run_with_room(line, room):
 
 
 def is_cut_off(line, room, printed):
-    """A run whose output has room for these bytes and no more prints them, and tells that as a fault."""
+    """A run whose output has room for these bytes and no more prints them, and reports that as a fault."""
     ran, came = run_with_room(line, room)
     yield from same_bytes(f"{line}: what is printed", printed, came)
     yield from complained(line, ran, 3, "output: ")

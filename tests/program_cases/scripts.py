@@ -77,8 +77,8 @@ BAD_STEPS = [
     ('[0,"msync",4096,4096,256]', "flags isn't a whole number up to 255"),
 ]
 
-# Steps that are told in another form: numbers as their values, and the first 60 characters alone.
-RETOLD_STEPS = [
+# Steps that are printed in another form: numbers as their values, and the first 60 characters alone.
+REPRINTED_STEPS = [
     ('[0,"load",1e3,1]', '[0,"load",1000.0,1]', ADDRESS),
     ('[0,"load",-0,1]', '[0,"load",-0.0,1]', ADDRESS),
     ('[0,"load",18446744073709551616,1]', '[0,"load",1.8446744073709552e+19,1]', ADDRESS),
@@ -160,7 +160,7 @@ def steps_are_refused():
     write("refused_steps.img", "not touched")
     for step, cause in BAD_STEPS:
         yield from refuses_step(step, step, cause)
-    for step, found, cause in RETOLD_STEPS:
+    for step, found, cause in REPRINTED_STEPS:
         yield from refuses_step(step, found, cause)
     yield from holds("refused_steps.img", b"not touched")
     yield from leaves("refused_steps.img", "refused_steps.json")

@@ -98,7 +98,7 @@ def runs_and_replays(script, least):
     yield from leaves("v.img", "before.img", "v.json", "v.trace")
 
 
-def is_told_apart(trace):
+def a_changed_trace_differs(trace):
     """The second entry, which is a step of the script, is answered otherwise than its changed text says."""
     before, mapped, after = trace.partition('"mapped"]\n')
     yield from agree("the second entry is that of the map", '"mapped"]\n', mapped)
@@ -111,7 +111,7 @@ def a_commit_beside_a_store():
     write("v.json", f'{TWO}"trace":1000,{ROW}')
     ran = run("threads|v.img|v.json")
     yield from is_replayed(ran, 12)
-    yield from is_told_apart(ran.out)
+    yield from a_changed_trace_differs(ran.out)
     dumped = run("dump|v.img")
     wanted = dumped.out if dumped.out in ROW_DUMPS else ROW_DUMPS[0]
     yield from ended_so("dump|v.img", dumped, 0, wanted)

@@ -127,7 +127,7 @@ def help_is_printed():
     yield from leaves()
 
 
-def faults_are_told():
+def faults_are_reported():
     """What ends with status 3, and what is said of each. No file is made, and the disk isn't changed."""
     yield from makes_volume("fault.img")
     write("fault.json", NO_STEPS)
@@ -147,4 +147,4 @@ def limits_are_served():
     yield from leaves("limits.img", "limits.json")
 
 
-GROUPS = [bad_words_are_refused, help_is_printed, faults_are_told, limits_are_served]
+GROUPS = [bad_words_are_refused, help_is_printed, faults_are_reported, limits_are_served]

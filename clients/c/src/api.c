@@ -17,10 +17,10 @@ bool is_forked(const famsync *handle)
 /* A session that is over: the call that meets it first answers why, unless one has already. */
 static int why_over(famsync *handle)
 {
-    bool told = handle->told;
-    handle->told = true;
+    bool reported = handle->reported;
+    handle->reported = true;
     errno = handle->error;
-    return told ? FAMSYNC_BROKEN : handle->ended;
+    return reported ? FAMSYNC_BROKEN : handle->ended;
 }
 
 int enter(famsync *handle)
@@ -39,7 +39,7 @@ int enter(famsync *handle)
 int leave(famsync *handle, int code)
 {
     if (handle->ended != FAMSYNC_OK)
-        handle->told = true;
+        handle->reported = true;
     if (atomic_fetch_sub(&handle->callers, 1) == 1 && handle->left && handle->threaded && !handle->pausing)
         pthread_cond_signal(&handle->work);
     pthread_mutex_unlock(&handle->turn);

@@ -54,7 +54,7 @@ static bool another_comes(famsync *handle)
     return handle->stopping || !has_work(handle) || atomic_load(&handle->acknowledged) != before;
 }
 
-/* The thread. An error of it is told by the next call, as the session is over then. */
+/* The thread. An error of it is reported by the next call, as the session is over then. */
 static void *work(void *argument)
 {
     famsync *handle = argument;

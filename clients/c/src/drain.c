@@ -1,4 +1,4 @@
-/* Makes the calls that the core has recorded on the volume's file, in order, and then tells the core.
+/* Makes the calls that the core has recorded on the volume's file, in order, and reports them to it then.
 
    Writes that no sync parts are gathered, and those whose places are neighbours become one system call. By that they
    are made in another order than they were recorded in, and that says nothing: of the writes since the last sync a disk
@@ -69,7 +69,7 @@ static int write_ranges(famsync *handle, struct iovec *range, unsigned count, ui
     return FAMSYNC_OK;
 }
 
-/* Makes the oldest call, a sync. One that fails is told by the mark beside the volume before anybody hears of it. The
+/* Makes the oldest call, a sync. Where it fails, the volume is marked as suspect before any call reports that. The
    file had its length, and its blocks were written, when the volume was made, so its data is all there is to sync. */
 static int make_sync(famsync *handle)
 {
@@ -183,7 +183,7 @@ static void forget_gathered(famsync *handle)
     }
 }
 
-/* Makes the oldest writes together, and tells the core when all of them are made. */
+/* Makes the oldest writes together, and reports them to the core when all of them are made. */
 static int make_writes(famsync *handle)
 {
     int code;

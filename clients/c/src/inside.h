@@ -84,10 +84,10 @@ struct famsync {
     _Atomic int callers;  /* how many calls have the turn or wait for it */
     famsync_core core;    /* the handle; it never leaves the library */
     struct volume volume;
-    int ended; /* FAMSYNC_DEVICE once a write or a sync has failed */
-    int error; /* and errno then */
-    bool told; /* a call has answered that */
-    bool torn; /* memory was closed of which a refused msync had stored a part */
+    int ended;     /* FAMSYNC_DEVICE once a write or a sync has failed */
+    int error;     /* and errno then */
+    bool reported; /* a call has answered that */
+    bool torn;     /* memory was closed of which a refused msync had stored a part */
     unsigned files;
     struct file file[MOST_FILES];
     unsigned frames;
@@ -136,7 +136,7 @@ void close_volume_file(struct volume *volume);
 void let_volume_go(struct volume *volume);
 /* Unlocks the file, and closes it: a process that was forked, and is about to be another program, may have it open. */
 void unlock_volume(struct volume *volume);
-/* Marks a volume as suspect, and makes sure that the mark is on the disk. */
+/* Marks a volume as suspect, and makes the mark durable. */
 int mark_suspect(const struct volume *volume);
 
 /* drain.c: makes the calls that the core has recorded, unless the newest of them is a write: writes that aren't to be

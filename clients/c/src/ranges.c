@@ -53,8 +53,8 @@ int map_pages(famsync *handle, unsigned file, uint64_t offset, uint64_t length, 
     return FAMSYNC_OK;
 }
 
-/* What is recorded is made, whatever came of the call: an error of that is told first. */
-static int settle(famsync *handle, int code)
+/* Makes what is recorded, whatever the call is to answer; an error of that is answered instead. */
+static int drain_after(famsync *handle, int code)
 {
     int drained = drain(handle);
     return drained != FAMSYNC_OK ? drained : code;
@@ -73,7 +73,7 @@ int load_range(famsync *handle, uint64_t address, unsigned char *bytes, size_t c
         *done += some;
         code = answer == FAMSYNC_CORE_WANTED ? supply(handle, wanted, count - *done) : answer_of(handle, answer);
     }
-    return settle(handle, code);
+    return drain_after(handle, code);
 }
 
 int store_range(famsync *handle, uint64_t address, const unsigned char *bytes, size_t count, size_t *done)
@@ -89,7 +89,7 @@ int store_range(famsync *handle, uint64_t address, const unsigned char *bytes, s
         *done += some;
         code = answer == FAMSYNC_CORE_WANTED ? supply(handle, wanted, count - *done) : answer_of(handle, answer);
     }
-    return settle(handle, code);
+    return drain_after(handle, code);
 }
 
 int famsync_map(famsync *handle, const char *file, uint64_t offset, uint64_t length, int protection, uint64_t *address)
@@ -181,7 +181,7 @@ static int set_length(famsync *handle, unsigned file, uint64_t length)
     }
     if (code == FAMSYNC_OK)
         atomic_store(&handle->file[file].length, length);
-    return settle(handle, code);
+    return drain_after(handle, code);
 }
 
 int famsync_setlength(famsync *handle, const char *file, uint64_t length)

@@ -43,7 +43,7 @@ static int sync_file(int file)
     return synced;
 }
 
-/* Makes sure that the names in the folder of a file are on the disk. */
+/* Makes the names in the folder of a file durable. */
 static int sync_folder_of(const char *place)
 {
     char *folder = strdup(place), *slash;

@@ -1,5 +1,5 @@
 /* How recorded calls are made, by drain.c alone: over lists of calls that a core might record, and a file in memory.
-   Whenever the core is told of calls, exactly these and those before were made. */
+   Whenever calls are reported to the core, exactly these and those before were made. */
 #include "inside.h"
 
 #include <errno.h>
@@ -16,18 +16,18 @@ static struct recorded {
     uint8_t bytes[PAGE];
 } call[MOST_CALLS];
 
-static unsigned calls, told;                     /* recorded; and how many of them are said to be made */
+static unsigned calls, reported;                 /* recorded; and how many of them are reported to be made */
 static uint8_t made[MOST_CALLS * PAGE];          /* the file */
 static size_t size;                              /* how many bytes of it are looked at */
 static uint8_t synced[sizeof made];              /* as it was at its last sync */
-static uint8_t wanted[sizeof made];              /* as the calls make it of which the core was told */
+static uint8_t wanted[sizeof made];              /* as the calls make it that were reported */
 static unsigned writes, syncs, fails_at, marked; /* calls of the system; the one that fails, if any */
 static bool in_parts;                            /* each write does a part of what it is asked for, or nothing */
 
 static void want(bool holds, const char *what)
 {
     if (!holds) {
-        fprintf(stderr, "drain: %s, with %u calls of which %u were told\n", what, calls, told);
+        fprintf(stderr, "drain: %s, with %u calls of which %u were reported\n", what, calls, reported);
         exit(1);
     }
 }
@@ -75,19 +75,19 @@ int mark_suspect(const struct volume *volume)
 int64_t famsync_core_waiting(famsync_core core, uint8_t **at)
 {
     *at = core.at;
-    return calls - told;
+    return calls - reported;
 }
 
 int32_t famsync_core_call(famsync_core core, uint32_t index, uint32_t *kind, uint64_t *offset, const uint8_t **bytes,
                           uint64_t *length, uint8_t **at)
 {
     *at = core.at;
-    if (index >= calls - told)
+    if (index >= calls - reported)
         return FAMSYNC_CORE_NONE;
-    *kind = call[told + index].syncs ? 2 : 1;
-    *offset = call[told + index].offset;
-    *length = call[told + index].length;
-    *bytes = call[told + index].bytes;
+    *kind = call[reported + index].syncs ? 2 : 1;
+    *offset = call[reported + index].offset;
+    *length = call[reported + index].length;
+    *bytes = call[reported + index].bytes;
     return FAMSYNC_CORE_OK;
 }
 
@@ -95,15 +95,15 @@ int32_t famsync_core_call(famsync_core core, uint32_t index, uint32_t *kind, uin
 int32_t famsync_core_carried_out(famsync_core core, uint32_t count, uint8_t **at)
 {
     *at = core.at;
-    want(count >= 1 && count <= calls - told, "the core was told of calls that don't wait");
-    for (; count > 0; count--, told++) {
-        if (call[told].syncs)
+    want(count >= 1 && count <= calls - reported, "calls were reported that don't wait");
+    for (; count > 0; count--, reported++) {
+        if (call[reported].syncs)
             want(memcmp(synced, wanted, size) == 0, "a sync was made too soon or too late");
         else
-            memcpy(wanted + call[told].offset, call[told].bytes, call[told].length);
-        memset(call[told].bytes, 0xDD, PAGE); /* which are the core's, and gone */
+            memcpy(wanted + call[reported].offset, call[reported].bytes, call[reported].length);
+        memset(call[reported].bytes, 0xDD, PAGE); /* which are the core's, and gone */
     }
-    want(memcmp(made, wanted, size) == 0, "what was made isn't what was told");
+    want(memcmp(made, wanted, size) == 0, "what was made isn't what was reported");
     return FAMSYNC_CORE_OK;
 }
 
@@ -120,7 +120,7 @@ static void begin(unsigned pages)
     memset(made, 0, size);
     memset(synced, 0, size);
     memset(wanted, 0, size);
-    calls = told = writes = syncs = fails_at = marked = 0;
+    calls = reported = writes = syncs = fails_at = marked = 0;
 }
 
 static void record_write(uint64_t offset, uint64_t length)
@@ -162,7 +162,7 @@ static void any_calls(unsigned seed)
     }
     record_sync();
     in_parts = seed % 2 == 0;
-    want(drained(seed % 5 == 0 ? 1 : 1 + seed % 40) == FAMSYNC_OK && told == calls, "calls are left");
+    want(drained(seed % 5 == 0 ? 1 : 1 + seed % 40) == FAMSYNC_OK && reported == calls, "calls are left");
     in_parts = false;
 }
 
@@ -173,11 +173,11 @@ static void neighbours(unsigned pages, unsigned as_calls)
     for (unsigned page = pages; page > 0; page--)
         record_write((uint64_t)(page - 1) * PAGE, PAGE);
     record_sync();
-    want(drained(MOST_CALLS) == FAMSYNC_OK && told == calls, "calls are left");
+    want(drained(MOST_CALLS) == FAMSYNC_OK && reported == calls, "calls are left");
     want(writes == as_calls && syncs == 1, "another number of calls of the system");
 }
 
-/* Of calls that fail, and of those behind them, the core isn't told. */
+/* Calls that fail, and those behind them, aren't reported to the core. */
 static void failing(void)
 {
     for (unsigned at = 1; at <= 6; at++) {
@@ -188,8 +188,8 @@ static void failing(void)
             record_sync();
         }
         fails_at = at;
-        want(drained(16) == FAMSYNC_DEVICE && errno == EIO, "a failure that isn't told");
-        want(told == (at < 3 ? 0 : at == 3 ? 2 : at < 6 ? 3 : 5), "another number of calls was told");
+        want(drained(16) == FAMSYNC_DEVICE && errno == EIO, "a failure that isn't answered");
+        want(reported == (at < 3 ? 0 : at == 3 ? 2 : at < 6 ? 3 : 5), "another number of calls was reported");
         want(marked == (at % 3 == 0), "a mark where no sync failed, or none where one did");
     }
 }
@@ -200,11 +200,11 @@ static void not_synced_yet(void)
     begin(4);
     want(drained(16) == FAMSYNC_OK && writes == 0, "a write where none waits");
     record_write(4096, 4096);
-    want(drained(16) == FAMSYNC_OK && told == 0 && writes == 0, "a write was made before its sync");
+    want(drained(16) == FAMSYNC_OK && reported == 0 && writes == 0, "a write was made before its sync");
     record_write(0, 4096);
     record_write(8192, 4096);
     record_sync();
-    want(drained(16) == FAMSYNC_OK && told == 4 && writes == 1 && syncs == 1, "neighbours weren't made together");
+    want(drained(16) == FAMSYNC_OK && reported == 4 && writes == 1 && syncs == 1, "neighbours weren't made together");
 }
 
 int main(void)

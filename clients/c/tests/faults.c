@@ -68,7 +68,7 @@ static void put_line(const char *path, const char *line, size_t length)
     syscall(SYS_close, file);
 }
 
-__attribute__((destructor)) static void tell(void)
+__attribute__((destructor)) static void report(void)
 {
     const char *path = getenv("COUNT");
     char line[64];

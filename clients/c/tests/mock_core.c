@@ -276,7 +276,7 @@ int32_t famsync_core_call(famsync_core handle, uint32_t index, uint32_t *kind, u
 }
 
 /* The last commit is acknowledged where no call waits. */
-static void settle(struct core *core)
+static void acknowledge_if_made(struct core *core)
 {
     if (core->first == core->calls)
         core->acknowledged = core->mark;
@@ -295,7 +295,7 @@ int32_t famsync_core_carried_out(famsync_core handle, uint32_t count, uint8_t **
     }
     if (core->first == core->calls)
         core->first = core->calls = 0;
-    settle(core);
+    acknowledge_if_made(core);
     return FAMSYNC_CORE_OK;
 }
 
@@ -501,7 +501,7 @@ static bool recover(struct core *core, struct journal *journal)
     return sync_disk(core) && put(core, journal->gate, closed, 1) && sync_disk(core);
 }
 
-/* What was written before is made sure of; then comes what each open journal has, the oldest first. */
+/* What was written before is made durable; then comes what each open journal has, the oldest first. */
 static int recover_all(struct core *core)
 {
     struct journal *journal;
@@ -782,7 +782,7 @@ int32_t famsync_core_commit(famsync_core handle, uint32_t *mark, uint8_t **at)
     }
     *mark = ++core->mark;
     if (journal->count == 0) {
-        settle(core);
+        acknowledge_if_made(core);
         return FAMSYNC_CORE_OK;
     }
     journal->mark = core->mark;
@@ -877,7 +877,7 @@ static bool take_out_next(struct core *core)
 }
 
 /* Makes room for a page, if that can be done: where there is none before, once the write-outs are done. Where they
-   can't be recorded, nobody is told but by the next commit. */
+   can't be recorded, the next commit alone reports it. */
 static bool make_room(struct core *core)
 {
     if (take_out_next(core))

@@ -22,7 +22,7 @@
 #define THREADS 3
 #define FEW (PAGES + 1) /* as many pages as a round stores to */
 
-static int tell(const char *call, int code)
+static int report(const char *call, int code)
 {
     if (code == FAMSYNC_OK)
         return 0;
@@ -37,7 +37,7 @@ static int tell(const char *call, int code)
 static int load_another(famsync *handle, uint64_t address, uint64_t number)
 {
     unsigned char byte;
-    return tell("load", famsync_load(handle, address + (PAGES + number % PAGES) * 4096, &byte, 1, NULL));
+    return report("load", famsync_load(handle, address + (PAGES + number % PAGES) * 4096, &byte, 1, NULL));
 }
 
 /* The half of the pages is stored to by plain memory, and the other half by famsync_store. */
@@ -48,11 +48,11 @@ static int one_round(famsync *handle, famsync_memory *memory, uint64_t address, 
     for (unsigned page = 0; page < PAGES; page += 2) {
         memcpy((unsigned char *)famsync_memory_at(memory) + page * 4096 + 8 * (number % 16), &number, 8);
         memcpy((unsigned char *)famsync_memory_at(memory) + page * 4096 + 4000, &number, 8);
-        failed |= tell("store", famsync_store(handle, address + (page + 1) * 4096 + 4000, &number, 8, NULL));
+        failed |= report("store", famsync_store(handle, address + (page + 1) * 4096 + 4000, &number, 8, NULL));
     }
     if (number % 4 == 0)
-        failed |= tell("setlength", famsync_setlength(handle, "b", number));
-    failed |= tell("msync", failed ? FAMSYNC_OK : famsync_msync(handle, &mark));
+        failed |= report("setlength", famsync_setlength(handle, "b", number));
+    failed |= report("msync", failed ? FAMSYNC_OK : famsync_msync(handle, &mark));
     if (!failed)
         printf("%llu\n", (unsigned long long)number);
     return failed;
@@ -79,15 +79,15 @@ static int work(uint64_t rounds, const char *how)
     famsync_memory *memory;
     uint64_t address, number;
     struct famsync_options options = {.foreground = *how, .frames = strcmp(how, "few") == 0 ? FEW : 0};
-    if (tell("open", famsync_open(volume, &options, &handle)))
+    if (report("open", famsync_open(volume, &options, &handle)))
         return 0;
-    if (!tell("memory", famsync_memory_open(handle, "a", &memory))) {
-        if (!tell("map", famsync_map(handle, "a", 0, 0, 3, &address)) &&
-            !tell("load", famsync_load(handle, address + 4096 + 4000, &number, 8, NULL)))
+    if (!report("memory", famsync_memory_open(handle, "a", &memory))) {
+        if (!report("map", famsync_map(handle, "a", 0, 0, 3, &address)) &&
+            !report("load", famsync_load(handle, address + 4096 + 4000, &number, 8, NULL)))
             make_rounds(handle, memory, address, number + 1, number + 1 + rounds);
-        tell("forget", famsync_memory_close(memory));
+        report("forget", famsync_memory_close(memory));
     }
-    tell("close", famsync_close(handle));
+    report("close", famsync_close(handle));
     return 0;
 }
 
@@ -154,7 +154,7 @@ static int find(bool trust)
 int main(int count, char **words)
 {
     WANT(count >= 3);
-    setvbuf(stdout, NULL, _IOLBF, 0); /* what was acknowledged is told also where the process is killed then */
+    setvbuf(stdout, NULL, _IOLBF, 0); /* what was acknowledged is printed also where the process is killed then */
     snprintf(volume, sizeof volume, "%s", words[1]);
     if (strcmp(words[2], "make") == 0) {
         strcpy(folder, ".");

@@ -27,17 +27,17 @@ class Killed(InAFolder):
     files = ("bank=16384",)
 
     def ended(self, wait, number):
-        """The last transfer that a bank tells which gets a signal after a while."""
+        """The last transfer that a bank acknowledges which gets a signal after a while."""
         pipes = {"stdout": subprocess.PIPE, "stderr": subprocess.PIPE, "text": True}
         with subprocess.Popen(BANK, preexec_fn=interruptible, **pipes) as bank:
             first = bank.stdout.readline()
             time.sleep(wait)
             self.assertIsNone(bank.poll(), "it ended by itself")
             bank.send_signal(number)
-            told = re.findall(r"^acknowledged (\d+)\n", first + bank.stdout.read(), flags=re.MULTILINE)
+            acknowledged = re.findall(r"^acknowledged (\d+)\n", first + bank.stdout.read(), flags=re.MULTILINE)
             said = bank.stderr.read()
             self.assertEqual(said.splitlines()[-1:], ["KeyboardInterrupt"] if number == signal.SIGINT else [])
-        return int(told[-1])
+        return int(acknowledged[-1])
 
     def found(self):
         """How many transfers there are, where the sum is 0."""
@@ -58,7 +58,7 @@ class Killed(InAFolder):
             self.assertIn(found, (known, known + 1))
         self.assertEqual(self.checked(), (0, f"sum 0, {found} transfers\n"))
 
-    def test_a_sum_that_is_not_0_is_told(self):
+    def test_a_sum_that_is_not_0_is_reported(self):
         subprocess.run([*BANK, "3"], check=True, capture_output=True, timeout=60)
         self.assertEqual(self.checked(), (0, "sum 0, 3 transfers\n"))
         with open("v.img", "r+b") as file:

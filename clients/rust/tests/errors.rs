@@ -8,7 +8,7 @@ use std::fs::{self, OpenOptions};
 use std::os::unix::fs::FileExt;
 use volumes::make_volume;
 
-/// The code of a call that is refused, and whether it is told in words.
+/// The code of a call that is refused, and whether its error has words.
 #[track_caller]
 fn code<T>(answer: Result<T, Error>) -> Code {
     let error = answer.err().expect("the call is to be refused");

@@ -27,14 +27,14 @@ fn bank() -> PathBuf {
 /// was acknowledged, 0 for none.
 fn killed_after(time: Duration, of_the_first: bool, volume: &Path) -> i64 {
     let mut process = Command::new(bank()).arg(volume).stdout(Stdio::piped()).spawn().unwrap();
-    let mut told = BufReader::new(process.stdout.take().unwrap());
+    let mut output = BufReader::new(process.stdout.take().unwrap());
     let mut lines = String::new();
     if of_the_first {
-        told.read_line(&mut lines).unwrap();
+        output.read_line(&mut lines).unwrap();
     }
     thread::sleep(time);
     process.kill().unwrap();
-    while told.read_line(&mut lines).unwrap() > 0 {}
+    while output.read_line(&mut lines).unwrap() > 0 {}
     process.wait().unwrap();
     let numbers = lines.split_inclusive('\n').filter_map(|line| line.strip_prefix("acknowledged ")?.strip_suffix('\n'));
     numbers.map(|number| number.parse().unwrap()).max().unwrap_or(0)

@@ -66,7 +66,7 @@ static void transact(struct way *way, int pages)
 
 /* Waits until the pages of the last commit are written home, where the library's thread does that: the gate is closed
    then, and the sync after it waits for those before. */
-static void settle(const struct way *way)
+static void wait_until_home(const struct way *way)
 {
     unsigned char gate = 0;
     int file;
@@ -92,7 +92,7 @@ static double one_turn(struct way *way, int pages, int row)
     for (int i = 0; i < row; i++)
         transact(way, pages);
     ended = now();
-    settle(way);
+    wait_until_home(way);
     return (ended - began) / row;
 }
 

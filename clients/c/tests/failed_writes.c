@@ -1,4 +1,4 @@
-/* Who is told that a write failed, and how: also where it was made by another thread. */
+/* Who gets the error of a write that failed, and errno: also where it was made by another thread. */
 #include "test.h"
 
 #include <stdatomic.h>
@@ -40,7 +40,7 @@ static void begin(void)
     WANT_CODE(famsync_store(handle, address, &number, sizeof number, NULL), FAMSYNC_OK);
 }
 
-/* The session is over, and the close tells once more why. */
+/* The session is over, and the close answers once more why. */
 static void end(int error)
 {
     unsigned char byte;
@@ -50,7 +50,7 @@ static void end(int error)
     WANT(errno == error);
 }
 
-/* A write of the library's own thread fails: the next call is told. */
+/* A write of the library's own thread fails: the next call gets its error. */
 static void in_the_background(void)
 {
     unsigned char byte;
@@ -82,11 +82,12 @@ static void *commit(void *argument)
     return NULL;
 }
 
-/* Two threads share a commit that fails: each is told. One that comes too late to share it hears that it is over. */
+/* Two threads share a commit that fails: each gets the error. To one that comes too late to share it the session is
+   over. */
 static void shared(void)
 {
     struct commit first = {.spared = true}, next[2] = {{0}};
-    unsigned told = 0;
+    unsigned shared_by = 0;
     begin();
     atomic_store(&held, true);
     WANT(pthread_create(&first.thread, NULL, commit, &first) == 0);
@@ -103,9 +104,9 @@ static void shared(void)
         WANT(pthread_join(next[i].thread, NULL) == 0);
         WANT(next[i].code == FAMSYNC_DEVICE || next[i].code == FAMSYNC_BROKEN);
         WANT(next[i].error == EFBIG);
-        told += next[i].code == FAMSYNC_DEVICE;
+        shared_by += next[i].code == FAMSYNC_DEVICE;
     }
-    WANT(told > 0);
+    WANT(shared_by > 0);
     end(EFBIG);
 }
 
@@ -114,6 +115,6 @@ int main(void)
     spared = true;
     in_the_background();
     shared();
-    printf("clients/c: told: as it should be\n");
+    printf("clients/c: failed_writes: as it should be\n");
     return 0;
 }
