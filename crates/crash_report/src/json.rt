@@ -33,12 +33,7 @@ pub fn json_row<A: Allocator + Copy, W: io::Write>(
     out: &mut W,
 ) -> io::Result<()> {
     match call {
-        Some(call) => {
-            let number = row.number;
-            let word = word_of(call.kind);
-            write!(out, "{{\"call\":{number},\"does\":\"{word}\"")?;
-            json_part(places, call, out)?;
-        }
+        Some(call) => json_call(places, call, row.number, out)?,
         None => write!(out, "{{\"end\":true")?,
     }
     write!(out, ",\"replies\":[")?;
@@ -60,12 +55,15 @@ pub fn json_row<A: Allocator + Copy, W: io::Write>(
     writeln!(out, "]}}")
 }
 
-// The members that say what a read or a write touches.
-fn json_part<A: Allocator + Copy, W: io::Write>(
+// The members of the call of this number: what it does, and what a read or a write touches.
+fn json_call<A: Allocator + Copy, W: io::Write>(
     places: &Places<A>,
     call: &Call<A>,
+    number: u64,
     out: &mut W,
 ) -> io::Result<()> {
+    let word = word_of(call.kind);
+    write!(out, "{{\"call\":{number},\"does\":\"{word}\"")?;
     let table = &places.table;
     match part(places, call) {
         None => return Ok(()),

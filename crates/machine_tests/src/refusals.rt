@@ -25,131 +25,135 @@ type Disk = FileDisk<File>;
 
 type Trial<'a> = Machine<Disk, &'a Counting>;
 
-// How often a step is made, the step, what it is answered where memory is ample, and how many requests for memory it
-// makes.
-type Row = (u8, &'static str, &'static str, u64);
+// A line of the scripts below: a step, what it is answered where memory is ample, how often it is made, and how many
+// requests for memory it makes. It is made once, and makes none, where the line has no number of either.
+#[derive(Clone, Copy)]
+struct Row<'a> {
+    step: &'a str,
+    wanted: &'a str,
+    times: u64,
+    requests: u64,
+}
+
+impl<'a> Row<'a> {
+    fn read<R: Host>(rt: &R, line: &'a str) -> Row<'a> {
+        let (step, answer) = line.split_once(" -> ").expect(rt, "a step and its answer");
+        let (wanted, counted) = answer.split_once(", ").unwrap_or((answer, ""));
+        Row {
+            step,
+            wanted,
+            times: number_before(rt, counted, " time").unwrap_or(1),
+            requests: number_before(rt, counted, " request").unwrap_or(0),
+        }
+    }
+}
+
+// The number that stands before a word, if a text is both.
+fn number_before<R: Host>(rt: &R, text: &str, word: &str) -> Option<u64> {
+    let (number, _) = text.split_once(word)?;
+    Some(number.parse().ok().expect(rt, "a number"))
+}
 
 // A commit of what both processors stored, the second one also after it was interrupted, until it is done; holes in a
 // mapping, and in the rights of another; a second space, and each act that takes no memory.
-const LAYOUT_ONE: &[Row] = &[
-    (1, r#"[0,"create"]"#, "space 1", 3),
-    (1, r#"[0,"map",1,4096,12288,0,0,"rw","rw"]"#, "mapped", 3),
-    (1, r#"[0,"map",1,16384,4096,1,0,"rw","rw"]"#, "mapped", 0),
-    (1, r#"[0,"switch",1,"drop"]"#, "switched", 0),
-    (1, r#"[1,"switch",1,"drop"]"#, "switched", 0),
-    (1, r#"[0,"store",4096,[65]]"#, "fault 6", 0),
-    (1, r#"[0,"fix",4096,"write"]"#, "fixed", 0),
-    (1, r#"[0,"store",4096,[65]]"#, "stored", 0),
-    (1, r#"[1,"load",4096,1]"#, "bytes 65", 0),
-    (1, r#"[0,"msync",4096,4096,4]"#, "begun", 0),
-    (1, r#"[1,"store",4097,[66]]"#, "stored", 0),
-    (1, r#"[0,"change"]"#, "notyet 1", 0),
-    (1, r#"[1,"ack"]"#, "acked", 0),
-    (1, r#"[1,"store",4098,[67]]"#, "stalled", 0),
-    (1, r#"[0,"change"]"#, "marked 1", 0),
-    (1, r#"[1,"resume"]"#, "resumed", 0),
-    (1, r#"[1,"store",4098,[67]]"#, "fault 7", 0),
-    (4, r#"[0,"flush"]"#, "going", 0),
-    (1, r#"[0,"flush"]"#, "committed 1", 0),
-    (3, r#"[0,"flush"]"#, "going", 0),
-    (1, r#"[0,"flush"]"#, "done 1", 0),
-    (1, r#"[0,"flush"]"#, "nothing", 0),
-    (1, r#"[0,"map",1,32768,12288,0,0,"rw","rw"]"#, "mapped", 0),
-    (1, r#"[0,"protect",1,36864,4096,"r"]"#, "begun", 1),
-    (1, r#"[1,"ack"]"#, "acked", 0),
-    (1, r#"[0,"change"]"#, "protected", 0),
-    (1, r#"[1,"resume"]"#, "resumed", 0),
-    (1, r#"[0,"map",1,49152,4096,1,0,"rw","rw"]"#, "mapped", 0),
-    (1, r#"[0,"map",1,57344,4096,1,0,"rw","rw"]"#, "mapped", 0),
-    (1, r#"[0,"map",1,65536,4096,1,0,"rw","rw"]"#, "mapped", 0),
-    (1, r#"[0,"unmap",1,8192,4096]"#, "begun", 1),
-    (1, r#"[1,"ack"]"#, "acked", 0),
-    (1, r#"[0,"change"]"#, "unmapped", 0),
-    (1, r#"[1,"resume"]"#, "resumed", 0),
-    (1, r#"[0,"create"]"#, "space 2", 3),
-    (1, r#"[0,"map",2,4096,4096,1,0,"rw","rw"]"#, "mapped", 3),
-    (1, r#"[1,"switch",2,"keep"]"#, "switched", 0),
-    (1, r#"[1,"fix",4096,"read"]"#, "fixed", 0),
-    (1, r#"[1,"fill",1]"#, "filled", 0),
-    (1, r#"[1,"evict",0]"#, "evicted", 0),
-    (1, r#"[1,"idle"]"#, "idled", 0),
-    (1, r#"[1,"wake"]"#, "woken", 0),
-    (1, r#"[1,"switch",1,"keep"]"#, "switched", 0),
-    (1, r#"[0,"reclaim",1,0]"#, "begun", 0),
-    (1, r#"[0,"change"]"#, "reclaimed", 0),
-    (1, r#"[0,"destroy",2]"#, "destroyed", 0),
-    (1, r#"[0,"setlength",0,5000]"#, "einval", 0),
-    (1, r#"[0,"create"]"#, "space 2", 3),
-];
+const LAYOUT_ONE: &str = r#"[0,"create"] -> space 1, 3 requests
+[0,"map",1,4096,12288,0,0,"rw","rw"] -> mapped, 3 requests
+[0,"map",1,16384,4096,1,0,"rw","rw"] -> mapped
+[0,"switch",1,"drop"] -> switched
+[1,"switch",1,"drop"] -> switched
+[0,"store",4096,[65]] -> fault 6
+[0,"fix",4096,"write"] -> fixed
+[0,"store",4096,[65]] -> stored
+[1,"load",4096,1] -> bytes 65
+[0,"msync",4096,4096,4] -> begun
+[1,"store",4097,[66]] -> stored
+[0,"change"] -> notyet 1
+[1,"ack"] -> acked
+[1,"store",4098,[67]] -> stalled
+[0,"change"] -> marked 1
+[1,"resume"] -> resumed
+[1,"store",4098,[67]] -> fault 7
+[0,"flush"] -> going, 4 times
+[0,"flush"] -> committed 1
+[0,"flush"] -> going, 3 times
+[0,"flush"] -> done 1
+[0,"flush"] -> nothing
+[0,"map",1,32768,12288,0,0,"rw","rw"] -> mapped
+[0,"protect",1,36864,4096,"r"] -> begun, 1 request
+[1,"ack"] -> acked
+[0,"change"] -> protected
+[1,"resume"] -> resumed
+[0,"map",1,49152,4096,1,0,"rw","rw"] -> mapped
+[0,"map",1,57344,4096,1,0,"rw","rw"] -> mapped
+[0,"map",1,65536,4096,1,0,"rw","rw"] -> mapped
+[0,"unmap",1,8192,4096] -> begun, 1 request
+[1,"ack"] -> acked
+[0,"change"] -> unmapped
+[1,"resume"] -> resumed
+[0,"create"] -> space 2, 3 requests
+[0,"map",2,4096,4096,1,0,"rw","rw"] -> mapped, 3 requests
+[1,"switch",2,"keep"] -> switched
+[1,"fix",4096,"read"] -> fixed
+[1,"fill",1] -> filled
+[1,"evict",0] -> evicted
+[1,"idle"] -> idled
+[1,"wake"] -> woken
+[1,"switch",1,"keep"] -> switched
+[0,"reclaim",1,0] -> begun
+[0,"change"] -> reclaimed
+[0,"destroy",2] -> destroyed
+[0,"setlength",0,5000] -> einval
+[0,"create"] -> space 2, 3 requests"#;
 
 // Four mappings of three pages, the first of which an unmap splits; three far apart; a protect that splits the second;
 // one more beside them; spaces until their list grows; and an unmap that takes the end of a mapping away.
-const SPLITS: &[Row] = &[
-    (1, r#"[0,"create"]"#, "space 1", 3),
-    (1, r#"[0,"map",1,4096,12288,0,0,"rw","rw"]"#, "mapped", 3),
-    (1, r#"[0,"map",1,20480,12288,0,0,"rw","rw"]"#, "mapped", 0),
-    (1, r#"[0,"map",1,36864,12288,0,0,"rw","rw"]"#, "mapped", 0),
-    (1, r#"[0,"map",1,53248,12288,0,0,"rw","rw"]"#, "mapped", 0),
-    (1, r#"[0,"unmap",1,8192,4096]"#, "begun", 1),
-    (1, r#"[0,"change"]"#, "unmapped", 0),
-    (
-        1,
-        r#"[0,"map",1,1099511627776,4096,0,0,"rw","rw"]"#,
-        "mapped",
-        2,
-    ),
-    (
-        1,
-        r#"[0,"map",1,2199023255552,4096,0,0,"rw","rw"]"#,
-        "mapped",
-        2,
-    ),
-    (
-        1,
-        r#"[0,"map",1,4398046511104,4096,0,0,"rw","rw"]"#,
-        "mapped",
-        0,
-    ),
-    (1, r#"[0,"protect",1,24576,4096,"r"]"#, "begun", 1),
-    (1, r#"[0,"change"]"#, "protected", 0),
-    (1, r#"[0,"map",1,122880,4096,0,0,"rw","rw"]"#, "mapped", 0),
-    (1, r#"[0,"create"]"#, "space 2", 3),
-    (1, r#"[0,"create"]"#, "space 3", 3),
-    (1, r#"[0,"create"]"#, "space 4", 4),
-    (1, r#"[0,"map",4,4096,4096,0,0,"rw","rw"]"#, "mapped", 3),
-    (1, r#"[0,"unmap",1,61440,4096]"#, "begun", 0),
-    (1, r#"[0,"change"]"#, "unmapped", 0),
-];
+const SPLITS: &str = r#"[0,"create"] -> space 1, 3 requests
+[0,"map",1,4096,12288,0,0,"rw","rw"] -> mapped, 3 requests
+[0,"map",1,20480,12288,0,0,"rw","rw"] -> mapped
+[0,"map",1,36864,12288,0,0,"rw","rw"] -> mapped
+[0,"map",1,53248,12288,0,0,"rw","rw"] -> mapped
+[0,"unmap",1,8192,4096] -> begun, 1 request
+[0,"change"] -> unmapped
+[0,"map",1,1099511627776,4096,0,0,"rw","rw"] -> mapped, 2 requests
+[0,"map",1,2199023255552,4096,0,0,"rw","rw"] -> mapped, 2 requests
+[0,"map",1,4398046511104,4096,0,0,"rw","rw"] -> mapped
+[0,"protect",1,24576,4096,"r"] -> begun, 1 request
+[0,"change"] -> protected
+[0,"map",1,122880,4096,0,0,"rw","rw"] -> mapped
+[0,"create"] -> space 2, 3 requests
+[0,"create"] -> space 3, 3 requests
+[0,"create"] -> space 4, 4 requests
+[0,"map",4,4096,4096,0,0,"rw","rw"] -> mapped, 3 requests
+[0,"unmap",1,61440,4096] -> begun
+[0,"change"] -> unmapped"#;
 
 // A file grows by a page, and is cut again; the commit in between has its length and its pages.
-const LAYOUT_THREE: &[Row] = &[
-    (1, r#"[0,"create"]"#, "space 1", 3),
-    (1, r#"[0,"map",1,4096,12288,0,0,"rw","rw"]"#, "mapped", 3),
-    (1, r#"[0,"switch",1,"drop"]"#, "switched", 0),
-    (1, r#"[1,"switch",1,"drop"]"#, "switched", 0),
-    (1, r#"[1,"fix",8192,"read"]"#, "fixed", 0),
-    (1, r#"[1,"store",8192,[1]]"#, "stored", 0),
-    (1, r#"[0,"setlength",0,9000]"#, "begun", 0),
-    (1, r#"[1,"ack"]"#, "acked", 0),
-    (1, r#"[0,"change"]"#, "resized", 0),
-    (1, r#"[1,"resume"]"#, "resumed", 0),
-    (1, r#"[0,"fix",12288,"write"]"#, "fixed", 0),
-    (1, r#"[0,"store",12288,[7]]"#, "stored", 0),
-    (1, r#"[1,"msync",0,0,1]"#, "begun", 0),
-    (1, r#"[0,"ack"]"#, "acked", 0),
-    (1, r#"[1,"change"]"#, "marked 1", 0),
-    (1, r#"[0,"resume"]"#, "resumed", 0),
-    (1, r#"[1,"fix",12288,"write"]"#, "fixed", 0),
-    (1, r#"[1,"store",12288,[8]]"#, "stored", 0),
-    (6, r#"[0,"flush"]"#, "going", 0),
-    (1, r#"[0,"flush"]"#, "committed 1", 0),
-    (5, r#"[0,"flush"]"#, "going", 0),
-    (1, r#"[0,"flush"]"#, "done 1", 0),
-    (1, r#"[0,"setlength",0,4096]"#, "begun", 0),
-    (1, r#"[1,"ack"]"#, "acked", 0),
-    (1, r#"[0,"change"]"#, "resized", 0),
-    (1, r#"[1,"resume"]"#, "resumed", 0),
-];
+const LAYOUT_THREE: &str = r#"[0,"create"] -> space 1, 3 requests
+[0,"map",1,4096,12288,0,0,"rw","rw"] -> mapped, 3 requests
+[0,"switch",1,"drop"] -> switched
+[1,"switch",1,"drop"] -> switched
+[1,"fix",8192,"read"] -> fixed
+[1,"store",8192,[1]] -> stored
+[0,"setlength",0,9000] -> begun
+[1,"ack"] -> acked
+[0,"change"] -> resized
+[1,"resume"] -> resumed
+[0,"fix",12288,"write"] -> fixed
+[0,"store",12288,[7]] -> stored
+[1,"msync",0,0,1] -> begun
+[0,"ack"] -> acked
+[1,"change"] -> marked 1
+[0,"resume"] -> resumed
+[1,"fix",12288,"write"] -> fixed
+[1,"store",12288,[8]] -> stored
+[0,"flush"] -> going, 6 times
+[0,"flush"] -> committed 1
+[0,"flush"] -> going, 5 times
+[0,"flush"] -> done 1
+[0,"setlength",0,4096] -> begun
+[1,"ack"] -> acked
+[0,"change"] -> resized
+[1,"resume"] -> resumed"#;
 
 // A run: the volume's layout, the capacity of its file `a` and its bytes; the machine's frames; the steps; and how many
 // device calls they make with those of the opening.
@@ -159,7 +163,7 @@ struct Run {
     capacity: u64,
     bytes: u64,
     frames: u64,
-    rows: &'static [Row],
+    steps: &'static str,
     calls: u64,
 }
 
@@ -168,7 +172,7 @@ const FIRST: Run = Run {
     capacity: 5000,
     bytes: 40_960,
     frames: 4,
-    rows: LAYOUT_ONE,
+    steps: LAYOUT_ONE,
     calls: 15,
 };
 
@@ -177,7 +181,7 @@ const SPLIT: Run = Run {
     capacity: 5000,
     bytes: 40_960,
     frames: 4,
-    rows: SPLITS,
+    steps: SPLITS,
     calls: 3,
 };
 
@@ -186,7 +190,7 @@ const THIRD: Run = Run {
     capacity: 12_288,
     bytes: 73_728,
     frames: 3,
-    rows: LAYOUT_THREE,
+    steps: LAYOUT_THREE,
     calls: 22,
 };
 
@@ -221,10 +225,10 @@ impl Run {
     }
 
     // How many requests for memory all its steps make; those that are made often make none.
-    fn requests(&self) -> u64 {
+    fn requests<R: Host>(&self, rt: &R) -> u64 {
         let mut sum: u64 = 0;
-        for (_, _, _, requests) in self.rows {
-            sum = sum.wrapping_add(*requests);
+        for line in self.steps.lines() {
+            sum = sum.wrapping_add(Row::read(rt, line).requests);
         }
         sum
     }
@@ -237,7 +241,7 @@ impl Run {
         let mut machine = booted(rt, &alloc, volume, self.shape());
         alloc.restart();
         alloc.refuse_nth(refused);
-        make_all(rt, &alloc, &mut machine, self.rows);
+        make_all(rt, &alloc, &mut machine, self.steps);
         let calls = machine.into_device().calls();
         assert!(rt; calls == self.calls, "{calls} device calls");
         assert!(rt;
@@ -251,7 +255,7 @@ impl Run {
     fn refuse_each<R: Host>(&self, rt: &R, path: &str) -> Vec<u8> {
         let image = self.image(rt);
         let ample = self.left(rt, path, &image, 0);
-        for refused in 1..self.requests().saturating_add(1) {
+        for refused in 1..self.requests(rt).saturating_add(1) {
             let left = self.left(rt, path, &image, refused);
             assert!(rt; left == ample, "request {refused}");
         }
@@ -319,8 +323,8 @@ fn states(machine: &Trial) -> [Result<ProcState, Refusal>; 2] {
 }
 
 // Makes a step, again where its request was refused, and compares what it is answered.
-fn make<R: Host>(rt: &R, alloc: &Counting, machine: &mut Trial, row: &Row) {
-    let (_, text, wanted, requests) = *row;
+fn make<R: Host>(rt: &R, alloc: &Counting, machine: &mut Trial, row: Row) {
+    let text = row.step;
     let step = step_of(rt, text);
     let before = states(machine);
     let refused = alloc.refused();
@@ -328,7 +332,7 @@ fn make<R: Host>(rt: &R, alloc: &Counting, machine: &mut Trial, row: &Row) {
     let mut reply = reply_to(machine, &step);
     if alloc.refused() == refused {
         let made = alloc.requests().wrapping_sub(asked);
-        assert!(rt; made == requests, "{text}: {made} requests");
+        assert!(rt; made == row.requests, "{text}: {made} requests");
     } else {
         assert!(rt;
             reply == Reply::Refused(Refusal::OutOfMemory),
@@ -337,13 +341,14 @@ fn make<R: Host>(rt: &R, alloc: &Counting, machine: &mut Trial, row: &Row) {
         assert!(rt; states(machine) == before && is_unlocked(machine), "{text}");
         reply = reply_to(machine, &step);
     }
-    assert!(rt; is_printed(rt, &reply, wanted), "{text}: {reply}");
+    assert!(rt; is_printed(rt, &reply, row.wanted), "{text}: {reply}");
 }
 
-// Makes each row's step as often as it says.
-fn make_all<R: Host>(rt: &R, alloc: &Counting, machine: &mut Trial, rows: &'static [Row]) {
-    for row in rows {
-        for _ in 0..row.0 {
+// Makes each step as often as its line wants.
+fn make_all<R: Host>(rt: &R, alloc: &Counting, machine: &mut Trial, steps: &str) {
+    for line in steps.lines() {
+        let row = Row::read(rt, line);
+        for _ in 0..row.times {
             make(rt, alloc, machine, row);
         }
     }

@@ -78,6 +78,22 @@ pub fn list_of<'a>(alloc: Global, value: &'a Value, name: &str) -> Result<&'a [V
     }
 }
 
+/// What each item of a list is read as. It is a list itself, and named `what` where it isn't one.
+pub fn read_lists<T: Drop, F: Fn(Global, &[Value]) -> Result<T, Failure>>(
+    alloc: Global,
+    items: &[Value],
+    what: &str,
+    read: F,
+) -> Result<Vec<T>, Failure>
+    requires { F.IsAlwaysCallable read }
+{
+    let mut all = Vec::new(alloc);
+    for item in items {
+        all.push(read(alloc, list(alloc, item, what)?)?)?;
+    }
+    Ok(all)
+}
+
 /// The numbers from a first one on, up to one that isn't among them.
 #[derive(Clone, Copy)]
 pub struct Span {

@@ -1,6 +1,6 @@
 // The bytes of a disk, with a volume or none.
 use crate::failure::Failure;
-use crate::form::{bytes, list, number, text};
+use crate::form::{bytes, number, read_lists, text};
 use device::{Device, MemDisk};
 use page_entry::Refusal;
 use serde_json::Value;
@@ -66,20 +66,12 @@ fn put_times(alloc: Global, at: &Value, digits: &Value, times: u64) -> Result<Pu
 
 /// A list of such lists.
 pub fn read_puts(alloc: Global, items: &[Value]) -> Result<Vec<Put>, Failure> {
-    let mut puts = Vec::new(alloc);
-    for item in items {
-        puts.push(read_put(alloc, list(alloc, item, "bytes")?)?)?;
-    }
-    Ok(puts)
+    read_lists(alloc, items, "bytes", read_put)
 }
 
 /// The files of a list of names and lengths, and of capacities where those are others.
 pub fn read_files(alloc: Global, items: &[Value]) -> Result<Vec<File>, Failure> {
-    let mut files = Vec::new(alloc);
-    for item in items {
-        files.push(read_file(alloc, list(alloc, item, "a file")?)?)?;
-    }
-    Ok(files)
+    read_lists(alloc, items, "a file", read_file)
 }
 
 fn read_file(alloc: Global, items: &[Value]) -> Result<File, Failure> {

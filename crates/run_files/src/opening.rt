@@ -1,6 +1,6 @@
 // What an opening gives, and how many device calls it makes.
 use crate::failure::Failure;
-use crate::form::{list, list_of, member, number, number_of, text};
+use crate::form::{list, list_of, member, number, number_of, read_lists, text};
 use crate::image::{File, Put, difference, read_put, read_puts};
 use device::{Device, FailingDisk, MemDisk};
 use page_entry::Refusal;
@@ -78,8 +78,9 @@ fn read_refused(alloc: Global, word: &Value, calls: Option<&Value>) -> Result<Wa
 fn read_opened(alloc: Global, value: &Value) -> Result<Wanted, Failure> {
     let calls = read_calls(alloc, member(alloc, value, "opens")?)?;
     let parts = list_of(alloc, value, "bytes")?;
-    let lengths = read_lengths(alloc, value)?;
-    let bytes = all_bytes(alloc, parts)?;
+    let lengths = list_of(alloc, value, "lengths")?;
+    let lengths = read_lists(alloc, lengths, "a length", file_length)?;
+    let bytes = read_lists(alloc, parts, "bytes", file_bytes)?;
     match read_writes(alloc, value) {
         Ok(writes) => Ok(Wanted::Opens {
             calls,
@@ -113,17 +114,6 @@ fn read_calls(alloc: Global, value: &Value) -> Result<Option<Calls>, Failure> {
     }))
 }
 
-// The lengths that are said.
-fn read_lengths(alloc: Global, value: &Value) -> Result<Vec<FileLength>, Failure> {
-    let mut lengths = Vec::new(alloc);
-    if let Some(items) = value.get("lengths") {
-        for item in list(alloc, items, "lengths")? {
-            lengths.push(file_length(alloc, list(alloc, item, "a length")?)?)?;
-        }
-    }
-    Ok(lengths)
-}
-
 fn file_length(alloc: Global, items: &[Value]) -> Result<FileLength, Failure> {
     match items {
         [file, length] => Ok(FileLength {
@@ -132,14 +122,6 @@ fn file_length(alloc: Global, items: &[Value]) -> Result<FileLength, Failure> {
         }),
         _ => Err(Failure::line(alloc, "a length of a file is its name and a number")),
     }
-}
-
-fn all_bytes(alloc: Global, items: &[Value]) -> Result<Vec<FileBytes>, Failure> {
-    let mut bytes = Vec::new(alloc);
-    for item in items {
-        bytes.push(file_bytes(alloc, list(alloc, item, "bytes")?)?)?;
-    }
-    Ok(bytes)
 }
 
 fn file_bytes(alloc: Global, items: &[Value]) -> Result<FileBytes, Failure> {

@@ -44,6 +44,26 @@ fn read_stops(alloc: Global, value: &Value) -> Result<Stops, Failure> {
     }
 }
 
+impl Stops {
+    // The numbers of the stops; the end is the only one of its kind.
+    fn span(self) -> Span {
+        match self {
+            Stops::End => Span { first: 0, end: 1 },
+            Stops::After(span) | Stops::Failing(span) | Stops::Shortened(span) => span,
+        }
+    }
+
+    // The stop of this number.
+    fn at(self, number: u64) -> Stop {
+        match self {
+            Stops::End => Stop::End,
+            Stops::After(_) => Stop::After(number),
+            Stops::Failing(_) => Stop::Failing(number),
+            Stops::Shortened(_) => Stop::Shortened(number),
+        }
+    }
+}
+
 impl fmt::Display for Stop {
     fn fmt<W: fmt::Write>(&self, f: &mut fmt::Formatter<W>) -> fmt::Result {
         match self {
@@ -106,33 +126,13 @@ impl Ending {
 
     /// Makes all of them, and tells how many they are.
     pub fn make(&self, alloc: Global, trial: &Trial) -> Result<u64, Failure> {
-        match self.stops {
-            Stops::End => self.make_at(alloc, trial, Stop::End),
-            Stops::After(span) => {
-                let mut count = 0u64;
-                for steps in span.first..span.end {
-                    let made = self.make_at(alloc, trial, Stop::After(steps))?;
-                    count = count.saturating_add(made);
-                }
-                Ok(count)
-            }
-            Stops::Failing(span) => {
-                let mut count = 0u64;
-                for call in span.first..span.end {
-                    let made = self.make_at(alloc, trial, Stop::Failing(call))?;
-                    count = count.saturating_add(made);
-                }
-                Ok(count)
-            }
-            Stops::Shortened(span) => {
-                let mut count = 0u64;
-                for length in span.first..span.end {
-                    let made = self.make_at(alloc, trial, Stop::Shortened(length))?;
-                    count = count.saturating_add(made);
-                }
-                Ok(count)
-            }
+        let span = self.stops.span();
+        let mut count = 0u64;
+        for number in span.first..span.end {
+            let made = self.make_at(alloc, trial, self.stops.at(number))?;
+            count = count.saturating_add(made);
         }
+        Ok(count)
     }
 
     // Those of one stop.
