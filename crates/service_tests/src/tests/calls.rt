@@ -60,29 +60,7 @@ fn is_at<D: Device, L: Origin<D>, R: Wait>(
     cpu.look(rt) == look && cpu.calls() == calls && cpu.horizon(rt) == horizon
 }
 
-// Whether the first call to the second of two processors is answered as it is by a machine, and whether a wait sees it.
-fn calls_one<D: Device, L: Origin<D>, R: Wait>(
-    rt: &R,
-    first: &mut Cpu<D, Global, L>,
-    second: &mut Cpu<D, Global, L>,
-) -> bool {
-    is_at(rt, first, (ProcState::Active, 0), 0, (0, 0))
-        && is_at(rt, second, (ProcState::Active, 0), 0, (0, 0))
-        && !first.wait(rt, 0, 40)
-        && second.call(rt, Act::Idle) == Reply::Idled
-        && first.wait(rt, 0, 1)
-        && !first.wait(rt, 1, 40)
-        && is_at(rt, second, (ProcState::Idle, 1), 1, (0, 0))
-}
-
-// Whether two calls to the first processor then are so, too: a mark of no stores.
-fn calls_two_more<D: Device, L: Origin<D>, R: Wait>(rt: &R, first: &mut Cpu<D, Global, L>) -> bool {
-    first.call(rt, MSYNC) == Reply::Begun
-        && is_at(rt, first, (ProcState::Initiating, 2), 1, (0, 0))
-        && first.call(rt, Act::Change) == Reply::Marked(1)
-}
-
-// Whether the two processors are as after these calls.
+// Whether two processors are as after the three calls of `fills`.
 fn have_made_three<D: Device, L: Origin<D>, R: Wait>(
     rt: &R,
     first: &mut Cpu<D, Global, L>,
@@ -95,13 +73,22 @@ fn have_made_three<D: Device, L: Origin<D>, R: Wait>(
         && second.answered() == [(Act::Idle, Reply::Idled)].as_slice()
 }
 
-// Whether three calls are entered, and no other.
+// Whether three calls are answered as they are by a machine, and no other is entered: the second of two processors
+// sleeps, which a wait of the first one sees, and the first one then makes a mark of no stores.
 pub fn fills<D: Device, L: Origin<D>, R: Wait>(rt: &R, cpus: &mut [Cpu<D, Global, L>]) -> bool {
     let [first, second] = cpus else {
         return false;
     };
-    calls_one(rt, first, second)
-        && calls_two_more(rt, first)
+    is_at(rt, first, (ProcState::Active, 0), 0, (0, 0))
+        && is_at(rt, second, (ProcState::Active, 0), 0, (0, 0))
+        && !first.wait(rt, 0, 40)
+        && second.call(rt, Act::Idle) == Reply::Idled
+        && first.wait(rt, 0, 1)
+        && !first.wait(rt, 1, 40)
+        && is_at(rt, second, (ProcState::Idle, 1), 1, (0, 0))
+        && first.call(rt, MSYNC) == Reply::Begun
+        && is_at(rt, first, (ProcState::Initiating, 2), 1, (0, 0))
+        && first.call(rt, Act::Change) == Reply::Marked(1)
         && have_made_three(rt, first, second)
         && first.call(rt, Act::Create) == FULL
         && second.call(rt, Act::Wake) == FULL

@@ -185,7 +185,7 @@ fn answered<D: Device + Send + Drop, L: Origin<D> + Send + Sync, R: Threads + Wa
 }
 
 // A service that is gathered without the last of its processors refuses, and hands back what it was given, so that it
-// can be gathered with all of them.
+// can be gathered with all of them. The machine and the trace are then as they should be.
 fn gathered<D: Device + Drop, L: Origin<D>, R: Wait>(
     rt: &R,
     service: Service<D, Global, L>,
@@ -198,33 +198,15 @@ fn gathered<D: Device + Drop, L: Origin<D>, R: Wait>(
     let Some(last) = cpus.pop() else {
         return false;
     };
-    match service.gather(rt, cpus) {
-        Ok(_) => false,
-        Err((refusal, service, mut cpus)) => {
-            let is_whole = cpus.push(last).is_ok();
-            gathered_whole(rt, service, cpus, again, calls)
-                && is_whole
-                && refusal == Refusal::Einval
-        }
-    }
-}
-
-// The machine and the trace of a service to which all its processors are given back.
-fn gathered_whole<D: Device + Drop, L: Origin<D>, R: Wait>(
-    rt: &R,
-    service: Service<D, Global, L>,
-    cpus: Vec<Cpu<D, Global, L>>,
-    again: &mut Machine<D, Global>,
-    calls: &Calls,
-) -> bool
-    requires { L.all ≡ L.parts }
-{
-    match service.gather(rt, cpus) {
-        Ok((mut machine, trace)) => {
-            replays(again, trace.as_slice()) && calls.are_kept(&mut machine, trace.as_slice())
-        }
-        Err(_) => false,
-    }
+    let Err((refusal, service, mut cpus)) = service.gather(rt, cpus) else {
+        return false;
+    };
+    let is_refused = cpus.push(last).is_ok() && refusal == Refusal::Einval;
+    let Ok((mut machine, trace)) = service.gather(rt, cpus) else {
+        return false;
+    };
+    let trace = trace.as_slice();
+    is_refused && replays(again, trace) && calls.are_kept(&mut machine, trace)
 }
 
 // Whether a machine answers the steps of a trace as they were answered.
