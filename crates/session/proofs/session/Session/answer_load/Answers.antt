@@ -7,7 +7,7 @@ use Rattle.session.proofs.Phases.{keeps_none}
 use Rattle.session.proofs.Stretches.{does_more}
 use Rattle.session.proofs.Stretches.{makes_none}
 use Rattle.session.proofs.Writing.{load_answered}
-use Rattle.session.proofs.requests.Requests.answer_load.Goals as goal
+use Rattle.session.proofs.session.Session.answer_load.Goals as goal
 
 pub returns-in_default : goal.returns-in_default
 returns-in_default g c =
