@@ -71,18 +71,12 @@ impl<D: Device, A: Allocator + Copy> Session<D, A> {
     }
 
     /// Loads so many bytes from an address on.
-    pub fn load(
-        &mut self,
-        p: ProcessorNumber,
-        va: u64,
-        count: usize,
-        bytes: &mut Vec<u8, A>,
-    ) -> Reached
-        requires { bytes.old.items ≡ [] }
+    pub fn load(&mut self, p: ProcessorNumber, va: u64, len: usize, out: &mut Vec<u8, A>) -> Reached
+        requires { out.old.items ≡ [] }
         ensures { CarriesOut D.Device self.old.machine self.old.notes
-            (LoadsReached p va count bytes.new.items result) self.new.machine self.new.notes }
+            (LoadsReached p va len out.new.items result) self.new.machine self.new.notes }
     {
-        self.requests.load(p, va, count, bytes)
+        self.requests.load(p, va, len, out)
     }
 
     /// Stores bytes from an address on.

@@ -26,7 +26,7 @@ pub returns : goal.returns
 returns g c =
     let old = g.W.Write.contents c.args.out.now in
     let new = g.W.Write.contents c.write_loaded.new.out in
-    let bytes = c.load-reached.new.bytes.items in
+    let bytes = c.load-reached.new.out.items in
     let reached = c.load-reached.result in
     let done = c.load-reached.ensures in
     let P : List ℕ → Type 0 = λ bytes. OnOk c.write_loaded.result
