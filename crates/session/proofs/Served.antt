@@ -1,6 +1,6 @@
 -- What was done for a line, and what is answered to it: one list of steps.
 use Rattle.std.proofs.Common.{◌≡◌, ◌⊎◌, inl, inr, ℕ, List, [], ◌∷◌, ◌++◌, length, Option, Some, Result, Ok, Err}
-use Rattle.std.proofs.Common.{OnOk, is_ok, sym, ◌∙◌, arith}
+use Rattle.std.proofs.Common.{OnOk, is_ok, sym, subst, ◌∙◌, arith}
 use Rattle.std.proofs.lemmas.List.{take_all}
 use Rattle.device.specs.declared.device.Device.{Ghosts}
 use Rattle.machine.specs.declared.act.Reply.{Reply}
@@ -36,20 +36,22 @@ answers_do before (asks_commit p) answer steps replies (committed, it, replied) 
 answers_do before (asks_length p file to) answer steps replies (reply, it, replied) = (reply, it)
 
 -- a request was carried out, and then its answer was written
-pub answered_for : {D T E F : Type 0} (disk : Ghosts D) (old new : Whole D) (before after : Notes) (what : Asked)
+pub answered_for : {D T E F : Type 0} (disk : Ghosts D) (old new : Whole D) (before after : Notes) (wanted what : Asked)
     (did : List Step → List Reply → Type 0) (text : List ℕ) (written : Result T E) (result : Result T F)
-    (a b : Option (List ℕ))
+    (a b : Option (List ℕ)) → wanted ≡ what
     → ((steps : List Step) (replies : List Reply) → did steps replies → AnswersRequest before what text steps replies)
     → (KeepsPhases old.state new.state → KeepsPhasesFor what old.state new.state) → is_ok result ≡ is_ok written
     → OnOk written (Appends a b (text ++ 10 ∷ [])) → CarriesOut disk old before did new after
-    → CarriesOutFor disk old before what result a b new after
-answered_for disk old new before after what did text written result a b answers keeps same wrote done = record {
-  does = does_more disk old new before after did (IsDoneFor what) (λ steps replies it.
-      answers_do before what text steps replies (answers steps replies it)) done.makes;
-  answers = ok_after written result same (λ appends. does_more disk old new before after did
-      (WritesAnswer before what a b) (λ steps replies it. (text, answers steps replies it, appends)) done.makes) wrote;
-  phases = keeps done.phases;
-}
+    → CarriesOutFor disk old before wanted result a b new after
+answered_for disk old new before after wanted what did text written result a b is answers keeps same wrote done =
+    subst (λ w. CarriesOutFor disk old before w result a b new after) (sym is) (record {
+      does = does_more disk old new before after did (IsDoneFor what) (λ steps replies it.
+          answers_do before what text steps replies (answers steps replies it)) done.makes;
+      answers = ok_after written result same (λ appends. does_more disk old new before after did
+          (WritesAnswer before what a b) (λ steps replies it. (text, answers steps replies it, appends)) done.makes)
+          wrote;
+      phases = keeps done.phases;
+    })
 
 answers_serve : (before : Notes) (line answer : List ℕ) (steps : List Step) (replies : List Reply)
     → AnswersLine before line answer steps replies → IsServedFor line steps replies

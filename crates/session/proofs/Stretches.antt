@@ -11,7 +11,7 @@ use Rattle.session.specs.Ranges.{MakesStepsThat}
 use Rattle.session.specs.Steps.{Makes}
 use Rattle.session.specs.inside.Made.{HasMade}
 
-noted_then : (before : Notes) (replies more : List Reply)
+pub noted_then : (before : Notes) (replies more : List Reply)
     → noted_all before (replies ++ more) ≡ noted_all (noted_all before replies) more
 noted_then before [] more = refl
 noted_then before (reply ∷ replies) more = noted_then (noted_after before reply) replies more

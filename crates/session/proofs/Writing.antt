@@ -2,6 +2,7 @@
 use Rattle.std.proofs.Common.{◌≡◌, ◌⊎◌, inl, inr, ℕ, ◌+◌, ◌<◌, ◌≤◌, List, [], ◌∷◌, ◌++◌, length, length-append, take}
 use Rattle.std.proofs.Common.{get_or, ◌-◌, ◌^◌, Bool, true, false, true≢false, if◌then◌else◌, Option, Some, None}
 use Rattle.std.proofs.Common.{OnSome, Result, Ok, Err, OnOk, IsOk, IfOk, is_ok, codes, refl, sym, ◌∙◌, ap, subst, arith}
+use Rattle.std.proofs.KnownBytes.{Appends-kept, Appends-nil, Appends-trans}
 use Rattle.std.proofs.lemmas.List.{append_assoc, append-nil, take_more, take_all}
 use Rattle.std.specs.Io.KnownBytes.{Appends, IsAtEnd, Keeps}
 use Rattle.hex.specs.Hex.{encode_with, encode_lower}
@@ -16,7 +17,7 @@ use Rattle.session.specs.declared.ranges.Reached.TheVariants.{All, Refused, NoMe
 use Rattle.std.specs.declared.alloc.AllocError.{AllocError}
 use Rattle.session.specs.declared.request_fault.RequestFault.{RequestFault}
 use Rattle.session.specs.declared.request_fault.RequestFault.TheVariants as fault
-use Rattle.session.specs.Notes.{noted_after, noted_all}
+use Rattle.session.specs.Notes.{noted_all}
 use Rattle.session.specs.Answers.{steps_text, reply_after, refusal_text, reached_text, text_after_space}
 use Rattle.session.specs.Answers.{digits_text, ReportsLoaded, AsksNothing}
 use Rattle.session.specs.Answers.{WritesAnswer, WritesAnswerOf, AnswersLines, WritesAnswers, AnswersInput}
@@ -26,21 +27,7 @@ use Rattle.session.specs.Ranges.{MakesStepsThat, LoadsReached}
 use Rattle.session.specs.Requests.{Asked, asks_steps, asks_load, request_in}
 use Rattle.session.specs.Steps.{Makes}
 use Rattle.session.proofs.Lines.{reads_both, end_after_lines}
-use Rattle.session.proofs.Stretches.{makes_none, makes_then}
-
--- nothing was written
-pub appends_none : (known : Option (List ℕ)) → Appends known known []
-appends_none None = tt
-appends_none (Some bytes) = sym (append-nil bytes)
-
--- two things were
-pub appends_both : (a b c : Option (List ℕ)) (first last : List ℕ) → Appends a b first → Appends b c last
-    → Appends a c (first ++ last)
-appends_both None b c first last before this = tt
-appends_both (Some old) None c first last before this = absurd before
-appends_both (Some old) (Some mid) None first last before this = absurd this
-appends_both (Some old) (Some mid) (Some new) first last before this =
-    this ∙ ap (λ front. front ++ last) before ∙ append_assoc old first last
+use Rattle.session.proofs.Stretches.{makes_none, makes_then, noted_then}
 
 -- a result that is `Ok` only where another one is
 pub ok_after : {T E F P Q : Type 0} (first : Result T E) (last : Result T F) → is_ok last ≡ is_ok first → (P → Q)
@@ -91,7 +78,7 @@ reply_more disk old mid new before between after wanted i step reply a b c below
       holds = (
         first_and_next wanted i step first.steps below at first.holds.0,
         long,
-        subst Q (text_more first.replies reply) (appends_both a b c (steps_text first.replies)
+        subst Q (text_more first.replies reply) (Appends-trans a b c (steps_text first.replies)
             (reply_after (length first.replies) reply) first.holds.2 (subst P (sym count) wrote)),
       );
     }
@@ -130,7 +117,7 @@ steps_answered disk old new before after wanted i a b c past it wrote = record {
   holds = (
     steps_text it.replies,
     (it.holds.0 ∙ take_all i wanted past, refl),
-    appends_both a b c (steps_text it.replies) (10 ∷ []) it.holds.2 wrote,
+    Appends-trans a b c (steps_text it.replies) (10 ∷ []) it.holds.2 wrote,
   );
 }
 
@@ -214,21 +201,9 @@ line_refused disk old before line cause a b why (not, (text, plain, wrote)) =
       holds = (codes "badline " ++ text, inl (asks_nothing line cause why not, (text, plain, refl, refl, refl)), wrote);
     }
 
--- the same, and then nothing
-appends_kept : (a b c : Option (List ℕ)) (bytes : List ℕ) → Appends a b bytes → Keeps b c → Appends a c bytes
-appends_kept None b c bytes wrote kept = tt
-appends_kept (Some old) None c bytes wrote kept = absurd wrote
-appends_kept (Some old) (Some mid) None bytes wrote kept = absurd kept
-appends_kept (Some old) (Some mid) (Some new) bytes wrote kept = kept ∙ wrote
-
 on_ok_at : {T E P : Type 0} (result : Result T E) → IsOk result → OnOk result P → P
 on_ok_at (Ok x) is holds = holds
 on_ok_at (Err e) is holds = absurd (cc)
-
-noted_then : (before : Notes) (replies more : List Reply)
-    → noted_all before (replies ++ more) ≡ noted_all (noted_all before replies) more
-noted_then before [] more = refl
-noted_then before (reply ∷ replies) more = noted_then (noted_after before reply) replies more
 
 -- lines that were answered after others
 are_answered_then : (before : Notes) (lines : List (Option (List ℕ))) (text : List ℕ) (steps : List Step)
@@ -270,7 +245,7 @@ answers_none disk old before input rest a read = record {
   steps = [];
   replies = [];
   makes = makes_none disk old before;
-  holds = ([], [], refl, read, (refl, refl, refl), appends_none a);
+  holds = ([], [], refl, read, (refl, refl, refl), Appends-nil a);
 }
 
 -- one line
@@ -301,7 +276,7 @@ answers_one disk old new before after line input rest a b c read it kept =
           sym (append-nil it.steps),
           sym (append-nil it.replies),
         ),
-        appends_kept a b c (it.holds.0 ++ 10 ∷ []) it.holds.2 kept,
+        Appends-kept a b c (it.holds.0 ++ 10 ∷ []) it.holds.2 kept,
       );
     }
 
@@ -322,7 +297,7 @@ answers_bad disk old before input rest a b c read (text, plain, wrote) kept =
         refl,
         read,
         (answer, [], [], [], [], [], (text, plain, refl, refl, refl), (refl, refl, refl), refl, refl, refl),
-        appends_kept a b c (answer ++ 10 ∷ []) wrote kept,
+        Appends-kept a b c (answer ++ 10 ∷ []) wrote kept,
       );
     }
 
@@ -383,7 +358,7 @@ answers_then disk old mid new before between after count more input part rest a 
         reads_both input part rest first.holds.0 later.holds.0 first.holds.3 later.holds.3,
         are_answered_then before first.holds.0 first.holds.1 first.steps first.replies later.holds.0 later.holds.1
             later.steps later.replies first.holds.4 (subst S first.makes.notes later.holds.4),
-        appends_both a b c first.holds.1 later.holds.1 first.holds.5 later.holds.5,
+        Appends-trans a b c first.holds.1 later.holds.1 first.holds.5 later.holds.5,
       );
     }
 

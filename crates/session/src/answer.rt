@@ -5,11 +5,11 @@ ghost use Rattle.session.specs.Answers.{ReportsLoaded};
 ghost use Rattle.session.specs.Answers.{reply_after, reached_text, text_after_space, stored_text, committed_text};
 ghost use Rattle.session.specs.Asked.{asked};
 ghost use Rattle.session.specs.CarriedOut.{CarriesOutFor};
-ghost use Rattle.session.specs.Requests.{asks_steps, asks_load, asks_store, asks_commit, asks_length};
+ghost use Rattle.session.specs.Requests.{asks_steps, asks_load};
 
 use crate::ranges::Reached;
 use crate::request::Request;
-use crate::requests::Requests;
+use crate::session::Session;
 use crate::session_fault::SessionFault;
 use device::Device;
 use machine::{Reply, Step};
@@ -17,7 +17,7 @@ use page_entry::ProcessorNumber;
 use std::alloc::{AllocError, Allocator};
 use std::io;
 
-impl<D: Device, A: Allocator + Copy> Requests<D, A> {
+impl<D: Device, A: Allocator + Copy> Session<D, A> {
     /// Carries out a request, and writes the line that answers it.
     pub(crate) fn answer<W: io::Write>(
         &mut self,
@@ -31,9 +31,18 @@ impl<D: Device, A: Allocator + Copy> Requests<D, A> {
         match request {
             Request::Steps(steps) => self.answer_steps(steps, out),
             Request::Load { p, va, count } => self.answer_load(alloc, *p, *va, *count, out),
-            Request::Store { p, va, bytes } => self.answer_store(*p, *va, bytes, out),
-            Request::Commit { p } => self.answer_commit(*p, out),
-            Request::SetLength { p, file, length } => self.answer_length(*p, *file, *length, out),
+            Request::Store { p, va, bytes } => {
+                let reached = self.store(*p, *va, bytes);
+                write_stored(&reached, bytes.len(), out).map_err(SessionFault::Output)
+            }
+            Request::Commit { p } => {
+                let committed = self.commit(*p);
+                write_committed(&committed, out).map_err(SessionFault::Output)
+            }
+            Request::SetLength { p, file, length } => {
+                let reply = self.set_length(*p, *file, *length);
+                writeln!(out, "{reply}").map_err(SessionFault::Output)
+            }
         }
     }
 
@@ -72,46 +81,6 @@ impl<D: Device, A: Allocator + Copy> Requests<D, A> {
         };
         let reached = self.load(p, va, count, &mut bytes);
         write_loaded(alloc, &reached, &bytes, out)
-    }
-
-    fn answer_store<W: io::Write>(
-        &mut self,
-        p: ProcessorNumber,
-        va: u64,
-        bytes: &[u8],
-        out: &mut W,
-    ) -> Result<(), SessionFault>
-        ensures { CarriesOutFor D.Device self.old.machine self.old.notes (asks_store p va bytes.now) result
-            (W.contents out.old) (W.contents out.new) self.new.machine self.new.notes }
-    {
-        let reached = self.store(p, va, bytes);
-        write_stored(&reached, bytes.len(), out).map_err(SessionFault::Output)
-    }
-
-    fn answer_commit<W: io::Write>(
-        &mut self,
-        p: ProcessorNumber,
-        out: &mut W,
-    ) -> Result<(), SessionFault>
-        ensures { CarriesOutFor D.Device self.old.machine self.old.notes (asks_commit p) result
-            (W.contents out.old) (W.contents out.new) self.new.machine self.new.notes }
-    {
-        let committed = self.commit(p);
-        write_committed(&committed, out).map_err(SessionFault::Output)
-    }
-
-    fn answer_length<W: io::Write>(
-        &mut self,
-        p: ProcessorNumber,
-        file: u16,
-        length: u64,
-        out: &mut W,
-    ) -> Result<(), SessionFault>
-        ensures { CarriesOutFor D.Device self.old.machine self.old.notes (asks_length p file length) result
-            (W.contents out.old) (W.contents out.new) self.new.machine self.new.notes }
-    {
-        let reply = self.set_length(p, file, length);
-        writeln!(out, "{reply}").map_err(SessionFault::Output)
     }
 }
 

@@ -107,14 +107,11 @@ impl<D: Device, A: Allocator + Copy> Requests<D, A> {
         ensures err { IfErr result (λ reply. CarriesOut D.Device self.old.machine self.old.notes (StopsAt p va reply)
             self.new.machine self.new.notes) }
     {
-        let load = Step {
-            p,
-            act: Act::Load {
-                va,
-                count: count as u8,
-            },
+        let load = Act::Load {
+            va,
+            count: count as u8,
         };
-        let answer = self.access(&load, va, false)?;
+        let answer = self.access(p, load, va, false)?;
         if let Reply::Bytes(bytes) = answer {
             Ok(bytes)
         } else {
@@ -131,14 +128,8 @@ impl<D: Device, A: Allocator + Copy> Requests<D, A> {
         ensures err { IfErr result (λ reply. CarriesOut D.Device self.old.machine self.old.notes (StopsAt p va reply)
             self.new.machine self.new.notes) }
     {
-        let store = Step {
-            p,
-            act: Act::Store {
-                va,
-                bytes: part(bytes),
-            },
-        };
-        let answer = self.access(&store, va, true)?;
+        let bytes = part(bytes);
+        let answer = self.access(p, Act::Store { va, bytes }, va, true)?;
         if is_stored(&answer) {
             Ok(())
         } else {
@@ -148,23 +139,24 @@ impl<D: Device, A: Allocator + Copy> Requests<D, A> {
 
     // Makes a load or a store at an address, and serves its fault. Answers what it is answered in the end, which is no
     // fault; or else why its fault isn't served.
-    fn access(&mut self, step: &Step, va: u64, write: bool) -> Result<Reply, Reply>
-        requires { IsAccessFor va write step.now.act }
-        ensures ok { IfOk result (λ reply. CarriesOut D.Device self.old.machine self.old.notes (EndsBy step.now reply)
-            self.new.machine self.new.notes) }
+    fn access(&mut self, p: ProcessorNumber, act: Act, va: u64, write: bool) -> Result<Reply, Reply>
+        requires { IsAccessFor va write act }
+        ensures ok { IfOk result (λ reply. CarriesOut D.Device self.old.machine self.old.notes
+            (EndsBy (record { p = p; act = act }) reply) self.new.machine self.new.notes) }
         ensures no_fault { IfOk result (λ reply. reports_fault reply ≡ false) }
-        ensures err { IfErr result (λ reply. CarriesOut D.Device self.old.machine self.old.notes
-            (StopsAt step.now.p va reply) self.new.machine self.new.notes) }
+        ensures err { IfErr result (λ reply. CarriesOut D.Device self.old.machine self.old.notes (StopsAt p va reply)
+            self.new.machine self.new.notes) }
     {
-        let reply = self.make(step);
+        let step = Step { p, act };
+        let reply = self.make(&step);
         if !is_fault(&reply) {
             return Ok(reply);
         }
-        let fixed = self.fix(step.p, va, write);
+        let fixed = self.fix(p, va, write);
         if !is_fixed(&fixed) {
             return Err(fixed);
         }
-        let last = self.make(step);
+        let last = self.make(&step);
         faults_are_served(self.machine().device());
         Ok(last)
     }

@@ -1,8 +1,7 @@
 // A session: a machine on which requests are carried out, reached by steps from its start.
 ghost use Rattle.std.specs.Prelude.{◌≡◌, [], ◌∷◌, IfOk, IfErr};
 ghost use Rattle.engine.specs.Engine.{HasNotStarted};
-ghost use Rattle.session.specs.Asked.{asked};
-ghost use Rattle.session.specs.CarriedOut.{CarriesOut, CarriesOutFor};
+ghost use Rattle.session.specs.CarriedOut.{CarriesOut};
 ghost use Rattle.session.specs.Commits.{AnswersCommit};
 ghost use Rattle.session.specs.Lengths.{AnswersLength};
 ghost use Rattle.session.specs.Ranges.{LoadsReached, StoresReached};
@@ -12,14 +11,11 @@ ghost use Rattle.session.specs.Steps.{Makes};
 use crate::files::Files;
 use crate::notes::Notes;
 use crate::ranges::Reached;
-use crate::request::Request;
 use crate::requests::Requests;
-use crate::session_fault::SessionFault;
 use device::Device;
 use machine::{Machine, Reply, Shape, Step};
 use page_entry::{ProcessorNumber, Refusal};
 use std::alloc::Allocator;
-use std::io;
 use std::marker::Model;
 
 /// A machine on which requests are carried out, and no other steps are made.
@@ -75,18 +71,12 @@ impl<D: Device, A: Allocator + Copy> Session<D, A> {
     }
 
     /// Loads so many bytes from an address on.
-    pub fn load(
-        &mut self,
-        p: ProcessorNumber,
-        va: u64,
-        count: usize,
-        bytes: &mut Vec<u8, A>,
-    ) -> Reached
-        requires { bytes.old.items ≡ [] }
+    pub fn load(&mut self, p: ProcessorNumber, va: u64, len: usize, out: &mut Vec<u8, A>) -> Reached
+        requires { out.old.items ≡ [] }
         ensures { CarriesOut D.Device self.old.machine self.old.notes
-            (LoadsReached p va count bytes.new.items result) self.new.machine self.new.notes }
+            (LoadsReached p va len out.new.items result) self.new.machine self.new.notes }
     {
-        self.requests.load(p, va, count, bytes)
+        self.requests.load(p, va, len, out)
     }
 
     /// Stores bytes from an address on.
@@ -115,19 +105,6 @@ impl<D: Device, A: Allocator + Copy> Session<D, A> {
             self.new.machine self.new.notes }
     {
         self.requests.set_length(p, file, length)
-    }
-
-    /// Carries out a request, and writes the line that answers it.
-    pub(crate) fn answer<W: io::Write>(
-        &mut self,
-        alloc: A,
-        request: &Request<A>,
-        out: &mut W,
-    ) -> Result<(), SessionFault>
-        ensures { CarriesOutFor D.Device self.old.machine self.old.notes (asked request.now) result
-            (W.contents out.old) (W.contents out.new) self.new.machine self.new.notes }
-    {
-        self.requests.answer(alloc, request, out)
     }
 
     /// The machine on which the steps are made.

@@ -1,5 +1,6 @@
 use Rattle.std.proofs.Common.{sym}
 use Rattle.machine.specs.declared.act.Reply.{Reply}
+use Rattle.machine.specs.declared.act.Step.{Step}
 use Rattle.session.specs.Steps.{ArePaging, IsPaging}
 use Rattle.session.proofs.Carried.{carries_first, carries_more, carries_one, carries_then}
 use Rattle.session.proofs.Each.{ends_one}
@@ -16,28 +17,30 @@ returns-then-not-is_fault-clause-no_fault g c = sym c.if-not-is_fault.ensures
 
 pub returns-then-not-is_fixed-clause-err : goal.returns-then-not-is_fixed-clause-err
 returns-then-not-is_fixed-clause-err g c =
+    let step : Step = record { p = c.args.p; act = c.args.act } in
     let fault = sym c.if-not-is_fault.ensures in
-    carries_first g.D.Device _ _ _ _ _ _ _ _ _ _ (stops_unserved _ c.args.va _ _ (
+    carries_first g.D.Device _ _ _ _ _ _ _ _ _ _ (stops_unserved step c.args.va _ _ (
       access_paging c.args.va c.args.write _ _ c.requires fault,
-      access_own c.args.va c.args.write c.args.step.now.p c.args.step.now.act c.requires,
+      access_own c.args.va c.args.write c.args.p c.args.act c.requires,
     ) (access_at c.args.va c.args.write _ c.requires) fault) c.make-reply.ensures
     (access_quiet c.args.va c.args.write _ _ c.requires) (c.fix-fixed.ensures.ends (sym c.if-not-is_fixed.ensures))
 
 pub returns-clause-ok : goal.returns-clause-ok
 returns-clause-ok g c =
-    let step = c.args.step.now in
-    let quiet = λ (reply : Reply). access_quiet c.args.va c.args.write step.act reply c.requires in
-    let paging : IsPaging step.p step c.make-reply.result = (
+    let step : Step = record { p = c.args.p; act = c.args.act } in
+    let quiet = λ (reply : Reply). access_quiet c.args.va c.args.write c.args.act reply c.requires in
+    let paging : IsPaging c.args.p step c.make-reply.result = (
       access_paging c.args.va c.args.write _ _ c.requires (sym c.if-not-is_fault.ensures),
-      access_own c.args.va c.args.write step.p step.act c.requires,
+      access_own c.args.va c.args.write c.args.p c.args.act c.requires,
     ) in
     carries_then g.D.Device _ _ _ _ _ _ _ _ _ (ends_later step c.make-last.result)
-    (carries_first g.D.Device _ _ _ _ _ _ _ (ArePaging step.p) _ _ (λ steps replies later. (paging, later))
-    c.make-reply.ensures (quiet _) (carries_more g.D.Device _ _ _ _ _ _ (serves_paging step.p c.args.va c.args.write)
+    (carries_first g.D.Device _ _ _ _ _ _ _ (ArePaging c.args.p) _ _ (λ steps replies later. (paging, later))
+    c.make-reply.ensures (quiet _) (carries_more g.D.Device _ _ _ _ _ _ (serves_paging c.args.p c.args.va c.args.write)
     (c.fix-fixed.ensures.served (sym c.if-not-is_fixed.ensures))))
     (carries_one g.D.Device _ _ _ _ _ _ _ c.make-last.ensures (quiet _) (ends_one _ _))
 
 pub returns-clause-no_fault : goal.returns-clause-no_fault
 returns-clause-no_fault g c =
-    answered_no_fault g.D.Device _ _ _ _ _ _ c.args.va c.args.write _ _ c.requires c.faults_are_served.ensures
+    let step : Step = record { p = c.args.p; act = c.args.act } in
+    answered_no_fault g.D.Device _ _ _ _ _ _ c.args.va c.args.write step _ c.requires c.faults_are_served.ensures
     (c.fix-fixed.ensures.served (sym c.if-not-is_fixed.ensures)).makes c.make-last.ensures

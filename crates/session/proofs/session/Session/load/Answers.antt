@@ -12,6 +12,6 @@ pub returns : goal.returns
 returns g c =
     let P : SessionState g.row.D.Denot g.row.A.Denot → Type 0 =
     λ s. CarriesOut g.D.Device s.machine s.notes
-    (LoadsReached c.args.p c.args.va c.args.count c.load.new.bytes.items c.load.result)
+    (LoadsReached c.args.p c.args.va c.args.len c.load.new.bytes.items c.load.result)
     c.load.new.self.machine c.load.new.self.notes in
     subst P c.self.view_is c.load.ensures

@@ -1,6 +1,6 @@
 use Rattle.session.specs.Ranges.{MakesStepsThat}
 use Rattle.session.proofs.Writing.{WritesReplies}
-use Rattle.session.proofs.requests.Requests.answer_steps.Given as goal
+use Rattle.session.proofs.session.Session.answer_steps.Given as goal
 
 abbrev pub invariant-loop-i : goal.invariant-loop-i
 invariant-loop-i g l = MakesStepsThat g.D.Device l.initial.self.machine l.initial.self.notes

@@ -1,10 +1,11 @@
 use Rattle.std.proofs.Common.{◌<◌, ◌≤◌, length, refl, rules}
+use Rattle.std.proofs.KnownBytes.{Appends-nil}
 use Rattle.session.proofs.Stretches.{does_nothing}
-use Rattle.session.proofs.Writing.{appends_none, ok_after, reply_more, reply_lost, replies_are_first, steps_answered}
-use Rattle.session.proofs.requests.Requests.answer_steps.Goals as goal
+use Rattle.session.proofs.Writing.{ok_after, reply_more, reply_lost, replies_are_first, steps_answered}
+use Rattle.session.proofs.session.Session.answer_steps.Goals as goal
 
 pub loop-i-init : goal.loop-i-init
-loop-i-init g c = does_nothing g.D.Device _ _ _ (refl, refl, appends_none (g.W.Write.contents c.args.out.now))
+loop-i-init g c = does_nothing g.D.Device _ _ _ (refl, refl, Appends-nil (g.W.Write.contents c.args.out.now))
 
 pub returns-in-Err : goal.returns-in-Err
 returns-in-Err g c =

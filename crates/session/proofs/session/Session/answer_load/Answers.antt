@@ -7,7 +7,7 @@ use Rattle.session.proofs.Phases.{keeps_none}
 use Rattle.session.proofs.Stretches.{does_more}
 use Rattle.session.proofs.Stretches.{makes_none}
 use Rattle.session.proofs.Writing.{load_answered}
-use Rattle.session.proofs.requests.Requests.answer_load.Goals as goal
+use Rattle.session.proofs.session.Session.answer_load.Goals as goal
 
 pub returns-in_default : goal.returns-in_default
 returns-in_default g c =
@@ -26,7 +26,7 @@ pub returns : goal.returns
 returns g c =
     let old = g.W.Write.contents c.args.out.now in
     let new = g.W.Write.contents c.write_loaded.new.out in
-    let bytes = c.load-reached.new.bytes.items in
+    let bytes = c.load-reached.new.out.items in
     let reached = c.load-reached.result in
     let done = c.load-reached.ensures in
     let P : List ℕ → Type 0 = λ bytes. OnOk c.write_loaded.result
