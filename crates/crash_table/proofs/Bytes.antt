@@ -1,8 +1,8 @@
 -- Files with the same bytes are the same.
 use Rattle.std.proofs.Common.{◌≡◌, ℕ, ◌+◌, List, [], ◌∷◌, refl, ◌∙◌, ap}
 use Rattle.volume_codec.specs.Files.{File}
-use Rattle.machine.specs.History.{Event, Memory, bytes_of_pages, files_from_memory}
-use Rattle.machine.specs.History.{files_after, memory_of, after, lengths_of, lengths_after}
+use Rattle.history.specs.History.{Event, Memory, bytes_of_pages, files_from_memory}
+use Rattle.history.specs.History.{files_after, memory_of, after, lengths_of, lengths_after}
 use Rattle.crash_table.specs.inside.Kept.{contents_of}
 
 same_from : (k : ℕ) (files : List File) (ns ms : List ℕ) (one other : Memory)

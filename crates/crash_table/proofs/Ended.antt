@@ -9,8 +9,8 @@ use Rattle.volume_codec.specs.Recovery.{RecoversTo}
 use Rattle.machine.specs.declared.act.Reply.{Reply}
 use Rattle.machine.specs.declared.act.Shape.{Shape}
 use Rattle.machine.specs.declared.act.Step.{Step}
-use Rattle.machine.specs.History.{files_after}
-use Rattle.machine.specs.Laws.{ReadsBack}
+use Rattle.history.specs.History.{files_after}
+use Rattle.history.specs.Reading.{ReadsBack}
 use Rattle.engine.specs.Engine.{HasRun, HasNotStarted}
 use Rattle.crash_table.specs.Crashes.{history_of, HasEnded}
 use Rattle.crash_table.proofs.Marks.{IsOneReading}

@@ -12,7 +12,7 @@ use Rattle.machine.specs.declared.act.Act.TheVariants as acts
 use Rattle.machine.specs.declared.act.Reply.{Reply}
 use Rattle.machine.specs.declared.act.Reply.TheVariants as replies
 use Rattle.machine.specs.declared.act.Step.{Step}
-use Rattle.machine.specs.History.{Event, Mark, Acknowledge, has_unmarked, since_mark, with_event, is_change}
+use Rattle.history.specs.History.{Event, Mark, Acknowledge, has_unmarked, since_mark, with_event, is_change}
 use Rattle.machine.specs.Observed.{Observed, Pending, Resizing, observe, observe_all}
 use Rattle.machine.specs.Observed.{events_of, store_at, resized_at, place_observed}
 use Rattle.machine.specs.Unmarked.{unmarked_by}

@@ -13,8 +13,8 @@ use Rattle.volume_codec.specs.Recovery.{RecoversTo}
 use Rattle.machine.specs.declared.act.Reply.{Reply}
 use Rattle.machine.specs.declared.act.Shape.{Shape}
 use Rattle.machine.specs.declared.act.Step.{Step}
-use Rattle.machine.specs.History.{files_after}
-use Rattle.machine.specs.Laws.{ReadsBack}
+use Rattle.history.specs.History.{files_after}
+use Rattle.history.specs.Reading.{ReadsBack}
 use Rattle.machine.specs.Runs.{StepsTaken}
 use Rattle.machine.specs.State.{Whole}
 use Rattle.machine.specs.Observed.{Observed, observe_all}

@@ -16,8 +16,9 @@ use Rattle.machine.specs.declared.act.Reply.TheVariants as replies
 use Rattle.machine.specs.declared.act.Shape.{Shape}
 use Rattle.machine.specs.declared.act.Step.{Step}
 use Rattle.machine.specs.Crashes.{Begins}
-use Rattle.machine.specs.History.{Event, Mark, Acknowledge, has_unmarked, files_after, IsMarked}
-use Rattle.machine.specs.Laws.{ReadsBack, observed_at_start}
+use Rattle.history.specs.History.{Event, Mark, Acknowledge, has_unmarked, files_after, IsMarked}
+use Rattle.machine.specs.Laws.{observed_at_start}
+use Rattle.history.specs.Reading.{ReadsBack}
 use Rattle.machine.specs.Reached.{IsReached}
 use Rattle.machine.specs.Runs.{StepsTaken}
 use Rattle.machine.specs.State.{Whole}

@@ -12,8 +12,9 @@ use Rattle.machine.specs.declared.act.Reply.{Reply}
 use Rattle.machine.specs.declared.act.Reply.TheVariants.{Marked}
 use Rattle.machine.specs.declared.act.Shape.{Shape}
 use Rattle.machine.specs.declared.act.Step.{Step}
-use Rattle.machine.specs.History.{Event, Mark, files_after, IsDurablePrefix}
-use Rattle.machine.specs.Laws.{ReadsBack, observed_at_start}
+use Rattle.history.specs.History.{Event, Mark, files_after, IsDurablePrefix}
+use Rattle.machine.specs.Laws.{observed_at_start}
+use Rattle.history.specs.Reading.{ReadsBack}
 use Rattle.machine.specs.Observed.{observe_all}
 use Rattle.crash_table.specs.Crashes.{history_of, IsAtMark}
 use Rattle.crash_table.specs.declared.found.MarkFiles.{MarkFiles}

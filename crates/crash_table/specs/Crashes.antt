@@ -9,7 +9,7 @@ use Rattle.volume_codec.specs.Recovery.{RecoversTo}
 use Rattle.machine.specs.declared.act.Reply.{Reply}
 use Rattle.machine.specs.declared.act.Shape.{Shape}
 use Rattle.machine.specs.declared.act.Step.{Step}
-use Rattle.machine.specs.History.{Event, Mark, files_after, IsDurablePrefix}
+use Rattle.history.specs.History.{Event, Mark, files_after, IsDurablePrefix}
 use Rattle.machine.specs.Laws.{observed_at_start}
 use Rattle.machine.specs.Observed.{observe_all}
 use Rattle.engine.specs.Engine.{HasRun, HasNotStarted}

@@ -7,8 +7,9 @@ use Rattle.device.specs.Memory.{Recorded, left_since_of}
 use Rattle.volume_codec.specs.Files.{File}
 use Rattle.machine.specs.declared.act.Reply.{Reply}
 use Rattle.machine.specs.declared.act.Step.{Step}
-use Rattle.machine.specs.History.{Acknowledge}
-use Rattle.machine.specs.Laws.{ReadsBack, ReadsBackSince}
+use Rattle.history.specs.History.{Acknowledge}
+use Rattle.machine.specs.Laws.{ReadsBackSince}
+use Rattle.history.specs.Reading.{ReadsBack}
 use Rattle.machine.specs.Runs.{StepsTaken}
 use Rattle.machine.specs.State.{Whole}
 use Rattle.machine.specs.Steps.{observed_first}

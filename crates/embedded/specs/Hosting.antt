@@ -3,8 +3,8 @@ use Rattle.std.specs.Prelude.{ℕ, ◌-◌, List, ◌++◌, length, take, Contai
 use Rattle.deferred_disk.specs.Deferred.{Deferred, with_waiting}
 use Rattle.device.specs.Memory.{Recorded}
 use Rattle.volume_codec.specs.Files.{File}
-use Rattle.machine.specs.History.{Event, Acknowledge}
-use Rattle.machine.specs.Laws.{ReadsBack}
+use Rattle.history.specs.History.{Event, Acknowledge}
+use Rattle.history.specs.Reading.{ReadsBack}
 use Rattle.machine.specs.State.{Whole}
 use Rattle.engine.specs.Survival.{history_of}
 use Rattle.session.specs.declared.notes.Notes.{Notes}

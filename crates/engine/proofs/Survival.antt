@@ -12,16 +12,18 @@ use Rattle.machine.specs.declared.act.Reply.{Reply}
 use Rattle.machine.specs.declared.act.Shape.{Shape}
 use Rattle.machine.specs.declared.act.Step.{Step}
 use Rattle.machine.specs.Crashes.{StepIsSafe, Throughout}
-use Rattle.machine.specs.History.{Event, files_after}
-use Rattle.machine.specs.Later.{Finds, FindsDurable}
-use Rattle.machine.specs.Laws.{EachStep, FaultsAreServed, IsLawful, ReadsBack}
+use Rattle.history.specs.History.{Event, files_after}
+use Rattle.history.specs.Later.{Finds, FindsDurable}
+use Rattle.machine.specs.Laws.{EachStep, FaultsAreServed, IsLawful}
+use Rattle.history.specs.Reading.{ReadsBack}
 use Rattle.machine.specs.Reached.{IsReached}
 use Rattle.machine.specs.Runs.{StepsTaken}
 use Rattle.machine.specs.State.{Whole}
 use Rattle.machine.specs.Steps.{observed_first}
 use Rattle.machine.specs.Observed.{Observed, observe}
 use Rattle.engine.specs.Engine.{HasStarted, HasRun}
-use Rattle.engine.specs.Survival.{history_of, KeepsFiles, FindsAfterCrash, StepSurvives, Survives}
+use Rattle.engine.specs.Survival.{history_of, StepSurvives, Survives}
+use Rattle.history.specs.Later.{KeepsFiles, FindsAfterCrash}
 use Rattle.engine.proofs.Runs.{taken_kept}
 use Rattle.engine.proofs.Starts.{begins}
 

@@ -3,12 +3,12 @@ use Rattle.std.specs.Prelude.{ℕ, List}
 use Rattle.device.specs.declared.device.Device.{Ghosts}
 use Rattle.volume_codec.specs.Files.{File}
 use Rattle.volume_codec.specs.Recovery.{RecoversTo}
-use Rattle.recovery.specs.Openings.{IsRestarted, IsLater}
+use Rattle.recovery.specs.Openings.{IsLater}
 use Rattle.machine.specs.declared.act.Reply.{Reply}
 use Rattle.machine.specs.declared.act.Step.{Step}
 use Rattle.machine.specs.Crashes.{StepIsSafe, Throughout}
-use Rattle.machine.specs.History.{Event}
-use Rattle.machine.specs.Later.{AreDurable, Finds, FindsDurable}
+use Rattle.history.specs.History.{Event}
+use Rattle.history.specs.Later.{FindsDurable, KeepsFiles, FindsAfterCrash}
 use Rattle.machine.specs.Laws.{EachStep, FaultsAreServed, IsLawful}
 use Rattle.machine.specs.State.{Whole}
 use Rattle.machine.specs.Steps.{observed_first}
@@ -17,19 +17,6 @@ use Rattle.machine.specs.Observed.{Observed, observe_all}
 -- what was stored, marked and acknowledged, as observed by these steps and their replies
 abbrev pub history_of : {D : Type 0} → List File → Whole D → List Step → List Reply → List Event
 history_of files start steps replies = (observe_all (observed_first files start.state) steps replies).history
-
--- A crash left one of these lists: whichever one, these files are found, and so they are after any number of openings,
--- each with a crash or none within and after it.
-abbrev pub KeepsFiles : {D : Type 0} → Ghosts D → List File → (List ℕ → Type 0) → Type 0
-KeepsFiles {D} disk files lists =
-    (first later : D) (n : ℕ) → IsRestarted disk lists first → IsLater disk n first later → Finds disk files later
-
--- A crash left one of these lists: whichever one, there are files after a durable prefix of this history, and they are
--- found, and so they are after any number of openings, each with a crash or none within and after it.
-abbrev pub FindsAfterCrash : {D : Type 0} → Ghosts D → List File → List Event → (List ℕ → Type 0) → Type 0
-FindsAfterCrash {D} disk files history lists =
-    (first : D) → IsRestarted disk lists first → (found : List File) × AreDurable files history found
-    × ((n : ℕ) (later : D) → IsLater disk n first later → Finds disk found later)
 
 -- One step, by what was observed before it: what a crash at any moment within it leaves is found so by the history
 -- before it, to which an acknowledged mark belongs whole.

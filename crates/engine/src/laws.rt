@@ -17,7 +17,8 @@ ghost use Rattle.engine.specs.Engine.{HasNotStarted, HasRun, HasStarted};
 ghost use Rattle.engine.specs.Survival.{Survives};
 
 use device::Device;
-use machine::{Machine, faults_are_served, opened_later, runs_keep_the_laws};
+use history::opened_later;
+use machine::{Machine, faults_are_served, runs_keep_the_laws};
 use recovery::{crashed_since_opening, opened_again};
 use std::alloc::Allocator;
 use volume_codec::one_reading;

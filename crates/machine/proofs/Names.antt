@@ -62,13 +62,14 @@ pub use Rattle.machine.specs.Durability.{AreFrozenProtected, HasPart, IsInFile, 
 pub use Rattle.machine.specs.Durability.{waiting_homes}
 pub use Rattle.machine.specs.Durability.{within_file}
 pub use Rattle.machine.specs.Fresh.{IsFresh, IsShape, fresh}
-pub use Rattle.machine.specs.History.{Acknowledge, Event, Mark, Memory, after, bytes_of_pages, file_bytes, files_after}
-pub use Rattle.machine.specs.History.{cut_file, files_from_memory, has_unmarked, is_change, is_change_of, is_touched}
-pub use Rattle.machine.specs.History.{lengths_after, lengths_of, memory_of, since_mark, stored}
-pub use Rattle.machine.specs.History.{with_event, with_length}
-pub use Rattle.machine.specs.Later.{AreDurable, Finds, FindsDurable, OpensTo}
+pub use Rattle.history.specs.History.{Acknowledge, Event, Mark, Memory, after, bytes_of_pages, file_bytes, files_after}
+pub use Rattle.history.specs.History.{cut_file, files_from_memory, has_unmarked, is_change, is_change_of, is_touched}
+pub use Rattle.history.specs.History.{lengths_after, lengths_of, memory_of, since_mark, stored}
+pub use Rattle.history.specs.History.{with_event, with_length}
+pub use Rattle.history.specs.Later.{AreDurable, Finds, FindsDurable, OpensTo}
 pub use Rattle.machine.specs.Laws.{EachStep, FaultsAreServed, IsAccessOf, IsAnswered, IsFreeToAct, IsInside, IsLawful}
-pub use Rattle.machine.specs.Laws.{LeadsTo, LoadsLatest, ReadsBack, ServesNext, StoresAtPlace}
+pub use Rattle.machine.specs.Laws.{LeadsTo, LoadsLatest, ServesNext, StoresAtPlace}
+pub use Rattle.history.specs.Reading.{ReadsBack}
 pub use Rattle.machine.specs.Laws.{observed_at_start}
 pub use Rattle.machine.specs.Reached.{IsReached}
 pub use Rattle.machine.specs.Refusals.{first_of, is_absent, is_msync, mapping_refusal, pages_in_file, reads_page}
@@ -82,9 +83,10 @@ pub use Rattle.machine.specs.Rules.{after_failure, after_record, begin_change, b
 pub use Rattle.machine.specs.Rules.{next_page, with_batch, with_hardware, with_shootdown, with_spaces}
 pub use Rattle.machine.specs.Rules.{is_page_next, mark_homes, work_asked}
 pub use Rattle.machine.specs.Runs.{StepTaken, StepsTaken}
-pub use Rattle.machine.specs.State.{State, Whole, capacity_of, cut_at_end, length_of, page_from, part}
+pub use Rattle.machine.specs.State.{State, Whole, capacity_of, cut_at_end, length_of, page_from}
+pub use Rattle.history.specs.History.{part}
 pub use Rattle.machine.specs.Steps.{StepMade, step_work, observed_first}
-pub use Rattle.machine.specs.Stops.{IsAcknowledged, IsNew, IsOld, Stops, StopsBefore, StopsInStep, StopsWithin}
+pub use Rattle.history.specs.Stops.{IsAcknowledged, IsNew, IsOld, Stops, StopsBefore, StopsInStep, StopsWithin}
 pub use Rattle.machine.specs.Sums.{AskFor, CallsAddUp, asked_for, listed_work}
 pub use Rattle.machine.specs.Observed.{Pending, Protecting, Observed, Unmapping}
 pub use Rattle.machine.specs.Observed.{begun_by, begun_protect, begun_unmap, changed}
@@ -112,11 +114,15 @@ pub use Rattle.machine.specs.inside.Moves.{CanBegin, MakesChange, SamePlaces, St
 pub use Rattle.machine.specs.inside.Moves.{ending_of, reply_to, after_effect, after_effects}
 pub use Rattle.machine.specs.inside.Sound.{AreOlderCommitted, AreSpacesSound, AreWriteOutsSound, IsMemory}
 pub use Rattle.machine.specs.inside.Sound.{IsMemorySound, IsPrepared, IsSound, IsSource, IsResizable}
-pub use Rattle.machine.specs.inside.Refining.{AreContentsOf, AreMarks, ArePlain, AreTouched}
-pub use Rattle.machine.specs.inside.Refining.{HasAcknowledged, HasFiles}
+pub use Rattle.machine.specs.inside.Refining.{AreMarks, ArePlain, AreTouched}
+pub use Rattle.history.specs.inside.Contents.{AreContentsOf}
+pub use Rattle.machine.specs.inside.Refining.{HasFiles}
+pub use Rattle.history.specs.inside.Contents.{HasAcknowledged}
 pub use Rattle.machine.specs.inside.Refining.{HasPages, HasUncommitted, IsDurable}
-pub use Rattle.machine.specs.inside.Refining.{HasParts, IsArranged, IsLatest, IsLost, Refines, IsWaiting, IsWritten}
-pub use Rattle.machine.specs.inside.Refining.{change_in, has_resized, is_resize, pending_in}
+pub use Rattle.machine.specs.inside.Refining.{IsArranged, IsLatest, IsLost, Refines, IsWaiting, IsWritten}
+pub use Rattle.history.specs.inside.Contents.{HasParts}
+pub use Rattle.machine.specs.inside.Refining.{change_in, pending_in}
+pub use Rattle.history.specs.inside.Contents.{has_resized, is_resize}
 pub use Rattle.mappings.specs.Judgement.{add_refusal, is_mappable, is_user_range, mapped_pages_of, pages_holding}
 pub use Rattle.mappings.specs.Judgement.{protect_refusal, range_of_bytes}
 pub use Rattle.mappings.specs.Places.{Places, all_mapped, allows, any_forbids, any_mapped, is_among, may_write}

@@ -1,14 +1,10 @@
-pub mod Lists
 pub mod Histories
 pub mod Pages
 pub mod Homes
-pub mod Cuts
 pub mod Uncommitted
 pub mod Marks
 pub mod Flushes
-pub mod FileParts
 pub mod ReadsBack
 pub mod Steps
 pub mod AtStart
-pub mod Later
 pub mod Resized

@@ -10,7 +10,7 @@ use Rattle.machine.specs.declared.act.Reply.{Reply}
 use Rattle.machine.specs.declared.act.Step.{Step}
 use Rattle.machine.specs.State.{Whole}
 use Rattle.machine.specs.Observed.{Observed, observe}
-use Rattle.machine.specs.Laws.{ReadsBack}
+use Rattle.history.specs.Reading.{ReadsBack}
 use Rattle.machine.specs.Fresh.{IsFresh}
 use Rattle.machine.specs.Runs.{StepTaken}
 

@@ -12,7 +12,8 @@ use Rattle.spaces.specs.Spaces.{entry_at}
 use Rattle.shootdown.specs.Shootdown.{processor_at}
 use Rattle.shootdown.specs.Coherence.{IsUsable}
 use Rattle.checkpoint.specs.Checkpoint.{Holds, is_held}
-use Rattle.machine.specs.State.{State, length_of, part}
+use Rattle.machine.specs.State.{State, length_of}
+use Rattle.history.specs.History.{part}
 
 -- the home blocks whose records aren't written yet
 abbrev pub waiting_homes : WriteOutsValue → List ℕ

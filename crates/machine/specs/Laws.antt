@@ -6,14 +6,14 @@ use Rattle.page_entry.specs.declared.refusal.Refusal.TheVariants as refusals
 use Rattle.mappings.specs.declared.place.Place.{Place}
 use Rattle.mappings.specs.Places.{may_write}
 use Rattle.volume_codec.specs.Files.{File}
-use Rattle.volume_codec.specs.Recovery.{RecoversTo}
 use Rattle.machine.specs.declared.act.Act.{Act}
 use Rattle.machine.specs.declared.act.Act.TheVariants as acts
 use Rattle.machine.specs.declared.act.Reply.{Reply}
 use Rattle.machine.specs.declared.act.Reply.TheVariants as replies
 use Rattle.machine.specs.declared.act.Step.{Step}
 use Rattle.cpu.specs.Access.{IsAccess}
-use Rattle.machine.specs.History.{Event, memory_of, after, files_after, IsDurablePrefix}
+use Rattle.history.specs.History.{memory_of, after}
+use Rattle.history.specs.Reading.{ReadsBack}
 use Rattle.machine.specs.Observed.{Observed, place_observed, length_observed, observe, observe_all}
 
 -- what is observed at the start of a run with these files and so many processors: each is in space 0, which maps
@@ -113,13 +113,6 @@ FaultsAreServed (step ∷ steps) (reply ∷ replies) =
 FaultsAreServed steps replies = Unit {0}
 
 -- ---- durability
-
--- these bytes recover to the files after a durable prefix of the history: one that is empty or ends with a mark, and
--- has every mark that was acknowledged
-pub record ReadsBack (files : List File) (history : List Event) (disk : List ℕ) : Type 0 where
-  pub prefix : List Event
-  pub durable : IsDurablePrefix prefix history
-  pub recovers : RecoversTo disk (files_after files prefix)
 
 -- these bytes read back so of the history that is observed by what was before and by the first so many of these steps
 abbrev pub ReadsBackSince : List File → Observed → List Step → List Reply → List ℕ → Type 0

@@ -4,7 +4,6 @@ pub mod Refusals
 pub mod Rules
 pub mod Calls
 pub mod Devices
-pub mod History
 pub mod Observed
 pub mod Laws
 pub mod Fresh
@@ -15,11 +14,9 @@ pub mod Runs
 pub mod Sums
 pub mod Reached
 pub mod AtOnce
-pub mod Stops
 pub mod Words
 pub mod Accesses
 pub mod Outcomes
 pub mod Unmarked
 pub mod inside
-pub mod Later
 pub mod Durability

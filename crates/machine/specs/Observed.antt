@@ -15,7 +15,7 @@ use Rattle.machine.specs.declared.act.Act.TheVariants as acts
 use Rattle.machine.specs.declared.act.Reply.{Reply}
 use Rattle.machine.specs.declared.act.Reply.TheVariants as replies
 use Rattle.machine.specs.declared.act.Step.{Step}
-use Rattle.machine.specs.History.{Event, Store, SetLength, Mark, Acknowledge, has_unmarked}
+use Rattle.history.specs.History.{Event, Store, SetLength, Mark, Acknowledge, has_unmarked}
 
 -- an unmap, a protect or a change of a file's length that was begun and takes effect at the change that ends it
 pub data Pending : Type 0 where

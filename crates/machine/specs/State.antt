@@ -1,5 +1,5 @@
 -- What contracts see of a machine: the states of its layers.
-use Rattle.std.specs.Prelude.{ℕ, Bool, ◌-◌, ◌*◌, List, map, take, slice_index_or}
+use Rattle.std.specs.Prelude.{ℕ, Bool, List, map, slice_index_or}
 use Rattle.page_entry.specs.declared.numbers.FilePage.{FilePage}
 use Rattle.volume_codec.specs.Super.{SuperValue}
 use Rattle.volume_codec.specs.Text.{padded}
@@ -8,6 +8,7 @@ use Rattle.cpu.specs.Access.{Hardware}
 use Rattle.checkpoint.specs.Checkpoint.{CheckpointState}
 use Rattle.journal.specs.Pages.{home_of}
 use Rattle.journal.specs.WriteOuts.{WriteOutsValue}
+use Rattle.history.specs.History.{part}
 
 -- A machine without its device: the volume's table of files, and the length of each in bytes; the processors with
 -- their TLBs and the lock, the address spaces and the frames; which pages are dirty by notes, and which are frozen; the
@@ -33,10 +34,6 @@ length_of s file = slice_index_or s.lengths file 0
 -- the greatest length that the file with this number may have
 abbrev pub capacity_of : State → ℕ → ℕ
 capacity_of s file = slice_index_or (map (λ f. f.capacity) s.table.files) file 0
-
--- the bytes of a page up to its file's end, of files of these lengths
-abbrev pub part : List ℕ → FilePage → List ℕ → List ℕ
-part lengths owner bytes = take (slice_index_or lengths owner.file 0 - 4096 * owner.page) bytes
 
 -- what the record of a page has, and what a frame has when the page is read in: its bytes up to the file's end, then
 -- zeros

@@ -1,19 +1,15 @@
-// What follows of a run: how many device calls it made, and what later openings find.
+// What follows of a run: how many device calls it made, and what a crash leaves of it.
 ghost use Rattle.std.specs.Prelude.{ℕ, ◌≡◌, ◌+◌, ◌-◌, ◌*◌, ◌^◌, ◌<◌, List, [], ◌∷◌, ◌++◌, length, sum_by};
-ghost use Rattle.device.specs.Device.{Only};
 ghost use Rattle.volume_codec.specs.Files.{File};
 ghost use Rattle.volume_codec.specs.Layout.{descriptor_blocks};
-ghost use Rattle.volume_codec.specs.Recovery.{RecoversTo};
-ghost use Rattle.recovery.specs.Openings.{IsLater};
 ghost use Rattle.machine.specs.declared.act.Reply.{Reply};
 ghost use Rattle.machine.specs.declared.act.Reply.TheVariants.{Committed, Done};
 ghost use Rattle.machine.specs.declared.act.Step.{Step};
 ghost use Rattle.machine.specs.State.{Whole};
 ghost use Rattle.machine.specs.Rules.{MarkMade, mark_homes};
-ghost use Rattle.machine.specs.History.{Event, files_after};
 ghost use Rattle.machine.specs.Crashes.{StepIsSafe, Throughout};
-ghost use Rattle.machine.specs.Laws.{EachStep, FaultsAreServed, IsLawful, ReadsBack, ReadsBackSince};
-ghost use Rattle.machine.specs.Later.{AreDurable, Finds, FindsDurable};
+ghost use Rattle.machine.specs.Laws.{EachStep, FaultsAreServed, IsLawful, ReadsBackSince};
+ghost use Rattle.history.specs.Reading.{ReadsBack};
 ghost use Rattle.journal.specs.Work.{Work, calls_of};
 ghost use Rattle.machine.specs.Reached.{IsReached};
 ghost use Rattle.machine.specs.Runs.{StepTaken, StepsTaken};
@@ -22,26 +18,6 @@ ghost use Rattle.machine.specs.Sums.{CallsAddUp, AskFor};
 ghost use Rattle.machine.specs.Observed.{observe_all};
 
 use device::Device;
-use recovery::{kinds_of_bytes, opened_again, opened_as_recovered};
-use volume_codec::one_reading;
-
-/// Where a crash of an honest device leaves nothing but what a read gives, the files to which that recovers are found
-/// for good: after any number of openings, each with a crash or none within and after it (`permanent`). Where all that
-/// a crash may leave of one reads back as the files after a durable prefix of a history, so it does after any number of
-/// such openings, and each opening finds exactly these files (`durable`).
-pub fn opened_later<D: Device>(device: &D)
-    ensures permanent { (files : List File) (n : ℕ) (first later : D) → D.is_honest first
-        → Only (D.may_leave first) (D.seen first) → RecoversTo (D.seen first) files
-        → IsLater D.Device n first later → Finds D.Device files later }
-    ensures durable { (files : List File) (history : List Event) (n : ℕ) (first later : D) → D.is_honest first
-        → ((c : List ℕ) → D.may_leave first c → ReadsBack files history c)
-        → IsLater D.Device n first later → FindsDurable D.Device files history later }
-{
-    opened_again(device);
-    opened_as_recovered(device);
-    kinds_of_bytes();
-    one_reading();
-}
 
 /// What holds of each run over an honest device, whatever is known of its last machine: what `Machine::keeps_the_laws`
 /// says (`headline`, `lawful`, `left`); and a crash since any machine of the run leaves what reads back as the files
@@ -110,11 +86,4 @@ pub fn counts_of_a_write_out<D: Device>(device: &D)
         + descriptor_blocks old.state.table.slots + 6)
         × (sum_by calls_of works ≡ 3 * length (mark_homes old.state mark.pages)
         + descriptor_blocks old.state.table.slots + 6) }
-{}
-
-/// Where nothing was stored, the files are as they were: a history without events leaves them (`files`), and they are
-/// what is found after it (`found`).
-pub fn nothing_stored()
-    ensures files { (files : List File) → files_after files [] ≡ files }
-    ensures found { (files found : List File) → AreDurable files [] found → found ≡ files }
 {}

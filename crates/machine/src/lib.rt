@@ -26,8 +26,7 @@ mod tending;
 pub use act::{Access, Act, Outcome, Reply, Shape, Step};
 pub use few_bytes::FewBytes;
 pub use laws::{
-    calls_of_steps, counts_of_a_write_out, faults_are_served, nothing_stored, opened_later,
-    runs_keep_the_laws, steps_after_steps,
+    calls_of_steps, counts_of_a_write_out, faults_are_served, runs_keep_the_laws, steps_after_steps,
 };
 pub use machine::Machine;
 pub use msync_flags::MsyncFlags;

@@ -12,12 +12,13 @@ ghost use Rattle.machine.specs.State.{State, Whole};
 ghost use Rattle.machine.specs.Rules.{MarkMade, WantsMemory, mark_homes};
 ghost use Rattle.machine.specs.Durability.{AreFrozenProtected, HasPart, IsInFile};
 ghost use Rattle.machine.specs.Crashes.{Begins, StepIsSafe, Throughout};
-ghost use Rattle.machine.specs.History.{after, has_unmarked, is_touched, memory_of};
+ghost use Rattle.history.specs.History.{after, has_unmarked, is_touched, memory_of};
 ghost use Rattle.machine.specs.Observed.{observe_all};
-ghost use Rattle.machine.specs.Laws.{EachStep, FaultsAreServed, IsLawful, ReadsBack};
+ghost use Rattle.machine.specs.Laws.{EachStep, FaultsAreServed, IsLawful};
+ghost use Rattle.history.specs.Reading.{ReadsBack};
 ghost use Rattle.machine.specs.Steps.{observed_first};
 ghost use Rattle.machine.specs.Reached.{IsReached};
-ghost use Rattle.machine.specs.Stops.{Stops, StopsInStep};
+ghost use Rattle.history.specs.Stops.{Stops, StopsInStep};
 ghost use Rattle.machine.specs.Runs.{StepTaken, StepsTaken};
 
 use crate::{Machine, Reply, Step};

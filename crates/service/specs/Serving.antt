@@ -8,7 +8,8 @@ use Rattle.machine.specs.declared.act.Reply.{Reply}
 use Rattle.machine.specs.declared.act.Step.{Step}
 use Rattle.machine.specs.Crashes.{Begins, StepIsSafe, Throughout}
 use Rattle.machine.specs.Fresh.{IsFresh}
-use Rattle.machine.specs.Laws.{EachStep, FaultsAreServed, IsLawful, ReadsBack}
+use Rattle.machine.specs.Laws.{EachStep, FaultsAreServed, IsLawful}
+use Rattle.history.specs.Reading.{ReadsBack}
 use Rattle.machine.specs.Runs.{StepTaken, StepsTaken}
 use Rattle.machine.specs.State.{Whole}
 use Rattle.machine.specs.Steps.{observed_first}

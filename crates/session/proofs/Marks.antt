@@ -18,7 +18,7 @@ use Rattle.machine.specs.declared.act.Act.TheVariants as acts
 use Rattle.machine.specs.declared.act.Reply.{Reply}
 use Rattle.machine.specs.declared.act.Reply.TheVariants as replies
 use Rattle.machine.specs.declared.act.Step.{Step}
-use Rattle.machine.specs.History.{Event, Mark, Acknowledge, is_change, since_mark, has_unmarked, with_event}
+use Rattle.history.specs.History.{Event, Mark, Acknowledge, is_change, since_mark, has_unmarked, with_event}
 use Rattle.machine.specs.Runs.{StepsTaken}
 use Rattle.machine.specs.State.{Whole}
 use Rattle.machine.specs.Steps.{observed_first}

@@ -4,7 +4,7 @@ ghost use Rattle.std.specs.Fmt.{decimal};
 ghost use Rattle.volume_codec.specs.Files.{File};
 ghost use Rattle.machine.specs.declared.act.Reply.{Reply};
 ghost use Rattle.machine.specs.declared.act.Step.{Step};
-ghost use Rattle.machine.specs.History.{Acknowledge};
+ghost use Rattle.history.specs.History.{Acknowledge};
 ghost use Rattle.machine.specs.State.{Whole};
 ghost use Rattle.engine.specs.Survival.{history_of};
 ghost use Rattle.session.specs.declared.notes.Notes.{Notes};

@@ -12,7 +12,7 @@ use Rattle.machine.specs.declared.act.Reply.{Reply}
 use Rattle.machine.specs.declared.act.Reply.TheVariants.{Marked, Going, Committed, Done}
 use Rattle.machine.specs.declared.act.Shape.{Shape}
 use Rattle.machine.specs.declared.act.Step.{Step}
-use Rattle.machine.specs.History.{Event, Mark, files_after}
+use Rattle.history.specs.History.{Event, Mark, files_after}
 use Rattle.machine.specs.Runs.{StepTaken, StepsTaken}
 use Rattle.machine.specs.State.{Whole}
 use Rattle.machine.specs.Unmarked.{unmarked_by}

@@ -10,7 +10,7 @@ use Rattle.machine.proofs.Names.{length_refusal, resize_refusal, reason_against}
 use Rattle.spaces.specs.declared.change.Change.TheVariants as changes
 use Rattle.machine.specs.declared.act.Act.TheVariants as acts
 use Rattle.machine.proofs.sound.Ended.{prepared_change}
-use Rattle.machine.proofs.sound.Homes.{total_pages-within}
+use Rattle.history.proofs.Public.{total_pages-within}
 use Rattle.machine.proofs.Names.{◌&&◌, is_some, lt-ltb, IfSome, IfNone, HasNoFrame, frame_at, page_of, is_in_memory}
 use Rattle.machine.proofs.code.Parts.{may_change, in_memory-found}
 use Rattle.machine.proofs.code.Refusals.{passed, alone}

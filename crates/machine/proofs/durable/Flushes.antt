@@ -23,12 +23,14 @@ use Rattle.machine.specs.declared.act.Act.TheVariants as acts
 use Rattle.machine.specs.Rules.{next_record as record_asked}
 use Rattle.journal.specs.declared.flushed.Flushed.TheVariants as flushed
 use Rattle.page_entry.specs.declared.refusal.Refusal.TheVariants as refusals
-use Rattle.machine.proofs.durable.Lists.{only_one, some_same, none_some, contains_none}
+use Rattle.history.proofs.Public.{only_one, some_same, none_some, contains_none}
 use Rattle.machine.proofs.durable.Pages.{bytes_with-freed}
 use Rattle.machine.proofs.durable.Uncommitted.{none_uncommitted, uncommitted_before, waits_after}
-use Rattle.machine.proofs.durable.Histories.{calm_of, quiet_nothing, quiet_acknowledge, IsFresh}
+use Rattle.machine.proofs.durable.Histories.{IsFresh}
+use Rattle.history.proofs.Public.{calm_of, quiet_nothing, quiet_acknowledge}
 use Rattle.machine.proofs.durable.Histories.{written_same, written_new, AreFrozenRecords, SameFiles}
-use Rattle.machine.proofs.durable.Histories.{record_as, acknowledge_same, acknowledge_no_mark, marks_more}
+use Rattle.machine.proofs.durable.Histories.{record_as, marks_more}
+use Rattle.history.proofs.Public.{acknowledge_same, acknowledge_no_mark}
 use Rattle.machine.proofs.sound.Admitted.{second_not_refused}
 use Rattle.machine.proofs.sound.Records.{few_at_mark, next_recorded, coming, page_next}
 use Rattle.machine.proofs.sound.Sources.{of_file}

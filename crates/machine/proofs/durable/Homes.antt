@@ -13,30 +13,17 @@ use Rattle.machine.proofs.Names.{IsSource, first_home, lengths_text, eqb-true}
 use Rattle.machine.proofs.Names.{◌&&◌, and_from, eq-eqb, mark_homes}
 use Rattle.machine.proofs.Names.{Bool, false≢true}
 use Rattle.machine.proofs.sound.Homes.{home-below, same_home}
-use Rattle.machine.proofs.durable.Lists.{none_some, contains_head, contains_cons, contains_unmapped}
+use Rattle.history.proofs.Public.{none_some, contains_head, contains_cons, contains_unmapped}
 use Rattle.machine.proofs.durable.Pages.{holder, bytes_with-held}
 use Rattle.machine.proofs.sound.Frames.{in_memory_held, held_in_memory}
 use Rattle.machine.proofs.sound.Records.{bytes_with-none}
+use Rattle.history.proofs.Public.{take-padded_take}
 
 module _ (s : State) (sound : IsSound s) where
   pub home_is : (owner : FilePage) → IsInFile s owner → IsHome (geometry_of s.table) (home_of s.table owner)
   home_is owner is = record { low = omega arith; high = home-below s sound.within owner is }
 
 -- ---- a page up to its file's end
-
-pub nothing_padded : (n : ℕ) (t : List ℕ) → length t ≡ n → padded n t ≡ t
-nothing_padded n t size = let none : n - length t ≡ 0 = omega arith in
-    ap (λ k. t ++ zeros k) none ∙ ap (λ (z : List ℕ). t ++ z) zeros-nil ∙ append-nil t
-
--- what is padded keeps its first bytes
-take-padded_take : (n m : ℕ) (t : List ℕ) → length t ≡ n → take m (padded n (take m t)) ≡ take m t
-take-padded_take n m t size =
-    elim (cases_lt m n) [
-      | inl lt ↦ take_at (take m t) (zeros (n - length (take m t))) m (omega (arith, length-take m t))
-      | inr le ↦
-          let whole : take m t ≡ t = take_all m t (omega arith) in
-          ap (λ (l : List ℕ). take m (padded n l)) whole ∙ ap (take m) (nothing_padded n t size)
-    ]
 
 pub within_cut : (s : State) (owner : FilePage) (bytes : List ℕ) → length bytes ≡ 4096
     → within_file s owner (cut_at_end s owner bytes) ≡ within_file s owner bytes

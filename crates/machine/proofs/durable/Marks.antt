@@ -18,10 +18,11 @@ use Rattle.machine.proofs.Names.{HasFiles, lengths_in, lengths_of, lengths_after
 use Rattle.machine.proofs.Names.{lengths_in-same, has_lengths-same, said_lengths, reads_lengths, AreLengths, TableFile}
 use Rattle.machine.proofs.Names.{zero, suc, slice_get, lengths_text, mark_homes}
 use Rattle.machine.proofs.sound.Sources.{none_written}
-use Rattle.machine.proofs.durable.Lists.{contains_unmapped, some_same}
-use Rattle.machine.proofs.durable.Histories.{marked_by, after_mark, after_marked, lengths_mark, only_itself}
-use Rattle.machine.proofs.durable.Histories.{only_marked, unmarked_by_touched, unmarked_by_resized}
-use Rattle.machine.proofs.durable.Histories.{in_history, acknowledged_more, some_touched, contents_more}
+use Rattle.history.proofs.Public.{contains_unmapped, some_same}
+use Rattle.history.proofs.Public.{marked_by, after_mark, after_marked, lengths_mark, only_itself}
+use Rattle.history.proofs.Public.{only_marked, unmarked_by_touched, unmarked_by_resized}
+use Rattle.machine.proofs.durable.Histories.{contents_more}
+use Rattle.history.proofs.Public.{in_history, acknowledged_more, some_touched}
 use Rattle.machine.proofs.durable.Uncommitted.{committed_frozen, none_uncommitted, begun_early}
 use Rattle.machine.proofs.durable.Homes.{laid, laid-other, laid-page, laid-lengths, unwritten, within_cut, overlaid}
 use Rattle.machine.proofs.durable.Homes.{overlaid-other, overlaid-at, overlaid-elsewhere, bytes_at_mark-held}

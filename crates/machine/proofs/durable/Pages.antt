@@ -11,7 +11,7 @@ use Rattle.machine.proofs.Names.{same_page-refl, has_page-list_any, Holds, same_
 use Rattle.machine.proofs.Names.{freed_copy, is_copied, is_frozen, is_held, is_in_memory, Contains, list_any}
 use Rattle.machine.proofs.Names.{bytes_with, MayLeave, bytes_at_mark, All-contains, slice_get_within}
 use Rattle.machine.proofs.Names.{get_or_from_slice_get, HasBlock, State, home_of, IsSound}
-use Rattle.machine.proofs.durable.Lists.{some_same, none_some}
+use Rattle.history.proofs.Public.{some_same, none_some}
 use Rattle.machine.proofs.sound.Frames.{in_memory_held, held_in_memory, page_of-overwrite}
 use Rattle.machine.proofs.sound.Records.{bytes_with-at, bytes_with-none}
 use Rattle.machine.proofs.durable.Uncommitted.{frozen_block}

@@ -12,11 +12,11 @@ use Rattle.machine.proofs.Names.{IsNew, StopsBefore, StopsWithin, StopsInStep, S
 use Rattle.machine.proofs.Names.{processor_at, IsUsable, Holds, is_held, page_at, MarkMade, IsInFile, HasPart}
 use Rattle.machine.proofs.Names.{AreFrozenProtected, IsDurable}
 use Rattle.journal.specs.WriteOuts.{current}
-use Rattle.machine.specs.History.{IsDurablePrefix}
-use Rattle.machine.proofs.durable.FileParts.{prefix_has}
+use Rattle.history.specs.History.{IsDurablePrefix}
+use Rattle.history.proofs.Public.{prefix_has}
 use Rattle.machine.proofs.durable.Marks.{committed, clean}
 use Rattle.machine.proofs.durable.Uncommitted.{current_there, waiting_is_current, none_current}
-use Rattle.machine.proofs.durable.Lists.{some_same}
+use Rattle.history.proofs.Public.{some_same}
 
 -- ---- what a crash may leave reads back
 

@@ -7,11 +7,12 @@ use Rattle.machine.proofs.Names.{Event, Memory, Mark, Acknowledge, memory_of}
 use Rattle.machine.proofs.Names.{after, is_touched, cut_file, State, length_of}
 use Rattle.machine.proofs.Names.{home_of, ResizeMade, IsInFile, within_file, Observed, IsSound, IsLost, AreContentsOf}
 use Rattle.machine.proofs.Names.{HasAcknowledged, IsWritten, WriteOut}
-use Rattle.machine.specs.History.{SetLength}
-use Rattle.machine.proofs.durable.Lists.{contains_none}
-use Rattle.machine.proofs.durable.Cuts as cuts
-use Rattle.machine.proofs.durable.Cuts.{cut, cut-whole, take-cut, cut_file-there, cut_file-other}
-use Rattle.machine.proofs.durable.Histories.{begins_more, acknowledged_more, marks_more, written_as}
+use Rattle.history.specs.History.{SetLength}
+use Rattle.history.proofs.Public.{contains_none}
+use Rattle.history.proofs.Public as cuts
+use Rattle.history.proofs.Public.{cut, cut-whole, take-cut, cut_file-there, cut_file-other}
+use Rattle.machine.proofs.durable.Histories.{marks_more, written_as}
+use Rattle.history.proofs.Public.{begins_more, acknowledged_more}
 use Rattle.machine.proofs.durable.Homes.{home_is}
 use Rattle.machine.proofs.sound.ByResize.{resizable, none_frozen_then, after_it, length_there, length_elsewhere}
 use Rattle.machine.proofs.Names.{HasPages, IsDurable}

@@ -18,12 +18,14 @@ use Rattle.journal.specs.declared.flushed.Flushed.TheVariants as flushed
 use Rattle.machine.specs.declared.act.Act.TheVariants as acts
 use Rattle.machine.specs.declared.act.Reply.TheVariants as replies
 use Rattle.machine.specs.inside.Moves.{Flushed as Stepped, Resized}
-use Rattle.machine.specs.History.{SetLength}
+use Rattle.history.specs.History.{SetLength}
 use Rattle.machine.proofs.Names.{get_or, length_of, changed, pending_in, change_in, ResizeMade, resized_at}
 use Rattle.machine.proofs.sound.Kept.{performed_sound}
 use Rattle.machine.proofs.acts.All.{performed}
-use Rattle.machine.proofs.durable.Histories.{written_as, marked_by, after_marked, lengths_marked, resized_mark}
-use Rattle.machine.proofs.durable.Histories.{AreQuiet, quiet_nothing, quiet_acknowledge, touched_mark, SameFiles}
+use Rattle.machine.proofs.durable.Histories.{written_as}
+use Rattle.history.proofs.Public.{marked_by, after_marked, lengths_marked, resized_mark}
+use Rattle.machine.proofs.durable.Histories.{SameFiles}
+use Rattle.history.proofs.Public.{AreQuiet, quiet_nothing, quiet_acknowledge, touched_mark}
 use Rattle.machine.proofs.durable.Marks.{marked_durable}
 use Rattle.machine.proofs.durable.Flushes.{flush_within, flush_failed, flush_goes_on, flush_commits}
 use Rattle.machine.proofs.durable.ReadsBack.{reads_within, reads_now, stops_within}

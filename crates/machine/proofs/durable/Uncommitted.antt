@@ -12,7 +12,7 @@ use Rattle.machine.proofs.Names.{IsSound, waiting_homes, file_homes, HasUncommit
 use Rattle.journal.specs.WriteOuts.{current}
 use Rattle.machine.proofs.sound.Sharing.{AreStepped, Makes, each_stepped, moving_there, ending}
 use Rattle.machine.proofs.sound.Waiting.{waiting-none, blocks, committed_steps, committed_still}
-use Rattle.machine.proofs.durable.Lists.{first_or, some_same, none_some, nothing_mapped, contains_drop}
+use Rattle.history.proofs.Public.{first_or, some_same, none_some, nothing_mapped, contains_drop}
 use Rattle.machine.proofs.sound.Ended.{frozen_has_block}
 
 -- one that isn't committed after a step wasn't before it

@@ -9,7 +9,7 @@ use Rattle.machine.proofs.Names.{entry_at-remove, CheckpointState, Holds, is_not
 use Rattle.machine.proofs.Names.{IsInSpace, Gathers, ProtectsNoted, without_notes, AreBacked, page_at, fixed_entry}
 use Rattle.std.specs.FinMap as maps
 use Rattle.machine.proofs.sound.Lists.{get_or-replicate-same}
-use Rattle.machine.proofs.durable.Lists.{some_same, none_some}
+use Rattle.history.proofs.Public.{some_same, none_some}
 use Rattle.machine.proofs.sound.Lists.{kept_some}
 
 -- a frame is dirty by an entry

@@ -23,7 +23,7 @@ use Rattle.std.specs.FinMap as maps
 use Rattle.page_entry.specs.declared.refusal.Refusal.TheVariants as refusals
 use Rattle.machine.specs.declared.act.Act.TheVariants as acts
 use Rattle.machine.specs.declared.act.Reply.TheVariants as replies
-use Rattle.machine.proofs.durable.Lists.{some_same, none_some}
+use Rattle.history.proofs.Public.{some_same, none_some}
 use Rattle.machine.proofs.refining.Faults.{by_test, or_of_and, led_to, servable}
 use Rattle.machine.proofs.sound.Admitted.{free_of, served_at_fix, both_none}
 use Rattle.machine.proofs.refining.Translations.{has_loaded, has_stored}

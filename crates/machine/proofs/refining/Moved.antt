@@ -13,8 +13,9 @@ use Rattle.machine.proofs.Names.{StoresBytes, Move, Moves, Replace, Remap}
 use Rattle.machine.proofs.Names.{Destroy, Begin, End, Store, Bring, Copy, Drop}
 use Rattle.std.specs.FinMap as maps
 use Rattle.machine.proofs.moves.Kept.{move_sound}
-use Rattle.machine.proofs.durable.Lists.{some_same, none_some}
-use Rattle.machine.proofs.durable.Histories.{IsQuiet, quiet_nothing, Leaves, written_left}
+use Rattle.history.proofs.Public.{some_same, none_some}
+use Rattle.machine.proofs.durable.Histories.{Leaves, written_left}
+use Rattle.history.proofs.Public.{IsQuiet, quiet_nothing}
 use Rattle.machine.proofs.durable.Pages.{write_leaves, brought_leaves, copy_leaves, reclaimed_leaves, is_brought}
 use Rattle.machine.proofs.durable.Homes.{page_read}
 use Rattle.machine.proofs.refining.Lawful.{place_is}

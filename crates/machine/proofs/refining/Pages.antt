@@ -7,11 +7,12 @@ use Rattle.machine.proofs.Names.{has_resized, padded, Holds, IsDirty, is_in_memo
 use Rattle.machine.proofs.Names.{Memory, memory_of, after, is_touched, stored, State, cut_at_end, MayLeave}
 use Rattle.machine.proofs.Names.{with_hardware, IsInFile, Observed, IsSound, IsMemory, HasFiles, IsLatest, AreTouched}
 use Rattle.machine.proofs.Names.{ArePlain, page_at, Hardware, page_of-with_bytes, frame_at-with_bytes_other}
-use Rattle.machine.specs.History.{Store}
-use Rattle.machine.proofs.durable.Lists.{some_same}
-use Rattle.machine.proofs.durable.Histories.{SameFiles, in_file_as, AreQuiet, after_store, stored_there}
-use Rattle.machine.proofs.durable.Histories.{stored_elsewhere, length-stored, touched_there}
-use Rattle.machine.proofs.durable.Histories.{touched_elsewhere, lengths_store, resized_store}
+use Rattle.history.specs.History.{Store}
+use Rattle.history.proofs.Public.{some_same}
+use Rattle.machine.proofs.durable.Histories.{SameFiles, in_file_as}
+use Rattle.history.proofs.Public.{AreQuiet, after_store, stored_there}
+use Rattle.history.proofs.Public.{stored_elsewhere, length-stored, touched_there}
+use Rattle.history.proofs.Public.{touched_elsewhere, lengths_store, resized_store}
 use Rattle.machine.proofs.Names.{HasPages}
 use Rattle.machine.proofs.sound.Frames.{held_in_memory, holds_still}
 use Rattle.machine.proofs.durable.Pages.{IsBrought, held_by_none, absent_before, held_without}

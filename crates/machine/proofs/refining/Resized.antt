@@ -10,12 +10,12 @@ use Rattle.machine.proofs.Names.{cut_file, State, length_of, cut_at_end}
 use Rattle.machine.proofs.Names.{ResizeMade, IsInFile, Observed, IsSound, HasFiles}
 use Rattle.machine.proofs.Names.{IsLatest, AreTouched, ArePlain, Holds, IsDirty, page_at, is_in_memory, IsGrown}
 use Rattle.machine.proofs.Names.{IsAdded, is_past, place_at}
-use Rattle.machine.specs.History.{SetLength}
+use Rattle.history.specs.History.{SetLength}
 use Rattle.spaces.specs.Changes.{is_place_past}
 use Rattle.std.proofs.Common.{ltb}
-use Rattle.machine.proofs.durable.Lists.{some_same}
-use Rattle.machine.proofs.durable.Cuts as cuts
-use Rattle.machine.proofs.durable.Cuts.{cut, cut-none, cut-later, cut_file-there, cut_file-other, length-cut_file}
+use Rattle.history.proofs.Public.{some_same}
+use Rattle.history.proofs.Public as cuts
+use Rattle.history.proofs.Public.{cut, cut-none, cut-later, cut_file-there, cut_file-other, length-cut_file}
 use Rattle.machine.proofs.durable.Pages.{held_by_none, not_in_memory}
 use Rattle.machine.proofs.sound.Frames.{in_use, held_in_memory}
 use Rattle.machine.proofs.sound.ResizedPages.{zero_is_zeros, stays_before, held_cases}

@@ -8,7 +8,7 @@ use Rattle.machine.proofs.Names.{is_there_below, Hardware, serves, walk, walked,
 use Rattle.machine.proofs.Names.{filled_by, LoadMade, StoreMade, Place, may_write, FramesState, frame_at, bytes_of}
 use Rattle.machine.proofs.Names.{with_bytes, places-with_entry, has_space-with_entry, CheckpointState, Holds, IsDirty}
 use Rattle.machine.proofs.Names.{is_held, AreBacked, page_at, has_space-entry}
-use Rattle.machine.proofs.durable.Lists.{some_same}
+use Rattle.history.proofs.Public.{some_same}
 use Rattle.machine.proofs.refining.DirtyFrames.{dirty_at, dirty_kept, dirty_back, dirty_there}
 use Rattle.machine.proofs.refining.ObservedSpaces.{AreProcessorsObserved, observed_still}
 use Rattle.machine.proofs.refining.ObservedSpaces.{ObservedSpaces, AreSpacesObserved, spaces_still}

@@ -13,7 +13,7 @@ use Rattle.machine.proofs.Names.{waiting_homes, frozen_homes, file_homes, mark_h
 use Rattle.journal.specs.WriteOuts.{begun as outs_begun}
 use Rattle.spaces.specs.declared.change.Change.TheVariants as changes
 use Rattle.machine.proofs.sound.Lists.{get_or-replicate-same}
-use Rattle.machine.proofs.durable.Lists.{nothing_mapped}
+use Rattle.history.proofs.Public.{nothing_mapped}
 use Rattle.machine.proofs.sound.Groups.{still_sound, unchanged_sound}
 use Rattle.machine.proofs.sound.Frames.{in_memory_held}
 use Rattle.machine.proofs.sound.Ended.{prepared_change, ended_spaces}

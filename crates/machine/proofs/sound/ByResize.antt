@@ -9,7 +9,7 @@ use Rattle.machine.proofs.Names.{AreSpacesSound, IsMemorySound, AreWriteOutsSoun
 use Rattle.machine.proofs.Names.{place_at, place_at-EditsEntries, AreRising}
 use Rattle.spaces.specs.declared.change.Change.TheVariants as changes
 use Rattle.spaces.specs.Changes.{is_place_past, without_past}
-use Rattle.machine.proofs.durable.Lists.{nothing_mapped}
+use Rattle.history.proofs.Public.{nothing_mapped}
 use Rattle.machine.proofs.sound.Ended.{prepared_change, ended_spaces}
 use Rattle.machine.proofs.sound.Frames.{in_use}
 use Rattle.machine.proofs.sound.ResizedPages.{before_stays, held_cases, IsMemory-resized, AreBacked-resized}

@@ -10,7 +10,7 @@ use Rattle.machine.proofs.Names.{IsSound, waiting_homes, file_homes, leb, first_
 use Rattle.machine.proofs.sound.Sources.{filter_contains}
 use Rattle.std.proofs.Common.{Contains}
 use Rattle.page_entry.specs.declared.refusal.Refusal.TheVariants as refusals
-use Rattle.machine.proofs.durable.Lists.{contains_drop}
+use Rattle.history.proofs.Public.{contains_drop}
 use Rattle.machine.proofs.sound.Admitted.{both_none, there_below}
 
 -- ---- who changes

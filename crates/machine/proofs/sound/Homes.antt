@@ -9,25 +9,9 @@ use Rattle.machine.proofs.Names.{has_page-list_any, list_any-has_page, AreRising
 use Rattle.machine.proofs.Names.{home_of, length_of, IsInFile, capacity_of, IsSound, sum_by-set, count_by-le-length}
 use Rattle.machine.proofs.Names.{Bool, false, ◌++◌, lengths_blocks, mark_homes}
 use Rattle.machine.proofs.sound.Lists.{held_frame, same_some}
+use Rattle.history.proofs.Public.{capacity_at, total_pages-before, total_pages-within}
 
 -- ---- where files lie
-
--- the capacity of the file with this number
-abbrev pub capacity_at : List TableFile → ℕ → ℕ
-capacity_at files i = get_or (map (λ (f : TableFile). f.capacity) files) i 0
-
--- the blocks of a file come before those of the next ones, and within the volume
-total_pages-before : (files : List TableFile) (i j : ℕ) → i < j → i < length files
-    → total_pages (take i files) + pages_of (capacity_at files i) ≤ total_pages (take j files)
-total_pages-before files i j less there =
-    let one = total_pages-take_more files i there in
-    let two = total_pages-take_le (take j files) (i + 1) in
-    let same = ap total_pages (take-take (i + 1) j files (omega arith)) in
-    omega (arith, one, two, same)
-
-pub total_pages-within : (files : List TableFile) (i : ℕ) → i < length files
-    → total_pages (take i files) + pages_of (capacity_at files i) ≤ total_pages files
-total_pages-within files i there = omega (arith, total_pages-take_more files i there, total_pages-take_le files (i + 1))
 
 module _ (s : State) (within : (file : ℕ) → length_of s file ≤ capacity_of s file) where
   -- a page that begins before the end of its file has a block of the file

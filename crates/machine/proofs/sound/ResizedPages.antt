@@ -10,8 +10,8 @@ use Rattle.machine.proofs.Names.{IsAdded, PagesResized, cut_frame, cut_page, is_
 use Rattle.frames.specs.Frames.{zero_page, blank_bytes}
 use Rattle.volume_codec.specs.Text.{zeros}
 use Rattle.spaces.specs.Changes.{is_place_past, without_past}
-use Rattle.machine.proofs.durable.Lists.{some_same, none_some}
-use Rattle.machine.proofs.durable.Cuts.{cut, length-cut_file}
+use Rattle.history.proofs.Public.{some_same, none_some}
+use Rattle.history.proofs.Public.{cut, length-cut_file}
 use Rattle.machine.proofs.sound.Lists.{held_frame}
 use Rattle.machine.proofs.sound.Frames.{in_use, its_page}
 

@@ -5,7 +5,7 @@ use Rattle.machine.proofs.Names.{refl, ap, ◌∙◌, subst, inl, inr, arith, Al
 use Rattle.machine.proofs.Names.{cases_Bool, cond-true, cond-false, false_from_ne_true, le-leb, leb-true}
 use Rattle.machine.proofs.Names.{FilePage, FramesState, SuperValue, first_home, first_file_home, lengths_blocks, State}
 use Rattle.machine.proofs.Names.{home_of, is_in_memory, mark_homes, file_homes, IsSource}
-use Rattle.machine.proofs.durable.Lists.{contains_cons}
+use Rattle.history.proofs.Public.{contains_cons}
 
 -- ---- whether a home block is a file's
 

@@ -7,7 +7,7 @@ use Rattle.page_entry.specs.declared.numbers.FilePage.{FilePage}
 use Rattle.frames.specs.Frames.{frame_at, bytes_of}
 use Rattle.volume_codec.specs.Files.{File}
 use Rattle.volume_codec.specs.Super.{SuperValue}
-use Rattle.volume_codec.specs.Lengths.{HasLengths, lengths_in}
+use Rattle.volume_codec.specs.Lengths.{lengths_in}
 use Rattle.journal.specs.Pages.{home_of}
 use Rattle.journal.specs.WriteOut.{WriteOut, has_committed}
 use Rattle.journal.specs.WriteOuts.{has_uncommitted}
@@ -20,9 +20,11 @@ use Rattle.shootdown.specs.Processors.{is_running}
 use Rattle.shootdown.specs.Shootdown.{state_of, current}
 use Rattle.checkpoint.specs.Checkpoint.{Holds, IsDirty}
 use Rattle.fault.specs.Fault.{is_in_memory}
-use Rattle.machine.specs.History.{Event, SetLength, Memory, memory_of, after, lengths_of}
-use Rattle.machine.specs.History.{lengths_after, since_mark, is_touched, Mark, Acknowledge, IsMarked}
-use Rattle.machine.specs.State.{State, part, cut_at_end}
+use Rattle.history.specs.History.{Event, memory_of, after, lengths_of}
+use Rattle.history.specs.History.{lengths_after, is_touched, Mark, Acknowledge}
+use Rattle.history.specs.inside.Contents.{has_resized, AreContentsOf, HasAcknowledged}
+use Rattle.machine.specs.State.{State, cut_at_end}
+use Rattle.history.specs.History.{part}
 use Rattle.machine.specs.Rules.{bytes_at_mark}
 use Rattle.machine.specs.Durability.{IsInFile, within_file}
 use Rattle.machine.specs.inside.Sound.{IsSound}
@@ -54,14 +56,6 @@ pub record IsArranged (observed : Observed) (s : State) : Type 0 where
   pub same_locked : observed.locked ≡ is_some s.hardware.shootdown.lock
   pub same_pending : observed.pending ≡ pending_in (change_in s.hardware.shootdown.lock)
   pub same_lengths : observed.lengths ≡ s.lengths
-
--- whether a length was set since the last mark
-abbrev pub is_resize : Event → Bool
-is_resize (SetLength file from to) = true
-is_resize event = false
-
-abbrev pub has_resized : List Event → Bool
-has_resized history = list_any is_resize (since_mark history)
 
 -- the machine's table has these files, and its lengths are those after the history
 pub record HasFiles (files : List File) (history : List Event) (s : State) : Type 0 where
@@ -98,27 +92,6 @@ pub record HasPages (files : List File) (observed : Observed) (s : State) : Type
   pub plain : ArePlain files observed s
 
 -- ---- what the device recovers to
-
--- the contents have the parts of the files of a table, with these lengths, in this memory
-abbrev pub HasParts : SuperValue → List ℕ → (ℕ → List ℕ) → Memory → Type 0
-HasParts table lengths contents memory = (owner : FilePage) → owner.file < length table.files
-    → 4096 * owner.page < slice_index_or lengths owner.file 0
-    → part lengths owner (contents (home_of table owner)) ≡ part lengths owner (memory owner.file owner.page)
-
--- the contents are those after a marked prefix of the history, with the lengths after that prefix
-pub record AreContentsOf (files : List File) (history : List Event) (table : SuperValue) (contents : ℕ → List ℕ)
-    (prefix : List Event) : Type 0 where
-  pub rest : List Event
-  pub begins : prefix ++ rest ≡ history
-  pub marked : IsMarked prefix
-  pub whole : (file page : ℕ) → length (after (memory_of files) prefix file page) ≡ 4096
-  pub fits : HasLengths table contents
-  pub same_lengths : lengths_in table contents ≡ lengths_after (lengths_of files) prefix
-  pub parts : HasParts table (lengths_after (lengths_of files) prefix) contents (after (memory_of files) prefix)
-
--- every mark that the history acknowledges is in the prefix
-abbrev pub HasAcknowledged : List Event → List Event → Type 0
-HasAcknowledged prefix history = (number : ℕ) → Contains history (Acknowledge number) → Contains prefix (Mark number)
 
 -- A mark was made of a broken machine, so that its pages weren't written; no later mark comes.
 pub record IsLost (s : State) : Type 0 where

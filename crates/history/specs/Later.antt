@@ -1,5 +1,5 @@
 -- What openings find after a run and a crash, and after other openings and crashes between.
-use Rattle.std.specs.Prelude.{◌≡◌, List, Result, Ok, Err}
+use Rattle.std.specs.Prelude.{ℕ, ◌≡◌, List, Result, Ok, Err}
 use Rattle.device.specs.declared.device.Device.{Ghosts}
 use Rattle.page_entry.specs.declared.refusal.Refusal.{Refusal}
 use Rattle.page_entry.specs.declared.refusal.Refusal.TheVariants.{Device, OutOfMemory}
@@ -8,8 +8,9 @@ use Rattle.volume_codec.specs.Super.{SuperValue}
 use Rattle.volume_codec.specs.Recovery.{RecoversTo}
 use Rattle.recovery.specs.Counts.{Rises}
 use Rattle.recovery.specs.Opening.{Opens}
+use Rattle.recovery.specs.Openings.{IsRestarted, IsLater}
 use Rattle.recovery.specs.Volume.{files_of}
-use Rattle.machine.specs.History.{Event, files_after, IsDurablePrefix}
+use Rattle.history.specs.History.{Event, files_after, IsDurablePrefix}
 
 -- These files are those after a durable prefix of the history.
 pub record AreDurable (files : List File) (history : List Event) (found : List File) : Type 0 where
@@ -37,3 +38,16 @@ pub record FindsDurable {D : Type 0} (disk : Ghosts D) (files : List File) (hist
   pub found : List File
   pub durable : AreDurable files history found
   pub finds : Finds disk found device
+
+-- A crash left one of these lists: whichever one, these files are found, and so they are after any number of openings,
+-- each with a crash or none within and after it.
+abbrev pub KeepsFiles : {D : Type 0} → Ghosts D → List File → (List ℕ → Type 0) → Type 0
+KeepsFiles {D} disk files lists =
+    (first later : D) (n : ℕ) → IsRestarted disk lists first → IsLater disk n first later → Finds disk files later
+
+-- A crash left one of these lists: whichever one, there are files after a durable prefix of this history, and they are
+-- found, and so they are after any number of openings, each with a crash or none within and after it.
+abbrev pub FindsAfterCrash : {D : Type 0} → Ghosts D → List File → List Event → (List ℕ → Type 0) → Type 0
+FindsAfterCrash {D} disk files history lists =
+    (first : D) → IsRestarted disk lists first → (found : List File) × AreDurable files history found
+    × ((n : ℕ) (later : D) → IsLater disk n first later → Finds disk found later)

@@ -2,12 +2,14 @@
 -- files that a history leaves (Park, Kelly and Shen 2013: the whole effect of an msync or none of it).
 use Rattle.std.specs.Prelude.{ℕ, ◌+◌, ◌-◌, ◌*◌, ◌/◌, ◌%◌, ◌==◌, ◌≡◌, nat_lt, nat_le, min, Bool, true, false, ◌&&◌}
 use Rattle.std.specs.Prelude.{◌⊎◌, if◌then◌else◌, List, [], ◌∷◌, ◌++◌, length, map, take, drop, slice_set, Contains}
+use Rattle.std.specs.Prelude.{slice_index_or}
 use Rattle.std.specs.List.{fold, list_any}
+use Rattle.page_entry.specs.declared.numbers.FilePage.{FilePage}
 use Rattle.volume_codec.specs.Files.{File}
 use Rattle.volume_codec.specs.Text.{padded}
 use Rattle.volume_codec.specs.Super.{pages_of}
 use Rattle.volume_codec.specs.Recovery.{blocks_from}
-use Rattle.frames.specs.Frames.{overwrite}
+use Rattle.device.specs.Device.{written}
 
 -- the 4,096 bytes of each page of each file
 abbrev pub Memory : Type 0
@@ -25,6 +27,10 @@ file_bytes (f ∷ fs) file = if file == 0 then f.bytes else file_bytes fs (file 
 -- the memory of these files: each one's bytes, and zeros after its end
 abbrev pub memory_of : List File → Memory
 memory_of files file page = page_of (file_bytes files file) page
+
+-- the bytes of a page up to its file's end, of files of these lengths
+abbrev pub part : List ℕ → FilePage → List ℕ → List ℕ
+part lengths owner bytes = take (slice_index_or lengths owner.file 0 - 4096 * owner.page) bytes
 
 -- the first n bytes of these pages, one page after the other
 abbrev pub bytes_of_pages : (ℕ → List ℕ) → ℕ → List ℕ
@@ -54,7 +60,7 @@ pub data Event : Type 0 where
 -- the memory after one store; a store lies inside one page
 abbrev pub stored : Memory → ℕ → ℕ → List ℕ → Memory
 stored memory file offset bytes =
-    λ f p. if f == file && p == offset / 4096 then overwrite (memory f p) (offset % 4096) bytes else memory f p
+    λ f p. if f == file && p == offset / 4096 then written (memory f p) (offset % 4096) bytes else memory f p
 
 -- the memory after the bytes of a file from this one on became zeros
 abbrev pub cut_file : Memory → ℕ → ℕ → Memory

@@ -1,14 +1,21 @@
 -- Contents that have the parts of files have these files.
-use Rattle.machine.proofs.Names.{◌≡◌, ℕ, zero, suc, ◌+◌, ◌-◌, ◌*◌, ◌<◌, ◌≤◌, List, [], ◌∷◌, ◌++◌, length, map, take}
-use Rattle.machine.proofs.Names.{get_or, slice_get, Some, refl, sym, ap, ◌∙◌, subst, inl, inr, arith, drop, cases_lt}
-use Rattle.machine.proofs.Names.{take-append-le, take_all, length-take, length-map, append-nil, length-drop, File}
-use Rattle.machine.proofs.Names.{TableFile, first_file_home, block_at, pages_of, total_pages, blocks_from, files_from}
-use Rattle.machine.proofs.Names.{files_in, take-past, zeros-nil, blocks_from-device, Memory}
-use Rattle.machine.proofs.Names.{bytes_of_pages, files_from_memory, Event, file_bytes, memory_of, files_after, after}
-use Rattle.machine.proofs.Names.{SuperValue, lengths_of, lengths_after, lengths_in, home_of, HasParts, AreLengths}
-use Rattle.machine.proofs.Names.{AreContentsOf, zeros, AreDurable}
-use Rattle.machine.specs.History.{page_of}
-use Rattle.machine.proofs.durable.AtStart.{file_bytes-next, length-page_of}
+use Rattle.std.proofs.Common.{◌≡◌, ℕ, zero, suc, ◌+◌, ◌-◌, ◌*◌, ◌<◌, ◌≤◌, List, [], ◌∷◌, ◌++◌, length, map, take}
+use Rattle.std.proofs.Common.{get_or, slice_get, Some, refl, sym, ap, ◌∙◌, subst, inl, inr, arith, drop}
+use Rattle.std.proofs.lemmas.Bool.{cases_lt}
+use Rattle.std.proofs.lemmas.List.{take-append-le, take_all, length-take, length-map, append-nil, length-drop}
+use Rattle.volume_codec.specs.Files.{File, TableFile}
+use Rattle.volume_codec.specs.Layout.{first_file_home, block_at}
+use Rattle.volume_codec.specs.Super.{pages_of, total_pages, SuperValue}
+use Rattle.volume_codec.specs.Recovery.{blocks_from, files_from, files_in}
+use Rattle.volume_codec.proofs.Public.{take-past, zeros-nil, blocks_from-device}
+use Rattle.history.specs.History.{Memory, bytes_of_pages, files_from_memory, Event, file_bytes, memory_of, files_after}
+use Rattle.history.specs.History.{after, lengths_of, lengths_after, page_of}
+use Rattle.volume_codec.specs.Lengths.{lengths_in, AreLengths}
+use Rattle.journal.specs.Pages.{home_of}
+use Rattle.history.specs.inside.Contents.{HasParts, AreContentsOf}
+use Rattle.volume_codec.specs.Text.{zeros}
+use Rattle.history.specs.Later.{AreDurable}
+use Rattle.history.proofs.FileBytes.{file_bytes-next, length-page_of}
 
 -- ---- the bytes of one file
 

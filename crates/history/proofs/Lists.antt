@@ -1,6 +1,7 @@
 -- Lists and options: what is in them, and what isn't.
-use Rattle.machine.proofs.Names.{◌≡◌, ◌⊎◌, ℕ, zero, suc, List, [], ◌∷◌, ◌++◌, map, drop, Some, None, inl, inr, refl}
-use Rattle.machine.proofs.Names.{sym, ap, ◌∙◌, arith, append_assoc, Contains, flat_map}
+use Rattle.std.proofs.Common.{◌≡◌, ◌⊎◌, ℕ, zero, suc, List, [], ◌∷◌, ◌++◌, map, drop, Some, None, inl, inr, refl, sym}
+use Rattle.std.proofs.Common.{ap, ◌∙◌, arith, append_assoc}
+use Rattle.std.specs.List.{Contains, flat_map}
 
 -- ---- options
 

@@ -8,7 +8,7 @@ use Rattle.volume_codec.specs.Recovery.{RecoversTo}
 use Rattle.journal.specs.declared.stage.Stage.{Stage}
 use Rattle.journal.specs.declared.stage.Stage.TheVariants.{Recording, Describing, SyncingRecords, Opening, Committing}
 use Rattle.journal.specs.WriteOuts.{WriteOutsValue, current, current_stage}
-use Rattle.machine.specs.History.{Event, Mark, Acknowledge, files_after, IsDurablePrefix}
+use Rattle.history.specs.History.{Event, Mark, Acknowledge, files_after, IsDurablePrefix}
 
 -- these bytes recover to the files after the history up to its last acknowledged mark: a durable prefix whose marks are
 -- the acknowledged ones

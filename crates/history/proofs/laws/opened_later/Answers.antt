@@ -1,5 +1,5 @@
-use Rattle.machine.proofs.laws.opened_later.Goals as goal
-use Rattle.machine.proofs.durable.Later.{found_permanent, found_durable}
+use Rattle.history.proofs.laws.opened_later.Goals as goal
+use Rattle.history.proofs.Later.{found_permanent, found_durable}
 
 pub returns-clause-permanent : goal.returns-clause-permanent
 returns-clause-permanent g c = λ files n first later honest only recovers is.

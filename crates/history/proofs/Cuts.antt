@@ -1,20 +1,25 @@
 -- Pages that are cut, and histories to which a change of a file's length is added.
-use Rattle.machine.proofs.Names.{◌≡◌, ◌≢◌, ℕ, ◌+◌, ◌-◌, ◌*◌, ◌/◌, ◌<◌, ◌≤◌, Bool, true, false, ◌&&◌, ◌||◌, eqb}
-use Rattle.machine.proofs.Names.{leb, List, [], ◌∷◌, ◌++◌, length, take, set, refl, sym, ap, ◌∙◌, inl, inr, arith}
-use Rattle.machine.proofs.Names.{append_assoc, min, cond-true, cond-false, cond_both, cases_lt, cases_Bool}
-use Rattle.machine.proofs.Names.{and_from, and_parts, or_left, or_right, or_parts, or_from, eq-eqb, eqb-true, ne_eqb}
-use Rattle.machine.proofs.Names.{length-append, length-take, take_all, take_at, length-padded, length-zeros, take-past}
-use Rattle.machine.proofs.Names.{padded, pages_of, Event, Memory, after, lengths_after, since_mark, is_touched}
-use Rattle.machine.proofs.Names.{has_resized, is_resize, is_change_of, with_event, with_length, cut_file, fold-append}
-use Rattle.machine.proofs.Names.{list_any, list_any-append, Contains, ◌⊎◌}
-use Rattle.machine.proofs.Names.{false≢true, lt-ltb, ltb-true, le-leb, leb-true}
-use Rattle.machine.specs.History.{SetLength, Mark, Acknowledge}
+use Rattle.std.proofs.Common.{◌≡◌, ◌≢◌, ℕ, ◌+◌, ◌-◌, ◌*◌, ◌/◌, ◌<◌, ◌≤◌, Bool, true, false, ◌&&◌, ◌||◌, eqb, leb, List}
+use Rattle.std.proofs.Common.{[], ◌∷◌, ◌++◌, length, take, set, refl, sym, ap, ◌∙◌, inl, inr, arith, append_assoc, ◌⊎◌}
 use Rattle.std.proofs.Common.{ltb}
-use Rattle.volume_codec.specs.Text.{zeros}
-use Rattle.std.proofs.lemmas.List.{replicate-append-replicate, take-replicate}
-use Rattle.machine.proofs.durable.Lists.{only_one}
-use Rattle.machine.proofs.durable.Homes.{nothing_padded}
-use Rattle.machine.proofs.durable.Histories.{after-append}
+use Rattle.std.specs.Prelude.{min}
+use Rattle.std.proofs.lemmas.Bool.{cond-true, cond-false, cond_both, cases_lt, cases_Bool, and_from, and_parts}
+use Rattle.std.proofs.lemmas.Bool.{or_left, or_right, or_parts, or_from, eq-eqb, eqb-true, ne_eqb, false≢true, lt-ltb}
+use Rattle.std.proofs.lemmas.Bool.{ltb-true, le-leb, leb-true}
+use Rattle.std.proofs.lemmas.List.{length-append, length-take, take_all, take_at, replicate-append-replicate}
+use Rattle.std.proofs.lemmas.List.{take-replicate}
+use Rattle.volume_codec.proofs.Public.{length-padded, length-zeros, take-past}
+use Rattle.volume_codec.specs.Text.{padded, zeros}
+use Rattle.volume_codec.specs.Super.{pages_of}
+use Rattle.history.specs.History.{Event, Memory, after, lengths_after, since_mark, is_touched, is_change_of}
+use Rattle.history.specs.History.{with_event, with_length, cut_file, SetLength, Mark, Acknowledge}
+use Rattle.history.specs.inside.Contents.{has_resized, is_resize}
+use Rattle.std.proofs.lemmas.List.Sums.{fold-append}
+use Rattle.std.specs.List.{list_any, Contains}
+use Rattle.std.proofs.lemmas.List.Folds.{list_any-append}
+use Rattle.history.proofs.Lists.{only_one}
+use Rattle.history.proofs.Padding.{nothing_padded}
+use Rattle.history.proofs.Histories.{after-append}
 
 -- ---- zeros
 

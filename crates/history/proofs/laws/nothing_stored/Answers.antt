@@ -1,5 +1,5 @@
-use Rattle.machine.proofs.laws.nothing_stored.Goals as goal
-use Rattle.machine.proofs.durable.FileParts.{files_unchanged, found_unchanged}
+use Rattle.history.proofs.laws.nothing_stored.Goals as goal
+use Rattle.history.proofs.FileParts.{files_unchanged, found_unchanged}
 
 pub returns-clause-files : goal.returns-clause-files
 returns-clause-files g files = files_unchanged files

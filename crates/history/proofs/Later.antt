@@ -1,9 +1,19 @@
 -- What openings find after a run.
-use Rattle.machine.proofs.Names.{ℕ, ◌≡◌, ◌⊎◌, inl, inr, List, Result, Ok, Err, MatchResult, refl, sym, subst, Only}
-use Rattle.machine.proofs.Names.{Ghosts, Refusal, OutOfMemory, NotAVolume, Damaged, File, SuperValue, RecoversTo}
-use Rattle.machine.proofs.Names.{IsNotAVolume, IsDamaged, HasCause, HasOpened, HasRefused, IsLater, RecoversAs}
-use Rattle.machine.proofs.Names.{files_of, Event, files_after, ReadsBack, OpensTo, Finds, FindsDurable}
-use Rattle.page_entry.specs.declared.refusal.Refusal.TheVariants.{Device}
+use Rattle.std.proofs.Common.{ℕ, ◌≡◌, ◌⊎◌, inl, inr, List, Result, Ok, Err, MatchResult, refl, sym, subst}
+use Rattle.device.specs.Device.{Only}
+use Rattle.device.specs.declared.device.Device.{Ghosts}
+use Rattle.page_entry.specs.declared.refusal.Refusal.{Refusal}
+use Rattle.page_entry.specs.declared.refusal.Refusal.TheVariants.{OutOfMemory, NotAVolume, Damaged, Device}
+use Rattle.volume_codec.specs.Files.{File}
+use Rattle.volume_codec.specs.Super.{SuperValue}
+use Rattle.volume_codec.specs.Recovery.{RecoversTo, IsNotAVolume, IsDamaged}
+use Rattle.recovery.specs.Counts.{HasCause}
+use Rattle.recovery.specs.Opening.{HasOpened, HasRefused}
+use Rattle.recovery.specs.Openings.{IsLater, RecoversAs}
+use Rattle.recovery.specs.Volume.{files_of}
+use Rattle.history.specs.History.{Event, files_after}
+use Rattle.history.specs.Reading.{ReadsBack}
+use Rattle.history.specs.Later.{OpensTo, Finds, FindsDurable}
 
 -- a list that recovers as another has its files
 recovers_as : (lists : List ℕ → Type 0) (c : List ℕ) (alike : RecoversAs lists c) (files : List File)

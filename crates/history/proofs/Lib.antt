@@ -1,0 +1,9 @@
+pub mod Lists
+pub mod Padding
+pub mod Places
+pub mod FileBytes
+pub mod Histories
+pub mod Cuts
+pub mod FileParts
+pub mod Later
+pub mod Public

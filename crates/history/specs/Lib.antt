@@ -1,0 +1,5 @@
+pub mod History
+pub mod Reading
+pub mod Later
+pub mod Stops
+pub mod inside
