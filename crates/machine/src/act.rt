@@ -92,7 +92,7 @@ pub enum Act {
         page: PageIndex,
     },
     /// Begins to give a file this length in bytes, up to its capacity (POSIX.1-2024, `ftruncate`). Only volumes of
-    /// layout 3 have room for lengths that change.
+    /// layouts 3 and 4 have room for lengths that change.
     SetLength {
         file: FileNumber,
         length: u64,
