@@ -132,6 +132,18 @@ fn add_homes<A: Allocator + Copy>(list: &mut Vec<u32, A>, table: &Super<A>, page
     }
 }
 
+// These home blocks, in the memory of another list.
+fn filled<A: Allocator + Copy>(mut list: Vec<u32, A>, homes: &[u32]) -> Vec<u32, A>
+    requires { length homes.now ≤ vec_capacity list }
+    ensures items { result.items ≡ homes.now }
+    ensures room { vec_capacity list ≤ vec_capacity result }
+{
+    list.clear();
+    // There is room for them.
+    let _ = list.extend_from_slice(homes);
+    list
+}
+
 // What follows of a step's answer: the oldest leaves where it is done, and its list is spare again; or a device call
 // has failed.
 fn conclude<A: Allocator + Copy>(
@@ -330,6 +342,23 @@ impl<A: Allocator + Copy> WriteOuts<A> {
     {
         let mut list = refilled(self.spare.pop().unwrap(), table, resized);
         add_homes(&mut list, table, pages);
+        let one = Queued::new(&self.geometry, self.next, mark, list);
+        // There is room for a write-out in each journal.
+        let _ = self.queued.push(one);
+        self.next = journal_after(&self.geometry, self.next);
+    }
+
+    /// Begins the write-out of a batch of these home blocks, as `begin` does. It takes no memory and makes no device
+    /// call.
+    pub fn begin_blocks(&mut self, mark: u64, homes: &[u32])
+        requires whole { self.old.broken ≡ false }
+        requires free { is_busy self.old ≡ false }
+        requires some_mark { 0 < mark }
+        requires homes { AreHomes self.old.geometry homes.now }
+        requires newest { AllByRecursion (λ w. w.batch.mark < mark) self.old.batches }
+        ensures { self.new ≡ begun self.old mark homes.now }
+    {
+        let list = filled(self.spare.pop().unwrap(), homes);
         let one = Queued::new(&self.geometry, self.next, mark, list);
         // There is room for a write-out in each journal.
         let _ = self.queued.push(one);
