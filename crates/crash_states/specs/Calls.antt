@@ -1,61 +1,116 @@
--- Device calls, as a disk has them that lists the calls that are made of it.
-use Rattle.std.specs.Prelude.{ℕ, ◌≡◌, ◌↔◌, ◌+◌, ◌-◌, ◌^◌, ◌<◌, ◌≤◌, Bool, false}
-use Rattle.std.specs.Prelude.{List, [], ◌∷◌, ◌++◌, length, map, Result, IsOk, IsErr}
-use Rattle.device.specs.Device.{LeavesOnly}
-use Rattle.device.specs.declared.device.Device.{Ghosts}
+-- Device calls, and a disk in memory that lists the calls that are made of it and fails one of them.
+use Rattle.std.specs.Prelude.{ℕ, ◌≡◌, ◌+◌, ◌==◌, not, if◌then◌else◌, Bool, true, false}
+use Rattle.std.specs.Prelude.{List, [], ◌∷◌, ◌++◌, length, map}
+use Rattle.std.specs.List.{count_by, AllByRecursion}
+use Rattle.device.specs.Count.{raised}
+use Rattle.device.specs.Memory.{Recorded, DiskChange, after_read, after_change}
+use Rattle.device.specs.Memory.DiskChange.{write, sync}
 use Rattle.crash_states.specs.declared.call.Call.{Call}
 use Rattle.crash_states.specs.declared.call.CallKind.{CallKind}
 use Rattle.crash_states.specs.declared.call.CallKind.TheVariants.{Read, Write, Sync}
 
--- a device call: what it does, its offset, how many bytes it reads or writes, and those that it writes
+-- a device call: what it does, its offset, how many bytes it reads or writes, those that it writes, and whether it
+-- failed
 pub record DeviceCall : Type 0 where
   pub kind : CallKind
   pub at : ℕ
   pub len : ℕ
   pub written : List ℕ
+  pub failed : Bool
 
 abbrev pub call_of : {A : Type 0} → Call A → DeviceCall
-call_of call = record { kind = call.kind; at = call.at; len = call.len; written = call.written.items }
+call_of call = record {
+  kind = call.kind;
+  at = call.at;
+  len = call.len;
+  written = call.written.items;
+  failed = call.failed;
+}
 
 abbrev pub device_calls_of : {A : Type 0} → List (Call A) → List DeviceCall
 device_calls_of calls = map (λ call. call_of call) calls
 
 -- the calls of a disk, each as it is listed
-abbrev pub read_call : ℕ → ℕ → DeviceCall
-read_call at len = record { kind = Read; at = at; len = len; written = [] }
+abbrev pub read_call : ℕ → ℕ → Bool → DeviceCall
+read_call at len failed = record { kind = Read; at = at; len = len; written = []; failed = failed }
 
-abbrev pub write_call : ℕ → List ℕ → DeviceCall
-write_call at bytes = record { kind = Write; at = at; len = length bytes; written = bytes }
+abbrev pub write_call : ℕ → List ℕ → Bool → DeviceCall
+write_call at bytes failed = record { kind = Write; at = at; len = length bytes; written = bytes; failed = failed }
 
-abbrev pub sync_call : DeviceCall
-sync_call = record { kind = Sync; at = 0; len = 0; written = [] }
+abbrev pub sync_call : Bool → DeviceCall
+sync_call failed = record { kind = Sync; at = 0; len = 0; written = []; failed = failed }
 
--- a disk that lists its calls: the disk under it, the calls in order, and whether memory was refused for one
-pub record ListedDisk (D : Type 0) : Type 0 where
-  pub inner : D
+-- A disk in memory that lists its calls and fails one: the disk under it, the number of the call that fails (counted
+-- from 1; 0 for none), the calls in order, whether memory was refused for one, and its own counts.
+pub record ListedDisk : Type 0 where
+  pub inner : Recorded
+  pub fails_at : ℕ
   pub calls : List DeviceCall
   pub refused : Bool
+  pub made : ℕ
+  pub faults : ℕ
 
 -- none of its calls made yet
-abbrev pub listing : {D : Type 0} → D → ListedDisk D
-listing inner = record { inner = inner; calls = []; refused = false }
+abbrev pub listing : Recorded → ℕ → ListedDisk
+listing inner fails_at = record {
+  inner = inner;
+  fails_at = fails_at;
+  calls = [];
+  refused = false;
+  made = 0;
+  faults = 0;
+}
 
--- one call more is listed, the last, unless memory was refused for it or for one before it
-pub record ListsCall {D : Type 0} (call : DeviceCall) (old new : ListedDisk D) : Type 0 where
+-- the next call is the one that fails
+abbrev pub is_due : ListedDisk → Bool
+is_due disk = disk.made + 1 == disk.fails_at
+
+-- what a call changes of the disk under it: a read and a write are passed on also where they fail, a sync isn't
+abbrev pub changed_as : CallKind → Recorded → DeviceCall → Recorded
+changed_as Read disk call = after_read disk
+changed_as Write disk call = after_change disk (write call.at call.written)
+changed_as Sync disk call = if call.failed then disk else after_change disk sync
+
+-- A call was made: it is counted, and so is its failure; where memory wasn't refused for it or for one before it, it is
+-- listed, as the last, it failed exactly if it was due, and the disk under it has its change.
+pub record ListsCall (call : DeviceCall) (old new : ListedDisk) : Type 0 where
+  pub fails_at : new.fails_at ≡ old.fails_at
+  pub made : new.made ≡ raised old.made
+  pub faults : new.faults ≡ (if call.failed then raised old.faults else old.faults)
   pub before : new.refused ≡ false → old.refused ≡ false
   pub more : new.refused ≡ false → new.calls ≡ old.calls ++ call ∷ []
+  pub due : new.refused ≡ false → call.failed ≡ is_due old
+  pub inner : new.refused ≡ false → new.inner ≡ changed_as call.kind old.inner call
 
--- The disk under it made a call, within which and after which a crash leaves only lists that have P; it counted the
--- call, and a fault where it failed.
-pub record HasMadeCall {D T E : Type 0} (disk : Ghosts D) (old new : D) (result : Result T E) (P : List ℕ → Type 0)
-    : Type 0 where
-  pub left : (c : List ℕ) → disk.may_leave new c → P c
-  pub time : LeavesOnly disk.moment disk.left_since old new P
-  pub honest : disk.is_honest new ↔ disk.is_honest old
-  pub len : length (disk.seen new) ≡ length (disk.seen old)
-  -- a count that has come to 2^64-1 stays there
-  pub calls : disk.calls_made old < 2 ^ 64 - 1 → disk.calls_made new ≡ disk.calls_made old + 1
-  pub calls_stay : 2 ^ 64 - 1 ≤ disk.calls_made old → disk.calls_made new ≡ disk.calls_made old
-  pub failed : IsErr result → disk.faults_met old < 2 ^ 64 - 1 → disk.faults_met new ≡ disk.faults_met old + 1
-  pub faults_stay : 2 ^ 64 - 1 ≤ disk.faults_met old → disk.faults_met new ≡ disk.faults_met old
-  pub done : IsOk result → disk.faults_met new ≡ disk.faults_met old
+-- the writes and syncs of calls that a disk in memory records after these older ones, the newest first
+abbrev pub change_by : CallKind → DeviceCall → List DiskChange → List DiskChange
+change_by Read call older = older
+change_by Write call older = write call.at call.written ∷ older
+change_by Sync call older = if call.failed then older else sync ∷ older
+
+abbrev pub changes_by : List DeviceCall → List DiskChange → List DiskChange
+changes_by [] older = older
+changes_by (call ∷ calls) older = changes_by calls (change_by call.kind call older)
+
+-- whether the disk under it counts the call: all but a sync that failed
+abbrev pub is_passed_on : CallKind → Bool → Bool
+is_passed_on Read failed = true
+is_passed_on Write failed = true
+is_passed_on Sync failed = not failed
+
+-- the length of a write is that of its bytes, a read writes none, and a sync has no place
+abbrev pub HasItsLength : CallKind → DeviceCall → Type 0
+HasItsLength Read call = call.written ≡ []
+HasItsLength Write call = call.len ≡ length call.written
+HasItsLength Sync call = (call.at ≡ 0) × (call.len ≡ 0) × (call.written ≡ [])
+
+-- The list is that of the calls: as long as the disk's count, with as many failed ones as it counted. The disk in memory
+-- under it, which was new, recorded their writes and syncs in their order, with their places and bytes, and nothing
+-- else; it counted them and the reads.
+pub record ListsItsCalls (disk : ListedDisk) : Type 0 where
+  pub count : disk.made ≡ length disk.calls
+  pub faults : disk.faults ≡ count_by (λ call. call.failed) disk.calls
+  pub recorded : disk.inner.changes ≡ changes_by disk.calls []
+  pub passed : disk.inner.calls ≡ count_by (λ call. is_passed_on call.kind call.failed) disk.calls
+  pub sound : disk.inner.faults ≡ 0
+  pub lengths : AllByRecursion (λ call. HasItsLength call.kind call) disk.calls

@@ -3,4 +3,3 @@ pub mod Calls
 pub mod Choices
 pub mod Held
 pub mod Rows
-pub mod inside

@@ -1,9 +1,12 @@
 // Which device calls a run makes.
-ghost use Rattle.std.specs.Prelude.{◌≡◌, ℕ, ◌+◌, ◌≤◌, false, List, length, slice_range, OnOk, IfOk, IfErr, IsErr, true};
-ghost use Rattle.device.specs.Device.{written, Torn, TornFrom, Only};
-ghost use Rattle.crash_states.specs.Calls.{HasMadeCall, ListsCall, read_call, write_call, sync_call, call_of, device_calls_of, listing};
+ghost use Rattle.std.specs.Prelude.{⊤, ◌≡◌, ℕ, ◌+◌, ◌≤◌, true, false, not, ◌||◌, if◌then◌else◌, List, ◌∷◌, [], ◌++◌, length, slice_range, OnOk, IfOk, IfErr, is_ok};
+ghost use Rattle.device.specs.Count.{raised};
+ghost use Rattle.device.specs.Device.{written, Torn, TornFrom, Only, LeavesOnly};
+ghost use Rattle.device.specs.Memory.{new_disk, seen_of, may_leave_of, moment_of, left_since_of, after_read, after_change};
+ghost use Rattle.device.specs.Memory.DiskChange.{sync};
+ghost use Rattle.crash_states.specs.Calls.{ListsCall, ListsItsCalls, read_call, write_call, sync_call, is_due as due_on, call_of, device_calls_of, listing};
 
-use device::{Device, DeviceFault};
+use device::{Device, DeviceFault, MemDisk};
 use std::alloc::{AllocError, Allocator};
 use std::marker::Model;
 
@@ -15,87 +18,121 @@ pub enum CallKind {
     Sync,
 }
 
-/// A device call: its offset, how many bytes it reads or writes, and those that it writes.
+/// A device call: its offset, how many bytes it reads or writes, those that it writes, and whether it failed.
 #[derive(Drop)]
 pub struct Call<A: Allocator + Copy> {
     pub kind: CallKind,
     pub at: u64,
     pub len: u64,
     pub written: Vec<u8, A>,
+    pub failed: bool,
 }
 
-/// A disk over another that lists the calls that are made of it.
+/// A disk in memory that lists the calls that are made of it, and one of which fails. A read or a write that fails is
+/// made all the same: a crash may leave what was written. A sync that fails isn't made.
 #[derive(Drop)]
-pub struct Listing<D: Device, A: Allocator + Copy> {
-    inner: D,
+pub struct Listing<A: Allocator + Copy> {
     alloc: A,
+    inner: MemDisk<A>,
+    fails_at: u64,
     calls: Vec<Call<A>, A>,
     refused: bool,
+    made: u64,
+    faults: u64,
 }
 
-impl<D: Device, A: Allocator + Copy> Model for Listing<D, A> {
-    ghost use Rattle.crash_states.specs.Calls.{ListedDisk, device_calls_of};
-    ghost use Rattle.crash_states.specs.inside.Codes.{listed_code};
+impl<A: Allocator + Copy> Model for Listing<A> {
+    ghost use Rattle.std.specs.Prelude.{◌≡◌, false};
+    ghost use Rattle.crash_states.specs.Calls.{ListedDisk, ListsItsCalls, device_calls_of};
 
-    ghost Value = { ListedDisk D };
+    ghost Value = { ListedDisk };
 
-    ghost coded = { listed_code D.code };
+    ghost view = { λ d. record {
+      inner = d.inner;
+      fails_at = d.fails_at;
+      calls = device_calls_of d.calls.items;
+      refused = d.refused;
+      made = d.made;
+      faults = d.faults;
+    } };
 
-    ghost view = { λ disk. record {
-      inner = disk.inner;
-      calls = device_calls_of disk.calls.items;
-      refused = disk.refused;
+    ghost invariant = { λ d. d.refused ≡ false → ListsItsCalls record {
+      inner = d.inner;
+      fails_at = d.fails_at;
+      calls = device_calls_of d.calls.items;
+      refused = d.refused;
+      made = d.made;
+      faults = d.faults;
     } };
 }
 
-impl<D: Device + Drop, A: Allocator + Copy> Listing<D, A> {
-    /// A disk over this one, no call of which was made yet.
-    pub fn new(alloc: A, inner: D) -> Self
-        ensures { result ≡ listing inner }
+impl<A: Allocator + Copy> Listing<A> {
+    /// A new disk in memory with these bytes, whose call of this number, counted from 1, fails. At 0 none does.
+    pub fn new(alloc: A, image: &[u8], fails_at: u64) -> Result<Self, AllocError>
+        ensures { IfOk result (λ disk. disk ≡ listing (new_disk image.now) fails_at) }
     {
-        Listing {
-            inner,
+        Ok(Listing {
             alloc,
+            inner: MemDisk::from_bytes(alloc, Vec::from_slice(alloc, image)?)?,
+            fails_at,
             calls: Vec::new(alloc),
             refused: false,
-        }
+            made: 0,
+            faults: 0,
+        })
     }
 
-    /// How many calls are listed.
-    pub fn count(&self) -> u64 {
-        self.calls.len() as u64
-    }
-
-    /// The calls in order, unless memory was refused for one.
-    pub fn into_calls(self) -> Result<Vec<Call<A>, A>, AllocError>
-        ensures { IfOk result (λ calls. (self.refused ≡ false) × (device_calls_of calls.items ≡ self.calls)) }
+    /// The disk in memory, as the calls left it, and the calls in order, unless memory was refused for one.
+    pub fn into_parts(self) -> Result<(MemDisk<A>, Vec<Call<A>, A>), AllocError>
+        ensures complete { IfOk result (λ parts. self.refused ≡ false) }
+        ensures inner { IfOk result (λ parts. parts.0 ≡ self.inner) }
+        ensures calls { IfOk result (λ parts. device_calls_of parts.1.items ≡ self.calls) }
+        ensures listed { IfOk result (λ parts. ListsItsCalls self) }
     {
         let Listing {
-            inner: _,
             alloc: _,
+            inner,
+            fails_at: _,
             calls,
             refused,
+            made: _,
+            faults: _,
         } = self;
         if refused {
             return Err(AllocError);
         }
-        Ok(calls)
+        Ok((inner, calls))
+    }
+
+    fn is_due(&self) -> bool
+        ensures { result ≡ due_on self.now }
+    {
+        self.fails_at > 0 && self.made == self.fails_at - 1
     }
 }
 
-impl<D: Device, A: Allocator + Copy> Listing<D, A> {
-    fn note(&mut self, call: Result<Call<A>, AllocError>)
-        ensures inner { self.new.inner ≡ self.old.inner }
-        ensures listed { IfOk call (λ call. ListsCall (call_of call) self.old self.new) }
-        ensures refused { IfErr call (λ cause. self.new.refused ≡ true) }
-    {
-        let Ok(call) = call else {
-            self.refused = true;
-            return;
-        };
-        if self.calls.push(call).is_err() {
-            self.refused = true;
-        }
+// A call that reads so many bytes from an offset on.
+fn call_to_read<A: Allocator + Copy>(alloc: A, at: u64, len: u64, failed: bool) -> Call<A>
+    ensures { call_of result ≡ read_call at len failed }
+{
+    Call {
+        kind: CallKind::Read,
+        at,
+        len,
+        written: Vec::new(alloc),
+        failed,
+    }
+}
+
+fn call_to_sync<A: Allocator + Copy>(alloc: A, failed: bool) -> Call<A>
+    ensures { call_of result ≡ sync_call failed }
+{
+    Call {
+        kind: CallKind::Sync,
+        at: 0,
+        len: 0,
+        written: Vec::new(alloc),
+        failed,
     }
 }
 
@@ -104,108 +141,169 @@ fn call_to_write<A: Allocator + Copy>(
     alloc: A,
     at: u64,
     bytes: &[u8],
+    failed: bool,
 ) -> Result<Call<A>, AllocError>
-    ensures { IfOk result (λ call. call_of call ≡ write_call at bytes.now) }
+    ensures { IfOk result (λ call. call_of call ≡ write_call at bytes.now failed) }
 {
     Ok(Call {
         kind: CallKind::Write,
         at,
         len: bytes.len() as u64,
         written: Vec::from_slice(alloc, bytes)?,
+        failed,
     })
 }
 
-impl<D: Device, A: Allocator + Copy> Device for Listing<D, A> {
-    ghost seen = { λ disk. D.seen disk.inner };
+// Lists a call, and notes where memory was refused: for the call itself, or for its place in the list.
+fn note<A: Allocator + Copy>(
+    calls: &mut Vec<Call<A>, A>,
+    refused: &mut bool,
+    call: Result<Call<A>, AllocError>,
+    is_refused: bool,
+)
+    ensures before { refused.new ≡ false → (refused.old ≡ false) × (is_refused ≡ false) }
+    ensures listed { IfOk call (λ call. refused.new ≡ false
+        → device_calls_of calls.new.items ≡ device_calls_of calls.old.items ++ call_of call ∷ []) }
+    ensures lost { IfErr call (λ cause. refused.new ≡ true) }
+{
+    let Ok(call) = call else {
+        *refused = true;
+        return;
+    };
+    if calls.push(call).is_err() || is_refused {
+        *refused = true;
+    }
+}
 
-    ghost may_leave = { λ disk. D.may_leave disk.inner };
+// Counts a call, and its failure: the call was due to fail, or memory was refused.
+fn count(
+    made: &mut u64,
+    faults: &mut u64,
+    is_due: bool,
+    is_refused: bool,
+) -> Result<(), DeviceFault>
+    ensures result { is_ok result ≡ not (is_due || is_refused) }
+    ensures made { made.new ≡ raised made.old }
+    ensures faults { faults.new ≡ (if is_due || is_refused then raised faults.old else faults.old) }
+{
+    *made = made.saturating_add(1);
+    if is_due || is_refused {
+        *faults = faults.saturating_add(1);
+        return Err(DeviceFault);
+    }
+    Ok(())
+}
 
-    ghost moment = { λ disk. D.moment disk.inner };
+// Nothing is done: a crash leaves what it left.
+fn still<D: Device>(disk: &D)
+    ensures { LeavesOnly D.moment D.left_since disk.now disk.now (D.may_leave disk.now) }
+{}
 
-    ghost left_since = { λ disk. D.left_since disk.inner };
+// Syncs a disk, unless the call fails. Tells whether memory was refused.
+fn sync_unless<A: Allocator + Copy>(disk: &mut MemDisk<A>, fails: bool) -> bool
+    ensures synced { result ≡ false → disk.new ≡ (if fails then disk.old else after_change disk.old sync) }
+    ensures same { seen_of disk.new ≡ seen_of disk.old }
+    ensures durable { fails ≡ false → result ≡ false → Only (may_leave_of disk.new) (seen_of disk.old) }
+    ensures left { (c : List ℕ) → may_leave_of disk.new c → may_leave_of disk.old c }
+    ensures time { LeavesOnly moment_of left_since_of disk.old disk.new (may_leave_of disk.old) }
+{
+    if fails {
+        still(disk);
+        return false;
+    }
+    disk.sync().is_err()
+}
 
-    ghost calls_made = { λ disk. D.calls_made disk.inner };
+impl<A: Allocator + Copy> Device for Listing<A> {
+    ghost use Rattle.device.specs.inside.Laws.{seen_is_left_of, now_is_since_of, since_now_of};
 
-    ghost faults_met = { λ disk. D.faults_met disk.inner };
+    ghost seen = { λ disk. seen_of disk.inner };
 
-    ghost is_honest = { λ disk. D.is_honest disk.inner };
+    ghost may_leave = { λ disk. may_leave_of disk.inner };
 
-    ghost seen_is_left = { λ disk. D.seen_is_left disk.inner };
+    ghost moment = { λ disk. moment_of disk.inner };
 
-    ghost left_is_whole = { λ disk. D.left_is_whole disk.inner };
+    ghost left_since = { λ disk. left_since_of disk.inner };
 
-    ghost now_is_since = { λ disk. D.now_is_since disk.inner };
+    ghost calls_made = { λ disk. disk.made };
 
-    ghost since_now = { λ disk. D.since_now disk.inner };
+    ghost faults_met = { λ disk. disk.faults };
+
+    ghost is_honest = { λ disk. ⊤ };
+
+    ghost seen_is_left = { λ disk honest. seen_is_left_of disk.inner };
+
+    ghost left_is_whole = { λ disk c honest left. left.same_length };
+
+    ghost now_is_since = { λ disk. now_is_since_of disk.inner };
+
+    ghost since_now = { λ disk. since_now_of disk.inner };
 
     fn len(&self) -> u64 {
         self.inner.len()
     }
 
     fn read(&mut self, at: u64, buffer: &mut [u8]) -> Result<(), DeviceFault>
-        requires { at + length buffer.old ≤ length (D.seen self.old.inner) }
+        requires { at + length buffer.old ≤ length (seen_of self.old.inner) }
 
-        ensures bytes { D.is_honest self.old.inner
-            → OnOk result (buffer.new ≡ slice_range (D.seen self.old.inner) at (at + length buffer.old)) }
-        ensures same { D.seen self.new.inner ≡ D.seen self.old.inner }
-        ensures keeps { D.is_honest self.old.inner → (c : List ℕ)
-            → D.may_leave self.old.inner c → D.may_leave self.new.inner c }
-        ensures made { HasMadeCall D.Device self.old.inner self.new.inner result (D.may_leave self.old.inner) }
+        ensures bytes { buffer.new ≡ slice_range (seen_of self.old.inner) at (at + length buffer.old) }
+        ensures inner { self.new.inner ≡ after_read self.old.inner }
+        ensures left { (c : List ℕ) → may_leave_of self.new.inner c → may_leave_of self.old.inner c }
+        ensures time { LeavesOnly moment_of left_since_of self.old.inner self.new.inner (may_leave_of self.old.inner) }
 
-        // It is listed, and is the call of the disk under it.
-        ensures listed { ListsCall (read_call at (length buffer.old)) self.old self.new }
+        // It is listed, and fails exactly if it is the one that is to fail.
+        ensures listed { ListsCall (read_call at (length buffer.old) (not (is_ok result))) self.old self.new }
     {
-        self.note(Ok(Call {
-            kind: CallKind::Read,
-            at,
-            len: buffer.len() as u64,
-            written: Vec::new(self.alloc),
-        }));
-        self.inner.read(at, buffer)
+        let due = self.is_due();
+        let call = call_to_read(self.alloc, at, buffer.len() as u64, due);
+        let _done = self.inner.read(at, buffer);
+        note(&mut self.calls, &mut self.refused, Ok(call), false);
+        count(&mut self.made, &mut self.faults, due, false)
     }
 
     fn write(&mut self, at: u64, bytes: &[u8]) -> Result<(), DeviceFault>
-        requires { at + length bytes.now ≤ length (D.seen self.old.inner) }
+        requires { at + length bytes.now ≤ length (seen_of self.old.inner) }
 
-        ensures written { D.is_honest self.old.inner
-            → OnOk result (D.seen self.new.inner ≡ written (D.seen self.old.inner) at bytes.now) }
-        ensures torn { IsErr result → D.is_honest self.old.inner
-            → Torn at (length bytes.now) (D.seen self.old.inner) (D.seen self.new.inner) }
-        ensures keeps { D.is_honest self.old.inner → (c : List ℕ)
-            → D.may_leave self.old.inner c → D.may_leave self.new.inner c }
-        ensures made { HasMadeCall D.Device self.old.inner self.new.inner result
-            (TornFrom at (length bytes.now) (D.may_leave self.old.inner)) }
+        ensures written { OnOk result (seen_of self.new.inner ≡ written (seen_of self.old.inner) at bytes.now) }
+        ensures torn { Torn at (length bytes.now) (seen_of self.old.inner) (seen_of self.new.inner) }
+        ensures keeps { (c : List ℕ) → may_leave_of self.old.inner c → may_leave_of self.new.inner c }
+        ensures left { (c : List ℕ)
+            → may_leave_of self.new.inner c → TornFrom at (length bytes.now) (may_leave_of self.old.inner) c }
+        ensures time { LeavesOnly moment_of left_since_of self.old.inner self.new.inner
+            (TornFrom at (length bytes.now) (may_leave_of self.old.inner)) }
+        ensures len { length (seen_of self.new.inner) ≡ length (seen_of self.old.inner) }
 
-        // It is listed, and is the call of the disk under it.
-        ensures listed { ListsCall (write_call at bytes.now) self.old self.new }
+        // It is listed, and fails exactly if it is the one that is to fail, or memory was refused.
+        ensures listed { ListsCall (write_call at bytes.now (not (is_ok result))) self.old self.new }
     {
-        self.note(call_to_write(self.alloc, at, bytes));
-        self.inner.write(at, bytes)
+        let due = self.is_due();
+        let call = call_to_write(self.alloc, at, bytes, due);
+        let is_refused = self.inner.write(at, bytes).is_err();
+        note(&mut self.calls, &mut self.refused, call, is_refused);
+        count(&mut self.made, &mut self.faults, due, is_refused)
     }
 
     fn sync(&mut self) -> Result<(), DeviceFault>
-        ensures same { D.is_honest self.old.inner → D.seen self.new.inner ≡ D.seen self.old.inner }
-        ensures durable { D.is_honest self.old.inner
-            → OnOk result (Only (D.may_leave self.new.inner) (D.seen self.old.inner)) }
-        ensures made { HasMadeCall D.Device self.old.inner self.new.inner result (D.may_leave self.old.inner) }
+        ensures same { seen_of self.new.inner ≡ seen_of self.old.inner }
+        ensures durable { OnOk result (Only (may_leave_of self.new.inner) (seen_of self.old.inner)) }
+        ensures left { (c : List ℕ) → may_leave_of self.new.inner c → may_leave_of self.old.inner c }
+        ensures time { LeavesOnly moment_of left_since_of self.old.inner self.new.inner (may_leave_of self.old.inner) }
 
-        // It is listed, and is the call of the disk under it.
-        ensures listed { ListsCall sync_call self.old self.new }
+        // It is listed, and fails exactly if it is the one that is to fail, or memory was refused.
+        ensures listed { ListsCall (sync_call (not (is_ok result))) self.old self.new }
     {
-        self.note(Ok(Call {
-            kind: CallKind::Sync,
-            at: 0,
-            len: 0,
-            written: Vec::new(self.alloc),
-        }));
-        self.inner.sync()
+        let due = self.is_due();
+        let call = call_to_sync(self.alloc, due);
+        let is_refused = sync_unless(&mut self.inner, due);
+        note(&mut self.calls, &mut self.refused, Ok(call), is_refused);
+        count(&mut self.made, &mut self.faults, due, is_refused)
     }
 
     fn calls(&self) -> u64 {
-        self.inner.calls()
+        self.made
     }
 
     fn faults(&self) -> u64 {
-        self.inner.faults()
+        self.faults
     }
 }

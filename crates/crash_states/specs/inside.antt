@@ -1,2 +1,0 @@
--- What ties private code to the definitions that public clauses name.
-pub mod Codes
