@@ -1,2 +1,3 @@
 mod Growing
 pub mod Listed
+pub mod Until

@@ -10,7 +10,7 @@ use Rattle.std.proofs.lemmas.List.Sums.{count_by-le-length, sum_by-append}
 use Rattle.device.specs.Count.{raised}
 use Rattle.device.specs.Device.{written, Torn}
 use Rattle.device.specs.Memory.{Recorded, DiskChange, seen_of, after_change, after_refusal}
-use Rattle.device.specs.Memory.DiskChange.{write, sync}
+use Rattle.device.specs.Memory.DiskChange.{sync}
 use Rattle.device.proofs.Public.{length-written, torn_none}
 use Rattle.crash_states.specs.declared.call.Call.{Call}
 use Rattle.crash_states.specs.declared.call.CallKind.{CallKind}

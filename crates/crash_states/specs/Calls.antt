@@ -1,5 +1,5 @@
 -- Device calls, and a disk in memory that lists the calls that are made of it and fails one of them.
-use Rattle.std.specs.Prelude.{ℕ, ◌≡◌, ◌+◌, ◌==◌, not, if◌then◌else◌, Bool, true, false}
+use Rattle.std.specs.Prelude.{ℕ, zero, suc, ◌≡◌, ◌+◌, ◌==◌, not, if◌then◌else◌, Bool, true, false}
 use Rattle.std.specs.Prelude.{List, [], ◌∷◌, ◌++◌, length, map}
 use Rattle.std.specs.List.{count_by, AllByRecursion}
 use Rattle.device.specs.Count.{raised}
@@ -39,6 +39,17 @@ write_call at bytes failed = record { kind = Write; at = at; len = length bytes;
 
 abbrev pub sync_call : Bool → DeviceCall
 sync_call failed = record { kind = Sync; at = 0; len = 0; written = []; failed = failed }
+
+-- the call, as one that failed
+abbrev pub failing : DeviceCall → DeviceCall
+failing call = record call { failed = true }
+
+-- the calls up to the one of this number, counted from 1, which fails; all of them where there is none of this number
+abbrev pub calls_until : List DeviceCall → ℕ → List DeviceCall
+calls_until [] fails = []
+calls_until (call ∷ calls) zero = call ∷ calls
+calls_until (call ∷ calls) (suc zero) = failing call ∷ []
+calls_until (call ∷ calls) (suc (suc fails)) = call ∷ calls_until calls (suc fails)
 
 -- A disk in memory that lists its calls and fails one: the disk under it, the number of the call that fails (counted
 -- from 1; 0 for none), the calls in order, whether memory was refused for one, and its own counts.

@@ -1,6 +1,6 @@
 -- What the choices of a crash leave: of each block that was written since the last sync all, half or none of what was
 -- written, or one byte everywhere.
-use Rattle.std.specs.Prelude.{ℕ, zero, suc, ◌+◌, ◌-◌, ◌*◌, ◌/◌, ◌%◌, ◌^◌, ◌==◌, nat_lt, ◌&&◌}
+use Rattle.std.specs.Prelude.{ℕ, zero, suc, ◌+◌, ◌-◌, ◌*◌, ◌/◌, ◌%◌, ◌^◌, ◌==◌, nat_le, nat_lt, min, ◌&&◌}
 use Rattle.std.specs.Prelude.{if◌then◌else◌, Bool, List, [], ◌∷◌, ◌++◌, length}
 use Rattle.std.specs.Prelude.{take, drop, replicate, slice_get, slice_index, Option, Some, None}
 use Rattle.std.specs.List.{list_any}
@@ -101,3 +101,24 @@ left_of_blocks choice content (suc n) =
 abbrev pub left_by : Choice → Content → List ℕ
 left_by (Fill byte) content = replicate (length content.synced) byte
 left_by choice content = left_of_blocks choice content (length content.unsynced)
+
+-- ---- what of a crash is tried
+
+-- the first n mixtures of blocks, and for each of the first n blocks what leaves it alone new, and alone old
+abbrev pub first_mixtures : ℕ → List Choice
+first_mixtures zero = []
+first_mixtures (suc n) = first_mixtures n ++ Mixture (n + 1) ∷ []
+
+abbrev pub first_ones : ℕ → List Choice
+first_ones zero = []
+first_ones (suc n) = first_ones n ++ OneNew n ∷ OneOld n ∷ []
+
+-- of at most 4 blocks each mixture of old and new ones, and of more the first 15 blocks one by one
+abbrev pub mixtures_of : ℕ → List Choice
+mixtures_of blocks = if nat_le blocks 4 then first_mixtures (2 ^ blocks - 2) else first_ones (min blocks 15)
+
+-- where no block is unsynced there is one state; else both whole ones, three bytes everywhere, the halves, and mixtures
+abbrev pub choices_of : ℕ → List Choice
+choices_of zero = Old ∷ []
+choices_of (suc blocks) =
+    Old ∷ New ∷ Fill 0x00 ∷ Fill 0xA7 ∷ Fill 0xFF ∷ Halves ∷ mixtures_of (suc blocks)

@@ -1,10 +1,10 @@
 // Which device calls a run makes.
-ghost use Rattle.std.specs.Prelude.{⊤, ◌≡◌, ℕ, ◌+◌, ◌≤◌, true, false, not, ◌||◌, if◌then◌else◌, List, ◌∷◌, [], ◌++◌, length, slice_range, OnOk, IfOk, IfErr, is_ok};
+ghost use Rattle.std.specs.Prelude.{⊤, ◌≡◌, ◌↔◌, ℕ, ◌+◌, ◌≤◌, true, false, not, ◌||◌, if◌then◌else◌, nat_lt, min, List, ◌∷◌, [], ◌++◌, length, slice_range, OnOk, IfOk, IfErr, IsTrue, is_ok};
 ghost use Rattle.device.specs.Count.{raised};
 ghost use Rattle.device.specs.Device.{written, Torn, TornFrom, Only, LeavesOnly};
 ghost use Rattle.device.specs.Memory.{new_disk, seen_of, may_leave_of, moment_of, left_since_of, after_read, after_change};
 ghost use Rattle.device.specs.Memory.DiskChange.{sync};
-ghost use Rattle.crash_states.specs.Calls.{ListsCall, ListsItsCalls, read_call, write_call, sync_call, is_due as due_on, call_of, device_calls_of, listing};
+ghost use Rattle.crash_states.specs.Calls.{ListsCall, ListsItsCalls, read_call, write_call, sync_call, is_due as due_on, call_of, device_calls_of, listing, failing, calls_until};
 
 use device::{Device, DeviceFault, MemDisk};
 use std::alloc::{AllocError, Allocator};
@@ -26,6 +26,61 @@ pub struct Call<A: Allocator + Copy> {
     pub len: u64,
     pub written: Vec<u8, A>,
     pub failed: bool,
+}
+
+// Whether the kinds are the same.
+fn is_same_kind(left: CallKind, right: CallKind) -> bool
+    ensures { IsTrue result ↔ (left ≡ right) }
+{
+    match left {
+        CallKind::Read => matches!(right, CallKind::Read),
+        CallKind::Write => matches!(right, CallKind::Write),
+        CallKind::Sync => matches!(right, CallKind::Sync),
+    }
+}
+
+// Whether these are the same bytes.
+fn are_same_bytes(left: &[u8], right: &[u8]) -> bool
+    ensures { IsTrue result ↔ (left.now ≡ right.now) }
+{
+    left == right
+}
+
+impl<A: Allocator + Copy> Call<A> {
+    // Whether this is the other call, as one that fails or as it is.
+    fn is_same(&self, other: &Call<A>, fails: bool) -> bool
+        ensures { IsTrue result
+            ↔ (call_of self.now ≡ (if fails then failing (call_of other.now) else call_of other.now)) }
+    {
+        is_same_kind(self.kind, other.kind)
+            && self.at == other.at
+            && self.len == other.len
+            && are_same_bytes(&self.written, &other.written)
+            && self.failed == (fails || other.failed)
+    }
+}
+
+// How many of this many calls are made up to the one of this number, or all where there is none of this number.
+fn count_until(all: u64, fails: u64) -> u64
+    ensures { result ≡ (if nat_lt 0 fails then min all fails else all) }
+{
+    if fails > 0 { all.min(fails) } else { all }
+}
+
+/// Whether these are the calls up to the one of this number, counted from 1, which fails, or all of them where there is
+/// none of this number.
+pub fn are_until<A: Allocator + Copy>(made: &[Call<A>], calls: &[Call<A>], fails: u64) -> bool
+    ensures { IsTrue result ↔ (device_calls_of made.now ≡ calls_until (device_calls_of calls.now) fails) }
+{
+    if made.len() as u64 != count_until(calls.len() as u64, fails) {
+        return false;
+    }
+    for i in 0..made.len() {
+        if !made[i].is_same(&calls[i], i as u64 + 1 == fails) {
+            return false;
+        }
+    }
+    true
 }
 
 /// A disk in memory that lists the calls that are made of it, and one of which fails. A read or a write that fails is

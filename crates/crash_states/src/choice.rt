@@ -1,11 +1,12 @@
 // What a crash may leave: bytes for all places, of which those count that were written and not synced.
-ghost use Rattle.std.specs.Prelude.{◌≡◌, ◌+◌, ◌-◌, ◌*◌, ◌/◌, ◌<◌, ◌≤◌, ◌==◌, ℕ, [], ◌∷◌, length, slice_index, Some, IfOk, OnOk, Contains};
+ghost use Rattle.std.specs.Prelude.{◌≡◌, ◌+◌, ◌-◌, ◌*◌, ◌/◌, ◌^◌, ◌<◌, ◌≤◌, ◌==◌, ℕ, [], ◌∷◌, ◌++◌, length, slice_index, Some, IfOk, OnOk, Contains};
 ghost use Rattle.std.specs.List.{list_any};
 ghost use Rattle.device.specs.Device.{written};
 ghost use Rattle.crash_states.specs.declared.choice.Choice.{Choice};
 ghost use Rattle.crash_states.specs.declared.choice.Choice.TheVariants as choices;
 ghost use Rattle.crash_states.specs.Calls.{call_of};
 ghost use Rattle.crash_states.specs.Choices.{all_synced, with_block, with_blocks, begun_write, call_begun, call_ended, has_bit as is_set, new_bytes, with_copied, left_of_blocks, left_by};
+ghost use Rattle.crash_states.specs.Choices.{choices_of, mixtures_of, first_mixtures, first_ones};
 ghost use Rattle.crash_states.specs.Held.{content_of};
 
 use crate::call::{Call, CallKind};
@@ -115,6 +116,7 @@ impl<A: Allocator + Copy> Contents<A> {
 
     /// What of a crash is tried.
     pub fn choices(&self) -> Result<Vec<Choice, A>, AllocError>
+        ensures exact { IfOk result (λ tried. tried.items ≡ choices_of (length (content_of self.now).unsynced)) }
         ensures old { IfOk result (λ tried. Contains tried.items choices.Old) }
         ensures new { IfOk result (λ tried. 0 < length (content_of self.now).unsynced
             → Contains tried.items choices.New) }
@@ -225,32 +227,54 @@ fn has_block(blocks: &[u64], block: u64) -> bool
 }
 
 // Adds what is neither old nor new.
-fn add_spoilt<A: Allocator + Copy>(choices: &mut Vec<Choice, A>) -> Result<(), AllocError>
-    ensures { OnOk result ((choice : Choice) → Contains choices.old.items choice → Contains choices.new.items choice) }
+fn add_spoilt<A: Allocator + Copy>(tried: &mut Vec<Choice, A>) -> Result<(), AllocError>
+    ensures { OnOk result (tried.new.items ≡ tried.old.items
+        ++ choices.Fill 0x00 ∷ choices.Fill 0xA7 ∷ choices.Fill 0xFF ∷ choices.Halves ∷ []) }
 {
-    for byte in [0x00, 0xA7, 0xFF] {
-        choices.push(Choice::Fill(byte))?;
-    }
-    choices.push(Choice::Halves)?;
+    tried.push(Choice::Fill(0x00))?;
+    tried.push(Choice::Fill(0xA7))?;
+    tried.push(Choice::Fill(0xFF))?;
+    tried.push(Choice::Halves)?;
     Ok(())
 }
 
-// Adds mixtures of so many blocks, one at least.
+// Adds the mixtures that are tried of this many blocks.
 fn add_mixtures<A: Allocator + Copy>(
     blocks: u64,
     choices: &mut Vec<Choice, A>,
 ) -> Result<(), AllocError>
-    ensures { OnOk result ((choice : Choice) → Contains choices.old.items choice → Contains choices.new.items choice) }
+    requires { 0 < blocks }
+    ensures { OnOk result (choices.new.items ≡ choices.old.items ++ mixtures_of blocks) }
 {
     if blocks <= FEW_BLOCKS {
-        for bits in 1..(1u64 << blocks) - 1 {
-            choices.push(Choice::Mixture(bits))?;
-        }
+        add_each(blocks, choices)
     } else {
-        for block in 0..blocks.min(MOST_MIXTURES / 2) {
-            choices.push(Choice::OneNew(block))?;
-            choices.push(Choice::OneOld(block))?;
-        }
+        add_ones(blocks.min(MOST_MIXTURES / 2), choices)
+    }
+}
+
+// Adds each mixture of old and new blocks.
+fn add_each<A: Allocator + Copy>(
+    blocks: u64,
+    choices: &mut Vec<Choice, A>,
+) -> Result<(), AllocError>
+    requires some { 0 < blocks }
+    requires few { blocks ≤ 4 }
+    ensures { OnOk result (choices.new.items ≡ choices.old.items ++ first_mixtures (2 ^ blocks - 2)) }
+{
+    for more in 0..(1u64 << blocks) - 2 {
+        choices.push(Choice::Mixture(more + 1))?;
+    }
+    Ok(())
+}
+
+// Adds for each of the first blocks what leaves it alone new, and alone old.
+fn add_ones<A: Allocator + Copy>(count: u64, choices: &mut Vec<Choice, A>) -> Result<(), AllocError>
+    ensures { OnOk result (choices.new.items ≡ choices.old.items ++ first_ones count) }
+{
+    for block in 0..count {
+        choices.push(Choice::OneNew(block))?;
+        choices.push(Choice::OneOld(block))?;
     }
     Ok(())
 }

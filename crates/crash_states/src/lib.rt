@@ -8,7 +8,7 @@ mod crash_fault;
 mod part;
 mod row;
 
-pub use call::{Call, CallKind, Listing};
+pub use call::{Call, CallKind, Listing, are_until};
 pub use choice::{Choice, Contents, MOST_MIXTURES};
 pub use crash_fault::CrashFault;
 pub use part::{Part, Places};

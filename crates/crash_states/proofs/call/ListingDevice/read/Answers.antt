@@ -1,4 +1,4 @@
-use Rattle.std.proofs.Common.{◌≡◌, ◌+◌, ◌∷◌, [], ◌++◌, false, refl, sym, ap, subst, ◌∙◌, arith, length, ℕ, ◌<◌, ◌^◌, List}
+use Rattle.std.proofs.Common.{◌∷◌, [], ◌++◌, false, refl, sym, ap, subst, ◌∙◌, arith, length, ◌<◌, ◌^◌}
 use Rattle.std.specs.Prelude.{not, is_ok}
 use Rattle.std.proofs.lemmas.List.{length-map}
 use Rattle.crash_states.specs.Calls.{DeviceCall, ListedDisk, ListsCall, read_call, call_of, device_calls_of, is_due}
@@ -45,8 +45,13 @@ pub invariant_of-self : goal.invariant_of-self
 unfolding old new
 invariant_of-self g c = λ complete.
     let few : length (device_calls_of c.note.new.calls.items) < 2 ^ 64 =
-    omega (arith, length-map c.note.new.calls.items (λ k. call_of k), c.note.new.calls.ok.0, c.note.new.calls.ok.1,
-    c.note.new.calls.small) in
+    omega (
+      arith,
+      length-map c.note.new.calls.items (λ k. call_of k),
+      c.note.new.calls.ok.0,
+      c.note.new.calls.ok.1,
+      c.note.new.calls.small,
+    ) in
     lists_more (old g c) (new g c) _ (made g c) complete (c.self.invariant ((made g c).before complete)) refl few
 
 pub returns-clause-listed : goal.returns-clause-listed

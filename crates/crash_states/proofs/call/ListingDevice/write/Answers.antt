@@ -1,9 +1,9 @@
-use Rattle.std.proofs.Common.{◌≡◌, ◌+◌, ◌∷◌, [], ◌++◌, false, refl, sym, ap, subst, ◌∙◌, arith, length, ℕ, ◌<◌, ◌≤◌, ◌^◌, List}
+use Rattle.std.proofs.Common.{◌≡◌, ◌+◌, refl, sym, ap, subst, ◌∙◌, arith, length, ◌<◌, ◌≤◌, ◌^◌}
 use Rattle.std.specs.Prelude.{not, is_ok}
 use Rattle.std.proofs.lemmas.List.{length-map}
 use Rattle.device.specs.Device.{Torn, TornFrom}
 use Rattle.device.specs.Memory.{Recorded, seen_of, may_leave_of}
-use Rattle.crash_states.specs.Calls.{DeviceCall, ListedDisk, ListsCall, write_call, call_of, device_calls_of, is_due}
+use Rattle.crash_states.specs.Calls.{ListedDisk, ListsCall, write_call, call_of, device_calls_of, is_due}
 use Rattle.crash_states.proofs.Listed.{lists_call, lists_more, noted_call, done_unless, torn_by}
 use Rattle.crash_states.proofs.call.ListingDevice.write.Goals.{After-count}
 use Rattle.crash_states.proofs.call.ListingDevice.write.Goals as goal
@@ -50,8 +50,13 @@ pub invariant_of-self : goal.invariant_of-self
 unfolding old new
 invariant_of-self g c = λ complete.
     let few : length (device_calls_of c.note.new.calls.items) < 2 ^ 64 =
-    omega (arith, length-map c.note.new.calls.items (λ k. call_of k), c.note.new.calls.ok.0, c.note.new.calls.ok.1,
-    c.note.new.calls.small) in
+    omega (
+      arith,
+      length-map c.note.new.calls.items (λ k. call_of k),
+      c.note.new.calls.ok.0,
+      c.note.new.calls.ok.1,
+      c.note.new.calls.small,
+    ) in
     lists_more (old g c) (new g c) _ (made g c) complete (c.self.invariant ((made g c).before complete)) refl few
 
 pub returns-clause-listed : goal.returns-clause-listed
