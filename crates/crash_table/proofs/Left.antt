@@ -1,12 +1,12 @@
 -- What a run, and a crash after it, leave on its device.
-use Rattle.std.proofs.Common.{◌≡◌, inl, inr, ℕ, ◌≤◌, List, [], length}
+use Rattle.std.proofs.Common.{◌≡◌, inl, inr, ℕ, ◌≤◌, false, List, [], length}
 use Rattle.std.proofs.Common.{take, Result, IfOk, refl, sym, ap, subst, arith}
 use Rattle.std.proofs.lemmas.List.{length-take}
 use Rattle.std.proofs.lemmas.Result.{IfOk-weaker}
 use Rattle.device.specs.declared.device.Device.{Ghosts}
 use Rattle.device.specs.Device.{Only, LeavesOnly}
-use Rattle.device.specs.Failing.{Failing, failing}
 use Rattle.device.specs.Memory.{Recorded, new_disk, seen_of, may_leave_of, after_stop}
+use Rattle.crash_states.specs.Calls.{DeviceCall, ListedDisk, ListsItsCalls, listing}
 use Rattle.std.proofs.lemmas.List.{ext_get_or}
 use Rattle.volume_codec.specs.Files.{File}
 use Rattle.volume_codec.specs.Recovery.{RecoversTo}
@@ -19,7 +19,7 @@ use Rattle.machine.specs.Runs.{StepsTaken}
 use Rattle.machine.specs.State.{Whole}
 use Rattle.machine.specs.Observed.{Observed, observe_all}
 use Rattle.engine.specs.Engine.{HasStarted}
-use Rattle.crash_table.specs.Disks.{failing_memory}
+use Rattle.crash_table.specs.Calls.{listing_memory}
 use Rattle.crash_table.specs.Crashes.{history_of, HasEnded, IsUpTo, LeavesMark}
 use Rattle.crash_table.specs.declared.found.MarkFiles.{MarkFiles}
 use Rattle.crash_table.specs.inside.Kept.{contents_of, AreKept, IsNewest, HasKept}
@@ -76,19 +76,19 @@ only_first image c left = ext_get_or 0 c image left.same_length (λ i lt. left.s
 
 -- a trial: what was left of it by a stop, and what was found
 module _ {A : Type 0} (one : IsOneReading) (image : List ℕ) (shape : Shape) (steps : List Step) (first : List Reply)
-    (marks : List (MarkFiles A)) (kept : HasKept image shape steps first marks) (calls fails : ℕ) (choice : List ℕ)
-    (replies : List Reply) (after : Failing Recorded)
-    (ended : HasEnded failing_memory (failing (new_disk image) fails) shape steps replies after)
+    (marks : List (MarkFiles A)) (kept : HasKept image shape steps first marks) (calls : List DeviceCall)
+    (fails : ℕ) (choice : List ℕ) (replies : List Reply) (after : ListedDisk)
+    (ended : HasEnded listing_memory (listing (new_disk image) fails) shape steps replies after)
     (back : (files : List File) → RecoversTo image files → (c : List ℕ) → may_leave_of after.inner c
     → ReadsBack files (history_of files shape (take (length replies) steps) replies) c)
-    (sound : after.inner.faults ≡ 0) (up : IsUpTo calls fails steps replies after) (stopped : Recorded)
+    (complete : after.refused ≡ false) (are_its : ListsItsCalls after) (up : IsUpTo calls fails steps replies after) (stopped : Recorded)
     (is : stopped ≡ after_stop after.inner choice) (left : may_leave_of after.inner (seen_of stopped))
     (read : List (List ℕ))
     (opened : (found : List File) × RecoversTo (seen_of stopped) found × (read ≡ contents_of found)) where
   leaves_mark : (number : ℕ) → IsNewest kept.files shape steps replies read number
       → LeavesMark image shape steps calls fails choice number
   leaves_mark number newest =
-      let long = few_replies failing_memory (failing (new_disk image) fails) shape steps replies after ended in
+      let long = few_replies listing_memory (listing (new_disk image) fails) shape steps replies after ended in
       let P : Recorded → Type 0 = λ s. may_leave_of after.inner (seen_of s) in
       let Q : Recorded → Type 0 = λ s. RecoversTo (seen_of s) opened.0 in
       let N : List (List ℕ) → Type 0 = λ bytes. IsNewest kept.files shape steps replies bytes number in
@@ -96,7 +96,8 @@ module _ {A : Type 0} (one : IsOneReading) (image : List ℕ) (shape : Shape) (s
         replies = replies;
         after = after;
         ended = ended;
-        sound = sound;
+        complete = complete;
+        are_its = are_its;
         up_to_call = up;
         left = subst P is left;
         files = kept.files;

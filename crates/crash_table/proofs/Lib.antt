@@ -7,3 +7,4 @@ pub mod Left
 pub mod Making
 pub mod Ended
 mod Contents
+pub mod Counted

@@ -1,47 +1,55 @@
--- The device calls of a run, as a disk has them that lists the calls that are made of it.
-use Rattle.std.specs.Prelude.{ℕ, ◌≡◌, false, List, ⊤}
+-- The device calls of a run, as a disk in memory has them that lists the calls that are made of it.
+use Rattle.std.specs.Prelude.{ℕ, ◌≡◌, false, List, [], ◌∷◌, ⊤, if◌then◌else◌, nat_le, ◌+◌}
 use Rattle.device.specs.declared.device.Device.{Ghosts}
-use Rattle.device.specs.Memory.{Recorded, new_disk, seen_of, may_leave_of, moment_of, left_since_of}
+use Rattle.device.specs.Memory.{new_disk, seen_of, may_leave_of, moment_of, left_since_of}
 use Rattle.machine.specs.declared.act.Reply.{Reply}
 use Rattle.machine.specs.declared.act.Shape.{Shape}
 use Rattle.machine.specs.declared.act.Step.{Step}
-use Rattle.engine.specs.Engine.{HasRun}
-use Rattle.crash_states.specs.Calls.{DeviceCall, ListedDisk, listing}
+use Rattle.machine.specs.Runs.{StepTaken}
+use Rattle.machine.specs.State.{Whole}
+use Rattle.engine.specs.Engine.{HasRun, HasStarted}
+use Rattle.crash_states.specs.Calls.{DeviceCall, ListedDisk, ListsItsCalls, listing}
 
--- what a disk says, said of the one that lists its calls
-abbrev pub listing_of : {D : Type 0} → Ghosts D → Ghosts (ListedDisk D)
-listing_of disk = record {
-  seen = λ listed. disk.seen listed.inner;
-  may_leave = λ listed. disk.may_leave listed.inner;
-  moment = λ listed. disk.moment listed.inner;
-  left_since = λ listed. disk.left_since listed.inner;
-  calls_made = λ listed. disk.calls_made listed.inner;
-  faults_met = λ listed. disk.faults_met listed.inner;
-  is_honest = λ listed. disk.is_honest listed.inner;
-}
-
--- so of a disk in memory
-abbrev pub listing_memory : Ghosts (ListedDisk Recorded)
+-- what a disk says, said of the one in memory that lists its calls
+abbrev pub listing_memory : Ghosts ListedDisk
 listing_memory = record {
   seen = λ disk. seen_of disk.inner;
   may_leave = λ disk. may_leave_of disk.inner;
   moment = λ disk. moment_of disk.inner;
   left_since = λ disk. left_since_of disk.inner;
-  calls_made = λ disk. disk.inner.calls;
-  faults_met = λ disk. disk.inner.faults;
+  calls_made = λ disk. disk.made;
+  faults_met = λ disk. disk.faults;
   is_honest = λ disk. ⊤;
 }
 
--- A run was made on a disk that lists its calls: these were all its calls then, in order, and none of them failed.
-pub record AreMade (before : ListedDisk Recorded) (shape : Shape) (steps : List Step) (calls : List DeviceCall)
-    : Type 0 where
-  pub replies : List Reply
-  pub after : ListedDisk Recorded
-  pub ran : HasRun listing_memory before shape steps replies after
-  pub complete : after.refused ≡ false
-  pub sound : after.inner.faults ≡ 0
-  pub listed : calls ≡ after.calls
+-- these replies to these steps, with so many device calls in all after each of them
+abbrev pub StepsCounted : {D : Type 0} → Ghosts D → Whole D → List Step → List Reply → List ℕ → Whole D → Type 0
+StepsCounted disk old [] [] [] new = new ≡ old
+StepsCounted {D} disk old (step ∷ steps) (reply ∷ replies) (count ∷ counts) new =
+    (mid : Whole D) × StepTaken disk old step reply mid × (disk.calls_made mid.device ≡ count)
+    × StepsCounted disk mid steps replies counts new
+StepsCounted disk old steps replies counts new = ⊥
 
--- these are the device calls of a run on a disk with these bytes
-abbrev pub AreCallsOf : List ℕ → Shape → List Step → List DeviceCall → Type 0
-AreCallsOf image shape steps calls = AreMade (listing (new_disk image)) shape steps calls
+-- A run was made on a disk in memory that lists its calls: these were its replies, the numbers of calls after each, and
+-- all its calls, in order, with what they did, where, and what they wrote. None of them failed.
+pub record AreMade (before : ListedDisk) (shape : Shape) (steps : List Step) (replies : List Reply) (counts : List ℕ)
+    (calls : List DeviceCall) : Type 0 where
+  pub start : Whole ListedDisk
+  pub last : Whole ListedDisk
+  pub started : HasStarted listing_memory before shape start
+  pub counted : StepsCounted listing_memory start steps replies counts last
+  pub ran : HasRun listing_memory before shape steps replies last.device
+  pub complete : last.device.refused ≡ false
+  pub sound : last.device.faults ≡ 0
+  pub listed : calls ≡ last.device.calls
+  pub are_its : ListsItsCalls last.device
+
+-- these are the replies and the device calls of a run on a disk with these bytes
+abbrev pub AreCallsOf : List ℕ → Shape → List Step → List Reply → List ℕ → List DeviceCall → Type 0
+AreCallsOf image shape steps replies counts calls =
+    AreMade (listing (new_disk image) 0) shape steps replies counts calls
+
+-- how many steps were answered before the device call of this number, by the numbers of calls after each step
+abbrev pub steps_before : List ℕ → ℕ → ℕ
+steps_before [] call = 0
+steps_before (count ∷ counts) call = if nat_le call count then 0 else steps_before counts call + 1

@@ -1,8 +1,7 @@
 -- What a crash within a run leaves: the files at one of its marks.
-use Rattle.std.specs.Prelude.{ℕ, ◌≡◌, ◌⊎◌, ◌≤◌, ◌<◌, List, [], ◌∷◌, ◌++◌, length, take}
+use Rattle.std.specs.Prelude.{ℕ, ◌≡◌, ◌⊎◌, ◌≤◌, ◌<◌, false, List, [], ◌∷◌, ◌++◌, length, take}
 use Rattle.device.specs.declared.device.Device.{Ghosts}
-use Rattle.device.specs.Failing.{Failing, failing}
-use Rattle.device.specs.Memory.{Recorded, new_disk, seen_of, may_leave_of, after_stop}
+use Rattle.device.specs.Memory.{new_disk, seen_of, may_leave_of, after_stop}
 use Rattle.page_entry.specs.declared.refusal.Refusal.TheVariants.{Device}
 use Rattle.volume_codec.specs.Files.{File}
 use Rattle.volume_codec.specs.Recovery.{RecoversTo}
@@ -13,7 +12,8 @@ use Rattle.history.specs.History.{Event, Mark, files_after, IsDurablePrefix}
 use Rattle.machine.specs.Laws.{observed_at_start}
 use Rattle.machine.specs.Observed.{observe_all}
 use Rattle.engine.specs.Engine.{HasRun, HasNotStarted}
-use Rattle.crash_table.specs.Disks.{failing_memory}
+use Rattle.crash_states.specs.Calls.{DeviceCall, ListedDisk, ListsItsCalls, calls_until, listing}
+use Rattle.crash_table.specs.Calls.{listing_memory}
 
 -- what can be read off steps and replies of a machine of this shape, over a volume with these files: what was stored,
 -- marked and acknowledged
@@ -41,22 +41,25 @@ pub record IsAtMark (files : List File) (history : List Event) (found : List Fil
   pub newest : (other : List Event) → IsDurablePrefix other history → found ≡ files_after files other
       → length other ≤ length prefix
 
--- Of a run that has so many calls the one of this number, counted from 1, failed, and it was the last that was made; or
--- there is none of this number: then no call failed, and all steps were made.
-pub record IsUpTo (calls fails : ℕ) (steps : List Step) (replies : List Reply) (after : Failing Recorded) : Type 0 where
-  pub failed : 0 < fails → fails ≤ calls → (after.calls ≡ fails) × (after.faults ≡ 1)
-  pub whole : (fails ≡ 0) ⊎ (calls < fails) → (after.faults ≡ 0) × (length replies ≡ length steps)
+-- A run was made up to the device call of one number, counted from 1, which failed and was the last; or there is none of
+-- this number, no call failed, and all steps were made. Its calls are those of the whole run, each as it is there.
+pub record IsUpTo (calls : List DeviceCall) (fails : ℕ) (steps : List Step) (replies : List Reply) (after : ListedDisk)
+    : Type 0 where
+  pub made : after.calls ≡ calls_until calls fails
+  pub failed : 0 < fails → fails ≤ length calls → (after.made ≡ fails) × (after.faults ≡ 1)
+  pub whole : (fails ≡ 0) ⊎ (length calls < fails) → (after.faults ≡ 0) × (length replies ≡ length steps)
 
--- A run with so many device calls was made on a disk in memory with these bytes, up to the call of one number, which
--- failed, or to its end where there is none of that number; no other call failed. Then a crash left this choice in the
--- places that were written and not synced, which is one of the contents that it may leave. It recovers to the files at
--- the mark of this number, by what can be read off the replies before the call failed.
-pub record LeavesMark (image : List ℕ) (shape : Shape) (steps : List Step) (calls fails : ℕ) (choice : List ℕ)
-    (number : ℕ) : Type 0 where
+-- A run with these device calls was made on a disk in memory with these bytes, up to the call of one number, which
+-- failed, or to its end where there is none of that number. Then a crash left this choice in the places that were
+-- written and not synced, which is one of the contents that it may leave. It recovers to the files at the mark of this
+-- number, by what can be read off the replies before the call failed.
+pub record LeavesMark (image : List ℕ) (shape : Shape) (steps : List Step) (calls : List DeviceCall) (fails : ℕ)
+    (choice : List ℕ) (number : ℕ) : Type 0 where
   pub replies : List Reply
-  pub after : Failing Recorded
-  pub ended : HasEnded failing_memory (failing (new_disk image) fails) shape steps replies after
-  pub sound : after.inner.faults ≡ 0
+  pub after : ListedDisk
+  pub ended : HasEnded listing_memory (listing (new_disk image) fails) shape steps replies after
+  pub complete : after.refused ≡ false
+  pub are_its : ListsItsCalls after
   pub up_to_call : IsUpTo calls fails steps replies after
   pub left : may_leave_of after.inner (seen_of (after_stop after.inner choice))
   pub files : List File

@@ -1,5 +1,4 @@
 pub mod Calls
-pub mod Disks
 pub mod Crashes
 pub mod Trials
 pub mod Rows

@@ -1,5 +1,5 @@
 -- The rows of the table.
-use Rattle.std.specs.Prelude.{ℕ, ◌≡◌, ◌+◌, ◌<◌, ◌≤◌, length}
+use Rattle.std.specs.Prelude.{ℕ, ◌≡◌, ◌+◌, ◌<◌, ◌≤◌, Bool, map, length}
 use Rattle.std.specs.Prelude.{slice_get, Option, Some, None, Contains}
 use Rattle.crash_states.specs.declared.call.CallKind.TheVariants.{Write}
 use Rattle.crash_states.specs.declared.choice.Choice.{Choice}
@@ -7,13 +7,14 @@ use Rattle.crash_states.specs.declared.choice.Choice.TheVariants.{Old, New}
 use Rattle.crash_states.specs.declared.row.Found.{Found}
 use Rattle.crash_states.specs.declared.row.Row.{Row}
 use Rattle.crash_states.specs.Calls.{DeviceCall}
-use Rattle.crash_states.specs.Choices.{content_within, left_by}
+use Rattle.crash_states.specs.Choices.{content_within, left_by, choices_of}
 use Rattle.crash_table.specs.Trials.{TrialValue, Leaves}
 
--- rows that are made one by one: the run, and how many were made
+-- rows that are made one by one: the run, how many were made, and whether one could not be made
 pub record RowsValue : Type 0 where
   pub trial : TrialValue
   pub next : ℕ
+  pub failed : Bool
 
 -- a row has a state that this choice leaves
 abbrev pub HasState : {A : Type 0} → Row A → Choice → Type 0
@@ -26,6 +27,8 @@ pub record IsRowOf {A : Type 0} (trial : TrialValue) (i : ℕ) (row : Row A) : T
   -- each crash state is what the choice leaves that is named, with the files at the mark that is said
   pub each : (found : Found) → Contains row.found.items found
       → Leaves trial row.number (left_by found.choice (content_within trial.image trial.calls i)) found.mark
+  -- these choices are tried, each once, and no others
+  pub tried : map (λ f. f.choice) row.found.items ≡ choices_of row.unsynced
   pub old : HasState row Old
   -- where a block may be torn, also within the call of the row
   pub new : 0 < row.unsynced → HasState row New

@@ -4,6 +4,7 @@ ghost use Rattle.volume_codec.specs.Files.{File};
 ghost use Rattle.volume_codec.specs.Recovery.{RecoversTo};
 ghost use Rattle.recovery.specs.Volume.{IsWellFormed, files_of, bytes_of};
 ghost use Rattle.recovery.specs.VolumeReading.{IsVolumeOnlyRead, HasLengthsOf};
+ghost use Rattle.crash_table.specs.Trials.{cause_of};
 
 use crash_states::CrashFault;
 use device::Device;
@@ -33,7 +34,9 @@ pub fn open_files<D: Device + Drop, A: Allocator + Copy>(
 }
 
 /// Why a disk in memory isn't opened: its calls fail where memory is refused, and for no other reason.
-pub fn fault_of(refusal: Refusal) -> CrashFault {
+pub fn fault_of(refusal: Refusal) -> CrashFault
+    ensures { result ≡ cause_of refusal }
+{
     match refusal {
         Refusal::Device | Refusal::OutOfMemory => CrashFault::Memory(AllocError),
         _ => CrashFault::Refused(refusal),

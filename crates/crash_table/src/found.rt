@@ -85,15 +85,18 @@ fn write_out<D: Device, A: Allocator + Copy>(
 // its marks one by one.
 fn is_first_mark(steps: &[Step], replies: &[Reply], at: usize, number: u32) -> bool
     requires { at < length replies.now }
-    ensures { IsTrue result → (at < length steps.now)
+    ensures first { IsTrue result → (at < length steps.now)
         × ((i : ℕ) → slice_get (take at replies.now) i ≡ Some (Marked number) → ⊥) }
+    ensures only { at < length steps.now
+        → ((i : ℕ) → slice_get (take at replies.now) i ≡ Some (Marked number) → ⊥) → IsTrue result }
 {
     at < steps.len() && !has_mark(&replies[..at], number)
 }
 
 // Whether one of these replies reports a mark of this number.
 fn has_mark(replies: &[Reply], number: u32) -> bool
-    ensures { (i : ℕ) → slice_get replies.now i ≡ Some (Marked number) → IsTrue result }
+    ensures each { (i : ℕ) → slice_get replies.now i ≡ Some (Marked number) → IsTrue result }
+    ensures only { IsTrue result → (i : ℕ) × (slice_get replies.now i ≡ Some (Marked number)) }
 {
     for reply in replies {
         if is_mark(reply, number) {

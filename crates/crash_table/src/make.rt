@@ -8,7 +8,7 @@ ghost use Rattle.history.specs.Reading.{ReadsBack};
 ghost use Rattle.machine.specs.Runs.{StepsTaken};
 ghost use Rattle.crash_table.specs.Crashes.{history_of, HasEnded};
 ghost use Rattle.crash_table.specs.inside.Kept.{unmarked_after, is_under_way, most_flushes, HasCommitted, HasGivenUp};
-ghost use Rattle.crash_table.specs.inside.Kept.{IsAcknowledged};
+ghost use Rattle.crash_table.specs.inside.Kept.{IsAcknowledged, EndsByFailure};
 
 use crate::files::fault_of;
 use crash_states::CrashFault;
@@ -26,8 +26,9 @@ pub fn make<D: Device, A: Allocator + Copy>(
     machine: &mut Machine<D, A>,
     steps: &[Step],
 ) -> Result<Vec<Reply, A>, AllocError>
-    ensures { IfOk result (λ replies. StepsTaken D.Device machine.old
+    ensures made { IfOk result (λ replies. StepsTaken D.Device machine.old
         (take (length replies.items) steps.now) replies.items machine.new) }
+    ensures ended { IfOk result (λ replies. EndsByFailure steps.now replies.items) }
 {
     let mut replies = Vec::new(alloc);
     for step in steps {
@@ -41,8 +42,10 @@ pub fn make<D: Device, A: Allocator + Copy>(
 }
 
 // Whether a reply says that the device failed.
-fn is_failure(reply: &Reply) -> bool {
-    matches!(reply, Reply::Refused(Refusal::Device))
+fn is_failure(reply: &Reply) -> bool
+    ensures { IsTrue result ↔ (reply.now ≡ replied.Refused Refusal.Device) }
+{
+    reply.is_same(&Reply::Refused(Refusal::Device))
 }
 
 /// Makes a run on a device, up to a step that is answered that the device failed. The device, and the replies; there

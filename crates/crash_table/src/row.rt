@@ -1,7 +1,7 @@
 // The rows of the table, one after the other: what crashes within each device call leave.
-ghost use Rattle.std.specs.Prelude.{◌≡◌, ◌+◌, ◌<◌, ◌≤◌, length, map, IfOk, OnOk, Contains};
+ghost use Rattle.std.specs.Prelude.{◌≡◌, ◌+◌, ◌<◌, ◌≤◌, true, false, length, map, Err, IfOk, IfErr, OnOk, Contains, alloc_error};
 ghost use Rattle.crash_states.specs.declared.choice.Choice.TheVariants as choices;
-ghost use Rattle.crash_states.specs.Choices.{content_before, content_within, left_by};
+ghost use Rattle.crash_states.specs.Choices.{content_before, content_within, left_by, choices_of};
 ghost use Rattle.crash_table.specs.Trials.{Leaves};
 ghost use Rattle.crash_table.specs.Rows.{IsRowOf, IsNext};
 ghost use Rattle.crash_states.specs.declared.row.Found.{Found};
@@ -9,7 +9,7 @@ ghost use Rattle.crash_states.specs.Held.{content_of};
 
 use crate::trial::Trial;
 use crash_states::{Choice, Contents, CrashFault, Found, Row};
-use std::alloc::Allocator;
+use std::alloc::{AllocError, Allocator};
 use std::marker::Model;
 
 /// The rows, one after the other. After an `Err` there is no further one.
@@ -31,7 +31,7 @@ impl<'a, A: Allocator + Copy> Model for Rows<'a, A> {
 
     ghost Value = { RowsValue };
 
-    ghost view = { λ r. record { trial = r.trial.now; next = r.next } };
+    ghost view = { λ r. record { trial = r.trial.now; next = r.next; failed = r.begun } };
 
     ghost invariant = { λ r. r.begun ≡ false
         → content_of r.contents ≡ content_before r.trial.now.image r.trial.now.calls r.next };
@@ -40,7 +40,7 @@ impl<'a, A: Allocator + Copy> Model for Rows<'a, A> {
 impl<'a, A: Allocator + Copy> Rows<'a, A> {
     /// The rows of a run.
     pub fn new(alloc: A, trial: &'a Trial<'a, A>) -> Result<Self, CrashFault>
-        ensures { IfOk result (λ rows. rows ≡ record { trial = trial.now; next = 0 }) }
+        ensures { IfOk result (λ rows. rows ≡ record { trial = trial.now; next = 0; failed = false }) }
     {
         Ok(Rows {
             alloc,
@@ -51,11 +51,14 @@ impl<'a, A: Allocator + Copy> Rows<'a, A> {
         })
     }
 
-    /// The next row: one for each device call of the run, in their order, and one for its end. After an `Err` there is
-    /// none: `Otherwise`.
+    /// The next row: one for each device call of the run, in their order, and one for its end. There is an `Err` where
+    /// memory was refused; after it there is no row: `Otherwise`.
     pub fn next(&mut self) -> Result<Option<Row<A>>, CrashFault>
         ensures row { IfOk result (λ next. IsNext self.old next self.new) }
         ensures trial { self.new.trial ≡ self.old.trial }
+        ensures memory { self.old.failed ≡ false
+            → IfErr result (λ why. (why ≡ CrashFault.Memory alloc_error) × (self.new.failed ≡ true)) }
+        ensures otherwise { self.old.failed ≡ true → (result ≡ Err CrashFault.Otherwise) × (self.new ≡ self.old) }
     {
         let trial = self.trial;
         if self.begun {
@@ -64,14 +67,19 @@ impl<'a, A: Allocator + Copy> Rows<'a, A> {
         if self.next > trial.call_count() {
             return Ok(None);
         }
-        let Some(number) = self.next.checked_add(1) else {
-            return Err(CrashFault::Otherwise);
-        };
         self.begun = true;
-        let row = make_row(self.alloc, trial, &mut self.contents, self.next)?;
-        self.next = number;
-        self.begun = false;
-        Ok(Some(row))
+        let Some(number) = self.next.checked_add(1) else {
+            return Err(CrashFault::Memory(AllocError));
+        };
+        match make_row(self.alloc, trial, &mut self.contents, self.next) {
+            Ok(row) => {
+                self.next = number;
+                self.begun = false;
+                Ok(Some(row))
+            }
+            // Each call lies within the disk, and so does what a crash leaves: only memory can have been refused.
+            Err(_) => Err(CrashFault::Memory(AllocError)),
+        }
     }
 }
 
@@ -130,6 +138,8 @@ fn states<A: Allocator + Copy>(
 ) -> Result<Vec<Found, A>, CrashFault>
     ensures each { IfOk result (λ states. (found : Found) → Contains states.items found
         → Leaves trial.now number (left_by found.choice (content_of contents.now)) found.mark) }
+    ensures tried { IfOk result (λ states. map (λ f. f.choice) states.items
+        ≡ choices_of (length (content_of contents.now).unsynced)) }
     ensures old { IfOk result (λ states. Contains (map (λ f. f.choice) states.items) choices.Old) }
     ensures new { IfOk result (λ states. 0 < length (content_of contents.now).unsynced
         → Contains (map (λ f. f.choice) states.items) choices.New) }

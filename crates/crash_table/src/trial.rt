@@ -1,24 +1,23 @@
 // A run, made once to learn its calls, its replies and the files at its marks, and again for each crash.
 ghost use Rattle.std.specs.Prelude.{◌≡◌, ◌≢◌, ◌↔◌, ◌<◌, ◌≤◌, false, IsTrue, List, length, slice_get, Some, Err};
 ghost use Rattle.std.specs.Prelude.{IfOk, IfErr, OnOk, alloc_error};
-ghost use Rattle.device.specs.Memory.{Recorded, new_disk};
+ghost use Rattle.device.specs.Memory.{new_disk};
 ghost use Rattle.volume_codec.specs.Files.{File};
 ghost use Rattle.volume_codec.specs.Recovery.{RecoversTo};
 ghost use Rattle.machine.specs.declared.act.Reply.TheVariants.{Marked};
-ghost use Rattle.machine.specs.Runs.{StepsTaken};
 ghost use Rattle.engine.specs.Engine.{HasStarted};
 ghost use Rattle.machine.specs.declared.act.Shape.{Shape};
-ghost use Rattle.crash_states.specs.Calls.{ListedDisk, device_calls_of};
-ghost use Rattle.crash_table.specs.Calls.{AreMade, AreCallsOf, listing_memory, listing_of};
-ghost use Rattle.crash_table.specs.Trials.{HasItsCalls, Leaves};
+ghost use Rattle.crash_states.specs.Calls.{ListedDisk, ListsItsCalls, device_calls_of, calls_until};
+ghost use Rattle.crash_table.specs.Calls.{AreMade, AreCallsOf, StepsCounted, listing_memory, steps_before};
+ghost use Rattle.crash_table.specs.Trials.{HasItsCalls, HasNoTrial, Leaves};
 ghost use Rattle.crash_table.specs.inside.Kept.{IsKept, AreKept};
 
 use crate::files::{fault_of, open_files};
 use crate::found::{MarkFiles, Plan, files_at, newest};
 use crate::make::run_on;
 use crate::same::are_same_replies;
-use crash_states::{Call, CrashFault, Listing};
-use device::{Device, FailingDisk, MemDisk};
+use crash_states::{Call, CrashFault, Listing, are_until};
+use device::{Device, MemDisk};
 use engine::ran_since_start;
 use machine::{Machine, Reply, Shape, Step};
 use std::alloc::{AllocError, Allocator};
@@ -38,10 +37,8 @@ pub struct Trial<'a, A: Allocator + Copy> {
 #[derive(Drop)]
 struct FirstRun<A: Allocator + Copy> {
     replies: Vec<Reply, A>,
-    // How many device calls were made up to each reply, and with its step.
-    made: Vec<u64, A>,
-    // How many device calls opened the volume.
-    opening: u64,
+    // The number of device calls after each step.
+    counts: Vec<u64, A>,
     calls: Vec<Call<A>, A>,
 }
 
@@ -57,11 +54,14 @@ impl<'a, A: Allocator + Copy> Model for Trial<'a, A> {
       image = t.plan.image.now;
       shape = t.plan.shape;
       steps = t.plan.steps.now;
+      replies = t.listed.replies.items;
+      counts = t.listed.counts.items;
       calls = device_calls_of t.listed.calls.items;
     } };
 
     ghost invariant = { λ t. HasKept t.plan.image.now t.plan.shape t.plan.steps.now t.listed.replies.items t.marks.items
-        × AreCallsOf t.plan.image.now t.plan.shape t.plan.steps.now (device_calls_of t.listed.calls.items) };
+        × AreCallsOf t.plan.image.now t.plan.shape t.plan.steps.now t.listed.replies.items t.listed.counts.items
+        (device_calls_of t.listed.calls.items) };
 }
 
 // A copy of a disk that holds these bytes.
@@ -72,16 +72,18 @@ fn copy_of<A: Allocator + Copy>(alloc: A, image: &[u8]) -> Result<MemDisk<A>, Al
 }
 
 impl<'a, A: Allocator + Copy> Trial<'a, A> {
-    /// Makes a run on a copy of a disk that holds these bytes. `Refused` where `engine::start` refuses it.
+    /// Makes a run on a copy of a disk that holds these bytes. `Refused` where `engine::start` refuses it for another
+    /// cause than memory, and else `Memory` alone.
     pub fn new(
         alloc: A,
         image: &'a [u8],
         shape: Shape,
         steps: &'a [Step],
     ) -> Result<Self, CrashFault>
-        ensures made { IfOk result (λ trial. trial
-            ≡ record { image = image.now; shape = shape; steps = steps.now; calls = trial.calls }) }
+        ensures made { IfOk result (λ trial. (trial.image ≡ image.now) × (trial.shape ≡ shape)
+            × (trial.steps ≡ steps.now)) }
         ensures calls { IfOk result HasItsCalls }
+        ensures refused { IfErr result (HasNoTrial image.now shape) }
     {
         let plan = Plan {
             image,
@@ -89,13 +91,16 @@ impl<'a, A: Allocator + Copy> Trial<'a, A> {
             steps,
         };
         let listed = list(alloc, &plan)?;
-        let marks = marks_of(alloc, &plan, &listed.replies)?;
-        Ok(Trial {
-            alloc,
-            plan,
-            listed,
-            marks,
-        })
+        match marks_of(alloc, &plan, &listed.replies) {
+            Ok(marks) => Ok(Trial {
+                alloc,
+                plan,
+                listed,
+                marks,
+            }),
+            // The steps up to a mark are answered as the first time, unless memory is refused.
+            Err(_) => Err(CrashFault::Memory(AllocError)),
+        }
     }
 
     /// The device calls of the run, in order. The first ones open the volume.
@@ -121,23 +126,17 @@ impl<'a, A: Allocator + Copy> Trial<'a, A> {
     }
 
     /// The replies of the run.
-    pub fn replies(&self) -> &[Reply] {
+    pub fn replies(&self) -> &[Reply]
+        ensures { result.now ≡ self.now.replies }
+    {
         &self.listed.replies
     }
 
     /// How many replies come before the device call of this number, counted from 1.
-    pub fn replies_before(&self, call: u64) -> usize {
-        if call <= self.listed.opening {
-            return 0;
-        }
-        let mut count = 0usize;
-        for made in &self.listed.made {
-            if *made >= call {
-                return count;
-            }
-            count = count.saturating_add(1);
-        }
-        count
+    pub fn replies_before(&self, call: u64) -> usize
+        ensures { result ≡ steps_before self.now.counts call }
+    {
+        steps_before(&self.listed.counts, call)
     }
 
     /// The run is made again, and its device call of this number, counted from 1, fails; where there is none, no call
@@ -158,7 +157,7 @@ impl<'a, A: Allocator + Copy> Trial<'a, A> {
         match self.left(fails, choice) {
             Ok(mark) => Ok(mark),
             // A copy of the disk is opened, and each step answered, as the first time, unless memory is refused.
-            Err(_) => Err(CrashFault::Memory(AllocError)),
+            Err(_again) => Err(CrashFault::Memory(AllocError)),
         }
     }
 
@@ -166,17 +165,19 @@ impl<'a, A: Allocator + Copy> Trial<'a, A> {
     fn left(&self, fails: u64, choice: &[u8]) -> Result<u32, CrashFault>
         ensures { IfOk result (Leaves self.now fails choice.now) }
     {
-        let disk = FailingDisk::new(copy_of(self.alloc, self.plan.image)?, fails);
+        let disk = Listing::new(self.alloc, self.plan.image, fails)?;
         let (disk, replies) = run_on(self.alloc, disk, self.plan.shape, self.plan.steps)?;
         let is_up_to_call = self.is_up_to(fails, disk.calls(), disk.faults(), replies.len());
-        let mut disk = disk.into_inner();
-        if disk.faults() > 0 {
-            // A disk in memory fails where memory is refused, and for no other reason.
-            return Err(CrashFault::Memory(AllocError));
-        }
-        if choice.len() != disk.bytes().len() || !is_up_to_call || !self.is_same(fails, &replies) {
+        let (disk, calls) = disk.into_parts()?;
+        let are_its_calls = are_until(&calls, &self.listed.calls, fails);
+        if choice.len() != disk.bytes().len()
+            || !is_up_to_call
+            || !are_its_calls
+            || !self.is_same(fails, &replies)
+        {
             return Err(CrashFault::Otherwise);
         }
+        let mut disk = disk;
         disk.stop(choice);
         one_reading();
         let found = open_files(self.alloc, disk)?;
@@ -209,73 +210,95 @@ impl<'a, A: Allocator + Copy> Trial<'a, A> {
     }
 }
 
+// How many steps were answered before the device call of this number, by the numbers of calls after each step.
+fn steps_before(counts: &[u64], call: u64) -> usize
+    ensures { result ≡ steps_before counts.now call }
+{
+    for i in 0..counts.len() {
+        if counts[i] >= call {
+            return i;
+        }
+    }
+    counts.len()
+}
+
 // Makes a run on a copy of a disk once. A machine was started on it, so its bytes recover to files.
 fn list<A: Allocator + Copy>(alloc: A, plan: &Plan<'_>) -> Result<FirstRun<A>, CrashFault>
     ensures files { IfOk result (λ listed. (files : List File) × RecoversTo plan.now.image.now files) }
     ensures calls { IfOk result (λ listed.
-        AreCallsOf plan.now.image.now plan.now.shape plan.now.steps.now (device_calls_of listed.calls.items)) }
+        AreCallsOf plan.now.image.now plan.now.shape plan.now.steps.now listed.replies.items listed.counts.items
+        (device_calls_of listed.calls.items)) }
+    ensures refused { IfErr result (HasNoTrial plan.now.image.now plan.now.shape) }
 {
-    let copy = copy_of(alloc, plan.image)?;
-    let disk = Listing::new(alloc, copy);
+    let disk = match Listing::new(alloc, plan.image, 0) {
+        Ok(disk) => disk,
+        Err(_) => return Err(CrashFault::Memory(AllocError)),
+    };
     match engine::start(alloc, disk, plan.shape) {
         Ok(machine) => list_steps(alloc, machine, plan.steps),
         Err((refusal, _)) => Err(fault_of(refusal)),
     }
 }
 
-// The replies to the steps of a run, and how many device calls were made up to each, and with its step.
+// The replies to the steps of a run, and the number of device calls after each.
 fn note_steps<D: Device + Drop, A: Allocator + Copy>(
     alloc: A,
-    machine: &mut Machine<Listing<D, A>, A>,
+    machine: &mut Machine<D, A>,
     steps: &[Step],
 ) -> Result<(Vec<Reply, A>, Vec<u64, A>), AllocError>
     ensures { IfOk result (λ noted.
-        StepsTaken (listing_of D.Device) machine.old steps.now noted.0.items machine.new) }
+        StepsCounted D.Device machine.old steps.now noted.0.items noted.1.items machine.new) }
 {
     let mut replies = Vec::new(alloc);
-    let mut made = Vec::new(alloc);
+    let mut counts = Vec::new(alloc);
     for step in steps {
         replies.push(machine.enter(step))?;
-        made.push(machine.device().count())?;
+        counts.push(machine.device().calls())?;
     }
-    Ok((replies, made))
+    Ok((replies, counts))
 }
 
-// The calls that a disk lists, where none of them failed. A disk in memory fails where memory is refused.
-fn calls_of<D: Device + Drop, A: Allocator + Copy>(
-    device: Listing<D, A>,
-) -> Result<Vec<Call<A>, A>, CrashFault>
-    ensures complete { IfOk result (λ calls. (device.refused ≡ false)
-        × (device_calls_of calls.items ≡ device.calls)) }
-    ensures sound { IfOk result (λ calls. D.faults_met device.inner ≡ 0) }
+// The calls that a disk lists, where none of them failed. A call fails where memory is refused.
+fn calls_of<A: Allocator + Copy>(disk: Listing<A>) -> Result<Vec<Call<A>, A>, CrashFault>
+    ensures complete { IfOk result (λ calls. (disk.refused ≡ false) × (device_calls_of calls.items ≡ disk.calls)) }
+    ensures are_its { IfOk result (λ calls. ListsItsCalls disk) }
+    ensures sound { IfOk result (λ calls. disk.faults ≡ 0) }
+    ensures memory { IfErr result (λ why. why ≡ CrashFault.Memory alloc_error) }
 {
-    if device.faults() > 0 {
+    if disk.faults() > 0 {
         return Err(CrashFault::Memory(AllocError));
     }
-    Ok(device.into_calls()?)
+    match disk.into_parts() {
+        Ok((_, calls)) => Ok(calls),
+        Err(_) => Err(CrashFault::Memory(AllocError)),
+    }
 }
 
 // Makes the steps of a run, and lists the device calls that opened the volume and those that the steps made.
 fn list_steps<A: Allocator + Copy>(
     alloc: A,
-    mut machine: Machine<Listing<MemDisk<A>, A>, A>,
+    mut machine: Machine<Listing<A>, A>,
     steps: &[Step],
 ) -> Result<FirstRun<A>, CrashFault>
-    ensures { (before : ListedDisk Recorded) (shape : Shape) → HasStarted listing_memory before shape machine
-        → IfOk result (λ listed. AreMade before shape steps.now (device_calls_of listed.calls.items)) }
+    ensures made { (before : ListedDisk) (shape : Shape) → HasStarted listing_memory before shape machine
+        → IfOk result (λ listed. AreMade before shape steps.now listed.replies.items listed.counts.items
+        (device_calls_of listed.calls.items)) }
+    ensures memory { IfErr result (λ why. why ≡ CrashFault.Memory alloc_error) }
 {
-    let opening = machine.device().count();
     let noted = note_steps(alloc, &mut machine, steps);
     ran_since_start(&machine);
-    let calls = calls_of(machine.into_device());
-    let (replies, made) = noted?;
-    let calls = calls?;
-    Ok(FirstRun {
-        replies,
-        made,
-        opening,
-        calls,
-    })
+    let calls = match calls_of(machine.into_device()) {
+        Ok(calls) => calls,
+        Err(_) => return Err(CrashFault::Memory(AllocError)),
+    };
+    match noted {
+        Ok((replies, counts)) => Ok(FirstRun {
+            replies,
+            counts,
+            calls,
+        }),
+        Err(_) => Err(CrashFault::Memory(AllocError)),
+    }
 }
 
 // The files at each mark that these replies tell.

@@ -3,13 +3,14 @@ use Rattle.std.specs.Prelude.{ℕ, ◌≡◌, ◌≢◌, ◌<◌, ◌≤◌, ◌
 use Rattle.std.specs.Prelude.{◌++◌, length, take, map, slice_get, Some, Contains}
 use Rattle.std.specs.List.{AllByRecursion}
 use Rattle.device.specs.declared.device.Device.{Ghosts}
+use Rattle.page_entry.specs.declared.refusal.Refusal.TheVariants.{Device}
 use Rattle.volume_codec.specs.Files.{File}
 use Rattle.volume_codec.specs.Layout.{GeometryValue, descriptor_blocks}
 use Rattle.volume_codec.specs.Recovery.{RecoversTo}
 use Rattle.volume_codec.specs.Super.{geometry_of}
 use Rattle.machine.specs.declared.act.Act.TheVariants.{Flush}
 use Rattle.machine.specs.declared.act.Reply.{Reply}
-use Rattle.machine.specs.declared.act.Reply.TheVariants.{Marked, Going, Committed, Done}
+use Rattle.machine.specs.declared.act.Reply.TheVariants.{Marked, Going, Committed, Done, Refused}
 use Rattle.machine.specs.declared.act.Shape.{Shape}
 use Rattle.machine.specs.declared.act.Step.{Step}
 use Rattle.history.specs.History.{Event, Mark, files_after}
@@ -42,6 +43,11 @@ abbrev pub is_under_way : Reply → Bool
 is_under_way Going = true
 is_under_way (Done number) = true
 is_under_way reply = false
+
+-- all steps were answered, or the last reply says that the device failed
+abbrev pub EndsByFailure : List Step → List Reply → Type 0
+EndsByFailure steps replies = (length replies ≡ length steps)
+    ⊎ ((front : List Reply) × (replies ≡ front ++ Refused Device ∷ []))
 
 -- the step of the write-outs by a processor
 abbrev pub flush_by : ℕ → Step

@@ -1,7 +1,8 @@
-use Rattle.std.proofs.Common.{rules, ◌≡◌, ℕ, ◌+◌, ◌<◌, List, [], length, take, refl, sym, ap, subst, ◌∙◌}
+use Rattle.std.proofs.Common.{rules, ◌≡◌, ℕ, ◌+◌, ◌<◌, ◌≤◌, List, [], ◌∷◌, ◌++◌, inl, inr, length, take, refl, sym, ap, subst, ◌∙◌}
+use Rattle.std.proofs.lemmas.List.{take_all}
 use Rattle.machine.specs.declared.act.Reply.{Reply}
 use Rattle.machine.specs.Runs.{StepsTaken}
-use Rattle.engine.proofs.Public.{taken_next, length_more}
+use Rattle.engine.proofs.Public.{taken_next, taken_length, length_more}
 use Rattle.crash_table.proofs.make.make.Goals.{In_ok-push}
 use Rattle.crash_table.proofs.make.make.Goals as goal
 
@@ -34,17 +35,32 @@ one_more g c =
 pub loop-step-preserved : goal.loop-step-preserved
 loop-step-preserved g c = one_more g (goal.at.loop-step-preserved g c).In_ok-push
 
-pub returns-then-is_failure : goal.returns-then-is_failure
-returns-then-is_failure g c =
+pub returns-then-is_failure-clause-made : goal.returns-then-is_failure-clause-made
+returns-then-is_failure-clause-made g c =
     let steps = c.args.steps.now in
     let more = one_more g (goal.at.returns-then-is_failure g c).In_ok-push in
     let Q : ℕ → Type 0 = λ n.
     StepsTaken g.D.Device c.args.machine.now (take n steps) c.push.new.self.items c.enter-reply.new.self in
     subst Q (sym more.0) more.1
 
-pub returns : goal.returns
-returns g c =
+pub returns-then-is_failure-clause-ended : goal.returns-then-is_failure-clause-ended
+returns-then-is_failure-clause-ended g c =
+    inr (
+      c.loop-step.replies.items,
+      c.in_ok-push.ensures.items
+          ∙ ap (λ (r : Reply). c.loop-step.replies.items ++ r ∷ []) (c.is_failure.ensures.0 c.if-is_failure.true),
+    )
+
+pub returns-clause-made : goal.returns-clause-made
+returns-clause-made g c =
     let steps = c.args.steps.now in
     let Q : ℕ → Type 0 = λ n.
     StepsTaken g.D.Device c.args.machine.now (take n steps) c.loop-step.replies.items c.loop-step.machine in
     subst Q (sym c.loop-step.invariant.0) c.loop-step.invariant.1
+
+pub returns-clause-ended : goal.returns-clause-ended
+returns-clause-ended g c =
+    let steps = c.args.steps.now in
+    let past : length steps ≤ c.loop-step.step-index = search rules in
+    inl (taken_length g.D.Device c.args.machine.now (take c.loop-step.step-index steps) c.loop-step.replies.items
+    c.loop-step.machine c.loop-step.invariant.1 ∙ ap length (take_all c.loop-step.step-index steps past))

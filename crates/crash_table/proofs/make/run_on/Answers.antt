@@ -11,7 +11,7 @@ returns-in_ok-replies-in-Ok-clause-ended g c =
     ended_run g.D.Device c.args.device c.args.shape c.args.steps.now replies c.make-made.new.machine.device
     c.into_device-device.result c.into_device-device.ensures
     (c.ran_since_start.ensures c.args.device c.args.shape c.in-Ok.machine steps replies c.in-Ok.ensures.started
-    c.in_ok-replies-in-Ok.ensures)
+    c.in_ok-replies-in-Ok.ensures.made)
 
 pub returns-in_ok-replies-in-Ok-clause-back : goal.returns-in_ok-replies-in-Ok-clause-back
 returns-in_ok-replies-in-Ok-clause-back g c = λ honest only files recovered left may.
@@ -19,7 +19,7 @@ returns-in_ok-replies-in-Ok-clause-back g c = λ honest only files recovered lef
     let steps = take (length replies) c.args.steps.now in
     back_after_run g.D.Device c.one_reading.ensures.files c.args.device c.args.shape
     honest files recovered c.in-Ok.machine c.in-Ok.ensures.started
-    steps replies c.make-made.new.machine c.in_ok-replies-in-Ok.ensures c.keeps_the_laws.ensures.left left
+    steps replies c.make-made.new.machine c.in_ok-replies-in-Ok.ensures.made c.keeps_the_laws.ensures.left left
     (subst (λ d. g.D.Device.may_leave d left) c.into_device-device.ensures may)
 
 pub returns-in-Err-clause-ended : goal.returns-in-Err-clause-ended

@@ -28,6 +28,13 @@ loop-choice-preserved g c =
           c.loop-choice-test.true pushed c.in_ok-state.ensures.named c.loop-choice.invariant.named;
     }
 
+pub returns-clause-tried : goal.returns-clause-tried
+returns-clause-tried g c =
+    let tried = c.deref-choice-items.result.now in
+    let past : length tried ≤ c.loop-choice.choice-index = search rules in
+    c.loop-choice.invariant.named ∙ take_all c.loop-choice.choice-index tried past
+    ∙ c.deref-choice-items.ensures.value ∙ c.in_ok-tried.ensures.exact
+
 pub returns-clause-old : goal.returns-clause-old
 returns-clause-old g c =
     let tried = c.deref-choice-items.result.now in

@@ -1,0 +1,73 @@
+-- Steps that are made one by one, with the number of device calls after each.
+use Rattle.std.proofs.Common.{◌≡◌, ℕ, zero, suc, ◌+◌, ◌<◌, ◌≤◌, List, [], ◌∷◌, ◌++◌, length, take, drop, get_or, refl, sym, ap, subst}
+use Rattle.std.proofs.Common.{◌∙◌, arith}
+use Rattle.std.proofs.lemmas.Bool.Decides.{nat_tests}
+use Rattle.std.proofs.lemmas.List.{take_more}
+use Rattle.device.specs.declared.device.Device.{Ghosts}
+use Rattle.machine.specs.declared.act.Reply.{Reply}
+use Rattle.machine.specs.declared.act.Step.{Step}
+use Rattle.machine.specs.Runs.{StepTaken, StepsTaken}
+use Rattle.machine.specs.State.{Whole}
+use Rattle.crash_table.specs.Calls.{StepsCounted, steps_before}
+
+module _ {D : Type 0} (disk : Ghosts D) where
+  counted_more : (old mid new : Whole D) (steps : List Step) (replies : List Reply) (counts : List ℕ) (step : Step)
+      (reply : Reply) (count : ℕ) → StepsCounted disk old steps replies counts mid → StepTaken disk mid step reply new
+      → disk.calls_made new.device ≡ count
+      → StepsCounted disk old (steps ++ step ∷ []) (replies ++ reply ∷ []) (counts ++ count ∷ []) new
+  counted_more old mid new [] [] [] step reply count made this is =
+      let P : Whole D → Type 0 = λ m. StepTaken disk m step reply new in
+      (new, subst P made this, is, refl)
+  counted_more old mid new (x ∷ steps) (r ∷ replies) (n ∷ counts) step reply count (next, first, at, made) this is =
+      (next, first, at, counted_more next mid new steps replies counts step reply count made this is)
+  counted_more old mid new [] [] (n ∷ counts) step reply count made this is = absurd made
+  counted_more old mid new [] (r ∷ replies) [] step reply count made this is = absurd made
+  counted_more old mid new [] (r ∷ replies) (n ∷ counts) step reply count made this is = absurd made
+  counted_more old mid new (x ∷ steps) [] [] step reply count made this is = absurd made
+  counted_more old mid new (x ∷ steps) [] (n ∷ counts) step reply count made this is = absurd made
+  counted_more old mid new (x ∷ steps) (r ∷ replies) [] step reply count made this is = absurd made
+
+  -- the step at index i was made after those before it
+  pub counted_next : (old mid new : Whole D) (steps : List Step) (i : ℕ) (step : Step) (replies : List Reply)
+      (counts : List ℕ) (reply : Reply) (count : ℕ) → i < length steps → step ≡ get_or steps i step
+      → StepsCounted disk old (take i steps) replies counts mid → StepTaken disk mid step reply new
+      → disk.calls_made new.device ≡ count
+      → StepsCounted disk old (take (i + 1) steps) (replies ++ reply ∷ []) (counts ++ count ∷ []) new
+  counted_next old mid new steps i step replies counts reply count below at made this is =
+      let P : List Step → Type 0 = λ s. StepsCounted disk old s (replies ++ reply ∷ []) (counts ++ count ∷ []) new in
+      let first : take (i + 1) steps ≡ take i steps ++ step ∷ [] =
+      take_more steps i step below ∙ ap (λ s. take i steps ++ s ∷ []) (sym at) in
+      subst P (sym first) (counted_more old mid new (take i steps) replies counts step reply count made this is)
+
+  -- they are steps that were made
+  pub counted_taken : (old new : Whole D) (steps : List Step) (replies : List Reply) (counts : List ℕ)
+      → StepsCounted disk old steps replies counts new → StepsTaken disk old steps replies new
+  counted_taken old new [] [] [] made = made
+  counted_taken old new (x ∷ steps) (r ∷ replies) (n ∷ counts) (next, first, at, made) =
+      (next, first, counted_taken next new steps replies counts made)
+  counted_taken old new [] [] (n ∷ counts) made = absurd made
+  counted_taken old new [] (r ∷ replies) [] made = absurd made
+  counted_taken old new [] (r ∷ replies) (n ∷ counts) made = absurd made
+  counted_taken old new (x ∷ steps) [] [] made = absurd made
+  counted_taken old new (x ∷ steps) [] (n ∷ counts) made = absurd made
+  counted_taken old new (x ∷ steps) (r ∷ replies) [] made = absurd made
+
+-- ---- how many steps came before a call
+
+pub one_before : (counts : List ℕ) (i call count : ℕ) → i < length counts → count ≡ get_or counts i count
+    → count < call → steps_before (drop i counts) call ≡ steps_before (drop (i + 1) counts) call + 1
+one_before [] i call count below at less = absurd (omega (arith, below))
+one_before (n ∷ counts) zero call count below at less = grind (arith, nat_tests)
+one_before (n ∷ counts) (suc i) call count below at less = one_before counts i call count (omega (arith, below)) at less
+
+pub none_before : (counts : List ℕ) (i call count : ℕ) → i < length counts → count ≡ get_or counts i count
+    → call ≤ count → steps_before (drop i counts) call ≡ 0
+none_before [] i call count below at le = absurd (omega (arith, below))
+none_before (n ∷ counts) zero call count below at le = grind (arith, nat_tests)
+none_before (n ∷ counts) (suc i) call count below at le = none_before counts i call count (omega (arith, below)) at le
+
+pub none_past : (counts : List ℕ) (i call : ℕ) → length counts ≤ i → steps_before (drop i counts) call ≡ 0
+none_past [] zero call past = refl
+none_past [] (suc i) call past = refl
+none_past (n ∷ counts) zero call past = absurd (omega (arith, past))
+none_past (n ∷ counts) (suc i) call past = none_past counts i call (omega (arith, past))
