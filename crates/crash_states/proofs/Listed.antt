@@ -1,6 +1,6 @@
 -- A disk that lists its calls: one call more.
-use Rattle.std.proofs.Common.{◌≡◌, ℕ, ◌+◌, ◌-◌, ◌^◌, ◌<◌, ◌≤◌, List, [], ◌∷◌, ◌++◌, length, Bool, true, false, cond, take, drop}
-use Rattle.std.proofs.Common.{append_assoc, length-take}
+use Rattle.std.proofs.Common.{◌≡◌, ℕ, ◌+◌, ◌-◌, ◌^◌, ◌<◌, ◌≤◌, List, [], ◌∷◌, ◌++◌, length, Bool, true, false}
+use Rattle.std.proofs.Common.{cond, take, drop, append_assoc, length-take}
 use Rattle.std.proofs.Common.{refl, sym, ap, subst, ◌∙◌, arith}
 use Rattle.std.specs.Prelude.{not, ◌||◌, if◌then◌else◌, Result, Ok, Err, is_ok, is_err, OnOk, OnErr, IfOk, IfErr}
 use Rattle.std.specs.List.{count_by, AllByRecursion}
@@ -142,7 +142,8 @@ torn_by (Ok x) old new at bytes fits done refused =
     let seen = seen_of old in
     subst (Torn at (length bytes) seen) (sym done) record {
       before = ap (take at) (append_assoc (take at seen) bytes (drop (at + length bytes) seen))
-          ∙ take_at (take at seen) (bytes ++ drop (at + length bytes) seen) at (omega (arith, fits, length-take at seen));
+          ∙ take_at (take at seen) (bytes ++ drop (at + length bytes) seen) at
+          (omega (arith, fits, length-take at seen));
       after = drop_at (take at seen ++ bytes) (drop (at + length bytes) seen) (at + length bytes)
           (omega (arith, fits, length-append (take at seen) bytes, length-take at seen));
       same_length = length-written seen at bytes fits;

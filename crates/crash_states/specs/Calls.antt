@@ -115,9 +115,9 @@ HasItsLength Read call = call.written ≡ []
 HasItsLength Write call = call.len ≡ length call.written
 HasItsLength Sync call = (call.at ≡ 0) × (call.len ≡ 0) × (call.written ≡ [])
 
--- The list is that of the calls: as long as the disk's count, with as many failed ones as it counted. The disk in memory
--- under it, which was new, recorded their writes and syncs in their order, with their places and bytes, and nothing
--- else; it counted them and the reads.
+-- The list is that of the calls. It has the number of calls that the disk counted, and of failed ones. The disk in
+-- memory under it, which was new, recorded their writes and syncs in order, with their places and bytes, and nothing
+-- else; it counted these and the reads.
 pub record ListsItsCalls (disk : ListedDisk) : Type 0 where
   pub count : disk.made ≡ length disk.calls
   pub faults : disk.faults ≡ count_by (λ call. call.failed) disk.calls

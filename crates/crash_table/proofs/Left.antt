@@ -81,7 +81,8 @@ module _ {A : Type 0} (one : IsOneReading) (image : List ℕ) (shape : Shape) (s
     (ended : HasEnded listing_memory (listing (new_disk image) fails) shape steps replies after)
     (back : (files : List File) → RecoversTo image files → (c : List ℕ) → may_leave_of after.inner c
     → ReadsBack files (history_of files shape (take (length replies) steps) replies) c)
-    (complete : after.refused ≡ false) (are_its : ListsItsCalls after) (up : IsUpTo calls fails steps replies after) (stopped : Recorded)
+    (complete : after.refused ≡ false) (are_its : ListsItsCalls after)
+    (up : IsUpTo calls fails steps replies after) (stopped : Recorded)
     (is : stopped ≡ after_stop after.inner choice) (left : may_leave_of after.inner (seen_of stopped))
     (read : List (List ℕ))
     (opened : (found : List File) × RecoversTo (seen_of stopped) found × (read ≡ contents_of found)) where

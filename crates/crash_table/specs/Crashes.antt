@@ -41,8 +41,9 @@ pub record IsAtMark (files : List File) (history : List Event) (found : List Fil
   pub newest : (other : List Event) → IsDurablePrefix other history → found ≡ files_after files other
       → length other ≤ length prefix
 
--- A run was made up to the device call of one number, counted from 1, which failed and was the last; or there is none of
--- this number, no call failed, and all steps were made. Its calls are those of the whole run, each as it is there.
+-- A run was made up to the device call of one number, counted from 1. That call failed, no other did, and it was the
+-- last. Or there is none of this number: then no call failed, and all steps were made. Its calls are those of the whole
+-- run up to there, each with what it did, its place, its length and its bytes.
 pub record IsUpTo (calls : List DeviceCall) (fails : ℕ) (steps : List Step) (replies : List Reply) (after : ListedDisk)
     : Type 0 where
   pub made : after.calls ≡ calls_until calls fails

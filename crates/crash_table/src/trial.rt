@@ -165,19 +165,19 @@ impl<'a, A: Allocator + Copy> Trial<'a, A> {
     fn left(&self, fails: u64, choice: &[u8]) -> Result<u32, CrashFault>
         ensures { IfOk result (Leaves self.now fails choice.now) }
     {
-        let disk = Listing::new(self.alloc, self.plan.image, fails)?;
-        let (disk, replies) = run_on(self.alloc, disk, self.plan.shape, self.plan.steps)?;
-        let is_up_to_call = self.is_up_to(fails, disk.calls(), disk.faults(), replies.len());
-        let (disk, calls) = disk.into_parts()?;
+        let copy = Listing::new(self.alloc, self.plan.image, fails)?;
+        let (after, replies) = run_on(self.alloc, copy, self.plan.shape, self.plan.steps)?;
+        let is_up_to_call = self.is_up_to(fails, after.calls(), after.faults(), replies.len());
+        let (inner, calls) = after.into_parts()?;
         let are_its_calls = are_until(&calls, &self.listed.calls, fails);
-        if choice.len() != disk.bytes().len()
+        if choice.len() != inner.bytes().len()
             || !is_up_to_call
             || !are_its_calls
             || !self.is_same(fails, &replies)
         {
             return Err(CrashFault::Otherwise);
         }
-        let mut disk = disk;
+        let mut disk = inner;
         disk.stop(choice);
         one_reading();
         let found = open_files(self.alloc, disk)?;

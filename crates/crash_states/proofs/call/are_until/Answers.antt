@@ -45,6 +45,7 @@ returns g c =
     let long : length made ≡ length all = as_long c.args.made.now c.args.calls.now c.args.fails count in
     let past : length made ≤ c.loop-i.i =
     omega (arith, length-map c.args.made.now (λ k. call_of k), c.loop-i-test.false) in (
-      λ yes. sym (take_all c.loop-i.i made past) ∙ c.loop-i.invariant ∙ take_all c.loop-i.i all (omega (arith, long, past)),
+      λ yes. sym (take_all c.loop-i.i made past) ∙ c.loop-i.invariant
+          ∙ take_all c.loop-i.i all (omega (arith, long, past)),
       λ same. refl,
     )

@@ -55,7 +55,8 @@ invariant_of-self g c = λ complete.
       c.note.new.calls.ok.1,
       c.note.new.calls.small,
     ) in
-    lists_more (old g c) (new g c) _ (made g c) complete (c.self.invariant ((made g c).before complete)) (refl, refl, refl) few
+    lists_more (old g c) (new g c) _ (made g c) complete (c.self.invariant ((made g c).before complete))
+    (refl, refl, refl) few
 
 pub returns-clause-listed : goal.returns-clause-listed
 unfolding old new
