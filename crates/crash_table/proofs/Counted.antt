@@ -1,6 +1,7 @@
 -- Steps that are made one by one, with the number of device calls after each.
 use Rattle.std.proofs.Common.{◌≡◌, ℕ, zero, suc, ◌+◌, ◌<◌, ◌≤◌, List, [], ◌∷◌, ◌++◌, length, take, drop}
 use Rattle.std.proofs.Common.{get_or, refl, sym, ap, subst, ◌∙◌, arith}
+use Rattle.std.specs.Prelude.{Result, Ok, Err, IfOk}
 use Rattle.std.proofs.lemmas.Bool.Decides.{nat_tests}
 use Rattle.std.proofs.lemmas.List.{take_more}
 use Rattle.device.specs.declared.device.Device.{Ghosts}
@@ -71,3 +72,10 @@ none_past [] zero call past = refl
 none_past [] (suc i) call past = refl
 none_past (n ∷ counts) zero call past = absurd (omega (arith, past))
 none_past (n ∷ counts) (suc i) call past = none_past counts i call (omega (arith, past))
+
+-- ---- results
+
+pub if_same : {X E : Type 0} (made result : Result X E) (P : X → Type 0) → IfOk made P
+    → IfOk result (λ x. made ≡ Ok x) → IfOk result P
+if_same {X} {E} made (Ok x) P has same = let Q : Result X E → Type 0 = λ r. IfOk r P in subst Q same has
+if_same made (Err e) P has same = tt

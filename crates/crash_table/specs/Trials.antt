@@ -37,8 +37,12 @@ cause_of Device = Memory alloc_error
 cause_of OutOfMemory = Memory alloc_error
 cause_of refusal = Refused refusal
 
--- why there is no trial: memory was refused, or no machine of this shape can be started over these bytes
-abbrev pub HasNoTrial : List ℕ → Shape → CrashFault → Type 0
-HasNoTrial image shape why = (why ≡ Memory alloc_error)
+-- why no run is listed on this disk: memory was refused, or no machine of this shape can be started over it
+abbrev pub IsNotListed : ListedDisk → Shape → CrashFault → Type 0
+IsNotListed disk shape why = (why ≡ Memory alloc_error)
     ⊎ ((refusal : Refusal) × (after : ListedDisk) × (why ≡ cause_of refusal)
-    × HasNotStarted listing_memory (listing (new_disk image) 0) shape after refusal)
+    × HasNotStarted listing_memory disk shape after refusal)
+
+-- why there is no trial of these bytes
+abbrev pub HasNoTrial : List ℕ → Shape → CrashFault → Type 0
+HasNoTrial image shape why = IsNotListed (listing (new_disk image) 0) shape why

@@ -1,7 +1,7 @@
 // A run, made once to learn its calls, its replies and the files at its marks, and again for each crash.
-ghost use Rattle.std.specs.Prelude.{◌≡◌, ◌≢◌, ◌↔◌, ◌<◌, ◌≤◌, false, IsTrue, List, length, slice_get, Some, Err};
+ghost use Rattle.std.specs.Prelude.{◌≡◌, ◌≢◌, ◌↔◌, ◌<◌, ◌≤◌, false, IsTrue, List, length, slice_get, Some, Ok, Err};
 ghost use Rattle.std.specs.Prelude.{IfOk, IfErr, OnOk, alloc_error};
-ghost use Rattle.device.specs.Memory.{new_disk};
+ghost use Rattle.device.specs.Memory.{new_disk, seen_of};
 ghost use Rattle.volume_codec.specs.Files.{File};
 ghost use Rattle.volume_codec.specs.Recovery.{RecoversTo};
 ghost use Rattle.machine.specs.declared.act.Reply.TheVariants.{Marked};
@@ -9,7 +9,7 @@ ghost use Rattle.engine.specs.Engine.{HasStarted};
 ghost use Rattle.machine.specs.declared.act.Shape.{Shape};
 ghost use Rattle.crash_states.specs.Calls.{ListedDisk, ListsItsCalls, device_calls_of, calls_until};
 ghost use Rattle.crash_table.specs.Calls.{AreMade, AreCallsOf, StepsCounted, listing_memory, steps_before};
-ghost use Rattle.crash_table.specs.Trials.{HasItsCalls, HasNoTrial, Leaves};
+ghost use Rattle.crash_table.specs.Trials.{HasItsCalls, HasNoTrial, IsNotListed, Leaves};
 ghost use Rattle.crash_table.specs.inside.Kept.{IsKept, AreKept};
 
 use crate::files::{fault_of, open_files};
@@ -90,16 +90,9 @@ impl<'a, A: Allocator + Copy> Trial<'a, A> {
             shape,
             steps,
         };
-        let listed = list(alloc, &plan)?;
-        match marks_of(alloc, &plan, &listed.replies) {
-            Ok(marks) => Ok(Trial {
-                alloc,
-                plan,
-                listed,
-                marks,
-            }),
-            // The steps up to a mark are answered as the first time, unless memory is refused.
-            Err(_) => Err(CrashFault::Memory(AllocError)),
+        match list(alloc, &plan) {
+            Ok(listed) => with_marks(alloc, plan, listed),
+            Err(fault) => Err(fault),
         }
     }
 
@@ -222,6 +215,32 @@ fn steps_before(counts: &[u64], call: u64) -> usize
     counts.len()
 }
 
+// A run that was made once, with the files at its marks.
+fn with_marks<'a, A: Allocator + Copy>(
+    alloc: A,
+    plan: Plan<'a>,
+    listed: FirstRun<A>,
+) -> Result<Trial<'a, A>, CrashFault>
+    requires files { (files : List File) × RecoversTo plan.image.now files }
+    requires calls { AreCallsOf plan.image.now plan.shape plan.steps.now listed.replies.items listed.counts.items
+        (device_calls_of listed.calls.items) }
+    ensures made { IfOk result (λ trial. (trial.image ≡ plan.image.now) × (trial.shape ≡ plan.shape)
+        × (trial.steps ≡ plan.steps.now)) }
+    ensures calls { IfOk result HasItsCalls }
+    ensures memory { IfErr result (λ why. why ≡ CrashFault.Memory alloc_error) }
+{
+    match marks_of(alloc, &plan, &listed.replies) {
+        Ok(marks) => Ok(Trial {
+            alloc,
+            plan,
+            listed,
+            marks,
+        }),
+        // The steps up to a mark are answered as the first time, unless memory is refused.
+        Err(_) => Err(CrashFault::Memory(AllocError)),
+    }
+}
+
 // Makes a run on a copy of a disk once. A machine was started on it, so its bytes recover to files.
 fn list<A: Allocator + Copy>(alloc: A, plan: &Plan<'_>) -> Result<FirstRun<A>, CrashFault>
     ensures files { IfOk result (λ listed. (files : List File) × RecoversTo plan.now.image.now files) }
@@ -230,13 +249,39 @@ fn list<A: Allocator + Copy>(alloc: A, plan: &Plan<'_>) -> Result<FirstRun<A>, C
         (device_calls_of listed.calls.items)) }
     ensures refused { IfErr result (HasNoTrial plan.now.image.now plan.now.shape) }
 {
-    let disk = match Listing::new(alloc, plan.image, 0) {
-        Ok(disk) => disk,
-        Err(_) => return Err(CrashFault::Memory(AllocError)),
-    };
+    match Listing::new(alloc, plan.image, 0) {
+        Ok(disk) => list_on(alloc, disk, plan),
+        Err(_) => Err(CrashFault::Memory(AllocError)),
+    }
+}
+
+// Makes a run on a disk once.
+fn list_on<A: Allocator + Copy>(
+    alloc: A,
+    disk: Listing<A>,
+    plan: &Plan<'_>,
+) -> Result<FirstRun<A>, CrashFault>
+    ensures files { IfOk result (λ listed. (files : List File) × RecoversTo (seen_of disk.inner) files) }
+    ensures calls { IfOk result (λ listed. AreMade disk plan.now.shape plan.now.steps.now listed.replies.items
+        listed.counts.items (device_calls_of listed.calls.items)) }
+    ensures refused { IfErr result (IsNotListed disk plan.now.shape) }
+{
     match engine::start(alloc, disk, plan.shape) {
-        Ok(machine) => list_steps(alloc, machine, plan.steps),
+        Ok(machine) => memory_alone(list_steps(alloc, machine, plan.steps)),
         Err((refusal, _)) => Err(fault_of(refusal)),
+    }
+}
+
+// Where a run isn't listed after the machine was started, memory was refused.
+fn memory_alone<A: Allocator + Copy>(
+    listed: Result<FirstRun<A>, CrashFault>,
+) -> Result<FirstRun<A>, CrashFault>
+    ensures same { IfOk result (λ run. listed ≡ Ok run) }
+    ensures memory { IfErr result (λ why. why ≡ CrashFault.Memory alloc_error) }
+{
+    match listed {
+        Ok(run) => Ok(run),
+        Err(_) => Err(CrashFault::Memory(AllocError)),
     }
 }
 
@@ -263,15 +308,12 @@ fn calls_of<A: Allocator + Copy>(disk: Listing<A>) -> Result<Vec<Call<A>, A>, Cr
     ensures complete { IfOk result (λ calls. (disk.refused ≡ false) × (device_calls_of calls.items ≡ disk.calls)) }
     ensures are_its { IfOk result (λ calls. ListsItsCalls disk) }
     ensures sound { IfOk result (λ calls. disk.faults ≡ 0) }
-    ensures memory { IfErr result (λ why. why ≡ CrashFault.Memory alloc_error) }
 {
     if disk.faults() > 0 {
         return Err(CrashFault::Memory(AllocError));
     }
-    match disk.into_parts() {
-        Ok((_, calls)) => Ok(calls),
-        Err(_) => Err(CrashFault::Memory(AllocError)),
-    }
+    let (_, calls) = disk.into_parts()?;
+    Ok(calls)
 }
 
 // Makes the steps of a run, and lists the device calls that opened the volume and those that the steps made.
@@ -280,25 +322,20 @@ fn list_steps<A: Allocator + Copy>(
     mut machine: Machine<Listing<A>, A>,
     steps: &[Step],
 ) -> Result<FirstRun<A>, CrashFault>
-    ensures made { (before : ListedDisk) (shape : Shape) → HasStarted listing_memory before shape machine
+    ensures { (before : ListedDisk) (shape : Shape) → HasStarted listing_memory before shape machine
         → IfOk result (λ listed. AreMade before shape steps.now listed.replies.items listed.counts.items
         (device_calls_of listed.calls.items)) }
-    ensures memory { IfErr result (λ why. why ≡ CrashFault.Memory alloc_error) }
 {
     let noted = note_steps(alloc, &mut machine, steps);
     ran_since_start(&machine);
-    let calls = match calls_of(machine.into_device()) {
-        Ok(calls) => calls,
-        Err(_) => return Err(CrashFault::Memory(AllocError)),
-    };
-    match noted {
-        Ok((replies, counts)) => Ok(FirstRun {
-            replies,
-            counts,
-            calls,
-        }),
-        Err(_) => Err(CrashFault::Memory(AllocError)),
-    }
+    let calls = calls_of(machine.into_device());
+    let (replies, counts) = noted?;
+    let calls = calls?;
+    Ok(FirstRun {
+        replies,
+        counts,
+        calls,
+    })
 }
 
 // The files at each mark that these replies tell.

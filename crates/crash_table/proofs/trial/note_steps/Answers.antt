@@ -1,4 +1,4 @@
-use Rattle.std.proofs.Common.{rules, ◌≡◌, ℕ, ◌+◌, ◌<◌, ◌≤◌, List, [], length, take, refl, sym, ap, subst, ◌∙◌}
+use Rattle.std.proofs.Common.{rules, ◌≡◌, ℕ, ◌+◌, ◌<◌, ◌≤◌, List, [], ◌∷◌, ◌++◌, length, take, refl, sym, ap, subst, ◌∙◌}
 use Rattle.std.proofs.lemmas.List.{take_all}
 use Rattle.machine.specs.declared.act.Reply.{Reply}
 use Rattle.machine.specs.declared.act.Step.{Step}
@@ -22,11 +22,15 @@ loop-step-preserved g c =
     let new = c.enter.new.self in
     let P : List Reply → Type 0 = λ l.
     StepsCounted disk c.args.machine.now (take (index + 1) steps) l c.push-2.new.self.items new in
-    let Q : List ℕ → Type 0 = λ l. StepsCounted disk c.args.machine.now (take (index + 1) steps) _ l new in
-    let made = counted_next disk c.args.machine.now c.loop-step.machine new steps index c.step-item.result
+    let Q : List ℕ → Type 0 = λ l.
+    StepsCounted disk c.args.machine.now (take (index + 1) steps) (c.loop-step.replies.items ++ c.enter.result ∷ []) l new
+    in
+    let count = c.calls.ensures ∙ ap (λ d. disk.calls_made d) c.device.ensures in
+    subst P (sym c.in_ok-push.ensures.items)
+    (subst Q (sym c.in_ok-push-2.ensures.items)
+    (counted_next disk c.args.machine.now c.loop-step.machine new steps index c.step-item.result
     c.loop-step.replies.items c.loop-step.counts.items c.enter.result c.calls.result below c.step-item.is
-    c.loop-step.invariant c.enter.ensures.taken ? in
-    ?
+    c.loop-step.invariant c.enter.ensures.taken (sym count)))
 
 pub returns : goal.returns
 returns g c =

@@ -26,7 +26,9 @@ returns g c =
     let calls_are : c.args.self.now.calls ≡ all = sym (ap (λ (t : TrialValue). t.calls) c.self.view_is) in
     let count : length c.args.self.now.calls ≡ length all = ap length calls_are in
     let up : IsUpTo all fails steps replies after = record {
-      made = sym c.in_ok-inner.ensures.calls ∙ ?;
+      made = sym c.in_ok-inner.ensures.calls ∙ ap device_calls_of (sym c.deref.ensures.value)
+          ∙ c.are_until-are_its_calls.ensures.0 c.if-not-are_its_calls.false
+          ∙ ap (λ (l : List _). calls_until (device_calls_of l) fails) c.deref-2.ensures.value;
       failed = λ some le.
           let is = (c.is_up_to-is_up_to_call.ensures.failed some (omega (arith, le, count))).0
           c.if-not-is_up_to_call.false in
