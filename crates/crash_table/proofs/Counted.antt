@@ -1,6 +1,6 @@
 -- Steps that are made one by one, with the number of device calls after each.
 use Rattle.std.proofs.Common.{◌≡◌, ℕ, zero, suc, ◌+◌, ◌<◌, ◌≤◌, List, [], ◌∷◌, ◌++◌, length, take, drop}
-use Rattle.std.proofs.Common.{get_or, refl, sym, ap, subst, ◌∙◌, arith}
+use Rattle.std.proofs.Common.{add-one, get_or, refl, sym, ap, subst, ◌∙◌, arith}
 use Rattle.std.specs.Prelude.{Result, Ok, Err, IfOk}
 use Rattle.std.proofs.lemmas.Bool.Decides.{nat_tests}
 use Rattle.std.proofs.lemmas.List.{take_more}
@@ -55,17 +55,17 @@ module _ {D : Type 0} (disk : Ghosts D) where
 
 -- ---- how many steps came before a call
 
-pub one_before : (counts : List ℕ) (i call count : ℕ) → i < length counts → count ≡ get_or counts i count
-    → count < call → steps_before (drop i counts) call ≡ steps_before (drop (i + 1) counts) call + 1
-one_before [] i call count below at less = absurd (omega (arith, below))
-one_before (n ∷ counts) zero call count below at less = grind (arith, nat_tests)
-one_before (n ∷ counts) (suc i) call count below at less = one_before counts i call count (omega (arith, below)) at less
+one_more_before : (counts : List ℕ) (i call : ℕ) → i < length counts → get_or counts i 0 < call
+    → steps_before (drop i counts) call ≡ steps_before (drop (suc i) counts) call + 1
+one_more_before [] i call below less = absurd (omega (arith, below))
+one_more_before (n ∷ counts) zero call below less = grind (arith, nat_tests)
+one_more_before (n ∷ counts) (suc i) call below less = one_more_before counts i call (omega (arith, below)) less
 
-pub none_before : (counts : List ℕ) (i call count : ℕ) → i < length counts → count ≡ get_or counts i count
-    → call ≤ count → steps_before (drop i counts) call ≡ 0
-none_before [] i call count below at le = absurd (omega (arith, below))
-none_before (n ∷ counts) zero call count below at le = grind (arith, nat_tests)
-none_before (n ∷ counts) (suc i) call count below at le = none_before counts i call count (omega (arith, below)) at le
+pub one_before : (counts : List ℕ) (i call : ℕ) → i < length counts → get_or counts i 0 < call
+    → steps_before (drop i counts) call ≡ steps_before (drop (i + 1) counts) call + 1
+one_before counts i call below less =
+    one_more_before counts i call below less
+    ∙ ap (λ (k : ℕ). steps_before (drop k counts) call + 1) (sym (add-one i))
 
 pub none_past : (counts : List ℕ) (i call : ℕ) → length counts ≤ i → steps_before (drop i counts) call ≡ 0
 none_past [] zero call past = refl

@@ -38,17 +38,21 @@ impl<'a, A: Allocator + Copy> Model for Rows<'a, A> {
 }
 
 impl<'a, A: Allocator + Copy> Rows<'a, A> {
-    /// The rows of a run.
+    /// The rows of a run. There is an `Err` only where memory was refused.
     pub fn new(alloc: A, trial: &'a Trial<'a, A>) -> Result<Self, CrashFault>
-        ensures { IfOk result (λ rows. rows ≡ record { trial = trial.now; next = 0; failed = false }) }
+        ensures rows { IfOk result (λ rows. rows ≡ record { trial = trial.now; next = 0; failed = false }) }
+        ensures memory { IfErr result (λ why. why ≡ CrashFault.Memory alloc_error) }
     {
-        Ok(Rows {
-            alloc,
-            trial,
-            contents: Contents::new(alloc, trial.image())?,
-            next: 0,
-            begun: false,
-        })
+        match Contents::new(alloc, trial.image()) {
+            Ok(contents) => Ok(Rows {
+                alloc,
+                trial,
+                contents,
+                next: 0,
+                begun: false,
+            }),
+            Err(_) => Err(CrashFault::Memory(AllocError)),
+        }
     }
 
     /// The next row: one for each device call of the run, in their order, and one for its end. There is an `Err` where

@@ -9,7 +9,7 @@ ghost use Rattle.engine.specs.Engine.{HasStarted};
 ghost use Rattle.machine.specs.declared.act.Shape.{Shape};
 ghost use Rattle.crash_states.specs.Calls.{ListedDisk, ListsItsCalls, device_calls_of, calls_until};
 ghost use Rattle.crash_table.specs.Calls.{AreMade, AreCallsOf, StepsCounted, listing_memory, steps_before};
-ghost use Rattle.crash_table.specs.Trials.{HasItsCalls, HasNoTrial, IsNotListed, Leaves};
+ghost use Rattle.crash_table.specs.Trials.{HasItsCalls, HasNoTrial, IsNotListed, cause_of, Leaves};
 ghost use Rattle.crash_table.specs.inside.Kept.{IsKept, AreKept};
 
 use crate::files::{fault_of, open_files};
@@ -20,6 +20,7 @@ use crash_states::{Call, CrashFault, Listing, are_until};
 use device::{Device, MemDisk};
 use engine::ran_since_start;
 use machine::{Machine, Reply, Shape, Step};
+use page_entry::Refusal;
 use std::alloc::{AllocError, Allocator};
 use std::marker::Model;
 use volume_codec::one_reading;
@@ -91,7 +92,7 @@ impl<'a, A: Allocator + Copy> Trial<'a, A> {
             steps,
         };
         match list(alloc, &plan) {
-            Ok(listed) => with_marks(alloc, plan, listed),
+            Ok(listed) => with_marks(alloc, &plan, listed),
             Err(fault) => Err(fault),
         }
     }
@@ -186,7 +187,7 @@ impl<'a, A: Allocator + Copy> Trial<'a, A> {
         ensures past { length self.now.calls < fails
             → (IsTrue result ↔ ((faults ≡ 0) × (replies ≡ length self.now.steps))) }
     {
-        if fails > 0 && fails <= self.listed.calls.len() as u64 {
+        if fails > 0 && fails <= self.call_count() as u64 {
             calls == fails && faults == 1
         } else {
             faults == 0 && replies == self.plan.steps.len()
@@ -218,21 +219,21 @@ fn steps_before(counts: &[u64], call: u64) -> usize
 // A run that was made once, with the files at its marks.
 fn with_marks<'a, A: Allocator + Copy>(
     alloc: A,
-    plan: Plan<'a>,
+    plan: &Plan<'a>,
     listed: FirstRun<A>,
 ) -> Result<Trial<'a, A>, CrashFault>
-    requires files { (files : List File) × RecoversTo plan.image.now files }
-    requires calls { AreCallsOf plan.image.now plan.shape plan.steps.now listed.replies.items listed.counts.items
-        (device_calls_of listed.calls.items) }
-    ensures made { IfOk result (λ trial. (trial.image ≡ plan.image.now) × (trial.shape ≡ plan.shape)
-        × (trial.steps ≡ plan.steps.now)) }
+    requires files { (files : List File) × RecoversTo plan.now.image.now files }
+    requires calls { AreCallsOf plan.now.image.now plan.now.shape plan.now.steps.now listed.replies.items
+        listed.counts.items (device_calls_of listed.calls.items) }
+    ensures made { IfOk result (λ trial. (trial.image ≡ plan.now.image.now) × (trial.shape ≡ plan.now.shape)
+        × (trial.steps ≡ plan.now.steps.now)) }
     ensures calls { IfOk result HasItsCalls }
     ensures memory { IfErr result (λ why. why ≡ CrashFault.Memory alloc_error) }
 {
-    match marks_of(alloc, &plan, &listed.replies) {
+    match marks_of(alloc, plan, &listed.replies) {
         Ok(marks) => Ok(Trial {
             alloc,
-            plan,
+            plan: *plan,
             listed,
             marks,
         }),
@@ -268,8 +269,16 @@ fn list_on<A: Allocator + Copy>(
 {
     match engine::start(alloc, disk, plan.shape) {
         Ok(machine) => memory_alone(list_steps(alloc, machine, plan.steps)),
-        Err((refusal, _)) => Err(fault_of(refusal)),
+        Err(refused) => Err(why_refused(refused)),
     }
+}
+
+// Why a machine wasn't started on a disk in memory.
+fn why_refused<A: Allocator + Copy>(refused: (Refusal, Listing<A>)) -> CrashFault
+    ensures { result ≡ cause_of refused.0 }
+{
+    let (refusal, _disk) = refused;
+    fault_of(refusal)
 }
 
 // Where a run isn't listed after the machine was started, memory was refused.

@@ -8,7 +8,7 @@ pub returns : goal.returns
 returns g c =
     let there : IsTrue c.is_first_mark.result = search rules in
     let alike : IsTrue c.are_same_replies.result = search rules in
-    let first = c.is_first_mark.ensures there in
+    let first = c.is_first_mark.ensures.first there in
     on_ok_weaker c.acknowledge.result
     (λ acknowledged. record {
       below = first.0;

@@ -39,7 +39,7 @@ loop-step-preserved g c = one_more g (goal.at.loop-step-preserved g c).In_ok-pus
 pub returns-then-is_failure-clause-made : goal.returns-then-is_failure-clause-made
 returns-then-is_failure-clause-made g c =
     let steps = c.args.steps.now in
-    let more = one_more g (goal.at.returns-then-is_failure g c).In_ok-push in
+    let more = one_more g (goal.at.returns-then-is_failure-clause-made g c).In_ok-push in
     let Q : ℕ → Type 0 = λ n.
     StepsTaken g.D.Device c.args.machine.now (take n steps) c.push.new.self.items c.enter-reply.new.self in
     subst Q (sym more.0) more.1

@@ -20,4 +20,4 @@ returns-in-Ok-clause-refused g c =
 
 pub returns-in-Err-clause-refused : goal.returns-in-Err-clause-refused
 returns-in-Err-clause-refused g c =
-    inr (c.in-Err.refusal, c.in-Err.field-1, c.fault_of.ensures, c.in-Err.ensures.refused)
+    inr (c.in-Err.refused.0, c.in-Err.refused.1, c.why_refused.ensures, c.in-Err.ensures.refused)

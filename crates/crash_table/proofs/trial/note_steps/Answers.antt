@@ -21,7 +21,7 @@ loop-step-preserved g c =
     let below : index < length steps = search rules in
     let new = c.enter.new.self in
     let P : List Reply → Type 0 = λ l.
-    StepsCounted disk c.args.machine.now (take (index + 1) steps) l c.push-2.new.self.items new in
+    StepsCounted disk c.args.machine.now (take (index + 1) steps) l c.push-in-loop-step.new.self.items new in
     let Q : List ℕ → Type 0 = λ l.
     StepsCounted disk c.args.machine.now (take (index + 1) steps) (c.loop-step.replies.items ++ c.enter.result ∷ []) l new
     in

@@ -57,7 +57,7 @@ returns g c =
     c.stop.new.self (c.stop.ensures.stopped ∙ ap (λ (d : Recorded). after_stop d choice) inner_is)
     (subst L inner_is c.stop.ensures.left)
     (map (λ v. v.items) c.in_ok-found.found.items) (c.in_ok-found.ensures tt) c.newest.result
-    c.deref-4.result.now c.deref-5.result.now c.deref-6.result.now (map (λ v. v.items) c.deref-7.result.now)
-    c.deref-4.ensures.value c.deref-5.ensures.value c.deref-6.ensures.value
-    (ap (map (λ v. v.items)) c.deref-7.ensures.value)
+    c.deref-3.result.now c.deref-4.result.now c.deref-5.result.now (map (λ v. v.items) c.deref-6.result.now)
+    c.deref-3.ensures.value c.deref-4.ensures.value c.deref-5.ensures.value
+    (ap (map (λ v. v.items)) c.deref-6.ensures.value)
     c.newest.ensures)
