@@ -87,7 +87,7 @@ static void refuses_volumes(void)
     fresh(1, SLOTS, "db=40960");
     snprintf(mark, sizeof mark, "%s.suspect", volume);
     WANT(close(open(mark, O_WRONLY | O_CREAT, 0600)) == 0);
-    want_refused(path, SQLITE_CANTOPEN);
+    want_refused(path, SQLITE_IOERR);
 }
 
 static void refuses_what_is_in_use(void)

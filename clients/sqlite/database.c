@@ -1,0 +1,443 @@
+/* A database in a volume: what SQLite reads, writes and syncs. */
+#include "vfs.h"
+
+#include <errno.h>
+#include <string.h>
+
+#define MAGIC "famsync database"
+
+/* The databases that are open; the mutex guards the list. */
+static struct database *open_databases;
+
+static sqlite3_mutex *enter_list(void)
+{
+    sqlite3_mutex *turn = sqlite3_mutex_alloc(SQLITE_MUTEX_STATIC_VFS3);
+    sqlite3_mutex_enter(turn);
+    return turn;
+}
+
+static void enlist(struct database *database)
+{
+    sqlite3_mutex *turn = enter_list();
+    database->next = open_databases;
+    open_databases = database;
+    sqlite3_mutex_leave(turn);
+}
+
+static void strike_off(const struct database *database)
+{
+    sqlite3_mutex *turn = enter_list();
+    struct database **place = &open_databases;
+    while (*place && *place != database)
+        place = &(*place)->next;
+    if (*place)
+        *place = database->next;
+    sqlite3_mutex_leave(turn);
+}
+
+bool is_beside_a_database(const char *path, const char *suffix)
+{
+    sqlite3_mutex *turn = enter_list();
+    const struct database *database = open_databases;
+    size_t length = strlen(path) - strlen(suffix);
+    bool ends = strlen(path) > strlen(suffix) && strcmp(path + length, suffix) == 0;
+    while (ends && database && (strlen(database->path) != length || memcmp(database->path, path, length) != 0))
+        database = database->next;
+    sqlite3_mutex_leave(turn);
+    return ends && database;
+}
+
+static void drop_waiting(struct database *database)
+{
+    while (database->waiting > 0)
+        database->waits[database->order[--database->waiting]] = NULL;
+}
+
+static int close_database(sqlite3_file *file)
+{
+    struct database *database = (struct database *)file;
+    strike_off(database);
+    sqlite3_free(database->waits);
+    sqlite3_free(database->pages);
+    sqlite3_free(database->order);
+    return code_for(famsync_close(database->volume), SQLITE_IOERR_CLOSE);
+}
+
+/* Fails as the commit did that ended the use of this connection. */
+static int failed_again(const struct database *database, int code)
+{
+    errno = database->error;
+    return code;
+}
+
+/*
+ * A database in WAL mode says so by two bytes of its head. This VFS has no WAL, and SQLite wouldn't open it, though
+ * all of its rows are there. So these bytes are changed to those of a rollback journal wherever they come by.
+ */
+#define HEAD 100
+#define WRITE_VERSION 18
+#define READ_VERSION 19
+#define CHANGES 24   /* a number of 4 bytes that each transaction adds 1 to */
+#define VALID_FOR 92 /* the same number again */
+#define WITH_JOURNAL 1
+#define WITH_WAL 2
+
+static bool is_head(int count, sqlite3_int64 at)
+{
+    return at == 0 && count >= HEAD;
+}
+
+/* Returns whether it said WAL. */
+static bool leave_wal(unsigned char *head)
+{
+    if (head[WRITE_VERSION] != WITH_WAL && head[READ_VERSION] != WITH_WAL)
+        return false;
+    head[WRITE_VERSION] = head[READ_VERSION] = WITH_JOURNAL;
+    return true;
+}
+
+/* Adds 1 to the number of changes, so that SQLite drops from its cache the page that it wrote. */
+static void count_change(unsigned char *head)
+{
+    for (int i = 3; i >= 0 && ++head[CHANGES + i] == 0; i--)
+        continue;
+    memcpy(head + VALID_FOR, head + CHANGES, 4);
+}
+
+/* How much of `count` bytes from `place` on lies in one page. */
+static size_t part(uint64_t place, size_t count)
+{
+    size_t some = PAGE - place % PAGE;
+    return some < count ? some : count;
+}
+
+/* Reads what lies in one page of the volume. */
+static int read_part(const struct database *database, char *bytes, size_t count, uint64_t place)
+{
+    const unsigned char *waiting = database->waits[place / PAGE];
+    if (!waiting)
+        return famsync_load(database->volume, database->address + place, bytes, count, NULL);
+    memcpy(bytes, waiting + place % PAGE, count);
+    return FAMSYNC_OK;
+}
+
+static int read_parts(const struct database *database, char *bytes, size_t count, sqlite3_int64 at)
+{
+    int code = FAMSYNC_OK;
+    size_t some;
+    for (size_t done = 0; done < count && code == FAMSYNC_OK; done += some) {
+        uint64_t place = PAGE + (uint64_t)at + done;
+        some = part(place, count - done);
+        code = read_part(database, bytes + done, some, place);
+    }
+    return code;
+}
+
+static int read_database(sqlite3_file *file, void *bytes, int count, sqlite3_int64 at)
+{
+    struct database *database = (struct database *)file;
+    sqlite3_int64 left = at < database->size ? database->size - at : 0;
+    size_t end = left < count ? (size_t)left : (size_t)count;
+    int code;
+    if (database->torn)
+        return failed_again(database, SQLITE_IOERR_READ);
+    code = read_parts(database, bytes, end, at);
+    if (code != FAMSYNC_OK)
+        return code_for(code, SQLITE_IOERR_READ);
+    if (is_head(count, at))
+        leave_wal(bytes);
+    memset((char *)bytes + end, 0, (size_t)count - end);
+    return end < (size_t)count ? SQLITE_IOERR_SHORT_READ : SQLITE_OK;
+}
+
+/* Writes what lies in one page of the volume. A page that has these bytes doesn't begin to wait, so that a rollback can
+   write back what wasn't changed where no more pages can wait. */
+static int write_part(struct database *database, const char *bytes, size_t count, uint64_t place)
+{
+    size_t page = place / PAGE, within = place % PAGE;
+    if (!database->waits[page]) {
+        unsigned char *copy = database->pages + (size_t)database->waiting * PAGE;
+        int code = famsync_load(database->volume, database->address + place - within, copy, PAGE, NULL);
+        if (code != FAMSYNC_OK)
+            return code_for(code, SQLITE_IOERR_WRITE);
+        if (memcmp(copy + within, bytes, count) == 0)
+            return SQLITE_OK;
+        if (database->waiting == database->limit)
+            return SQLITE_FULL;
+        database->waits[page] = copy;
+        database->order[database->waiting++] = page;
+    }
+    memcpy(database->waits[page] + within, bytes, count);
+    return SQLITE_OK;
+}
+
+static int write_parts(struct database *database, const char *bytes, size_t count, sqlite3_int64 at)
+{
+    int code = SQLITE_OK;
+    size_t some;
+    for (size_t done = 0; done < count && code == SQLITE_OK; done += some) {
+        uint64_t place = PAGE + (uint64_t)at + done;
+        some = part(place, count - done);
+        code = write_part(database, bytes + done, some, place);
+    }
+    return code;
+}
+
+/* Writes the first page. A restore may bring one in that says WAL. */
+static int write_head(struct database *database, const char *bytes, size_t count)
+{
+    unsigned char head[HEAD];
+    int code;
+    memcpy(head, bytes, HEAD);
+    if (leave_wal(head))
+        count_change(head);
+    code = write_parts(database, (const char *)head, HEAD, 0);
+    return code == SQLITE_OK ? write_parts(database, bytes + HEAD, count - HEAD, HEAD) : code;
+}
+
+static int write_database(sqlite3_file *file, const void *bytes, int count, sqlite3_int64 at)
+{
+    struct database *database = (struct database *)file;
+    int code;
+    if (at > database->room - count)
+        return SQLITE_FULL;
+    if (database->torn)
+        return failed_again(database, SQLITE_IOERR_WRITE);
+    if (is_head(count, at))
+        code = write_head(database, bytes, (size_t)count);
+    else
+        code = write_parts(database, bytes, (size_t)count, at);
+    if (code == SQLITE_OK && at + count > database->size)
+        database->size = at + count;
+    return code;
+}
+
+static int truncate_database(sqlite3_file *file, sqlite3_int64 size)
+{
+    struct database *database = (struct database *)file;
+    if (size > database->room)
+        return SQLITE_FULL;
+    database->size = size;
+    return SQLITE_OK;
+}
+
+static int store_size(struct database *database)
+{
+    unsigned char head[24] = MAGIC;
+    for (int i = 0; i < 8; i++)
+        head[16 + i] = (unsigned char)((uint64_t)database->size >> (56 - 8 * i));
+    return famsync_store(database->volume, database->address, head, sizeof head, NULL);
+}
+
+static int store_waiting(struct database *database)
+{
+    int code = FAMSYNC_OK;
+    for (unsigned i = 0; i < database->waiting && code == FAMSYNC_OK; i++) {
+        size_t page = database->order[i];
+        code = famsync_store(database->volume, database->address + page * PAGE, database->waits[page], PAGE, NULL);
+    }
+    return code == FAMSYNC_OK && database->size != database->kept ? store_size(database) : code;
+}
+
+static int sync_database(sqlite3_file *file, int flags)
+{
+    struct database *database = (struct database *)file;
+    int code;
+    (void)flags;
+    if (database->torn)
+        return failed_again(database, SQLITE_IOERR_FSYNC);
+    if (database->waiting == 0 && database->size == database->kept)
+        return SQLITE_OK;
+    code = store_waiting(database);
+    if (code == FAMSYNC_OK)
+        code = famsync_msync(database->volume, NULL);
+    if (code != FAMSYNC_OK) {
+        /* The session may have a part of it, which no later commit may have. */
+        database->torn = true;
+        database->error = errno;
+        return code_for(code, SQLITE_IOERR_FSYNC);
+    }
+    drop_waiting(database);
+    database->kept = database->size;
+    return SQLITE_OK;
+}
+
+static int size_of_database(sqlite3_file *file, sqlite3_int64 *size)
+{
+    *size = ((struct database *)file)->size;
+    return SQLITE_OK;
+}
+
+/* The library has locked the volume for this connection, as long as it is open. */
+static int lock(sqlite3_file *file, int kind)
+{
+    (void)file, (void)kind;
+    return SQLITE_OK;
+}
+
+/* What a transaction wrote and didn't sync is no part of the database once it has ended. */
+static int unlock(sqlite3_file *file, int kind)
+{
+    struct database *database = (struct database *)file;
+    if (kind <= SQLITE_LOCK_SHARED) {
+        drop_waiting(database);
+        database->size = database->kept;
+    }
+    return SQLITE_OK;
+}
+
+static int is_reserved(sqlite3_file *file, int *found)
+{
+    (void)file;
+    *found = 0;
+    return SQLITE_OK;
+}
+
+/* Whether PRAGMA synchronous has a value by which SQLite syncs: of other words and numbers some are OFF. */
+static bool syncs(const char *value)
+{
+    static const char *const values[] = {"1", "2", "3", "on", "yes", "true", "normal", "full", "extra"};
+    for (size_t i = 0; i < sizeof values / sizeof values[0]; i++)
+        if (sqlite3_stricmp(value, values[i]) == 0)
+            return true;
+    return false;
+}
+
+/* Whether a PRAGMA asks for what the VFS can't serve: WAL needs no word here, since SQLite asks the methods for it. */
+static bool is_refused(const char *name, const char *value)
+{
+    if (sqlite3_stricmp(name, "locking_mode") == 0)
+        return sqlite3_stricmp(value, "exclusive") == 0;
+    if (sqlite3_stricmp(name, "journal_mode") == 0)
+        return sqlite3_stricmp(value, "off") == 0;
+    return sqlite3_stricmp(name, "synchronous") == 0 && !syncs(value);
+}
+
+static int control(sqlite3_file *file, int what, void *argument)
+{
+    char **words = argument;
+    (void)file;
+    if (what != SQLITE_FCNTL_PRAGMA || !words[2] || !is_refused(words[1], words[2]))
+        return SQLITE_NOTFOUND;
+    words[0] = sqlite3_mprintf("the VFS famsync doesn't offer %s=%s", words[1], words[2]);
+    return SQLITE_ERROR;
+}
+
+static int sector_size(sqlite3_file *file)
+{
+    (void)file;
+    return PAGE;
+}
+
+static int characteristics(sqlite3_file *file)
+{
+    (void)file;
+    return SQLITE_IOCAP_POWERSAFE_OVERWRITE;
+}
+
+static const sqlite3_io_methods methods = {
+    .iVersion = 1,
+    .xClose = close_database,
+    .xRead = read_database,
+    .xWrite = write_database,
+    .xTruncate = truncate_database,
+    .xSync = sync_database,
+    .xFileSize = size_of_database,
+    .xLock = lock,
+    .xUnlock = unlock,
+    .xCheckReservedLock = is_reserved,
+    .xFileControl = control,
+    .xSectorSize = sector_size,
+    .xDeviceCharacteristics = characteristics,
+};
+
+/* The first page of the file says how many bytes the database has; one that is all zeros has none. */
+static int read_size(struct database *database)
+{
+    static const unsigned char nothing[24];
+    unsigned char head[24];
+    uint64_t size = 0;
+    int code = famsync_load(database->volume, database->address, head, sizeof head, NULL);
+    if (code != FAMSYNC_OK)
+        return fail(code_for(code, SQLITE_IOERR_READ), 0, "\"%s\": %s", database->path, famsync_strerror(code));
+    if (memcmp(head, nothing, sizeof head) == 0)
+        return SQLITE_OK;
+    for (int i = 0; i < 8; i++)
+        size = size << 8 | head[16 + i];
+    if (memcmp(head, MAGIC, 16) != 0 || size > (uint64_t)database->room)
+        return fail(SQLITE_NOTADB, 0, "\"%s\": its file has other bytes than a database of this VFS", database->path);
+    database->size = database->kept = (sqlite3_int64)size;
+    return SQLITE_OK;
+}
+
+/* Zeroed memory. */
+static void *memory_for(size_t count, size_t size)
+{
+    void *memory = sqlite3_malloc64(count * size);
+    return memory ? memset(memory, 0, count * size) : NULL;
+}
+
+static int open_volume(struct database *database)
+{
+    char message[1024];
+    struct famsync_options options = {.message = message, .message_size = sizeof message};
+    int code, error;
+    options.foreground = sqlite3_uri_boolean(database->path, "foreground", 0);
+    options.trust = sqlite3_uri_boolean(database->path, "trust", 0);
+    code = famsync_open(database->path, &options, &database->volume);
+    error = code == FAMSYNC_SYSTEM || code == FAMSYNC_DEVICE ? errno : 0;
+    return code == FAMSYNC_OK ? SQLITE_OK : fail(code_for_open(code), error, "%s", message);
+}
+
+/* The length of the volume's file with this name, 0 for none. */
+static uint64_t length_of(famsync *volume, const char *name)
+{
+    for (unsigned i = 0; i < famsync_files(volume); i++)
+        if (strcmp(name, famsync_file_name(volume, i)) == 0)
+            return famsync_file_length(volume, i);
+    return 0;
+}
+
+/* Maps the file of the database, and finds how much there is room for. One page of the file has the size, and so one of
+   a commit is left for it. */
+static int map_database(struct database *database, const char *name)
+{
+    uint64_t length = length_of(database->volume, name);
+    int code = famsync_map(database->volume, name, 0, 0, FAMSYNC_READ | FAMSYNC_WRITE, &database->address);
+    if (code != FAMSYNC_OK)
+        return fail(code_for(code, SQLITE_CANTOPEN), 0, "\"%s\", file \"%s\": %s", database->path, name,
+                    famsync_strerror(code));
+    if (length / PAGE < 2 || famsync_frames(database->volume) < 2)
+        return fail(SQLITE_CANTOPEN, 0, "\"%s\", file \"%s\": a database needs two pages, and a commit two",
+                    database->path, name);
+    database->room = (sqlite3_int64)(length / PAGE * PAGE) - PAGE;
+    database->limit = famsync_frames(database->volume) - 1;
+    database->waits = memory_for(length / PAGE, sizeof *database->waits);
+    database->order = memory_for(database->limit, sizeof *database->order);
+    database->pages = sqlite3_malloc64(((sqlite3_uint64)database->limit + 1) * PAGE);
+    if (!database->waits || !database->order || !database->pages)
+        return SQLITE_NOMEM;
+    return read_size(database);
+}
+
+int open_database(const char *path, sqlite3_file *file, int flags, int *found)
+{
+    struct database *database = (struct database *)file;
+    const char *name = sqlite3_uri_parameter(path, "file");
+    int code;
+    memset(database, 0, sizeof *database);
+    database->path = path;
+    code = open_volume(database);
+    if (code != SQLITE_OK)
+        return code;
+    enlist(database);
+    code = map_database(database, name ? name : famsync_file_name(database->volume, 0));
+    if (code != SQLITE_OK) {
+        close_database(file);
+        return code;
+    }
+    if (found)
+        *found = flags;
+    database->base.pMethods = &methods;
+    return SQLITE_OK;
+}

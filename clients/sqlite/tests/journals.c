@@ -1,0 +1,158 @@
+/*
+ * Two databases in one volume, with each journal_mode: a transaction of one that is killed changes neither of them, a
+ * rollback changes nothing, and no file lies beside the volume.
+ *
+ *   journals EXTENSION
+ */
+#include "database.h"
+
+#include <dirent.h>
+
+#define ROWS 30
+
+static const char *const modes[] = {"DELETE", "TRUNCATE", "PERSIST", "MEMORY"};
+static const char *const names[] = {"one", "two"};
+
+/* Opens one of the databases, with a cache that holds fewer pages than a transaction changes. */
+static sqlite3 *opened_database(const char *name, const char *mode)
+{
+    sqlite3 *database;
+    char path[200], statement[100], found[300];
+    snprintf(path, sizeof path, "file:%s?vfs=famsync&file=%s", volume, name);
+    WANT(open_database(path, &database) == SQLITE_OK);
+    snprintf(statement, sizeof statement, "PRAGMA cache_size=5; PRAGMA journal_mode=%s", mode);
+    WANT(ask_for(database, statement, found) == SQLITE_OK && sqlite3_stricmp(found, mode) == 0);
+    return database;
+}
+
+static void close_database(sqlite3 *database)
+{
+    WANT(sqlite3_close(database) == SQLITE_OK);
+}
+
+static void make_databases(unsigned layout, const char *mode)
+{
+    char statement[200];
+    make_volume_of(layout, 64, "one=819200 two=819200");
+    for (unsigned i = 0; i < 2; i++) {
+        sqlite3 *database = opened_database(names[i], mode);
+        snprintf(statement, sizeof statement,
+                 "CREATE TABLE row (id INTEGER PRIMARY KEY, bytes BLOB); WITH RECURSIVE number(n) AS (SELECT 1 UNION "
+                 "ALL SELECT n + 1 FROM number WHERE n < %d) INSERT INTO row SELECT n, zeroblob(3000) FROM number",
+                 ROWS);
+        must(database, statement);
+        close_database(database);
+    }
+}
+
+static void want_whole(const char *name, const char *mode, const char *changed)
+{
+    sqlite3 *database = opened_database(name, mode);
+    WANT(answers(database, "PRAGMA integrity_check", "ok"));
+    WANT(answers(database, "SELECT count(*) FROM row", "30"));
+    WANT(answers(database, "SELECT count(*) FROM row WHERE bytes = 'changed'", changed));
+    close_database(database);
+}
+
+/* Nothing lies in the volume's folder but what the test put there. */
+static void want_alone(int files)
+{
+    DIR *entries = opendir(folder);
+    int found = -2; /* the folder itself and the one above it */
+    WANT(entries);
+    while (readdir(entries))
+        found++;
+    WANT(closedir(entries) == 0 && found == files);
+}
+
+/* Changes rows, which are more pages than the cache holds, and looks beside the volume meanwhile. */
+static void change_rows(sqlite3 *database)
+{
+    must(database, "BEGIN; UPDATE row SET bytes = 'changed' WHERE id <= 25");
+    want_alone(1);
+}
+
+/* The next who opens a database in the volume is another one. */
+static void survives_a_kill(unsigned layout, const char *mode)
+{
+    int status;
+    pid_t child;
+    make_databases(layout, mode);
+    child = fork();
+    if (child == 0) {
+        change_rows(opened_database("one", mode));
+        raise(SIGKILL);
+    }
+    WANT(waitpid(child, &status, 0) == child && WIFSIGNALED(status) && WTERMSIG(status) == SIGKILL);
+    want_alone(1);
+    want_whole("two", mode, "0");
+    want_whole("one", mode, "0");
+}
+
+static void rolls_back(unsigned layout, const char *mode)
+{
+    sqlite3 *database;
+    make_databases(layout, mode);
+    database = opened_database("one", mode);
+    change_rows(database);
+    must(database, "ROLLBACK");
+    WANT(answers(database, "SELECT count(*) FROM row WHERE bytes = 'changed'", "0"));
+    must(database, "BEGIN; UPDATE row SET bytes = 'changed' WHERE id = 1; SAVEPOINT here; DELETE FROM row; "
+                   "ROLLBACK TO here; COMMIT");
+    WANT(answers(database, "SELECT count(*) FROM row WHERE bytes = 'changed'", "1"));
+    change_rows(database);
+    close_database(database); /* in the midst of a transaction */
+    want_whole("one", mode, "1");
+    want_whole("two", mode, "0");
+    want_alone(1);
+}
+
+static void leave_file(const char *suffix)
+{
+    char path[100];
+    int file;
+    snprintf(path, sizeof path, "%s%s", volume, suffix);
+    file = open(path, O_WRONLY | O_CREAT | O_TRUNC, 0600);
+    WANT(file >= 0 && write(file, "somebody's", 10) == 10 && close(file) == 0);
+}
+
+static void remove_file(const char *suffix)
+{
+    char path[100], found[20];
+    int file;
+    snprintf(path, sizeof path, "%s%s", volume, suffix);
+    file = open(path, O_RDONLY);
+    WANT(file >= 0 && read(file, found, sizeof found) == 10 && memcmp(found, "somebody's", 10) == 0);
+    WANT(close(file) == 0 && unlink(path) == 0);
+}
+
+/* A file that happens to have the name of a journal or of a WAL is neither read nor changed. */
+static void leaves_files_alone(const char *mode)
+{
+    sqlite3 *database;
+    make_databases(1, mode);
+    leave_file("-journal");
+    leave_file("-wal");
+    database = opened_database("one", mode);
+    must(database, "UPDATE row SET bytes = 'changed' WHERE id <= 25");
+    close_database(database);
+    want_whole("one", mode, "25");
+    want_alone(3);
+    remove_file("-journal");
+    remove_file("-wal");
+}
+
+int main(int count, char **words)
+{
+    WANT(count == 2);
+    load_vfs(words[1]);
+    for (size_t i = 0; i < sizeof modes / sizeof modes[0]; i++) {
+        for (unsigned layout = 1; layout <= LAYOUTS; layout++) {
+            survives_a_kill(layout, modes[i]);
+            rolls_back(layout, modes[i]);
+        }
+        leaves_files_alone(modes[i]);
+    }
+    printf("clients/sqlite: journals: as they should be\n");
+    return 0;
+}

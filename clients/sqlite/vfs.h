@@ -1,0 +1,63 @@
+/* What the parts of the VFS share. */
+#ifndef VFS_H
+#define VFS_H
+
+#include <sqlite3ext.h>
+SQLITE_EXTENSION_INIT3
+
+#include <famsync.h>
+#include <stdbool.h>
+
+#define PAGE 4096
+
+/* The default VFS, to which everything goes that isn't in a volume. */
+extern sqlite3_vfs *usual;
+
+/* A file that SQLite has open: a database in a volume. */
+struct database {
+    sqlite3_file base;
+    const char *path;      /* of the volume, as SQLite passed it to xOpen */
+    struct database *next; /* in the list of those that are open */
+    famsync *volume;
+    uint64_t address;      /* of the file's first page; the database begins with its second */
+    sqlite3_int64 room;    /* the most bytes that the database can have */
+    sqlite3_int64 size;    /* how many bytes it has now */
+    sqlite3_int64 kept;    /* how many it had at the last commit */
+    unsigned char **waits; /* one per page: its new bytes, in `pages`, or a null pointer */
+    unsigned char
+        *pages;       /* the new bytes of the waiting pages, in the order in which they came, and room for one more */
+    size_t *order;    /* the numbers of these pages */
+    unsigned waiting; /* how many pages wait for a commit */
+    unsigned limit;   /* the most pages that may wait */
+    bool torn;        /* a commit failed: this connection can't be used any more */
+    int error;        /* errno of that failure */
+};
+
+/* A file that SQLite has open: the journal of such a database. */
+struct journal {
+    sqlite3_file base;
+    unsigned char *bytes;
+    sqlite3_int64 size; /* how many bytes it has */
+    sqlite3_int64 room; /* how many bytes there is memory for */
+};
+
+/* database.c */
+int open_database(const char *path, sqlite3_file *file, int flags, int *found);
+/* Whether a path is that of an open database with `suffix` after it. */
+bool is_beside_a_database(const char *path, const char *suffix);
+
+/* journal.c */
+int open_journal(sqlite3_file *file, int flags, int *found);
+
+/* errors.c */
+/* SQLite's code for a code of the library: `other` for one that has no counterpart. */
+int code_for(int code, int other);
+int code_for_open(int code);
+/* Keeps why an opening failed, for xGetLastError, writes it to SQLite's log, and returns `code`. */
+int fail(int code, int error, const char *format, ...) __attribute__((format(printf, 3, 4)));
+void forget_failure(void);
+/* The line of the last opening that failed in this thread; a null pointer if there is none. */
+const char *last_failure(void);
+int get_last_error(sqlite3_vfs *vfs, int count, char *text);
+
+#endif
