@@ -2,7 +2,8 @@
  * libfamsync: files whose stores become durable together, in this process.
  *
  * A handle is a session with one volume, which `famsync format` made. The library opens and locks the volume's file
- * itself; a volume has one session at a time, of this library or of the program `famsync`.
+ * itself. A volume has one session that writes, or any number that only read, of this library or of the program
+ * `famsync`.
  *
  * There are two ways to the bytes of a file, and both may be used in one session:
  *
@@ -13,11 +14,13 @@
  * nothing else, and not before the last one that was acknowledged.
  *
  * Each call answers FAMSYNC_OK or one of the codes below, which are negative; famsync_strerror names them. Any number
- * of threads may call with one handle; the calls take turns.
+ * of threads may call with one handle; the calls take turns. No call is a cancellation point: a thread that is
+ * cancelled within a call ends after it.
  *
  * A process that was forked has a copy of the handle, with which each call answers FAMSYNC_FORKED, but for
  * famsync_close: that does nothing, and leaves the session to the process that began it. The copy stays in memory until
- * the process ends or starts another program; it doesn't keep the volume in use.
+ * the process ends or starts another program; it doesn't keep the volume in use. A child of vfork shares the memory of
+ * its parent: what it stores to plain memory is a store of the parent. It must not call the library.
  *
  * Not in this version: a file doesn't grow past the capacity that it was given when the volume was made, and in a
  * volume of layout 1 or 2 it keeps its length.
@@ -68,7 +71,12 @@ enum famsync_code {
     FAMSYNC_ENOMEM = -31,     /* there are no addresses left */
     FAMSYNC_OVERLAP = -33,    /* plain memory of the file is open already */
     FAMSYNC_NOFILE = -34,     /* the volume has no such file */
-    FAMSYNC_BUSY = -35        /* plain memory of the file is open; or the session has made 2^32 - 1 commits */
+    FAMSYNC_BUSY = -35,       /* plain memory of the file is open; or the session has made 2^32 - 1 commits */
+
+    /* marks that can't be made, and sessions that only read */
+    FAMSYNC_UNMARKED = -39,     /* a sync failed, and the volume couldn't be marked as suspect */
+    FAMSYNC_NEEDSOPENING = -40, /* a crash or a failed sync left work for a writer: open it once for writing */
+    FAMSYNC_READONLY = -41      /* the session only reads */
 };
 
 enum famsync_protection { FAMSYNC_READ = 1, FAMSYNC_WRITE = 2 };
@@ -76,25 +84,44 @@ enum famsync_protection { FAMSYNC_READ = 1, FAMSYNC_WRITE = 2 };
 typedef struct famsync famsync;
 typedef struct famsync_memory famsync_memory;
 
-/* How a session is begun. All zero is what famsync_open takes for a null pointer. */
+/* How a session is begun. A null pointer means the defaults, which are all zero. Set `size` to the size of this
+   structure: a later version of the library adds fields at the end, and by `size` it knows which of them a program has.
+   A size of 0 means the fields up to `readonly`. FAMSYNC_ARGUMENT if a program asks for what this library doesn't know:
+   it has a greater size, and a byte that isn't 0 beyond the fields below. */
 struct famsync_options {
+    size_t size;
     int trust;           /* not 0: a volume whose sync failed is opened all the same, and isn't marked any more */
     unsigned frames;     /* pages in memory; 0: as many as one commit can have */
     unsigned copies;     /* frames for copies besides, 0 to 64; no call of this version needs one */
     int foreground;      /* not 0: no thread of the library's own (see famsync_msync) */
     char *message;       /* a line about why the volume wasn't opened is put here */
     size_t message_size; /* and how much there is room for */
+    unsigned wait_ms;    /* how long to wait for a volume that is in use, in milliseconds */
+    int readonly;        /* not 0: a session that only reads */
 };
 
+/* The version of the library that this program runs with: FAMSYNC_VERSION of its own header. */
+const char *famsync_version(void);
+
 /* Begins a session with a volume, a regular file with one name; where the path is a link, the file that it leads to is
-   meant. The file is locked until the session ends. It takes as much memory as the volume is long. `*handle` is a null
-   pointer afterwards where it didn't succeed. */
+   meant. The file is locked until the session ends. It takes as much memory as the volume is long. On failure `*handle`
+   is a null pointer.
+
+   FAMSYNC_INUSE means that another session has the volume, and `wait_ms` has passed. FAMSYNC_SYSTEM with ENAMETOOLONG
+   means that the name of the volume's file is longer than 247 bytes: the name of a mark beside it would be too long.
+   FAMSYNC_UNMARKED means that a sync failed and no mark could be made; `message` says why.
+
+   With `readonly` any number of sessions share a volume. The library opens the file for reading only, and writes
+   nothing. No session that writes can begin meanwhile. FAMSYNC_NEEDSOPENING means that a crash left a commit to be
+   written to its place, or that the volume is marked as suspect, whatever `trust` says: open it once for writing, and
+   close it. In such a session famsync_map for writing, famsync_setlength, famsync_msync and famsync_memory_touch answer
+   FAMSYNC_READONLY, and a store to plain memory raises SIGSEGV, which goes to the program. */
 int famsync_open(const char *volume, const struct famsync_options *options, famsync **handle);
 
 /* Ends a session and frees the handle; stores since the last msync are gone. Plain memory of this handle has to be
    closed before (FAMSYNC_ARGUMENT), and no other call with it may be under way. What was committed is written to its
-   place in the volume before. FAMSYNC_DEVICE where a write or a sync failed, in this call or earlier: what was
-   acknowledged is kept. */
+   place in the volume before. FAMSYNC_DEVICE or FAMSYNC_UNMARKED where a write or a sync failed, in this call or
+   earlier: what was acknowledged is kept. */
 int famsync_close(famsync *handle);
 
 /* The files of the volume, numbered from 0, and their lengths as this session has set them. */
@@ -129,10 +156,17 @@ int famsync_store(famsync *handle, uint64_t address, const void *bytes, size_t c
 /* Makes all stores of this session durable, all of them or none, those to plain memory, too; it returns when they are.
    `*mark`, which may be a null pointer, is the commit's number, counted from 1 in each session. Threads that call it
    while a commit is being written share the next one. Where it is refused, all stores still wait for a commit, and the
-   next call takes them again. FAMSYNC_NOFRAME: the pages that were stored to are more than one commit can have; no
-   later call can commit them either. FAMSYNC_DEVICE: a write or a sync failed, nothing is acknowledged, and the session
-   is over: each later call answers FAMSYNC_BROKEN. Where that was a sync, the volume is marked as suspect, as the
-   program does it. errno says how, and is ENOMEM where memory was refused: then the disk isn't to blame.
+   next call takes them again.
+
+   FAMSYNC_NOFRAME: the pages that were stored to, by famsync_store and in plain memory together, are more than one
+   commit can have; no later call can commit them either. Nothing is stored then: close the plain memory, and what
+   famsync_store wrote can be committed.
+
+   FAMSYNC_DEVICE: a read, a write or a sync failed, and nothing is acknowledged. errno says how, and is ENOMEM where
+   memory was refused: then the disk isn't to blame. After a read the session goes on, and the call may be made again.
+   After a write or a sync it is over: each later call answers FAMSYNC_BROKEN. Where that was a sync, the volume is
+   marked as suspect, as the program does it. FAMSYNC_UNMARKED: the same after a sync, and no mark could be made that
+   stays beside the volume's file. The next session doesn't know of the failed sync then.
 
    What a commit writes after its acknowledgement is written by a thread of the library's own while nobody calls, in
    layout 4 once no commit has come for 10 ms, or by the next commit; with `foreground` there is no such thread. */
@@ -155,11 +189,14 @@ const char *famsync_strerror(int code);
  * disk. What belongs together and is stored by several threads is theirs to finish before one of them calls.
  *
  * The kernel doesn't store through the handler: read(2) and the like into this memory fail with EFAULT where the page
- * wasn't stored to. Read into a buffer, and copy. A program that installs a handler of SIGSEGV after the first
- * famsync_memory_open has to call the one that was there; one that blocks SIGSEGV can't store. Bytes past the file's
- * end, in its last page, are memory that isn't kept. What famsync_store writes to this file doesn't come into memory
- * that is open, and goes back where its page is stored to: use one of the two ways for each file. An empty file has no
- * memory (FAMSYNC_ARGUMENT).
+ * wasn't stored to. A thread that blocks SIGSEGV can't store, and a handler of SIGSEGV that was installed later and
+ * doesn't call the one before gets the library's faults. famsync_memory_touch opens pages ahead for all three.
+ * famsync_memory_open installs the library's handler again where another one took its place, and passes to that one
+ * what isn't the library's.
+ *
+ * Bytes past the file's end, in its last page, are memory that isn't kept. What famsync_store writes to this file
+ * doesn't come into memory that is open, and goes back where its page is stored to: use one of the two ways for each
+ * file. An empty file has no memory (FAMSYNC_ARGUMENT).
  */
 int famsync_memory_open(famsync *handle, const char *file, famsync_memory **memory);
 
@@ -170,6 +207,12 @@ size_t famsync_memory_length(const famsync_memory *memory);
 /* How many pages of 4,096 bytes were stored to since the last msync; one that has the bytes that it had may count or
    not. One commit can have famsync_frames of them. */
 size_t famsync_memory_dirty(const famsync_memory *memory);
+
+/* Opens the pages of `count` bytes from `offset` on, as a store to each of them would: no SIGSEGV is raised for these
+   until the next msync, and the kernel can store to them. All of them count as stored to. The next famsync_msync closes
+   them, whichever thread calls it. FAMSYNC_ARGUMENT where the range isn't within the file; FAMSYNC_NOFRAME where it has
+   more pages than one commit can have. Nothing is opened then. */
+int famsync_memory_touch(famsync_memory *memory, size_t offset, size_t count);
 
 /* Gives the memory back. Stores since the last msync are gone; no thread may use the memory any more. Where an msync
    was refused after some pages had been stored, the session can't commit any more (FAMSYNC_TORN). */

@@ -237,6 +237,11 @@ int famsync_close(famsync *handle)
     return code;
 }
 
+const char *famsync_version(void)
+{
+    return FAMSYNC_VERSION;
+}
+
 unsigned famsync_files(const famsync *handle)
 {
     return handle ? handle->files : 0;

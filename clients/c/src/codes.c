@@ -34,6 +34,9 @@ static const struct {
     {FAMSYNC_OVERLAP, "plain memory of the file is open already"},
     {FAMSYNC_NOFILE, "the volume has no such file"},
     {FAMSYNC_BUSY, "plain memory of the file is open, or there are no numbers left for commits"},
+    {FAMSYNC_UNMARKED, "a sync of the volume failed, and the volume couldn't be marked as suspect"},
+    {FAMSYNC_NEEDSOPENING, "a crash or a failed sync left work for a writer: open the volume once for writing"},
+    {FAMSYNC_READONLY, "the session only reads"},
 };
 
 const char *famsync_strerror(int code)
