@@ -2,6 +2,7 @@
 #include "vfs.h"
 
 #include <errno.h>
+#include <limits.h>
 #include <string.h>
 
 #define MAGIC "famsync database"
@@ -63,7 +64,7 @@ static int close_database(sqlite3_file *file)
     return code_for(famsync_close(database->volume), SQLITE_IOERR_CLOSE);
 }
 
-/* Fails as the commit did that ended the use of this connection. */
+/* Fails as the commit did after which this connection can't be used. */
 static int failed_again(const struct database *database, int code)
 {
     errno = database->error;
@@ -239,6 +240,15 @@ static int store_waiting(struct database *database)
     return code == FAMSYNC_OK && database->size != database->kept ? store_size(database) : code;
 }
 
+/* A commit failed. The session may have a part of it, which no later commit may have. */
+static int tear(struct database *database, int code)
+{
+    database->torn = true;
+    database->error = error_of(code);
+    return fail(code_for(code, SQLITE_IOERR_FSYNC), database->error, "\"%s\": a commit failed: %s%s%s", database->path,
+                famsync_strerror(code), database->error ? ": " : "", database->error ? strerror(database->error) : "");
+}
+
 static int sync_database(sqlite3_file *file, int flags)
 {
     struct database *database = (struct database *)file;
@@ -251,12 +261,8 @@ static int sync_database(sqlite3_file *file, int flags)
     code = store_waiting(database);
     if (code == FAMSYNC_OK)
         code = famsync_msync(database->volume, NULL);
-    if (code != FAMSYNC_OK) {
-        /* The session may have a part of it, which no later commit may have. */
-        database->torn = true;
-        database->error = errno;
-        return code_for(code, SQLITE_IOERR_FSYNC);
-    }
+    if (code != FAMSYNC_OK)
+        return tear(database, code);
     drop_waiting(database);
     database->kept = database->size;
     return SQLITE_OK;
@@ -377,16 +383,24 @@ static void *memory_for(size_t count, size_t size)
     return memory ? memset(memory, 0, count * size) : NULL;
 }
 
-static int open_volume(struct database *database)
+/* The parameter `wait` of the URI, in milliseconds. */
+static unsigned wait_of(const char *path)
+{
+    sqlite3_int64 wait = sqlite3_uri_int64(path, "wait", 0);
+    return wait < 0 ? 0 : wait > UINT_MAX ? UINT_MAX : (unsigned)wait;
+}
+
+static int open_volume(struct database *database, int flags)
 {
     char message[1024];
-    struct famsync_options options = {.message = message, .message_size = sizeof message};
-    int code, error;
+    struct famsync_options options = {.size = sizeof options, .message = message, .message_size = sizeof message};
+    int code;
     options.foreground = sqlite3_uri_boolean(database->path, "foreground", 0);
     options.trust = sqlite3_uri_boolean(database->path, "trust", 0);
+    options.wait_ms = wait_of(database->path);
+    options.readonly = (flags & SQLITE_OPEN_READONLY) != 0;
     code = famsync_open(database->path, &options, &database->volume);
-    error = code == FAMSYNC_SYSTEM || code == FAMSYNC_DEVICE ? errno : 0;
-    return code == FAMSYNC_OK ? SQLITE_OK : fail(code_for_open(code), error, "%s", message);
+    return code == FAMSYNC_OK ? SQLITE_OK : fail(code_for_open(code), error_of(code), "%s", message);
 }
 
 /* The length of the volume's file with this name, 0 for none. */
@@ -400,10 +414,11 @@ static uint64_t length_of(famsync *volume, const char *name)
 
 /* Maps the file of the database, and finds how much there is room for. One page of the file has the size, and so one of
    a commit is left for it. */
-static int map_database(struct database *database, const char *name)
+static int map_database(struct database *database, const char *name, int flags)
 {
     uint64_t length = length_of(database->volume, name);
-    int code = famsync_map(database->volume, name, 0, 0, FAMSYNC_READ | FAMSYNC_WRITE, &database->address);
+    int protection = flags & SQLITE_OPEN_READONLY ? FAMSYNC_READ : FAMSYNC_READ | FAMSYNC_WRITE;
+    int code = famsync_map(database->volume, name, 0, 0, protection, &database->address);
     if (code != FAMSYNC_OK)
         return fail(code_for(code, SQLITE_CANTOPEN), 0, "\"%s\", file \"%s\": %s", database->path, name,
                     famsync_strerror(code));
@@ -427,11 +442,11 @@ int open_database(const char *path, sqlite3_file *file, int flags, int *found)
     int code;
     memset(database, 0, sizeof *database);
     database->path = path;
-    code = open_volume(database);
+    code = open_volume(database, flags);
     if (code != SQLITE_OK)
         return code;
     enlist(database);
-    code = map_database(database, name ? name : famsync_file_name(database->volume, 0));
+    code = map_database(database, name ? name : famsync_file_name(database->volume, 0), flags);
     if (code != SQLITE_OK) {
         close_database(file);
         return code;

@@ -1,4 +1,4 @@
-/* SQLite's codes for those of the library, and why the last opening failed in each thread. */
+/* SQLite's codes for those of the library, and why an opening or a commit failed last in each thread. */
 #include "vfs.h"
 
 #include <errno.h>
@@ -20,6 +20,8 @@ int code_for(int code, int other)
         return SQLITE_FULL;
     case FAMSYNC_NOMEMORY:
         return SQLITE_NOMEM;
+    case FAMSYNC_READONLY:
+        return SQLITE_READONLY;
     default:
         return other;
     }
@@ -31,7 +33,10 @@ int code_for_open(int code)
     case FAMSYNC_INUSE:
         return SQLITE_BUSY;
     case FAMSYNC_SUSPECT:
+    case FAMSYNC_UNMARKED:
         return SQLITE_IOERR_FSYNC;
+    case FAMSYNC_NEEDSOPENING:
+        return SQLITE_READONLY_RECOVERY;
     case FAMSYNC_NOTAVOLUME:
         return SQLITE_NOTADB;
     case FAMSYNC_DAMAGED:
@@ -41,6 +46,11 @@ int code_for_open(int code)
     default:
         return code_for(code, SQLITE_CANTOPEN);
     }
+}
+
+int error_of(int code)
+{
+    return code == FAMSYNC_SYSTEM || code == FAMSYNC_DEVICE || code == FAMSYNC_UNMARKED ? errno : 0;
 }
 
 int fail(int code, int error, const char *format, ...)
@@ -64,7 +74,7 @@ const char *last_failure(void)
     return last.text[0] ? last.text : NULL;
 }
 
-/* Without an opening that failed it is errno, which the library sets as the default VFS does. */
+/* Without a line it is errno, which the library sets as the default VFS does. */
 int get_last_error(sqlite3_vfs *vfs, int count, char *text)
 {
     int error = errno;

@@ -104,8 +104,8 @@ static int register_vfs(void)
     return sqlite3_vfs_register(&ours, 0);
 }
 
-/* famsync_error(): why the last database wasn't opened by this thread. An opening that fails leaves no connection whose
-   message could say it. */
+/* famsync_error(): why an opening failed in this thread, or later a commit. SQLite's own messages have no room for it,
+   and an opening that fails leaves no connection to ask. */
 static void answer_last_failure(sqlite3_context *context, int count, sqlite3_value **values)
 {
     const char *text = last_failure();

@@ -53,10 +53,12 @@ int open_journal(sqlite3_file *file, int flags, int *found);
 /* SQLite's code for a code of the library: `other` for one that has no counterpart. */
 int code_for(int code, int other);
 int code_for_open(int code);
-/* Keeps why an opening failed, for xGetLastError, writes it to SQLite's log, and returns `code`. */
+/* errno as a call left it that failed by a code of the library; 0 if the system had no part in that. */
+int error_of(int code);
+/* Keeps why an opening or a commit failed, for xGetLastError, writes it to SQLite's log, and returns `code`. */
 int fail(int code, int error, const char *format, ...) __attribute__((format(printf, 3, 4)));
 void forget_failure(void);
-/* The line of the last opening that failed in this thread; a null pointer if there is none. */
+/* The last line of this thread; a null pointer if there is none. */
 const char *last_failure(void);
 int get_last_error(sqlite3_vfs *vfs, int count, char *text);
 
