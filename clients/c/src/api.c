@@ -4,15 +4,12 @@
 #include <errno.h>
 #include <stdlib.h>
 #include <string.h>
-#include <unistd.h>
 
 /* Where the first mapping lies. */
 #define FIRST_ADDRESS 65536u
 
-bool is_forked(const famsync *handle)
-{
-    return handle && handle->owner != getpid();
-}
+/* How large the options were when they got a size. */
+#define FIRST_SIZE (offsetof(struct famsync_options, readonly) + sizeof(int))
 
 /* A session that is over: the call that meets it first answers why, unless one has already. */
 static int why_over(famsync *handle)
@@ -25,12 +22,15 @@ static int why_over(famsync *handle)
 
 int enter(famsync *handle)
 {
+    int cancel;
     if (!handle)
         return FAMSYNC_ARGUMENT;
     if (is_forked(handle))
         return FAMSYNC_FORKED;
+    cancel = hold_off_cancel();
     atomic_fetch_add(&handle->callers, 1);
     pthread_mutex_lock(&handle->turn);
+    handle->cancel = cancel;
     if (handle->ended == FAMSYNC_OK)
         return FAMSYNC_OK;
     return leave(handle, why_over(handle));
@@ -38,11 +38,13 @@ int enter(famsync *handle)
 
 int leave(famsync *handle, int code)
 {
+    int cancel = handle->cancel;
     if (handle->ended != FAMSYNC_OK)
         handle->reported = true;
     if (atomic_fetch_sub(&handle->callers, 1) == 1 && handle->left && handle->threaded && !handle->pausing)
         pthread_cond_signal(&handle->work);
     pthread_mutex_unlock(&handle->turn);
+    allow_cancel(cancel);
     return code;
 }
 
@@ -90,6 +92,24 @@ static int read_files(famsync *handle)
     return FAMSYNC_OK;
 }
 
+/* What opening recorded, in a session that only reads: where it is a write, a crash left a commit, which this session
+   can't carry out. Its syncs count as made, as nothing was written. */
+static int judge_recovery(famsync *handle)
+{
+    int64_t waiting = famsync_core_waiting(handle->core, &handle->core.at);
+    if (has_write(handle))
+        return FAMSYNC_NEEDSOPENING;
+    return code_of(famsync_core_carried_out(handle->core, (uint32_t)waiting, &handle->core.at));
+}
+
+/* Room for what a session notes: between two syncs no more is written than two journals have, or one where there aren't
+   four, before the files. */
+static int take_room(famsync *handle)
+{
+    int code = begin_gathering(&handle->gathered, handle->head);
+    return code == FAMSYNC_OK ? begin_stored(&handle->stored, handle->frames) : code;
+}
+
 /* Opens the volume in the core, and makes what that records: what a crash left of a commit is carried out. */
 static int open_core(famsync *handle, const struct famsync_options *options)
 {
@@ -109,49 +129,57 @@ static int open_core(famsync *handle, const struct famsync_options *options)
     }
     if (code == FAMSYNC_OK)
         code = read_files(handle);
-    /* Between two syncs no more is written than two journals have, or one where there aren't four, before the files. */
     if (code == FAMSYNC_OK)
-        code = begin_gathering(&handle->gathered, handle->head);
-    return code == FAMSYNC_OK ? drain(handle) : code;
+        code = take_room(handle);
+    if (code != FAMSYNC_OK)
+        return code;
+    return handle->volume.readonly ? judge_recovery(handle) : drain(handle);
 }
 
 static int open_session(famsync *handle, const char *path, const struct famsync_options *options)
 {
     struct message message = {options->message, options->message_size};
-    int code = open_volume_file(path, options->trust != 0, &handle->volume, &message);
+    int code = open_volume_file(path, options, &handle->volume, &message);
     if (code != FAMSYNC_OK)
         return code;
     handle->read = malloc((size_t)MOST_READ * PAGE);
     code = handle->read ? read_super(handle) : FAMSYNC_NOMEMORY;
     if (code == FAMSYNC_OK)
         code = open_core(handle, options);
-    if (code == FAMSYNC_OK && !options->foreground)
+    if (code == FAMSYNC_OK && !options->foreground && !options->readonly)
         begin_background(handle);
     if (code != FAMSYNC_OK)
         say(&message, "\"%s\": %s", path, famsync_strerror(code));
     return code;
 }
 
-/* Frees what a handle has. */
-static void drop(famsync *handle)
+/* Frees what a handle has that isn't among those of this process. */
+static void free_handle(famsync *handle)
 {
-    int error = errno;
     while (handle->mappings) {
         struct mapping *mapping = handle->mappings;
         handle->mappings = mapping->next;
         free(mapping);
     }
-    leave_handle(handle);
-    close_volume_file(&handle->volume);
     if (handle->core.at)
         famsync_core_close(handle->core);
     end_gathering(&handle->gathered);
+    end_stored(&handle->stored);
     free(handle->read);
     pthread_cond_destroy(&handle->work);
     pthread_cond_destroy(&handle->answered);
     pthread_mutex_destroy(&handle->queue);
     pthread_mutex_destroy(&handle->turn);
     free(handle);
+}
+
+/* Ends what a handle has, and frees it. */
+static void drop(famsync *handle)
+{
+    int error = errno;
+    leave_handle(handle);
+    close_volume_file(&handle->volume);
+    free_handle(handle);
     errno = error;
 }
 
@@ -174,25 +202,35 @@ static famsync *new_handle(void)
     pthread_mutex_init(&handle->queue, NULL);
     begin_condition(&handle->answered);
     begin_condition(&handle->work);
-    atomic_flag_clear(&handle->closing);
-    handle->owner = getpid();
-    handle->volume.file = -1;
+    handle->volume.file = handle->volume.folder = -1;
     handle->next_address = FIRST_ADDRESS;
-    enter_handle(handle);
-    return handle;
+    if (enter_handle(handle) == FAMSYNC_OK)
+        return handle;
+    free_handle(handle);
+    return NULL;
 }
 
-int famsync_open(const char *volume, const struct famsync_options *options, famsync **opened)
+/* The options that a program gives, which may have more fields or fewer than those of this version. */
+static int take_options(const struct famsync_options *given, struct famsync_options *options)
 {
-    static const struct famsync_options usual;
+    size_t size = given && given->size > 0 ? given->size : FIRST_SIZE;
+    *options = (struct famsync_options){0};
+    if (!given)
+        return FAMSYNC_OK;
+    if (size < FIRST_SIZE)
+        return FAMSYNC_ARGUMENT;
+    for (size_t i = sizeof *options; i < size; i++)
+        if (((const unsigned char *)given)[i] != 0)
+            return FAMSYNC_ARGUMENT;
+    memcpy(options, given, size < sizeof *options ? size : sizeof *options);
+    return FAMSYNC_OK;
+}
+
+/* Begins a session by options that were taken. */
+static int begin_session(const char *volume, const struct famsync_options *options, famsync **opened)
+{
     famsync *handle;
     int code;
-    if (opened)
-        *opened = NULL;
-    if (!volume || !*volume || !opened)
-        return FAMSYNC_ARGUMENT;
-    if (!options)
-        options = &usual;
     if (options->message && options->message_size > 0)
         options->message[0] = 0;
     handle = new_handle();
@@ -206,6 +244,23 @@ int famsync_open(const char *volume, const struct famsync_options *options, fams
     return code;
 }
 
+int famsync_open(const char *volume, const struct famsync_options *given, famsync **opened)
+{
+    struct famsync_options options;
+    int code, cancel;
+    if (opened)
+        *opened = NULL;
+    if (!volume || !*volume || !opened)
+        return FAMSYNC_ARGUMENT;
+    code = take_options(given, &options);
+    if (code != FAMSYNC_OK)
+        return code;
+    cancel = hold_off_cancel();
+    code = begin_session(volume, &options, opened);
+    allow_cancel(cancel);
+    return code;
+}
+
 /* Writes what is left of commits, so that the next session has nothing to carry out. */
 static int finish(famsync *handle)
 {
@@ -215,25 +270,33 @@ static int finish(famsync *handle)
     return code;
 }
 
-int famsync_close(famsync *handle)
+/* Ends a session, unless plain memory is open. */
+static int end_session(famsync *handle)
 {
+    bool in_use;
     int code;
-    if (!handle)
-        return FAMSYNC_OK;
-    /* The other process's thread may have been anywhere in the core, and had the locks: they are left as they are. */
-    if (is_forked(handle))
-        return FAMSYNC_OK;
     pthread_mutex_lock(&handle->turn);
-    if (handle->memories) {
-        pthread_mutex_unlock(&handle->turn);
-        return FAMSYNC_ARGUMENT;
-    }
+    in_use = handle->memories != NULL;
     pthread_mutex_unlock(&handle->turn);
+    if (in_use)
+        return FAMSYNC_ARGUMENT;
     end_background(handle);
     code = handle->ended == FAMSYNC_OK ? finish(handle) : handle->ended;
     if (handle->ended != FAMSYNC_OK)
         errno = handle->error;
     drop(handle);
+    return code;
+}
+
+int famsync_close(famsync *handle)
+{
+    int code, cancel;
+    /* The other process's thread may have been anywhere in the core, and had the locks: they are left as they are. */
+    if (!handle || is_forked(handle))
+        return FAMSYNC_OK;
+    cancel = hold_off_cancel();
+    code = end_session(handle);
+    allow_cancel(cancel);
     return code;
 }
 

@@ -20,6 +20,8 @@ static int commit(famsync *handle, uint64_t *mark)
     if (code != FAMSYNC_OK)
         return code;
     code = answer_of(handle, famsync_core_commit(handle->core, &number, &handle->core.at));
+    if (code == FAMSYNC_OK)
+        forget_stored(&handle->stored);
     drained = drain(handle);
     if (drained != FAMSYNC_OK)
         return drained;
@@ -78,17 +80,13 @@ static void commit_for_waiters(famsync *handle)
     pthread_mutex_unlock(&handle->queue);
 }
 
-int famsync_msync(famsync *handle, uint64_t *mark)
+/* Waits until a commit was made for this thread, by another thread or by itself. */
+static void await_commit(famsync *handle, struct waiter *mine)
 {
-    struct waiter mine = {0};
-    if (!handle)
-        return FAMSYNC_ARGUMENT;
-    if (is_forked(handle))
-        return FAMSYNC_FORKED;
     pthread_mutex_lock(&handle->queue);
-    mine.next = handle->waiters;
-    handle->waiters = &mine;
-    while (!mine.done) {
+    mine->next = handle->waiters;
+    handle->waiters = mine;
+    while (!mine->done) {
         if (handle->committing) {
             pthread_cond_wait(&handle->answered, &handle->queue);
             continue;
@@ -99,6 +97,21 @@ int famsync_msync(famsync *handle, uint64_t *mark)
         pthread_mutex_lock(&handle->queue);
     }
     pthread_mutex_unlock(&handle->queue);
+}
+
+int famsync_msync(famsync *handle, uint64_t *mark)
+{
+    struct waiter mine = {0};
+    int cancel;
+    if (!handle)
+        return FAMSYNC_ARGUMENT;
+    if (is_forked(handle))
+        return FAMSYNC_FORKED;
+    if (handle->volume.readonly)
+        return FAMSYNC_READONLY;
+    cancel = hold_off_cancel();
+    await_commit(handle, &mine);
+    allow_cancel(cancel);
     if (mine.code == FAMSYNC_OK && mark)
         *mark = mine.mark;
     if (mine.code != FAMSYNC_OK)

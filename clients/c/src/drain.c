@@ -39,11 +39,11 @@ void end_gathering(struct gathered *gathered)
 }
 
 /* Ends the session: a call of the volume's file failed. */
-static int fail(famsync *handle)
+static int fail(famsync *handle, int code)
 {
-    handle->ended = FAMSYNC_DEVICE;
+    handle->ended = code;
     handle->error = errno;
-    return FAMSYNC_DEVICE;
+    return code;
 }
 
 /* Writes ranges of memory to the volume from an offset on, whole. */
@@ -56,7 +56,7 @@ static int write_ranges(famsync *handle, struct iovec *range, unsigned count, ui
         if (written <= 0) {
             if (written == 0)
                 errno = ENOSPC;
-            return fail(handle);
+            return fail(handle, FAMSYNC_DEVICE);
         }
         offset += (uint64_t)written;
         for (; count > 0 && (size_t)written >= range->iov_len; range++, count--)
@@ -73,7 +73,7 @@ static int write_ranges(famsync *handle, struct iovec *range, unsigned count, ui
    file had its length, and its blocks were written, when the volume was made, so its data is all there is to sync. */
 static int make_sync(famsync *handle)
 {
-    int synced, error;
+    int synced, error, code;
     do
         synced = fdatasync(handle->volume.file);
     while (synced < 0 && errno == EINTR);
@@ -82,9 +82,9 @@ static int make_sync(famsync *handle)
         return FAMSYNC_OK;
     }
     error = errno;
-    (void)mark_suspect(&handle->volume); /* where it can't be made either, nothing more can be done */
+    code = mark_suspect(&handle->volume) == FAMSYNC_OK ? FAMSYNC_DEVICE : FAMSYNC_UNMARKED;
     errno = error;
-    return fail(handle);
+    return fail(handle, code);
 }
 
 /* How many of the gathered pieces lie below an offset. */
@@ -124,6 +124,15 @@ static bool look_at(famsync *handle, uint32_t others, struct call *call)
 {
     return famsync_core_call(handle->core, others, &call->kind, &call->offset, &call->bytes, &call->length,
                              &handle->core.at) == FAMSYNC_CORE_OK;
+}
+
+bool has_write(famsync *handle)
+{
+    struct call call;
+    for (uint32_t others = 0; look_at(handle, others, &call); others++)
+        if (call.kind != KIND_SYNC)
+            return true;
+    return false;
 }
 
 bool ends_with_sync(famsync *handle)

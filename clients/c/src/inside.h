@@ -2,7 +2,7 @@
 #ifndef FAMSYNC_INSIDE_H
 #define FAMSYNC_INSIDE_H
 
-#define _DEFAULT_SOURCE
+#define _GNU_SOURCE
 #include "famsync.h"
 #include "famsync_core.h"
 
@@ -31,16 +31,20 @@ __attribute__((format(printf, 2, 3))) void say(struct message *message, const ch
 
 /* The file of a volume, open and locked. */
 struct volume {
-    int file;       /* its descriptor, -1 where it isn't open */
-    char *place;    /* its path; where a link was named, that of the file to which it leads */
-    char *mark;     /* the path of the mark beside it */
-    uint64_t bytes; /* its length */
+    int file;         /* its descriptor, -1 where it isn't open */
+    int folder;       /* that of its folder, the same */
+    const char *name; /* its name there, within `place` */
+    char *mark;       /* and that of the mark beside it */
+    char *place;      /* its path, for messages; where a link was named, that of the file to which it leads */
+    bool readonly;    /* it is open for reading, and others may be reading it, too */
+    uint64_t bytes;   /* its length */
 };
 
 struct file {
     char name[MOST_NAME + 1];
     _Atomic uint64_t length; /* in bytes; set under `turn`, read by any thread */
     uint64_t pages;          /* how many it can have */
+    uint64_t whole;          /* the address of the library's own mapping of all of them; 0 where there is none */
 };
 
 /* A mapping: pages of a file at an address. */
@@ -65,6 +69,20 @@ struct gathered {
     struct iovec *range; /* room for what one system call writes */
 };
 
+/* A page of a file that the core has stores of which no commit has, and its place in the table. */
+struct stored_page {
+    uint64_t key;
+    uint32_t place;
+};
+
+/* All of them, in any order, and a table by which one is found: the number of each, counted from 1. */
+struct stored {
+    struct stored_page *page;
+    unsigned pages, most;
+    uint32_t *table;
+    uint32_t places; /* a power of two */
+};
+
 /* Blocks that were supplied for the sake of one access. */
 struct reading {
     uint32_t first, count;
@@ -80,11 +98,12 @@ struct waiter {
 
 struct famsync {
     pthread_mutex_t turn; /* whoever has it may call the core, and uses what isn't said to be of another lock */
-    pid_t owner;          /* the process that began the session */
+    uint64_t process;     /* the number of the process that began the session */
+    int cancel;           /* whether the thread that has the turn could be cancelled before */
     _Atomic int callers;  /* how many calls have the turn or wait for it */
     famsync_core core;    /* the handle; it never leaves the library */
     struct volume volume;
-    int ended;     /* FAMSYNC_DEVICE once a write or a sync has failed */
+    int ended;     /* FAMSYNC_DEVICE or FAMSYNC_UNMARKED once a write or a sync has failed */
     int error;     /* and errno then */
     bool reported; /* a call has answered that */
     bool torn;     /* memory was closed of which a refused msync had stored a part */
@@ -97,12 +116,13 @@ struct famsync {
     uint64_t next_address; /* the first that no mapping has */
     struct mapping *mappings;
     struct gathered gathered;
+    struct stored stored;
     unsigned char *read; /* room for MOST_READ blocks */
     struct reading reading[READS_KEPT];
     unsigned readings; /* how many were made */
     _Atomic uint64_t acknowledged;
     famsync_memory *memories; /* open ones, linked by `next_one` */
-    atomic_flag closing; /* taken by the handler of SIGSEGV, too: plain memory's pages are opened and closed under it */
+    atomic_uint closing; /* taken by the handler of SIGSEGV, too: plain memory's pages are opened and closed under it */
     /* commits: who waits for one, and whether one is being made; under `queue` */
     pthread_mutex_t queue;
     pthread_cond_t answered;
@@ -122,28 +142,43 @@ struct famsync {
 int code_of(int64_t core_code);
 int answer_of(famsync *handle, int64_t core_code);
 
+/* No thread is cancelled within a call: it would leave locks taken. */
+static inline int hold_off_cancel(void)
+{
+    int before;
+    pthread_setcancelstate(PTHREAD_CANCEL_DISABLE, &before);
+    return before;
+}
+
+static inline void allow_cancel(int before)
+{
+    int now;
+    pthread_setcancelstate(before, &now);
+}
+
 /* api.c: turns. `enter` answers whether this process may use the handle; if so it has its turn until `leave`. */
 int enter(famsync *handle);
 int leave(famsync *handle, int code);
-bool is_forked(const famsync *handle);
 /* The number of the file with this name; that of all files where there is none. */
 unsigned number_of(const famsync *handle, const char *name);
 
 /* volume_file.c: opens, locks and judges the file of a volume, and syncs it; nothing is open where it is refused. */
-int open_volume_file(const char *path, bool trust, struct volume *volume, struct message *message);
+int open_volume_file(const char *path, const struct famsync_options *options, struct volume *volume,
+                     struct message *message);
 void close_volume_file(struct volume *volume);
-/* Closes the file alone, in a process that was forked. */
+/* Closes the descriptors alone, in a process that was forked. */
 void let_volume_go(struct volume *volume);
 /* Unlocks the file, and closes it: a process that was forked, and is about to be another program, may have it open. */
 void unlock_volume(struct volume *volume);
-/* Marks a volume as suspect, and makes the mark durable. */
+/* Marks a volume as suspect, and makes the mark durable; FAMSYNC_SYSTEM where that can't be done. */
 int mark_suspect(const struct volume *volume);
 
 /* drain.c: makes the calls that the core has recorded, unless the newest of them is a write: writes that aren't to be
    synced yet wait. An error ends the session. */
 int drain(famsync *handle);
-/* Whether the newest of the calls that wait is a sync. */
+/* Whether the newest of the calls that wait is a sync; whether any of them is a write. */
 bool ends_with_sync(famsync *handle);
+bool has_write(famsync *handle);
 int begin_gathering(struct gathered *gathered, unsigned pieces);
 void end_gathering(struct gathered *gathered);
 
@@ -154,8 +189,20 @@ int read_blocks(famsync *handle, uint32_t block, uint32_t count);
 /* The block that the core wants, and up to as many behind it as `bytes` take. */
 int supply(famsync *handle, uint32_t block, size_t bytes);
 
+/* stored.c: the pages that the core has stores of which no commit has. Each of them takes a frame, so there are no more
+   than frames. */
+int begin_stored(struct stored *stored, unsigned most);
+void end_stored(struct stored *stored);
+void add_stored(struct stored *stored, unsigned file, uint64_t page);
+/* How many of some pages of a file are among them. */
+size_t stored_among(const struct stored *stored, unsigned file, uint64_t first, size_t count);
+/* Forgets those of a file from a page on; and all. */
+void cut_stored(struct stored *stored, unsigned file, uint64_t first);
+void forget_stored(struct stored *stored);
+
 /* ranges.c: loads and stores, and what maps a file; the caller has its turn. */
-int map_pages(famsync *handle, unsigned file, uint64_t offset, uint64_t length, int protection, uint64_t *address);
+/* The address of a mapping of all pages that a file can have, which is made once. */
+int map_whole(famsync *handle, unsigned file, uint64_t *address);
 int load_range(famsync *handle, uint64_t address, unsigned char *bytes, size_t count, size_t *done);
 int store_range(famsync *handle, uint64_t address, const unsigned char *bytes, size_t count, size_t *done);
 
@@ -173,7 +220,13 @@ void end_background(famsync *handle);
 int write_out(famsync *handle, bool gives_way);
 
 /* forks.c: the handles of this process, so that a forked one lets their volumes go. */
-void enter_handle(famsync *handle);
+int enter_handle(famsync *handle);
 void leave_handle(famsync *handle);
+/* Whether this process is a copy of the one that began the session. One that shares its memory isn't. */
+bool is_forked(const famsync *handle);
+
+/* faults.c: the lock of the table in which the handler of SIGSEGV finds plain memory. */
+void lock_table(void);
+void unlock_table(void);
 
 #endif

@@ -26,7 +26,8 @@ static int map_in_core(famsync *handle, const struct mapping *mapping, int prote
 
 /* A page between two mappings stays free, so that no range runs from one into the other. Where a mapping is refused its
    addresses aren't used again. */
-int map_pages(famsync *handle, unsigned file, uint64_t offset, uint64_t length, int protection, uint64_t *address)
+static int map_pages(famsync *handle, unsigned file, uint64_t offset, uint64_t length, int protection,
+                     uint64_t *address)
 {
     struct mapping *mapping;
     uint64_t pages;
@@ -51,6 +52,26 @@ int map_pages(famsync *handle, unsigned file, uint64_t offset, uint64_t length, 
     handle->mappings = mapping;
     *address = mapping->address;
     return FAMSYNC_OK;
+}
+
+int map_whole(famsync *handle, unsigned number, uint64_t *address)
+{
+    struct file *file = &handle->file[number];
+    int protection = handle->volume.readonly ? FAMSYNC_READ : FAMSYNC_READ | FAMSYNC_WRITE, code = FAMSYNC_OK;
+    if (file->whole == 0)
+        code = map_pages(handle, number, 0, file->pages * PAGE, protection, &file->whole);
+    *address = file->whole;
+    return code;
+}
+
+/* Notes the pages of some bytes that the core has stored. No range runs from one mapping into another. */
+static void note_stored(famsync *handle, uint64_t address, uint64_t count)
+{
+    const struct mapping *mapping = handle->mappings;
+    while (mapping && (address < mapping->address || address - mapping->address >= mapping->pages * PAGE))
+        mapping = mapping->next;
+    for (uint64_t at = address / PAGE; mapping && count > 0 && at <= (address + count - 1) / PAGE; at++)
+        add_stored(&handle->stored, mapping->file, mapping->first + at - mapping->address / PAGE);
 }
 
 /* Makes what is recorded, whatever the call is to answer; an error of that is answered instead. */
@@ -86,6 +107,7 @@ int store_range(famsync *handle, uint64_t address, const unsigned char *bytes, s
         size_t left = count - *done;
         int32_t answer = famsync_core_store(handle->core, address + *done, bytes + *done,
                                             left < AT_ONCE ? left : AT_ONCE, &some, &wanted, &handle->core.at);
+        note_stored(handle, address + *done, some);
         *done += some;
         code = answer == FAMSYNC_CORE_WANTED ? supply(handle, wanted, count - *done) : answer_of(handle, answer);
     }
@@ -104,6 +126,8 @@ int famsync_map(famsync *handle, const char *file, uint64_t offset, uint64_t len
     number = number_of(handle, file);
     if (number == handle->files)
         return leave(handle, FAMSYNC_NOFILE);
+    if (handle->volume.readonly && protection & FAMSYNC_WRITE)
+        return leave(handle, FAMSYNC_READONLY);
     return leave(handle, map_pages(handle, number, offset, length, protection, address));
 }
 
@@ -153,19 +177,26 @@ static int ask_length(famsync *handle, unsigned file, uint64_t length, bool *in_
     }
 }
 
-/* Brings the page in which a file ends into memory: a byte of it is loaded through a mapping that has it. */
+/* Brings the page in which a file ends into memory: a byte of it is loaded. */
 static int load_last_page(famsync *handle, unsigned file)
 {
-    uint64_t page = handle->file[file].length / PAGE, address = 0;
+    uint64_t address;
     unsigned char byte;
     size_t done;
-    int code = FAMSYNC_OK;
-    for (struct mapping *mapping = handle->mappings; mapping && address == 0; mapping = mapping->next)
-        if (mapping->file == file && page >= mapping->first && page - mapping->first < mapping->pages)
-            address = mapping->address + (page - mapping->first) * PAGE;
-    if (address == 0)
-        code = map_pages(handle, file, page * PAGE, PAGE, FAMSYNC_READ, &address);
-    return code == FAMSYNC_OK ? load_range(handle, address, &byte, 1, &done) : code;
+    int code = map_whole(handle, file, &address);
+    if (code == FAMSYNC_OK)
+        code = load_range(handle, address + handle->file[file].length / PAGE * PAGE, &byte, 1, &done);
+    return code;
+}
+
+/* Notes what another length has stored: what the file grew by, and the page in which it ended. */
+static void note_length(famsync *handle, unsigned file, uint64_t length)
+{
+    uint64_t before = handle->file[file].length;
+    if (length < before)
+        cut_stored(&handle->stored, file, (length + PAGE - 1) / PAGE);
+    for (uint64_t page = before / PAGE; length > before && page < (length + PAGE - 1) / PAGE; page++)
+        add_stored(&handle->stored, file, page);
 }
 
 static int set_length(famsync *handle, unsigned file, uint64_t length)
@@ -179,8 +210,10 @@ static int set_length(famsync *handle, unsigned file, uint64_t length)
             break;
         code = ask_length(handle, file, length, &in_memory);
     }
-    if (code == FAMSYNC_OK)
+    if (code == FAMSYNC_OK) {
+        note_length(handle, file, length);
         atomic_store(&handle->file[file].length, length);
+    }
     return drain_after(handle, code);
 }
 
@@ -196,6 +229,8 @@ int famsync_setlength(famsync *handle, const char *file, uint64_t length)
     number = number_of(handle, file);
     if (number == handle->files)
         return leave(handle, FAMSYNC_NOFILE);
+    if (handle->volume.readonly)
+        return leave(handle, FAMSYNC_READONLY);
     if (has_memory(handle, number))
         return leave(handle, FAMSYNC_BUSY);
     return leave(handle, set_length(handle, number, length));

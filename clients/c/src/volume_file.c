@@ -9,21 +9,25 @@
 #include <string.h>
 #include <sys/file.h>
 #include <sys/stat.h>
+#include <time.h>
 #include <unistd.h>
 
 /* How often a file is opened that is another when it is locked. */
 #define TRIES 64
+
+/* The longest pause between two tries to lock a file that is in use, in milliseconds. */
+#define LONGEST_PAUSE 16u
 
 static const char MARK_TEXT[] =
     "A sync of the volume beside this file failed. What the system gives of it may not be on the disk.\n";
 
 /* A file under a descriptor above 2, that no program which is started gets: where a standard stream was closed, a file
    that is opened gets its number, and what is meant for the stream would land in the file. */
-static int open_above_streams(const char *path, int flags)
+static int open_above_streams(int folder, const char *name, int flags)
 {
     int file, above, error;
     do
-        file = open(path, flags | O_CLOEXEC, 0666);
+        file = openat(folder, name, flags | O_CLOEXEC, 0666);
     while (file < 0 && errno == EINTR);
     if (file < 0 || file > 2)
         return file;
@@ -43,64 +47,113 @@ static int sync_file(int file)
     return synced;
 }
 
-/* Makes the names in the folder of a file durable. */
-static int sync_folder_of(const char *place)
+/* Makes the names in the volume's folder durable. A folder that this process may not read can't be synced. */
+static int sync_folder(const struct volume *volume)
 {
-    char *folder = strdup(place), *slash;
-    int file, synced, error;
-    if (!folder)
-        return -1;
-    slash = strrchr(folder, '/');
-    if (slash)
-        slash[slash == folder ? 1 : 0] = 0;
-    file = open_above_streams(slash ? folder : ".", O_RDONLY | O_DIRECTORY);
-    free(folder);
-    if (file < 0)
-        return -1;
-    synced = sync_file(file);
-    error = errno;
-    close(file);
-    errno = error;
+    int synced = sync_file(volume->folder);
+    if (synced != 0 && errno == EBADF)
+        errno = EACCES;
     return synced;
 }
 
-static int write_mark(int file)
+/* Writes the text of a mark. The mark is its name: a disk that has no room for the text doesn't matter. */
+static int write_text(int file)
 {
     size_t done = 0;
     while (done < sizeof MARK_TEXT - 1) {
         ssize_t written = write(file, MARK_TEXT + done, sizeof MARK_TEXT - 1 - done);
         if (written < 0 && errno != EINTR)
-            return -1;
+            break;
         done += written > 0 ? (size_t)written : 0;
     }
     return sync_file(file);
 }
 
-int mark_suspect(const struct volume *volume)
+/* Makes the mark, an empty one where no descriptor is left to write to it. */
+static int make_mark(const struct volume *volume)
 {
-    int file = open_above_streams(volume->mark, O_WRONLY | O_CREAT | O_TRUNC), made;
+    int file = open_above_streams(volume->folder, volume->mark, O_WRONLY | O_CREAT | O_TRUNC), made, error;
+    if (file < 0 && (errno == EMFILE || errno == ENFILE))
+        return mknodat(volume->folder, volume->mark, S_IFREG | 0666, 0) == 0 || errno == EEXIST ? 0 : -1;
     if (file < 0)
-        return FAMSYNC_SYSTEM;
-    made = write_mark(file);
+        return -1;
+    made = write_text(file);
+    error = errno;
     close(file);
-    return made == 0 && sync_folder_of(volume->place) == 0 ? FAMSYNC_OK : FAMSYNC_SYSTEM;
+    errno = error;
+    return made;
 }
 
-/* What can't be looked at counts as there. */
-static bool is_marked(const struct volume *volume)
+/* Whether the file that is open is the one that has its name. */
+static bool has_its_name(const struct volume *volume, const struct stat *found)
+{
+    struct stat named;
+    return fstatat(volume->folder, volume->name, &named, 0) == 0 && named.st_dev == found->st_dev &&
+           named.st_ino == found->st_ino;
+}
+
+/* A mark is of use only beside the file's name: one that was renamed isn't marked by it. */
+int mark_suspect(const struct volume *volume)
 {
     struct stat found;
-    return lstat(volume->mark, &found) == 0 || errno != ENOENT;
+    if (make_mark(volume) != 0 || sync_folder(volume) != 0 || fstat(volume->file, &found) != 0)
+        return FAMSYNC_SYSTEM;
+    if (has_its_name(volume, &found))
+        return FAMSYNC_OK;
+    errno = ENOENT;
+    return FAMSYNC_SYSTEM;
+}
+
+/* Whether a volume is marked; FAMSYNC_SYSTEM where that can't be seen, as where the mark's name would be too long. */
+static int look_for_mark(const struct volume *volume, bool *marked)
+{
+    struct stat found;
+    *marked = fstatat(volume->folder, volume->mark, &found, AT_SYMLINK_NOFOLLOW) == 0;
+    return *marked || errno == ENOENT ? FAMSYNC_OK : FAMSYNC_SYSTEM;
 }
 
 static int remove_mark(const struct volume *volume)
 {
-    if (unlink(volume->mark) == 0)
-        return sync_folder_of(volume->place) == 0 ? FAMSYNC_OK : FAMSYNC_SYSTEM;
+    if (unlinkat(volume->folder, volume->mark, 0) == 0)
+        return sync_folder(volume) == 0 ? FAMSYNC_OK : FAMSYNC_SYSTEM;
     return errno == ENOENT ? FAMSYNC_OK : FAMSYNC_SYSTEM;
 }
 
-/* Where the file of a volume is, and its mark. */
+/* Opens the folder of a file. One that this process may not read can be looked into all the same. */
+static int open_folder(const char *folder)
+{
+    int file = open_above_streams(AT_FDCWD, folder, O_RDONLY | O_DIRECTORY);
+    if (file < 0 && errno == EACCES)
+        file = open_above_streams(AT_FDCWD, folder, O_PATH | O_DIRECTORY);
+    return file;
+}
+
+/* The name of the file at a place; the folder itself where the place ends with a slash. */
+static const char *name_at(const char *place)
+{
+    const char *slash = strrchr(place, '/'), *name = slash ? slash + 1 : place;
+    return *name ? name : ".";
+}
+
+/* Opens the folder in which the place is, once for the whole session: a folder may get another name, and the process
+   another current one. */
+static int enter_folder(struct volume *volume)
+{
+    char *folder = strdup(volume->place), *slash;
+    int error;
+    if (!folder)
+        return FAMSYNC_NOMEMORY;
+    slash = strrchr(folder, '/');
+    if (slash)
+        slash[slash == folder ? 1 : 0] = 0;
+    volume->folder = open_folder(slash ? folder : ".");
+    error = errno;
+    free(folder);
+    errno = error;
+    return volume->folder >= 0 ? FAMSYNC_OK : FAMSYNC_SYSTEM;
+}
+
+/* Where the file of a volume is, and the name of its mark. */
 static int find_places(const char *path, struct volume *volume)
 {
     struct stat found;
@@ -111,59 +164,74 @@ static int find_places(const char *path, struct volume *volume)
         volume->place = strdup(path);
     if (!volume->place)
         return errno == ENOMEM ? FAMSYNC_NOMEMORY : FAMSYNC_SYSTEM;
-    room = strlen(volume->place) + sizeof ".suspect";
+    volume->name = name_at(volume->place);
+    room = strlen(volume->name) + sizeof ".suspect";
     volume->mark = malloc(room);
     if (!volume->mark)
         return FAMSYNC_NOMEMORY;
-    snprintf(volume->mark, room, "%s.suspect", volume->place);
-    return FAMSYNC_OK;
+    snprintf(volume->mark, room, "%s.suspect", volume->name);
+    return enter_folder(volume);
 }
 
-/* Whether the file that is open is the one at its place. */
-static bool is_at_its_place(const struct volume *volume, const struct stat *found)
+/* A session that writes has the file alone; those that read share it. */
+static int lock_file(const struct volume *volume)
 {
-    struct stat named;
-    return stat(volume->place, &named) == 0 && named.st_dev == found->st_dev && named.st_ino == found->st_ino;
+    int locked;
+    do
+        locked = flock(volume->file, (volume->readonly ? LOCK_SH : LOCK_EX) | LOCK_NB);
+    while (locked != 0 && errno == EINTR);
+    return locked == 0 ? FAMSYNC_OK : errno == EWOULDBLOCK ? FAMSYNC_INUSE : FAMSYNC_SYSTEM;
 }
 
-/* Opens what the place names, if that is a regular file (opening a pipe would wait for its other end), and locks it.
+/* Opens what has the name, if that is a regular file (opening a pipe would wait for its other end), and locks it.
    `*right` is whether that is the file which has the name once it is locked. */
 static int open_once(struct volume *volume, struct stat *found, bool *right)
 {
-    int locked;
-    if (stat(volume->place, found) != 0)
+    int code;
+    if (fstatat(volume->folder, volume->name, found, 0) != 0)
         return FAMSYNC_SYSTEM;
     if (!S_ISREG(found->st_mode))
         return FAMSYNC_NOTREGULAR;
-    volume->file = open_above_streams(volume->place, O_RDWR | O_NOCTTY);
+    volume->file = open_above_streams(volume->folder, volume->name, (volume->readonly ? O_RDONLY : O_RDWR) | O_NOCTTY);
     if (volume->file < 0)
         return FAMSYNC_SYSTEM;
-    do
-        locked = flock(volume->file, LOCK_EX | LOCK_NB);
-    while (locked != 0 && errno == EINTR);
-    if (locked != 0)
-        return errno == EWOULDBLOCK ? FAMSYNC_INUSE : FAMSYNC_SYSTEM;
+    code = lock_file(volume);
+    if (code != FAMSYNC_OK)
+        return code;
     if (fstat(volume->file, found) != 0)
         return FAMSYNC_SYSTEM;
-    *right = is_at_its_place(volume, found);
+    *right = has_its_name(volume, found);
     return FAMSYNC_OK;
+}
+
+static void close_descriptor(int *descriptor)
+{
+    int error = errno;
+    if (*descriptor >= 0)
+        close(*descriptor);
+    *descriptor = -1;
+    errno = error;
 }
 
 void let_volume_go(struct volume *volume)
 {
+    close_descriptor(&volume->file);
+    close_descriptor(&volume->folder);
+}
+
+/* Where unlocking fails, closing the file does the same a moment later. */
+static void unlock_file(struct volume *volume)
+{
     int error = errno;
     if (volume->file >= 0)
-        close(volume->file);
-    volume->file = -1;
+        (void)flock(volume->file, LOCK_UN);
     errno = error;
+    close_descriptor(&volume->file);
 }
 
 void unlock_volume(struct volume *volume)
 {
-    int error = errno;
-    if (volume->file >= 0)
-        (void)flock(volume->file, LOCK_UN); /* where that fails, closing it does the same a moment later */
-    errno = error;
+    unlock_file(volume);
     let_volume_go(volume);
 }
 
@@ -179,42 +247,100 @@ static int open_locked(struct volume *volume)
             volume->bytes = (uint64_t)found.st_size;
             return !S_ISREG(found.st_mode) ? FAMSYNC_NOTREGULAR : found.st_nlink > 1 ? FAMSYNC_NAMES : FAMSYNC_OK;
         }
-        unlock_volume(volume);
+        unlock_file(volume);
     }
     return FAMSYNC_REPLACED;
 }
 
-/* Syncs a file that was opened: what is read of it then is on the disk. One that is trusted isn't marked any more. */
-static int sync_opened(struct volume *volume, bool trust, struct message *message)
+static uint64_t milliseconds(void)
 {
-    if (!trust && is_marked(volume)) {
-        say(message, "\"%s\" says that a sync of the volume failed, so what is read of it may not be on the disk",
-            volume->mark);
-        return FAMSYNC_SUSPECT;
-    }
-    if (sync_file(volume->file) != 0) {
-        int error = errno;
-        bool marked = mark_suspect(volume) == FAMSYNC_OK;
-        say(message, "\"%s\" can't be synced: %s; \"%s\" %s", volume->place, strerror(error), volume->mark,
-            marked ? "marks it" : "can't be made");
-        errno = error;
-        return FAMSYNC_DEVICE;
-    }
-    return trust ? remove_mark(volume) : FAMSYNC_OK;
+    struct timespec now;
+    clock_gettime(CLOCK_MONOTONIC, &now);
+    return (uint64_t)now.tv_sec * 1000 + (uint64_t)now.tv_nsec / 1000000;
 }
 
-int open_volume_file(const char *path, bool trust, struct volume *volume, struct message *message)
+/* The same, and waits for one that is in use: no call waits for a lock up to some time, so it is asked for again and
+   again. The name may be that of another file meanwhile. */
+static int open_within(struct volume *volume, unsigned wait_ms)
+{
+    uint64_t end = milliseconds() + wait_ms;
+    unsigned pause = 1;
+    for (;;) {
+        int code = open_locked(volume);
+        uint64_t now = milliseconds();
+        if (code != FAMSYNC_INUSE || now >= end)
+            return code;
+        close_descriptor(&volume->file);
+        if (pause > end - now)
+            pause = (unsigned)(end - now);
+        nanosleep(&(struct timespec){0, (long)pause * 1000000}, NULL);
+        pause = pause < LONGEST_PAUSE ? 2 * pause : LONGEST_PAUSE;
+    }
+}
+
+/* Syncs a file that was opened: what is read of it then is on the disk. One that can't be synced gets a mark. */
+static int sync_opened(struct volume *volume, struct message *message)
+{
+    int error, code;
+    if (sync_file(volume->file) == 0)
+        return FAMSYNC_OK;
+    error = errno;
+    code = mark_suspect(volume) == FAMSYNC_OK ? FAMSYNC_DEVICE : FAMSYNC_UNMARKED;
+    if (code == FAMSYNC_DEVICE)
+        say(message, "\"%s\" can't be synced: %s; \"%s.suspect\" marks it", volume->place, strerror(error),
+            volume->place);
+    else
+        say(message, "\"%s\" can't be synced: error %d; \"%s.suspect\", which would mark it, can't be made: %s",
+            volume->place, error, volume->place, strerror(errno));
+    errno = error;
+    return code;
+}
+
+/* A reader can't sync the file: the error of a write that failed would be told to it alone, and no writer would hear of
+   it. It needs no sync, as all that is written home was synced before its gate was closed. */
+static int judge_mark(const struct volume *volume, bool trust, struct message *message)
+{
+    bool marked;
+    int code = look_for_mark(volume, &marked);
+    if (code != FAMSYNC_OK) {
+        say(message, "whether \"%s.suspect\" marks the volume can't be seen: %s", volume->place, strerror(errno));
+        return code;
+    }
+    if (!marked || (trust && !volume->readonly))
+        return FAMSYNC_OK;
+    say(message, "\"%s.suspect\" says that a sync of the volume failed, so what is read of it may not be on the disk%s",
+        volume->place, volume->readonly ? "; open it once for writing, with trust" : "");
+    return volume->readonly ? FAMSYNC_NEEDSOPENING : FAMSYNC_SUSPECT;
+}
+
+/* One that is trusted isn't marked any more. */
+static int judge_opened(struct volume *volume, bool trust, struct message *message)
+{
+    int code = judge_mark(volume, trust, message);
+    if (code != FAMSYNC_OK || volume->readonly)
+        return code;
+    code = sync_opened(volume, message);
+    if (code != FAMSYNC_OK || !trust)
+        return code;
+    code = remove_mark(volume);
+    if (code != FAMSYNC_OK)
+        say(message, "\"%s.suspect\" can't be removed: %s", volume->place, strerror(errno));
+    return code;
+}
+
+int open_volume_file(const char *path, const struct famsync_options *options, struct volume *volume,
+                     struct message *message)
 {
     int code, error;
-    *volume = (struct volume){.file = -1};
+    *volume = (struct volume){.file = -1, .folder = -1, .readonly = options->readonly != 0};
     code = find_places(path, volume);
     if (code == FAMSYNC_OK)
-        code = open_locked(volume);
+        code = open_within(volume, options->wait_ms);
     error = errno;
     if (code != FAMSYNC_OK) {
         say(message, "\"%s\": %s", path, code == FAMSYNC_SYSTEM ? strerror(error) : famsync_strerror(code));
     } else {
-        code = sync_opened(volume, trust, message);
+        code = judge_opened(volume, options->trust != 0, message);
         error = errno;
     }
     if (code != FAMSYNC_OK)

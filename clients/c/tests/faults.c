@@ -95,15 +95,6 @@ static void note(uint64_t offset, const struct iovec *range, int count, size_t l
 #define NEXT(name) ((__typeof__(&name))dlsym(RTLD_NEXT, #name))
 #define FAIL_OR(value, call) (counted(#value) == FAILED ? -1 : (call))
 
-int open(const char *path, int flags, ...)
-{
-    va_list more;
-    va_start(more, flags);
-    int mode = flags & O_CREAT ? va_arg(more, int) : 0;
-    va_end(more);
-    return FAIL_OR(open, NEXT(open)(path, flags, mode));
-}
-
 int flock(int file, int operation)
 {
     if (operation & LOCK_UN)
@@ -111,14 +102,28 @@ int flock(int file, int operation)
     return FAIL_OR(flock, NEXT(flock)(file, operation));
 }
 
+int openat(int folder, const char *path, int flags, ...)
+{
+    va_list more;
+    va_start(more, flags);
+    int mode = flags & O_CREAT ? va_arg(more, int) : 0;
+    va_end(more);
+    return FAIL_OR(openat, NEXT(openat)(folder, path, flags, mode));
+}
+
+int mknodat(int folder, const char *path, mode_t mode, dev_t device)
+{
+    return FAIL_OR(mknodat, NEXT(mknodat)(folder, path, mode, device));
+}
+
+int fstatat(int folder, const char *path, struct stat *found, int flags)
+{
+    return FAIL_OR(fstatat, NEXT(fstatat)(folder, path, found, flags));
+}
+
 int fstat(int file, struct stat *found)
 {
     return FAIL_OR(fstat, NEXT(fstat)(file, found));
-}
-
-int stat(const char *path, struct stat *found)
-{
-    return FAIL_OR(stat, NEXT(stat)(path, found));
 }
 
 int lstat(const char *path, struct stat *found)
@@ -126,9 +131,9 @@ int lstat(const char *path, struct stat *found)
     return FAIL_OR(lstat, NEXT(lstat)(path, found));
 }
 
-int unlink(const char *path)
+int unlinkat(int folder, const char *path, int flags)
 {
-    return FAIL_OR(unlink, NEXT(unlink)(path));
+    return FAIL_OR(unlinkat, NEXT(unlinkat)(folder, path, flags));
 }
 
 ssize_t pread(int file, void *bytes, size_t count, off_t at)

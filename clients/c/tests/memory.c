@@ -193,11 +193,11 @@ static void too_many_pages(void)
     WANT_CODE(famsync_close(handle), FAMSYNC_OK);
 }
 
-/* Of the same volume. Pages that famsync_store wrote count, too, and are found by the core alone: then a part was
-   stored, which no later call may commit. */
+/* Of the same volume. Pages that famsync_store wrote count, too, each page once. Where all together are too many, none is
+   stored: the memory can be closed, and the rest is committed. */
 static void too_many_with_stores(void)
 {
-    static unsigned char bytes[4 * 4096];
+    static unsigned char bytes[4 * 4096], found[4 * 4096];
     famsync *handle = opened();
     famsync_memory *a = memory_of(handle, "a");
     unsigned char *at = famsync_memory_at(a);
@@ -205,19 +205,52 @@ static void too_many_with_stores(void)
     memset(bytes, 9, sizeof bytes);
     WANT_CODE(famsync_map(handle, "a", 16 * 4096, 0, FAMSYNC_READ | FAMSYNC_WRITE, &address), FAMSYNC_OK);
     WANT_CODE(famsync_store(handle, address, bytes, sizeof bytes, NULL), FAMSYNC_OK);
-    for (int i = 0; i < 6; i++)
+    for (int i = 0; i < 5; i++)
         at[i * 2 * 4096] = 3;
-    WANT_CODE(famsync_msync(handle, NULL), FAMSYNC_NOFRAME);
-    WANT(famsync_memory_dirty(a) == 6);
-    WANT_CODE(famsync_msync(handle, NULL), FAMSYNC_NOFRAME);
+    for (int i = 0; i < 2; i++) {
+        WANT_CODE(famsync_msync(handle, NULL), FAMSYNC_NOFRAME);
+        WANT(famsync_memory_dirty(a) == 5 && at[8 * 4096] == 3);
+    }
     WANT_CODE(famsync_memory_close(a), FAMSYNC_OK);
-    WANT_CODE(famsync_msync(handle, NULL), FAMSYNC_TORN);
+    WANT_CODE(famsync_msync(handle, NULL), FAMSYNC_OK);
+    WANT_CODE(famsync_load(handle, address, found, sizeof found, NULL), FAMSYNC_OK);
+    WANT(memcmp(found, bytes, sizeof found) == 0);
     WANT_CODE(famsync_close(handle), FAMSYNC_OK);
     handle = opened();
     a = memory_of(handle, "a");
     at = famsync_memory_at(a);
     for (int i = 0; i < 8; i++)
         WANT(at[i * 2 * 4096] == 1);
+    WANT(at[16 * 4096] == 9 && at[20 * 4096 - 1] == 9);
+    WANT_CODE(famsync_memory_close(a), FAMSYNC_OK);
+    WANT_CODE(famsync_close(handle), FAMSYNC_OK);
+}
+
+/* As many as go into a commit, by each way: pages that both have stored to count once, those that a file grows by count,
+   and those that are cut off don't. */
+static void as_many_as_go(unsigned layout)
+{
+    static const unsigned char bytes[4 * 4096] = {1};
+    uint64_t address;
+    make_volume_of(layout, 9, "a=81920 b=5000/90000");
+    famsync *handle = opened();
+    famsync_memory *a = memory_of(handle, "a");
+    unsigned char *at = famsync_memory_at(a);
+    unsigned grown = 0, most = famsync_frames(handle);
+    WANT_CODE(famsync_map(handle, "a", 4096, 0, FAMSYNC_READ | FAMSYNC_WRITE, &address), FAMSYNC_OK);
+    for (unsigned round = 1; round < 6; round++) {
+        WANT_CODE(famsync_store(handle, address, bytes, sizeof bytes, NULL), FAMSYNC_OK); /* pages 1 to 4 */
+        if (has_lengths(layout)) { /* and two of the other file, or three */
+            WANT_CODE(famsync_setlength(handle, "b", 5000 + 4096 * (uint64_t)round), FAMSYNC_OK);
+            WANT_CODE(famsync_setlength(handle, "b", 5000 + 4096 * (uint64_t)round + 8192), FAMSYNC_OK);
+            WANT_CODE(famsync_setlength(handle, "b", 5000 + 4096 * (uint64_t)round), FAMSYNC_OK);
+            grown = 2;
+        }
+        for (unsigned page = 3; page < most - grown; page++) /* with pages 1 and 2 that is all but one */
+            at[page * 4096] = (unsigned char)round;
+        at[19 * 4096] = (unsigned char)round;
+        WANT_CODE(famsync_msync(handle, NULL), FAMSYNC_OK);
+    }
     WANT_CODE(famsync_memory_close(a), FAMSYNC_OK);
     WANT_CODE(famsync_close(handle), FAMSYNC_OK);
 }
@@ -300,6 +333,8 @@ int main(void)
     other_faults();
     too_many_pages();
     too_many_with_stores();
+    for (unsigned layout = 1; layout <= LAYOUTS; layout++)
+        as_many_as_go(layout);
     no_frames();
     rising_stores();
     many_handles();
