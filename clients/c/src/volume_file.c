@@ -278,20 +278,27 @@ static int open_within(struct volume *volume, unsigned wait_ms)
     }
 }
 
-/* Syncs a file that was opened: what is read of it then is on the disk. One that can't be synced gets a mark. */
-static int sync_opened(struct volume *volume, struct message *message)
+/* Marks a volume whose file can't be synced. */
+static int mark_opened(const struct volume *volume, struct message *message)
+{
+    const char *error = strerror(errno);
+    if (mark_suspect(volume) == FAMSYNC_OK) {
+        say(message, "\"%s\" can't be synced: %s; \"%s.suspect\" marks it", volume->place, error, volume->place);
+        return FAMSYNC_DEVICE;
+    }
+    say(message, "\"%s\" can't be synced: %s; \"%s.suspect\", which would mark it, can't be made: %s", volume->place,
+        error, volume->place, strerror(errno));
+    return FAMSYNC_UNMARKED;
+}
+
+/* Syncs a file that was opened: what is read of it then is on the disk. */
+static int sync_opened(const struct volume *volume, struct message *message)
 {
     int error, code;
     if (sync_file(volume->file) == 0)
         return FAMSYNC_OK;
     error = errno;
-    code = mark_suspect(volume) == FAMSYNC_OK ? FAMSYNC_DEVICE : FAMSYNC_UNMARKED;
-    if (code == FAMSYNC_DEVICE)
-        say(message, "\"%s\" can't be synced: %s; \"%s.suspect\" marks it", volume->place, strerror(error),
-            volume->place);
-    else
-        say(message, "\"%s\" can't be synced: error %d; \"%s.suspect\", which would mark it, can't be made: %s",
-            volume->place, error, volume->place, strerror(errno));
+    code = mark_opened(volume, message);
     errno = error;
     return code;
 }

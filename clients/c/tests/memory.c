@@ -193,8 +193,8 @@ static void too_many_pages(void)
     WANT_CODE(famsync_close(handle), FAMSYNC_OK);
 }
 
-/* Of the same volume. Pages that famsync_store wrote count, too, each page once. Where all together are too many, none is
-   stored: the memory can be closed, and the rest is committed. */
+/* Of the same volume. Pages that famsync_store wrote count, too, each page once. Where all together are too many, none
+   is stored: the memory can be closed, and the rest is committed. */
 static void too_many_with_stores(void)
 {
     static unsigned char bytes[4 * 4096], found[4 * 4096];
@@ -226,8 +226,8 @@ static void too_many_with_stores(void)
     WANT_CODE(famsync_close(handle), FAMSYNC_OK);
 }
 
-/* As many as go into a commit, by each way: pages that both have stored to count once, those that a file grows by count,
-   and those that are cut off don't. */
+/* As many as go into a commit, by each way: pages that both have stored to count once, those that a file grows by
+   count, and those that are cut off don't. */
 static void as_many_as_go(unsigned layout)
 {
     static const unsigned char bytes[4 * 4096] = {1};
