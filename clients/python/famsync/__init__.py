@@ -26,6 +26,7 @@ from ._errors import (
     Forked,
     InUse,
     Invalid,
+    NeedsOpening,
     NoAddresses,
     NoFile,
     NoFrame,
@@ -36,12 +37,15 @@ from ._errors import (
     NotRegular,
     Overlap,
     PastEnd,
+    ReadOnly,
     Replaced,
     SeveralNames,
     Suspect,
     System,
     Torn,
+    Unmarked,
 )
+from ._library import version
 from ._mapping import Mapping
 from ._memory import Memory
 from ._volume import Path, Volume
@@ -61,6 +65,7 @@ __all__ = [
     "Invalid",
     "Mapping",
     "Memory",
+    "NeedsOpening",
     "NoAddresses",
     "NoFile",
     "NoFrame",
@@ -71,18 +76,36 @@ __all__ = [
     "NotRegular",
     "Overlap",
     "PastEnd",
+    "ReadOnly",
     "Replaced",
     "SeveralNames",
     "Suspect",
     "System",
     "Torn",
+    "Unmarked",
     "Volume",
     "open",
+    "version",
 ]
 
 
 def open(
-    path: Path, *, trust: bool = False, frames: int = 0, copies: int = 64, foreground: bool = False
+    path: Path,
+    *,
+    trust: bool = False,
+    frames: int = 0,
+    copies: int = 0,
+    foreground: bool = False,
+    wait_ms: int = 0,
+    readonly: bool = False,
 ) -> Volume:
     """Begins a session with a volume; `Volume` says what the arguments are."""
-    return Volume(path, trust=trust, frames=frames, copies=copies, foreground=foreground)
+    return Volume(
+        path,
+        trust=trust,
+        frames=frames,
+        copies=copies,
+        foreground=foreground,
+        wait_ms=wait_ms,
+        readonly=readonly,
+    )

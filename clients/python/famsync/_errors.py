@@ -124,14 +124,14 @@ class NoFrame(Error):
     code = -27
 
 
-class Device(Error):
-    """A read, a write or a sync of the volume failed, or was refused memory."""
+class Device(Error, OSError):
+    """A read, a write or a sync of the volume failed, or was refused memory; `errno` says how: ENOSPC, EIO, ENOMEM."""
 
     code = -28
 
 
-class Broken(Error):
-    """A write or a sync failed earlier, and the session is over."""
+class Broken(Error, OSError):
+    """A write or a sync failed earlier, and the session is over; `errno` says how that one failed."""
 
     code = -29
 
@@ -167,6 +167,24 @@ class Busy(Error):
     code = -35
 
 
+class Unmarked(Error, OSError):
+    """A sync failed, and the volume couldn't be marked as suspect; `errno` says how the sync failed."""
+
+    code = -39
+
+
+class NeedsOpening(Error):
+    """A crash or a failed sync left work for a writer: open the volume once without readonly=True."""
+
+    code = -40
+
+
+class ReadOnly(Error):
+    """The session only reads."""
+
+    code = -41
+
+
 CLASSES = {kind.code: kind for kind in Error.__subclasses__()}
 
 
@@ -174,10 +192,10 @@ def check(code: int, message: str = "", done: int = 0, loaded: bytes = b"") -> N
     """Raises what a code says, with the library's words for it where there is no other message."""
     if code == 0:
         return
-    kind = CLASSES.get(code, Error)
-    if kind is System:
-        error = ctypes.get_errno()
-        raise System(error, message or os.strerror(error), done=done, loaded=loaded)
+    kind, error = CLASSES.get(code, Error), ctypes.get_errno()
+    if issubclass(kind, OSError):
+        said = os.strerror(error) if kind is System else f"{words(code)}: {os.strerror(error)}"
+        raise kind(error, message or said, done=done, loaded=loaded)
     raised = kind(message or words(code), done=done, loaded=loaded)
     raised.code = code
     raise raised

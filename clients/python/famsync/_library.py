@@ -14,17 +14,21 @@ class Options(ctypes.Structure):
     """struct famsync_options"""
 
     _fields_ = [
+        ("size", c_size_t),
         ("trust", c_int),
         ("frames", c_uint),
         ("copies", c_uint),
         ("foreground", c_int),
         ("message", c_void_p),
         ("message_size", c_size_t),
+        ("wait_ms", c_uint),
+        ("readonly", c_int),
     ]
 
 
 # Of each call what it answers, and what it takes.
 CALLS = {
+    "famsync_version": (c_char_p,),
     "famsync_open": (c_int, c_char_p, POINTER(Options), POINTER(c_void_p)),
     "famsync_close": (c_int, c_void_p),
     "famsync_files": (c_uint, c_void_p),
@@ -42,6 +46,7 @@ CALLS = {
     "famsync_memory_at": (c_void_p, c_void_p),
     "famsync_memory_length": (c_size_t, c_void_p),
     "famsync_memory_dirty": (c_size_t, c_void_p),
+    "famsync_memory_touch": (c_int, c_void_p, c_size_t, c_size_t),
     "famsync_memory_close": (c_int, c_void_p),
 }
 
@@ -67,6 +72,12 @@ def _load() -> ctypes.CDLL:
 
 
 library = _load()
+
+
+def version() -> str:
+    """The version of the library that is loaded."""
+    text: bytes = library.famsync_version()
+    return text.decode()
 
 
 def words(code: int) -> str:

@@ -3,14 +3,16 @@
 from __future__ import annotations
 
 import ctypes
+import operator
 import os
 import weakref
 from types import TracebackType
 from typing import TYPE_CHECKING, Any, NoReturn, Optional, SupportsIndex, Type, overload
 
 from . import _buffers
-from ._errors import Forked, check
+from ._errors import Argument, Forked, ReadOnly, check
 from ._library import library, words
+from ._session import Once
 
 if TYPE_CHECKING:
     from ._volume import Volume
@@ -19,15 +21,23 @@ if TYPE_CHECKING:
 class Lent:
     """Memory of the library, which gets it back when this goes. Its volume stays open until then."""
 
+    closing: Optional[Once] = None
+
     def __init__(self, volume: Volume) -> None:
         self.pointer = ctypes.c_void_p()
         self.owner = os.getpid()
         self._volume = volume
+        closing = Once(library.famsync_memory_close, self.pointer)
+        self._at_the_end = closing.with_(self)
+        self.closing = closing
 
     def give_back(self) -> None:
-        memory, self.pointer.value = self.pointer.value, None
-        if memory is not None and os.getpid() == self.owner:
-            library.famsync_memory_close(memory)
+        if self.closing is None:
+            return
+        if os.getpid() == self.owner:
+            self.closing.end()
+        else:
+            self.closing.forget()
 
     def __del__(self) -> None:
         self.give_back()
@@ -44,14 +54,18 @@ class Memory:
     _bytes: memoryview
     __hash__ = object.__hash__  # arrays of ctypes have none
 
-    def _begin(self, name: str, lent: Lent, address: int, length: int) -> None:
+    def _begin(self, name: str, lent: Lent, address: int, length: int, readonly: bool) -> None:
         # All buffers that are given out are of this array, and have it; nothing else does. So when it goes, nobody
         # uses the memory any more, and what it has goes with it.
         array = _buffers.array_at(address, length)
         array.lent = lent  # type: ignore[attr-defined]
         self.name, self._pointer, self._owner = name, lent.pointer, lent.owner
         self._array = weakref.ref(array)
-        self._bytes = memoryview(array)
+        self._is_readonly = readonly
+        self._bytes = self._all_of(array)
+
+    def _all_of(self, array: Any) -> memoryview:
+        return memoryview(array).toreadonly() if self._is_readonly else memoryview(array)
 
     @property
     def _is_closed(self) -> bool:
@@ -85,6 +99,8 @@ class Memory:
         return bytes(self._opened()[key]) if isinstance(key, slice) else self._opened()[key]
 
     def __setitem__(self, key: Any, value: Any) -> None:
+        if self._is_readonly:
+            raise ReadOnly(words(ReadOnly.code))
         if isinstance(key, slice):
             given = memoryview(value)
             value = given.cast("B") if given.c_contiguous else given.tobytes()
@@ -99,6 +115,14 @@ class Memory:
                 raise Forked(words(Forked.code))
             pages: int = library.famsync_memory_dirty(self._pointer)
             return pages
+
+    def touch(self, offset: int = 0, count: Optional[int] = None) -> None:
+        """Opens the pages of `count` bytes from `offset` on, without a count up to the end, as a store to each of them
+        would. Until the next commit the kernel can store to them: `readinto` works."""
+        with self.view() as view:  # so it isn't closed meanwhile
+            begin = _place(offset, len(view), "offset")
+            end = len(view) if count is None else _place(begin + operator.index(count), len(view), "count")
+            check(library.famsync_memory_touch(self._pointer, begin, end - begin))
 
     def close(self) -> None:
         """Gives the memory back; stores since the last commit are gone. BufferError where somebody has a buffer of it:
@@ -116,7 +140,7 @@ class Memory:
     def _take_again(self) -> None:
         array = self._array()
         if array is not None:
-            self._bytes = memoryview(array)
+            self._bytes = self._all_of(array)
 
     def __reduce__(self) -> NoReturn:
         raise TypeError("the memory of a volume can't be copied")
@@ -139,14 +163,20 @@ class Memory:
                 raise
 
 
-def open_memory(handle: int, volume: Volume, name: str, encoded: bytes) -> Memory:
-    """Opens plain memory of a file; where an interrupt comes in between, nothing is left open."""
-    lent = Lent(volume)
+def _place(value: Any, length: int, what: str) -> int:
+    place = operator.index(value)
+    if not 0 <= place <= length:
+        raise Argument(f"{what} isn't within the memory")
+    return place
+
+
+def open_memory(handle: ctypes.c_void_p, lent: Lent, name: str, encoded: bytes, readonly: bool) -> Memory:
+    """Opens plain memory of a file. If an interrupt comes in between, nothing is left open."""
     try:
         check(library.famsync_memory_open(handle, encoded, ctypes.byref(lent.pointer)))
         address, length = library.famsync_memory_at(lent.pointer), library.famsync_memory_length(lent.pointer)
         memory = _buffers.new(Memory, address, length)
-        memory._begin(name, lent, address, length)
+        memory._begin(name, lent, address, length, readonly)
         return memory
     except BaseException:
         lent.give_back()

@@ -7,14 +7,16 @@ import operator
 import os
 import weakref
 from types import TracebackType
-from typing import Any, Dict, NoReturn, Optional, Type, Union
+from typing import Any, Dict, List, NoReturn, Optional, Tuple, Type, Union
 
 from ._errors import Argument, Error, check
 from ._library import READ, WRITE, Options, library
 from ._mapping import Mapping
-from ._memory import Memory, open_memory
-from ._session import Session
+from ._memory import Lent, Memory, open_memory
+from ._session import Once, Session
 
+# Room for a line about why a volume wasn't opened; it has two paths at most.
+MESSAGE = 9000
 Path = Union[str, bytes, "os.PathLike[str]", "os.PathLike[bytes]"]
 
 
@@ -33,15 +35,20 @@ def _name(name: str) -> bytes:
     return os.fsencode(name)
 
 
-def _options(said: Any, trust: bool, frames: int, copies: int, foreground: bool) -> Options:
+def _options(
+    said: Any, trust: bool, frames: int, copies: int, foreground: bool, wait_ms: int, readonly: bool
+) -> Options:
     """The options of a session, with room for what is said where it doesn't begin."""
     return Options(
+        size=ctypes.sizeof(Options),
         trust=bool(trust),
         frames=_number(frames, 32, "frames"),
         copies=_number(copies, 32, "copies"),
         foreground=bool(foreground),
         message=ctypes.addressof(said),
         message_size=ctypes.sizeof(said),
+        wait_ms=_number(wait_ms, 32, "wait_ms"),
+        readonly=bool(readonly),
     )
 
 
@@ -52,7 +59,7 @@ def _path(path: Path) -> bytes:
     return encoded
 
 
-def _files(handle: int) -> Dict[str, int]:
+def _files(handle: ctypes.c_void_p) -> Dict[str, int]:
     numbers = range(library.famsync_files(handle))
     return {
         library.famsync_file_name(handle, file).decode(): library.famsync_file_length(handle, file)
@@ -63,29 +70,41 @@ def _files(handle: int) -> Dict[str, int]:
 class Volume:
     """A session with the volume at `path`; `famsync.open` begins one.
 
-    `trust`: a volume whose sync failed once is opened all the same. `frames`: pages in memory, and the most that one
-    commit can have; 0 is as many as the volume allows. `copies`: frames for copies besides, up to 64. `foreground`: no
-    thread of the library's own, which writes what is left of a commit while nobody calls.
+    - `trust`: a volume whose sync failed once is opened all the same.
+    - `frames`: pages in memory, and the most that one commit can have; 0 is as many as the volume allows.
+    - `copies`: frames for copies besides, up to 64; no call of this version needs one.
+    - `foreground`: no thread of the library's own, which writes what is left of a commit while nobody calls.
+    - `wait_ms`: how many milliseconds to wait for a volume that is in use.
+    - `readonly`: a session that only reads. Any number of them share a volume.
 
     Threads may share it, and their commits. At the end of a `with` it is closed.
     """
 
     def __init__(
-        self, path: Path, *, trust: bool = False, frames: int = 0, copies: int = 64, foreground: bool = False
+        self,
+        path: Path,
+        *,
+        trust: bool = False,
+        frames: int = 0,
+        copies: int = 0,
+        foreground: bool = False,
+        wait_ms: int = 0,
+        readonly: bool = False,
     ) -> None:
         self._memories: weakref.WeakSet[Memory] = weakref.WeakSet()
+        self._lent: List[Tuple[Once, weakref.ref[Lent]]] = []
         self.path = path
-        said, handle = ctypes.create_string_buffer(1024), ctypes.c_void_p()
-        options = _options(said, trust, frames, copies, foreground)
+        said = ctypes.create_string_buffer(MESSAGE)
+        options = _options(said, trust, frames, copies, foreground, wait_ms, readonly)
+        encoded = _path(path)
+        self._session = Session(f"the volume {os.fsdecode(path)!r}")
+        self._at_the_end = self._session.closing.with_(self)
+        self._is_readonly = bool(readonly)
         try:
-            code = library.famsync_open(_path(path), ctypes.byref(options), ctypes.byref(handle))
+            code = library.famsync_open(encoded, ctypes.byref(options), ctypes.byref(self._session.handle))
             check(code, said.value.decode("utf-8", "replace"))
-            assert handle.value is not None
-            self._session = Session(handle.value, f"the volume {os.fsdecode(path)!r}")
         except BaseException:
-            # an interrupt may have come in between; from then on, __del__ closes
-            if not hasattr(self, "_session"):
-                library.famsync_close(handle)
+            self._session.closing.end()
             raise
 
     @property
@@ -109,16 +128,28 @@ class Volume:
         """Plain memory of a whole file, which has a byte at least."""
         return self._session.call(self._open_memory, name)
 
-    def _open_memory(self, handle: int, name: str) -> Memory:
-        memory = open_memory(handle, self, name, _name(name))
+    def _open_memory(self, handle: ctypes.c_void_p, name: str) -> Memory:
+        self._take_back()
+        lent = Lent(self)
+        self._lent.append((lent.closing, weakref.ref(lent)))
+        memory = open_memory(handle, lent, name, _name(name), self._is_readonly)
         self._memories.add(memory)
         return memory
 
-    def map(self, name: str, offset: int = 0, length: int = 0, write: bool = True) -> Mapping:
-        """Maps pages of a file from `offset` on, a multiple of 4,096; a length of 0 is up to the file's end."""
+    def _take_back(self) -> None:
+        """Closes memory that nobody has any more, and that an interrupt has left open."""
+        for closing, lent in list(self._lent):
+            if lent() is None:
+                closing.end()
+        self._lent[:] = [(closing, lent) for closing, lent in self._lent if closing.pointer]
+
+    def map(self, name: str, offset: int = 0, length: int = 0, write: Optional[bool] = None) -> Mapping:
+        """Maps pages of a file from `offset` on, a multiple of 4,096; a length of 0 is up to the file's end. It is for
+        writing, too, unless `write` is False or the session only reads."""
+        write = not self._is_readonly if write is None else write
         return self._session.call(self._map, name, _number(offset, 64, "offset"), _number(length, 64, "length"), write)
 
-    def _map(self, handle: int, name: str, offset: int, length: int, write: bool) -> Mapping:
+    def _map(self, handle: ctypes.c_void_p, name: str, offset: int, length: int, write: bool) -> Mapping:
         address = ctypes.c_uint64()
         length = length or max(0, _files(handle).get(name, 0) - offset)
         rights = READ | WRITE if write else READ
@@ -147,21 +178,15 @@ class Volume:
 
         BufferError where somebody has a buffer of plain memory: then the volume stays open. Device where a write or a
         sync failed: then it is closed, and what was acknowledged is kept."""
-        handle = self._session.take()
-        if handle is None:
-            return
-        try:
-            for memory in list(self._memories):
-                memory.close()
-        except BaseException:
-            self._session.give_back(handle)
-            raise
-        code = library.famsync_close(handle)
-        if code == Argument.code:
+        check(self._session.end(self._close_memories))
+
+    def _close_memories(self) -> None:
+        for memory in list(self._memories):
+            memory.close()
+        self._take_back()
+        if self._lent:
             # of a Memory that was dropped there is a view
-            self._session.give_back(handle)
             raise BufferError("the volume can't be closed while somebody has a buffer of its memory")
-        check(code)
 
     def __enter__(self) -> Volume:
         return self

@@ -1,5 +1,6 @@
 """Each code is a class, and what makes it."""
 
+import errno
 import os
 import pickle
 import re
@@ -53,7 +54,8 @@ class Classes(unittest.TestCase):
     def test_those_that_python_has_a_class_for(self):
         self.assertTrue(issubclass(famsync.Argument, ValueError))
         self.assertTrue(issubclass(famsync.NoMemory, MemoryError))
-        self.assertTrue(issubclass(famsync.System, OSError))
+        for kind in (famsync.System, famsync.Device, famsync.Broken, famsync.Unmarked):
+            self.assertTrue(issubclass(kind, OSError))
 
     def test_a_code_of_a_later_library(self):
         with self.assertRaises(famsync.Error) as caught:
@@ -61,7 +63,8 @@ class Classes(unittest.TestCase):
         self.assertEqual((type(caught.exception), caught.exception.code), (famsync.Error, -99))
 
     def test_they_can_be_pickled(self):
-        for error in (famsync.System(2, "nowhere"), famsync.NoFrame("full", done=3, loaded=b"abc")):
+        kept = [famsync.System(2, "nowhere"), famsync.Device(28, "full"), famsync.NoFrame("full", done=3, loaded=b"abc")]
+        for error in kept:
             again = pickle.loads(pickle.dumps(error))
             self.assertEqual((type(again), again.args, again.done), (type(error), error.args, error.done))
 
@@ -158,7 +161,7 @@ class InASession(InAFolder):
         memory.close()
         self.assertEqual(volume.commit(), 2)
 
-    def test_torn(self):
+    def test_more_pages_in_both_ways_together(self):
         volume = self.opened()
         memory, mapping = volume.memory("a"), volume.map("a", 16 * PAGE)
         mapping[0 : 4 * PAGE] = b"9" * (4 * PAGE)
@@ -166,7 +169,7 @@ class InASession(InAFolder):
             memory[2 * page * PAGE] = 3
         self.assertRaises(famsync.NoFrame, volume.commit)
         memory.close()
-        self.assertRaises(famsync.Torn, volume.commit)
+        self.assertEqual((volume.commit(), mapping[0], volume.map("a")[0]), (1, 57, 0))
 
     def test_memory_is_open(self):
         volume = self.opened()
@@ -174,16 +177,22 @@ class InASession(InAFolder):
             self.assertRaises(famsync.Overlap, volume.memory, "a")
             self.assertRaises(famsync.Busy, volume.set_length, "a", 1)
 
+    def fails(self, kind, number, call, *arguments):
+        """A call fails, and says by errno how: a full disk, a broken one and want of memory aren't the same."""
+        with self.assertRaisesRegex(kind, os.strerror(number)) as caught:
+            call(*arguments)
+        self.assertEqual((caught.exception.errno, caught.exception.code), (number, kind.code))
+
     def test_device(self):
         volume = self.opened()
         mapping = volume.map("a")
         mapping[0:5] = b"first"
         with limited(resource.RLIMIT_FSIZE, PAGE):
-            self.assertRaises(famsync.Device, volume.commit)
-            self.assertRaises(famsync.Broken, volume.commit)
-        self.assertRaises(famsync.Broken, volume.map, "a")
+            self.fails(famsync.Device, errno.EFBIG, volume.commit)
+            self.fails(famsync.Broken, errno.EFBIG, volume.commit)
+        self.fails(famsync.Broken, errno.EFBIG, volume.map, "a")
         self.assertEqual(volume.acknowledged, 0)
-        self.assertRaises(famsync.Device, volume.close)
+        self.fails(famsync.Device, errno.EFBIG, volume.close)
         volume.close()
         with famsync.open("v.img") as volume:
             self.assertEqual(volume.map("a")[0:5], bytes(5))
@@ -193,8 +202,7 @@ class InASession(InAFolder):
         mapping, blocks = volume.map("a"), os.path.getsize("v.img") // PAGE
         with open("v.img", "r+b") as file:
             file.truncate((blocks - 10) * PAGE)
-        with self.assertRaises(famsync.Device):
-            mapping[100000:131072]
+        self.fails(famsync.Device, errno.EIO, mapping.__getitem__, slice(100000, 131072))
 
     def test_no_memory(self):
         self.make(8, f"big={1 << 28}")

@@ -102,6 +102,29 @@ class Stores(InAFolder):
         self.memory[0] = self.memory[PAGE] = self.memory[19999] = 1
         self.assertEqual((self.memory.dirty, self.volume.commit(), self.memory.dirty), (3, 1, 0))
 
+    def test_touch(self):
+        """The kernel stores to pages that were opened ahead."""
+        with open("bytes", "wb") as file:
+            file.write(b"x" * 3 * PAGE)
+        self.memory.touch(PAGE, 2 * PAGE)
+        self.assertEqual(self.memory.dirty, 2)
+        with open("bytes", "rb", buffering=0) as file, self.memory.view() as view:
+            self.assertEqual(file.readinto(view[PAGE : 3 * PAGE]), 2 * PAGE)
+        self.memory.touch(19999, 0)
+        self.memory.touch()
+        self.assertEqual(self.memory.dirty, 5)
+        for offset, count in ((-1, 1), (20001, 0), (0, 20001), (19999, 2), (5, -1)):
+            self.assertRaises(famsync.Argument, self.memory.touch, offset, count)
+        self.assertEqual(self.kept(PAGE - 1, PAGE + 1), b"\0x")
+
+    def test_touch_of_more_pages_than_a_commit_has(self):
+        self.volume.close()
+        with famsync.open("v.img", frames=3) as volume:
+            memory = volume.memory("a")
+            self.assertRaises(famsync.NoFrame, memory.touch)
+            memory.touch(0, 3 * PAGE)
+            self.assertEqual((memory.dirty, volume.commit(), memory.dirty), (3, 1, 0))
+
     def test_the_kernel_stores_where_something_was_stored(self):
         with open("bytes", "wb") as file:
             file.write(b"hello")

@@ -5,6 +5,9 @@ import gc
 import os
 import pathlib
 import pickle
+import sys
+import threading
+import time
 import unittest
 from unittest import mock
 
@@ -43,6 +46,69 @@ class Begins(InAFolder):
             before = len(os.listdir("/proc/self/task"))
             with famsync.open("v.img", foreground=foreground):
                 self.assertEqual(len(os.listdir("/proc/self/task")) - before, threads)
+
+
+class Waits(InAFolder):
+    def test_for_a_volume_in_use(self):
+        with famsync.open("v.img"):
+            began = time.monotonic()
+            self.assertRaises(famsync.InUse, famsync.open, "v.img", wait_ms=100)
+            self.assertGreater(time.monotonic() - began, 0.09)
+        held = famsync.open("v.img")
+        timer = threading.Timer(0.1, held.close)
+        timer.start()
+        famsync.open("v.img", wait_ms=60000).close()
+        timer.join()
+        self.assertRaises(famsync.Argument, famsync.open, "v.img", wait_ms=-1)
+
+
+class OnlyReads(InAFolder):
+    def setUp(self):
+        super().setUp()
+        with famsync.open("v.img") as volume, volume.memory("a") as memory:
+            memory[0:5] = b"first"
+            volume.commit()
+
+    def test_several_read(self):
+        with famsync.open("v.img", readonly=True) as one, famsync.open("v.img", readonly=True) as two:
+            self.assertEqual((one.memory("a")[0:5], two.map("a")[0:5]), (b"first", b"first"))
+            self.assertRaises(famsync.InUse, famsync.open, "v.img")
+        with famsync.open("v.img"):
+            self.assertRaises(famsync.InUse, famsync.open, "v.img", readonly=True)
+
+    def test_nothing_is_stored(self):
+        with famsync.open("v.img", readonly=True) as volume:
+            memory, mapping = volume.memory("a"), volume.map("a")
+            calls = [volume.commit, memory.touch, lambda: volume.map("a", write=True)]
+            calls += [lambda: volume.set_length("a", 1), lambda: memory.__setitem__(0, 1)]
+            for call in calls:
+                self.assertRaises(famsync.ReadOnly, call)
+            self.assertRaises(famsync.NotAllowed, mapping.__setitem__, 0, 1)
+            with memory.view() as view:
+                self.assertTrue(view.readonly)
+                self.assertRaises(TypeError, view.__setitem__, 0, 1)
+            if sys.version_info >= (3, 12):
+                with memoryview(memory) as view:
+                    self.assertTrue(view.readonly)
+            self.assertEqual((memory[0:5], memory.dirty), (b"first", 0))
+
+    def test_what_a_writer_left(self):
+        code = """
+import famsync, os
+volume = famsync.open("v.img", foreground=True)
+memory = volume.memory("a")
+memory[0:5] = b"other"
+volume.commit()
+os._exit(0)
+"""
+        self.assertEqual(run_python(code).returncode, 0)
+        self.assertRaises(famsync.NeedsOpening, famsync.open, "v.img", readonly=True)
+        famsync.open("v.img").close()
+        with famsync.open("v.img", readonly=True) as volume:
+            self.assertEqual(volume.memory("a")[0:5], b"other")
+        with open("v.img.suspect", "w", encoding="utf-8"):
+            pass
+        self.assertRaises(famsync.NeedsOpening, famsync.open, "v.img", readonly=True, trust=True)
 
 
 class Ends(InAFolder):
@@ -181,12 +247,11 @@ class Interrupts(InAFolder):
         except KeyboardInterrupt:
             famsync.open("v.img").close()  # also while what was raised is kept, with all that it came through
 
-    def test_a_commit_and_a_close(self):
+    def test_a_call(self):
         volume = famsync.open("v.img")
         with self.assertRaises(KeyboardInterrupt):
             volume._session.call(mock.Mock(side_effect=KeyboardInterrupt))
         self.assertEqual(volume.commit(), 1)
-        self.interrupted(_volume, "famsync_close", volume.close)
         volume.close()
         famsync.open("v.img").close()
 

@@ -57,7 +57,7 @@ static void waits(void)
     double began;
     begin(1);
     began = seconds();
-    WANT(open_with("&wait=200", &none) == SQLITE_BUSY && seconds() - began >= 0.2);
+    WANT(open_with("&wait=200", &none) == SQLITE_BUSY && seconds() - began > 0.19);
     WANT(open_with("&wait=-1", &none) == SQLITE_BUSY);
     end();
     WANT(pipe(ready) == 0);
