@@ -71,9 +71,9 @@ codes! {
     BusAdrErr = -25,
     /// More pages were stored to, or added to a file, than one commit can have.
     NoFrame = -27,
-    /// A read, a write or a sync of the volume failed, or was refused memory.
+    /// A read, a write or a sync of the volume failed, or was refused memory; [`Error::system`] says how.
     Device = -28,
-    /// A write or a sync failed earlier, and the session is over.
+    /// A write or a sync failed earlier, and the session is over; [`Error::system`] says how that one failed.
     Broken = -29,
     /// A number is outside the range that the volume or its addresses have.
     Einval = -30,
@@ -85,6 +85,19 @@ codes! {
     NoFile = -34,
     /// Memory of the file is open; or the session has made 2^32 - 1 commits.
     Busy = -35,
+    /// A sync failed, and the volume couldn't be marked as suspect; [`Error::system`] says how the sync failed.
+    Unmarked = -39,
+    /// A crash or a failed sync left work for a writer: open the volume once for writing.
+    NeedsOpening = -40,
+    /// The session only reads.
+    ReadOnly = -41,
+}
+
+impl Code {
+    /// Whether the system has a part in it, so that `errno` says how.
+    fn is_of_the_system(self) -> bool {
+        matches!(self, Code::System | Code::Device | Code::Broken | Code::Unmarked)
+    }
 }
 
 /// A call that was refused.
@@ -121,7 +134,8 @@ impl Error {
         self.code
     }
 
-    /// Of [`Code::System`], what the system answered.
+    /// Of [`Code::System`], [`Code::Device`], [`Code::Broken`] and [`Code::Unmarked`], what the system answered: a full
+    /// disk, a broken one and want of memory are told apart by it.
     pub fn system(&self) -> Option<&io::Error> {
         self.system.as_ref()
     }
@@ -156,5 +170,5 @@ pub(crate) fn check(answer: c_int) -> Result<(), Error> {
     }
     let system = io::Error::last_os_error();
     let code = Code::from(answer);
-    Err(Error { system: (code == Code::System).then_some(system), ..Error::new(code) })
+    Err(Error { system: code.is_of_the_system().then_some(system), ..Error::new(code) })
 }

@@ -16,12 +16,15 @@ pub struct FamsyncMemory {
 
 #[repr(C)]
 pub struct FamsyncOptions {
+    pub size: usize,
     pub trust: c_int,
     pub frames: c_uint,
     pub copies: c_uint,
     pub foreground: c_int,
     pub message: *mut c_char,
     pub message_size: usize,
+    pub wait_ms: c_uint,
+    pub readonly: c_int,
 }
 
 pub const FAMSYNC_OK: c_int = 0;
@@ -29,6 +32,7 @@ pub const FAMSYNC_READ: c_int = 1;
 pub const FAMSYNC_WRITE: c_int = 2;
 
 extern "C" {
+    pub fn famsync_version() -> *const c_char;
     pub fn famsync_open(volume: *const c_char, options: *const FamsyncOptions, handle: *mut *mut Famsync) -> c_int;
     pub fn famsync_close(handle: *mut Famsync) -> c_int;
     pub fn famsync_files(handle: *const Famsync) -> c_uint;
@@ -65,5 +69,6 @@ extern "C" {
     pub fn famsync_memory_at(memory: *const FamsyncMemory) -> *mut c_void;
     pub fn famsync_memory_length(memory: *const FamsyncMemory) -> usize;
     pub fn famsync_memory_dirty(memory: *const FamsyncMemory) -> usize;
+    pub fn famsync_memory_touch(memory: *mut FamsyncMemory, offset: usize, count: usize) -> c_int;
     pub fn famsync_memory_close(memory: *mut FamsyncMemory) -> c_int;
 }

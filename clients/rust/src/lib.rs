@@ -34,6 +34,12 @@ pub use mapping::{Access, Mapping};
 pub use options::Options;
 pub use volume::{File, Volume};
 
+/// The version of the library that this program runs with.
+pub fn version() -> &'static str {
+    // Safety: it answers a string that is never freed.
+    unsafe { std::ffi::CStr::from_ptr(ffi::famsync_version()) }.to_str().unwrap_or_default()
+}
+
 #[cfg(doctest)]
 #[doc = include_str!("../README.md")]
 struct Readme;

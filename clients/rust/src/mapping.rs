@@ -57,6 +57,11 @@ impl Mapping {
 
 /// The first byte of a range of a file with this length, and how many there are; at least one.
 pub(crate) fn span(range: impl RangeBounds<u64>, file_length: u64) -> Option<(u64, u64)> {
+    part(range, file_length).filter(|(_, length)| *length > 0)
+}
+
+/// The first byte of a range of a file with this length, and how many there are.
+pub(crate) fn part(range: impl RangeBounds<u64>, file_length: u64) -> Option<(u64, u64)> {
     let begin = match range.start_bound() {
         Bound::Included(first) => *first,
         Bound::Excluded(before) => before.checked_add(1)?,
@@ -67,5 +72,5 @@ pub(crate) fn span(range: impl RangeBounds<u64>, file_length: u64) -> Option<(u6
         Bound::Excluded(end) => *end,
         Bound::Unbounded => file_length,
     };
-    end.checked_sub(begin).filter(|length| *length > 0).map(|length| (begin, length))
+    end.checked_sub(begin).map(|length| (begin, length))
 }

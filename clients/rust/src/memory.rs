@@ -83,6 +83,17 @@ impl Plain {
         unsafe { ffi::famsync_memory_dirty(self.memory.as_ptr()) }
     }
 
+    pub(crate) fn touch(&mut self, offset: u64, count: u64) -> Result<(), Error> {
+        let fits = usize::try_from(offset).ok().zip(usize::try_from(count).ok());
+        let (offset, count) = fits.ok_or(Error::new(Code::Argument))?;
+        // Safety: the memory is open.
+        check(unsafe { ffi::famsync_memory_touch(self.memory.as_ptr(), offset, count) })
+    }
+
+    pub(crate) fn length(&self) -> usize {
+        self.length
+    }
+
     pub(crate) fn bytes_mut(&mut self) -> &mut [u8] {
         // Safety: there are so many bytes, which can be stored to by the library's handler, and whoever could use them
         // meanwhile, the library in a commit too, borrows this.

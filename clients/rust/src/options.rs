@@ -1,9 +1,11 @@
 use crate::error::{check, Code, Error};
 use crate::{ffi, Volume};
 use std::ffi::{c_int, c_uint, CString};
+use std::mem;
 use std::os::unix::ffi::OsStrExt;
 use std::path::Path;
 use std::ptr::{self, NonNull};
+use std::time::Duration;
 
 /// The longest line about why a volume wasn't opened; it has two paths at most.
 const MESSAGE: usize = 9000;
@@ -26,11 +28,13 @@ pub struct Options {
     frames: u32,
     copies: u32,
     foreground: bool,
+    wait: Duration,
+    readonly: bool,
 }
 
 impl Options {
-    /// What [`Volume::open`] takes: no trust, as many frames as one commit can have pages, no copies, and a thread in
-    /// the background.
+    /// What [`Volume::open`] takes: no trust, as many frames as one commit can have pages, no copies, a thread in the
+    /// background, no waiting, and a session that writes.
     pub fn new() -> Options {
         Options::default()
     }
@@ -60,24 +64,41 @@ impl Options {
         self
     }
 
+    /// How long to wait for a volume that is in use, in whole milliseconds, before [`Code::InUse`].
+    pub fn wait(&mut self, wait: Duration) -> &mut Options {
+        self.wait = wait;
+        self
+    }
+
+    /// Whether the session only reads. Any number of them share a volume, while no other one has it. Calls that would
+    /// change something are refused by [`Code::ReadOnly`]. A volume that a crash left is refused by
+    /// [`Code::NeedsOpening`]: open it once for writing.
+    pub fn readonly(&mut self, readonly: bool) -> &mut Options {
+        self.readonly = readonly;
+        self
+    }
+
     /// Opens a volume: a regular file with one name that `famsync format` made. It is locked until the volume is
     /// dropped. The error says in words what is wrong with which file.
     pub fn open(&self, path: impl AsRef<Path>) -> Result<Volume, Error> {
         let name = CString::new(path.as_ref().as_os_str().as_bytes()).map_err(|_| Error::new(Code::Argument))?;
         let mut message = vec![0u8; MESSAGE];
         let options = ffi::FamsyncOptions {
+            size: mem::size_of::<ffi::FamsyncOptions>(),
             trust: c_int::from(self.trust),
             frames: c_uint::from(self.frames),
             copies: c_uint::from(self.copies),
             foreground: c_int::from(self.foreground),
             message: message.as_mut_ptr().cast(),
             message_size: message.len(),
+            wait_ms: c_uint::try_from(self.wait.as_millis()).unwrap_or(c_uint::MAX),
+            readonly: c_int::from(self.readonly),
         };
         let mut handle = ptr::null_mut();
         // Safety: the name ends with a null byte, and the options have as much room for a message as they say.
         let opened = check(unsafe { ffi::famsync_open(name.as_ptr(), &options, &mut handle) });
         match (opened, NonNull::new(handle)) {
-            (Ok(()), Some(handle)) => Ok(Volume::of(handle)),
+            (Ok(()), Some(handle)) => Ok(Volume::of(handle, self.readonly)),
             (Ok(()), None) => Err(Error::new(Code::Argument)),
             (Err(error), _) => Err(error.saying(&message)),
         }

@@ -1,5 +1,5 @@
 use crate::error::{check, Code, Error};
-use crate::mapping::{span, Access, Mapping};
+use crate::mapping::{part, span, Access, Mapping};
 use crate::memory::{Plain, Slot};
 use crate::{ffi, Options};
 use std::array;
@@ -81,6 +81,8 @@ pub struct Volume {
     session: Session,
     /// Whoever has this may open memory.
     opening: Mutex<()>,
+    /// Whether the session only reads.
+    readonly: bool,
     /// Counts the volumes of this process, so that a mapping of another one is known.
     number: u64,
 }
@@ -92,11 +94,11 @@ impl Volume {
     }
 
     /// Takes over the handle of a session.
-    pub(crate) fn of(handle: NonNull<ffi::Famsync>) -> Volume {
+    pub(crate) fn of(handle: NonNull<ffi::Famsync>, readonly: bool) -> Volume {
         static COUNT: AtomicU64 = AtomicU64::new(0);
         let session = Session(handle);
         let slots = (0..session.files()).map(|file| Slot::new(session.file_name(file).into())).collect();
-        Volume { slots, session, opening: Mutex::new(()), number: COUNT.fetch_add(1, Ordering::Relaxed) }
+        Volume { slots, session, opening: Mutex::new(()), readonly, number: COUNT.fetch_add(1, Ordering::Relaxed) }
     }
 
     /// Ends the session, as dropping it does, and says whether that went well. Stores since the last commit are gone.
@@ -257,6 +259,7 @@ impl Volume {
 
     /// The bytes of several files, to be stored to; [`Code::Overlap`] where a file is named twice.
     pub fn memories_mut<const N: usize>(&mut self, files: [&str; N]) -> Result<[&mut [u8]; N], Error> {
+        self.check_writes()?;
         for (place, file) in files.iter().enumerate() {
             if files[..place].contains(file) {
                 return Err(Error::with_message(Code::Overlap, format!("{file:?} is named twice")));
@@ -299,6 +302,7 @@ impl Volume {
     /// [`Code::Overlap`] where they are bytes, by [`memory`](Volume::memory), to somebody who shares the volume. Once
     /// [`memory_mut`](Volume::memory_mut) was asked for the file, it may be shared in the other way.
     pub fn words(&self, file: &str) -> Result<&[AtomicU64], Error> {
+        self.check_writes()?;
         self.opened(file)?.words()
     }
 
@@ -312,6 +316,38 @@ impl Volume {
     /// was refused after some pages had been stored, nothing more can be committed ([`Code::Torn`]).
     pub fn close_memory(&mut self, file: &str) -> Result<(), Error> {
         self.slot_mut(file)?.close();
+        Ok(())
+    }
+
+    /// Opens pages of a file's memory ahead, those of a range of its bytes, as a store to each of them would. Until the
+    /// next commit the kernel can store to them, as by [`std::io::Read::read`], and no fault is raised for them. All of
+    /// them count as stored to; [`Code::NoFrame`] where they are more than one commit can have.
+    ///
+    /// ```
+    /// # include!(concat!(env!("CARGO_MANIFEST_DIR"), "/tests/volumes/mod.rs"));
+    /// # use std::io::Read;
+    /// # fn main() -> Result<(), famsync::Error> {
+    /// # let made = make_volume(1, 16, "bank=8192");
+    /// let mut volume = famsync::Volume::open(made.path())?;
+    /// volume.touch("bank", ..100)?;
+    /// let mut zeros = std::fs::File::open("/dev/zero").unwrap();
+    /// zeros.read_exact(&mut volume.memory_mut("bank")?[..100]).unwrap();
+    /// volume.commit()?;
+    /// # Ok(())
+    /// # }
+    /// ```
+    pub fn touch(&mut self, file: &str, range: impl RangeBounds<u64>) -> Result<(), Error> {
+        self.opened(file)?;
+        let plain = self.slot_mut(file)?.plain_mut().ok_or(Error::new(Code::Argument))?;
+        let (begin, count) = part(range, plain.length() as u64).ok_or(Error::new(Code::Argument))?;
+        plain.touch(begin, count)
+    }
+
+    /// Refuses what a session that only reads can't do.
+    fn check_writes(&self) -> Result<(), Error> {
+        if self.readonly {
+            return Err(Error::new(Code::ReadOnly));
+        }
         Ok(())
     }
 

@@ -6,6 +6,8 @@ mod volumes;
 use famsync::{Access, Code, Error, Options, Volume};
 use std::fs::{self, OpenOptions};
 use std::os::unix::fs::FileExt;
+use std::thread;
+use std::time::{Duration, Instant};
 use volumes::make_volume;
 
 /// The code of a call that is refused, and whether its error has words.
@@ -68,6 +70,51 @@ fn in_use() {
     drop(volume);
     Volume::open(made.path()).unwrap().close().unwrap();
     Volume::open(made.path()).unwrap();
+}
+
+#[test]
+fn waiting() {
+    let made = make_volume(1, 16, "a=8192");
+    let volume = Volume::open(made.path()).unwrap();
+    let open = |wait| Options::new().wait(Duration::from_millis(wait)).open(made.path());
+    let began = Instant::now();
+    assert_eq!(code(open(100)), Code::InUse);
+    assert!(began.elapsed() > Duration::from_millis(90));
+    thread::scope(|scope| {
+        scope.spawn(|| {
+            thread::sleep(Duration::from_millis(100));
+            drop(volume);
+        });
+        open(60_000).unwrap();
+    });
+}
+
+#[test]
+fn sessions_that_only_read() {
+    let made = make_volume(3, 16, "a=8192");
+    let read = || Options::new().readonly(true).open(made.path());
+    let mut volume = Volume::open(made.path()).unwrap();
+    volume.memory_mut("a").unwrap()[0] = 7;
+    volume.commit().unwrap();
+    assert_eq!(code(read()), Code::InUse);
+    drop(volume);
+    let (mut one, two) = (read().unwrap(), read().unwrap());
+    assert_eq!((one.memory("a").unwrap()[0], two.memory("a").unwrap()[0]), (7, 7));
+    assert_eq!(code(Volume::open(made.path())), Code::InUse);
+    assert_eq!(code(one.commit()), Code::ReadOnly);
+    assert_eq!(code(one.memory_mut("a")), Code::ReadOnly);
+    assert_eq!(code(one.words("a")), Code::ReadOnly);
+    assert_eq!(code(one.touch("a", ..)), Code::ReadOnly);
+    assert_eq!(code(one.set_length("a", 1)), Code::ReadOnly);
+    assert_eq!(code(one.map("a", .., Access::ReadWrite)), Code::ReadOnly);
+    one.map("a", .., Access::Read).unwrap();
+    drop((one, two));
+    Volume::open(made.path()).unwrap();
+}
+
+#[test]
+fn the_version() {
+    assert_eq!(famsync::version(), env!("CARGO_PKG_VERSION"));
 }
 
 #[test]

@@ -4,7 +4,7 @@ mod volumes;
 
 use famsync::{Access, Code, Volume};
 use std::fs::File;
-use std::io::Read;
+use std::io::{repeat, Read};
 use std::sync::atomic::Ordering;
 use volumes::make_volume;
 
@@ -70,20 +70,22 @@ fn too_many_pages() {
     assert_eq!(volume.memory("a").unwrap()[0], 1);
 }
 
+/// Pages that `store` wrote and those of memory are counted together, and nothing is stored that doesn't fit.
 #[test]
-fn memory_that_is_torn() {
+fn too_many_pages_in_both_ways() {
     let made = make_volume(1, 8, "a=81920");
     let mut volume = Volume::open(made.path()).unwrap();
-    // Pages that `store` wrote are found by the core alone, after a part of the memory was stored.
     let mapping = volume.map("a", 16 * 4096.., Access::ReadWrite).unwrap();
     volume.store(mapping, 0, &[9; 4 * 4096]).unwrap();
     let a = volume.memory_mut("a").unwrap();
     (0..6).for_each(|page| a[page * 2 * 4096] = 3);
     assert_eq!(volume.commit().unwrap_err().code(), Code::NoFrame);
     volume.close_memory("a").unwrap();
-    assert_eq!(volume.commit().unwrap_err().code(), Code::Torn);
+    assert_eq!(volume.commit().unwrap(), 1);
     drop(volume);
-    assert!(Volume::open(made.path()).unwrap().memory("a").unwrap().iter().all(|byte| *byte == 0));
+    let volume = Volume::open(made.path()).unwrap();
+    let a = volume.memory("a").unwrap();
+    assert!(a[..16 * 4096].iter().all(|byte| *byte == 0) && a[16 * 4096..].iter().all(|byte| *byte == 9));
 }
 
 #[test]
@@ -117,6 +119,28 @@ fn the_kernel_stores_through_no_handler() {
     zeros.read_exact(&mut a[..10]).unwrap();
     assert!(zeros.read_exact(&mut a[4096..4106]).is_err());
     assert_eq!(volume.dirty("a").unwrap(), 1);
+}
+
+#[test]
+fn pages_that_are_opened_ahead() {
+    let made = make_volume(1, 3, "a=20000");
+    let mut volume = Volume::open(made.path()).unwrap();
+    let mut ones = repeat(1).take(4106);
+    volume.touch("a", 4090..8196).unwrap();
+    assert_eq!(volume.dirty("a").unwrap(), 3);
+    File::open("/dev/zero").unwrap().read_exact(&mut volume.memory_mut("a").unwrap()[..10000]).unwrap();
+    ones.read_exact(&mut volume.memory_mut("a").unwrap()[4090..8196]).unwrap();
+    volume.touch("a", 20000..).unwrap();
+    assert_eq!(volume.touch("a", ..).unwrap_err().code(), Code::NoFrame);
+    for (begin, end) in [(0, 20001), (20001, 20001), (5, 4), (0, u64::MAX)] {
+        assert_eq!(volume.touch("a", begin..end).unwrap_err().code(), Code::Argument);
+    }
+    assert_eq!(volume.touch("b", ..).unwrap_err().code(), Code::NoFile);
+    volume.commit().unwrap();
+    assert_eq!(volume.dirty("a").unwrap(), 0);
+    drop(volume);
+    let volume = Volume::open(made.path()).unwrap();
+    assert!(volume.memory("a").unwrap()[4090..8196].iter().all(|byte| *byte == 1));
 }
 
 #[test]

@@ -3,7 +3,7 @@
 
 mod volumes;
 
-use famsync::{Access, Code, Volume};
+use famsync::{Access, Code, Error, Options, Volume};
 use std::env;
 use std::hint::black_box;
 use std::os::unix::process::ExitStatusExt;
@@ -12,6 +12,7 @@ use std::sync::atomic::{AtomicBool, Ordering};
 use std::thread;
 use volumes::{make_volume, Made};
 
+const EFBIG: i32 = 27;
 const SIGABRT: i32 = 6;
 const SIGSEGV: i32 = 11;
 
@@ -55,11 +56,18 @@ fn a_device_that_fails() {
 #[ignore = "takes a process that may not write far into a file"]
 fn writes_are_refused() {
     let volume = stored_to();
-    assert_eq!(volume.commit().unwrap_err().code(), Code::Device);
-    assert_eq!(volume.commit().unwrap_err().code(), Code::Broken);
+    is_too_large(volume.commit().unwrap_err(), Code::Device);
+    is_too_large(volume.commit().unwrap_err(), Code::Broken);
     assert_eq!(volume.acknowledged(), 0);
     assert_eq!(volume.memory("a").unwrap()[0], 1);
-    assert_eq!(volume.close().unwrap_err().code(), Code::Device);
+    is_too_large(volume.close().unwrap_err(), Code::Device);
+}
+
+/// The error says how the system failed: a full disk, a broken one and want of memory aren't the same.
+#[track_caller]
+fn is_too_large(error: Error, code: Code) {
+    assert_eq!((error.code(), error.system().and_then(|system| system.raw_os_error())), (code, Some(EFBIG)));
+    assert!(error.to_string().contains("File too large"), "{error}");
 }
 
 #[test]
@@ -76,6 +84,27 @@ fn memory_is_refused() {
     let mapping = volume.map("a", .., Access::ReadWrite).unwrap();
     volume.store(mapping, 1 << 29, b"hello").unwrap();
     assert_eq!(volume.commit().unwrap(), 1);
+}
+
+#[test]
+fn a_volume_that_a_crash_left() {
+    let made = make_volume(1, 16, "a=8192");
+    let ran = run_child("commits_and_ends", &made, "ulimit -c 0");
+    assert_eq!(ran.status.signal(), Some(SIGABRT), "{}", String::from_utf8_lossy(&ran.stderr));
+    let read = || Options::new().readonly(true).open(made.path());
+    assert_eq!(read().unwrap_err().code(), Code::NeedsOpening);
+    Volume::open(made.path()).unwrap().close().unwrap();
+    assert_eq!(read().unwrap().memory("a").unwrap()[0], 1);
+}
+
+#[test]
+#[ignore = "ends its process"]
+fn commits_and_ends() {
+    let path = env::var_os("FAMSYNC_TEST_VOLUME").expect("this test is run by another one");
+    let mut volume = Options::new().foreground(true).open(path).unwrap();
+    volume.memory_mut("a").unwrap()[0] = 1;
+    volume.commit().unwrap();
+    std::process::abort();
 }
 
 extern "C" {
