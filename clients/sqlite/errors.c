@@ -8,7 +8,7 @@
 
 static _Thread_local struct {
     int error; /* errno, 0 for a failure that isn't the system's */
-    char text[1024];
+    char text[MESSAGE];
 } last;
 
 int code_for(int code, int other)

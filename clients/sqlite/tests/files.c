@@ -180,6 +180,20 @@ static void rolls_a_plain_file_back(void)
     WANT(answers(other, "SELECT count(*) FROM row WHERE bytes = 'changed'", "0") && sqlite3_close(other) == SQLITE_OK);
 }
 
+/* A transaction over two volumes is one of each. SQLite's file for such transactions is gone afterwards. */
+static void changes_two_volumes(sqlite3 *opened)
+{
+    char beside[200];
+    must(opened, "BEGIN; DELETE FROM main.row WHERE id = 40; DELETE FROM saved.row WHERE id = 1; COMMIT");
+    WANT(answers(opened, "SELECT count(*) FROM main.row", "39") &&
+         answers(opened, "SELECT count(*) FROM saved.row", "4"));
+    must(opened, "BEGIN; DELETE FROM main.row; DELETE FROM saved.row; ROLLBACK; INSERT INTO main.row VALUES (40, 'x')");
+    WANT(answers(opened, "SELECT count(*) FROM main.row", "40") &&
+         answers(opened, "SELECT count(*) FROM saved.row", "4"));
+    snprintf(beside, sizeof beside, "ls %s | grep -q -e -mj -e -journal", folder);
+    WANT(system(beside) != 0);
+}
+
 /* A volume is one by its bytes, too, and by a URI that names a file in it. */
 static void finds_volumes(void)
 {
@@ -194,7 +208,9 @@ static void finds_volumes(void)
     WANT(sqlite3_open_v2(volume, &opened, SQLITE_OPEN_READWRITE, "famsync") == SQLITE_OK && has_rows(opened, "40"));
     must_with(opened, "ATTACH '%s' AS saved", saved);
     must(opened, "DELETE FROM saved.row WHERE id > 5");
-    WANT(answers(opened, "SELECT count(*) FROM saved.row", "5") && sqlite3_close(opened) == SQLITE_OK);
+    WANT(answers(opened, "SELECT count(*) FROM saved.row", "5"));
+    changes_two_volumes(opened);
+    WANT(sqlite3_close(opened) == SQLITE_OK);
     WANT(open_database(path, &database) == SQLITE_OK && has_rows(database, "40"));
     must_with(database, "VACUUM INTO 'file:%s?file=other'", saved);
     must_with(database, "ATTACH 'file:%s?file=other' AS saved", saved);
