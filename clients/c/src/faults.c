@@ -6,6 +6,7 @@
 #include <string.h>
 #include <sys/mman.h>
 #include <sys/syscall.h>
+#include <time.h>
 #include <ucontext.h>
 #include <unistd.h>
 
@@ -72,9 +73,17 @@ static famsync_memory *memory_of(uintptr_t address)
 enum { FREE, TAKEN, WAITED_FOR };
 #define SPINS 100
 
-static long futex(atomic_uint *word, int operation, unsigned value)
+/* Waits while the lock is in this state, up to 0.1 s. */
+static void await_change(atomic_uint *lock, unsigned state)
 {
-    return syscall(SYS_futex, word, operation, value, NULL);
+    static const struct timespec longest = {.tv_nsec = 100000000};
+    syscall(SYS_futex, lock, FUTEX_WAIT_PRIVATE, state, &longest);
+}
+
+/* Whether this process shares the memory of one that has ended, maybe by a kill while it had the lock. */
+static bool is_left_behind(const famsync *handle)
+{
+    return getpid() != handle->pid && kill(handle->pid, 0) != 0 && errno == ESRCH;
 }
 
 void take(famsync *handle)
@@ -86,8 +95,9 @@ void take(famsync *handle)
                                                   memory_order_relaxed))
             return;
     }
-    while (atomic_exchange_explicit(&handle->closing, WAITED_FOR, memory_order_acquire) != FREE)
-        futex(&handle->closing, FUTEX_WAIT_PRIVATE, WAITED_FOR);
+    while (atomic_exchange_explicit(&handle->closing, WAITED_FOR, memory_order_acquire) != FREE &&
+           !is_left_behind(handle))
+        await_change(&handle->closing, WAITED_FOR);
     errno = error;
 }
 
@@ -95,7 +105,7 @@ void give(famsync *handle)
 {
     int error = errno;
     if (atomic_exchange_explicit(&handle->closing, FREE, memory_order_release) == WAITED_FOR)
-        futex(&handle->closing, FUTEX_WAKE_PRIVATE, 1);
+        syscall(SYS_futex, &handle->closing, FUTEX_WAKE_PRIVATE, 1);
     errno = error;
 }
 

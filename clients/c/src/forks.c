@@ -3,6 +3,7 @@
 #include "inside.h"
 
 #include <sys/mman.h>
+#include <unistd.h>
 
 static pthread_mutex_t list = PTHREAD_MUTEX_INITIALIZER;
 static famsync *handles;
@@ -56,6 +57,7 @@ static void link_handle(famsync *handle)
     if (atomic_load(process) == 0)
         atomic_store(process, ++processes);
     handle->process = atomic_load(process);
+    handle->pid = getpid();
     handle->next = handles;
     handle->link = &handles;
     if (handles)

@@ -9,6 +9,7 @@
  *                                             `few`: in the foreground, with no more frames than a round stores to, and
  *                                             another page is loaded after each
  *   session VOLUME load                       the same for ever, by three threads, each with pages of its own
+ *   session VOLUME children                   the same, and another thread makes children meanwhile, which store, too
  *   session VOLUME find [trust]               prints the numbers that are there
  *
  * A call that fails is printed with its code, and with errno where that says how.
@@ -111,13 +112,32 @@ static void *load(void *argument)
     return NULL;
 }
 
-static int loaded(void)
+/* Children that share the memory, and one that has a copy of it now and then, store to the pages that no thread has. */
+static void *make_children(void *argument)
 {
-    pthread_t thread[THREADS];
+    volatile unsigned char *at = (unsigned char *)famsync_memory_at(plain) + 100;
+    (void)argument;
+    for (unsigned made = 0;; made++) {
+        int status;
+        pid_t child = made % 8 == 7 ? fork() : vfork();
+        if (child == 0) {
+            at[4096 * (made % PAGES)] = (unsigned char)made;
+            _exit(0);
+        }
+        WANT(child > 0 && waitpid(child, &status, 0) == child && status == 0);
+    }
+    return NULL;
+}
+
+static int loaded(bool with_children)
+{
+    pthread_t thread[THREADS], maker;
     shared = opened();
     WANT_CODE(famsync_memory_open(shared, "a", &plain), FAMSYNC_OK);
     for (uintptr_t i = 0; i < THREADS; i++)
         WANT(pthread_create(&thread[i], NULL, load, (void *)i) == 0);
+    if (with_children)
+        WANT(pthread_create(&maker, NULL, make_children, NULL) == 0);
     for (unsigned i = 0; i < THREADS; i++)
         pthread_join(thread[i], NULL);
     return 1;
@@ -163,7 +183,7 @@ int main(int count, char **words)
     }
     if (strcmp(words[2], "work") == 0)
         return work((uint64_t)atoi(words[3]), count > 4 ? words[4] : "");
-    if (strcmp(words[2], "load") == 0)
-        return loaded();
+    if (strcmp(words[2], "load") == 0 || strcmp(words[2], "children") == 0)
+        return loaded(words[2][0] == 'c');
     return find(count > 3);
 }

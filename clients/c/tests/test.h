@@ -3,7 +3,7 @@
 #ifndef TEST_H
 #define TEST_H
 
-#define _DEFAULT_SOURCE
+#define _GNU_SOURCE
 #include "famsync.h"
 
 #include <errno.h>
