@@ -323,6 +323,27 @@ static void many_handles(void)
     }
 }
 
+/* Memory that is opened and closed takes nothing for good: neither addresses nor what the core has of mappings. */
+static void opened_again(void)
+{
+    uint64_t first, last;
+    make_volume_of(3, 8, "a=4000/40000");
+    famsync *handle = opened();
+    WANT_CODE(famsync_memory_close(memory_of(handle, "a")), FAMSYNC_OK);
+    WANT_CODE(famsync_map(handle, "a", 0, 4096, FAMSYNC_READ, &first), FAMSYNC_OK);
+    for (uint64_t length = 1; length < 40000; length += 1000) {
+        WANT_CODE(famsync_setlength(handle, "a", length), FAMSYNC_OK);
+        famsync_memory *a = memory_of(handle, "a");
+        WANT(famsync_memory_length(a) == length);
+        ((unsigned char *)famsync_memory_at(a))[length - 1] = 1;
+        WANT_CODE(famsync_msync(handle, NULL), FAMSYNC_OK);
+        WANT_CODE(famsync_memory_close(a), FAMSYNC_OK);
+    }
+    WANT_CODE(famsync_map(handle, "a", 0, 4096, FAMSYNC_READ, &last), FAMSYNC_OK);
+    WANT(last == first + 2 * 4096); /* the page of the first mapping, and one that stays free */
+    WANT_CODE(famsync_close(handle), FAMSYNC_OK);
+}
+
 int main(void)
 {
     make_volume(16, "a=20000 b=5000");
@@ -338,6 +359,7 @@ int main(void)
     no_frames();
     rising_stores();
     many_handles();
+    opened_again();
     printf("clients/c: memory: as it should be\n");
     return 0;
 }
