@@ -418,19 +418,20 @@ static uint64_t described(const struct core *core, const struct journal *journal
 static int read_journal(struct core *core, struct journal *journal)
 {
     uint32_t before = first_home(core) - 1, end = descriptor_blocks(core) * PAGE;
+    uint32_t count = (uint32_t)described(core, journal, 8, 4);
     journal->mark = described(core, journal, 0, 8);
-    journal->count = (uint32_t)described(core, journal, 8, 4);
-    if (journal->mark < 1 || journal->count < 1 || journal->count > core->slots || described(core, journal, 12, 4) != 0)
+    if (journal->mark < 1 || count < 1 || count > core->slots || described(core, journal, 12, 4) != 0)
         return FAMSYNC_CORE_DAMAGED;
-    for (uint32_t i = 0; i < journal->count; i++) {
+    for (uint32_t i = 0; i < count; i++) {
         journal->home[i] = (uint32_t)described(core, journal, 16 + 4 * i, 4);
         if (journal->home[i] <= before || journal->home[i] >= number_at(core->block[0] + 16, 4))
             return FAMSYNC_CORE_DAMAGED;
         before = journal->home[i];
     }
-    for (uint32_t at = 16 + 4 * journal->count; at < end; at += 4)
+    for (uint32_t at = 16 + 4 * count; at < end; at += 4)
         if (described(core, journal, at, 4) != 0)
             return FAMSYNC_CORE_DAMAGED;
+    journal->count = count;
     return FAMSYNC_CORE_OK;
 }
 

@@ -133,6 +133,22 @@ static void spoilt_volumes(void)
     }
 }
 
+/* An open gate with a descriptor that counts more records than there are slots. */
+static void too_many_records(void)
+{
+    for (unsigned layout = 1; layout <= LAYOUTS; layout++)
+        for (unsigned count = 17; count < 1000; count += 200) {
+            unsigned char descriptor[16] = {0};
+            off_t gate = (off_t)gate_block(16, 0) * 4096;
+            make_volume_of(layout, 16, "a=65536");
+            put_number(descriptor, 8, 1);
+            put_number(descriptor + 8, 4, count);
+            set_bytes(gate, "\247", 1);
+            set_bytes(gate + 4096, (const char *)descriptor, sizeof descriptor);
+            WANT_CODE(code_of(volume), FAMSYNC_DAMAGED);
+        }
+}
+
 /* The least number of slots and 1,020 of them are served; one less and one more than there may be make it no volume. */
 static void numbers_of_slots(void)
 {
@@ -308,6 +324,7 @@ int main(void)
     arguments();
     other_files();
     spoilt_volumes();
+    too_many_records();
     numbers_of_slots();
     other_lengths();
     other_names();
