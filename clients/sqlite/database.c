@@ -10,16 +10,9 @@
 /* The databases that are open; the mutex guards the list. */
 static struct database *open_databases;
 
-static sqlite3_mutex *enter_list(void)
-{
-    sqlite3_mutex *turn = sqlite3_mutex_alloc(SQLITE_MUTEX_STATIC_VFS3);
-    sqlite3_mutex_enter(turn);
-    return turn;
-}
-
 static void enlist(struct database *database)
 {
-    sqlite3_mutex *turn = enter_list();
+    sqlite3_mutex *turn = take_turn();
     database->next = open_databases;
     open_databases = database;
     sqlite3_mutex_leave(turn);
@@ -27,7 +20,7 @@ static void enlist(struct database *database)
 
 static void strike_off(const struct database *database)
 {
-    sqlite3_mutex *turn = enter_list();
+    sqlite3_mutex *turn = take_turn();
     struct database **place = &open_databases;
     while (*place && *place != database)
         place = &(*place)->next;
@@ -38,7 +31,7 @@ static void strike_off(const struct database *database)
 
 bool is_beside_a_database(const char *path, const char *suffix)
 {
-    sqlite3_mutex *turn = enter_list();
+    sqlite3_mutex *turn = take_turn();
     const struct database *database = open_databases;
     size_t length = strlen(path) - strlen(suffix);
     bool ends = strlen(path) > strlen(suffix) && strcmp(path + length, suffix) == 0;

@@ -1,12 +1,17 @@
-/* SQLite's codes for those of the library, and why an opening or a commit failed last in each thread. */
+/* SQLite's codes for those of the library, and why an opening or a commit failed last. */
 #include "vfs.h"
 
 #include <errno.h>
+#include <pthread.h>
 #include <stdarg.h>
 #include <stdio.h>
 #include <string.h>
 
-static _Thread_local struct {
+/* Only the last thread that failed has a line. One line per thread would need memory for each, and the process would
+   end where the system refuses that. */
+static struct {
+    bool known;
+    pthread_t thread;
     int error; /* errno, 0 for a failure that isn't the system's */
     char text[MESSAGE];
 } last;
@@ -55,31 +60,56 @@ int error_of(int code)
 
 int fail(int code, int error, const char *format, ...)
 {
+    char text[MESSAGE];
+    sqlite3_mutex *turn;
     va_list words;
-    last.error = error;
     va_start(words, format);
-    vsnprintf(last.text, sizeof last.text, format, words);
+    vsnprintf(text, sizeof text, format, words);
     va_end(words);
-    sqlite3_log(code, "famsync: %s", last.text);
+    turn = take_turn();
+    last.known = true;
+    last.thread = pthread_self();
+    last.error = error;
+    strcpy(last.text, text);
+    sqlite3_mutex_leave(turn);
+    sqlite3_log(code, "famsync: %s", text);
     return code;
+}
+
+/* Whether there is a line of this thread; the caller has the mutex. */
+static bool is_mine(void)
+{
+    return last.known && pthread_equal(last.thread, pthread_self());
 }
 
 void forget_failure(void)
 {
-    last.text[0] = 0;
+    sqlite3_mutex *turn = take_turn();
+    if (is_mine())
+        last.known = false;
+    sqlite3_mutex_leave(turn);
 }
 
-const char *last_failure(void)
+void answer_last_failure(sqlite3_context *context, int count, sqlite3_value **values)
 {
-    return last.text[0] ? last.text : NULL;
+    sqlite3_mutex *turn = take_turn();
+    (void)count, (void)values;
+    if (is_mine())
+        sqlite3_result_text(context, last.text, -1, SQLITE_TRANSIENT);
+    sqlite3_mutex_leave(turn);
 }
 
 /* Without a line it is errno, which the library sets as the default VFS does. */
 int get_last_error(sqlite3_vfs *vfs, int count, char *text)
 {
     int error = errno;
+    sqlite3_mutex *turn = take_turn();
+    bool mine = is_mine();
     (void)vfs;
     if (count > 0 && text)
-        snprintf(text, (size_t)count, "%s", last.text[0] ? last.text : strerror(error));
-    return last.text[0] ? last.error : error;
+        snprintf(text, (size_t)count, "%s", mine ? last.text : strerror(error));
+    if (mine)
+        error = last.error;
+    sqlite3_mutex_leave(turn);
+    return error;
 }

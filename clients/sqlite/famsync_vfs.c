@@ -22,6 +22,13 @@ SQLITE_EXTENSION_INIT1
 
 sqlite3_vfs *usual;
 
+sqlite3_mutex *take_turn(void)
+{
+    sqlite3_mutex *turn = sqlite3_mutex_alloc(SQLITE_MUTEX_STATIC_VFS3);
+    sqlite3_mutex_enter(turn);
+    return turn;
+}
+
 /* Whether a name is of a volume by its parameters: SQLite keeps `vfs` among them. */
 static bool says_volume(const char *path)
 {
@@ -104,16 +111,6 @@ static int register_vfs(void)
     return sqlite3_vfs_register(&ours, 0);
 }
 
-/* famsync_error(): why an opening failed in this thread, or later a commit. SQLite's own messages have no room for it,
-   and an opening that fails leaves no connection to ask. */
-static void answer_last_failure(sqlite3_context *context, int count, sqlite3_value **values)
-{
-    const char *text = last_failure();
-    (void)count, (void)values;
-    if (text)
-        sqlite3_result_text(context, text, -1, SQLITE_TRANSIENT);
-}
-
 __attribute__((visibility("default"))) int sqlite3_famsyncvfs_init(sqlite3 *connection, char **message,
                                                                    const sqlite3_api_routines *routines)
 {
@@ -121,10 +118,10 @@ __attribute__((visibility("default"))) int sqlite3_famsyncvfs_init(sqlite3 *conn
     int code;
     SQLITE_EXTENSION_INIT2(routines);
     (void)message;
-    turn = sqlite3_mutex_alloc(SQLITE_MUTEX_STATIC_VFS3);
-    sqlite3_mutex_enter(turn);
+    turn = take_turn();
     code = register_vfs();
     sqlite3_mutex_leave(turn);
+    /* An opening that fails leaves no connection whose message could say why. */
     if (code == SQLITE_OK)
         code = sqlite3_create_function(connection, "famsync_error", 0, SQLITE_UTF8, NULL, answer_last_failure, NULL,
                                        NULL);

@@ -15,6 +15,9 @@ SQLITE_EXTENSION_INIT3
 /* The default VFS, to which everything goes that isn't in a volume. */
 extern sqlite3_vfs *usual;
 
+/* The mutex of what connections share; to be left by sqlite3_mutex_leave. */
+sqlite3_mutex *take_turn(void);
+
 /* A file that SQLite has open: a database in a volume. */
 struct database {
     sqlite3_file base;
@@ -60,8 +63,8 @@ int error_of(int code);
 /* Keeps why an opening or a commit failed, for xGetLastError, writes it to SQLite's log, and returns `code`. */
 int fail(int code, int error, const char *format, ...) __attribute__((format(printf, 3, 4)));
 void forget_failure(void);
-/* The last line of this thread; a null pointer if there is none. */
-const char *last_failure(void);
+/* The SQL function famsync_error(): that line, if this thread failed last. */
+void answer_last_failure(sqlite3_context *context, int count, sqlite3_value **values);
 int get_last_error(sqlite3_vfs *vfs, int count, char *text);
 
 #endif
