@@ -100,9 +100,9 @@ struct famsync {
     pthread_mutex_t turn; /* whoever has it may call the core, and uses what isn't said to be of another lock */
     uint64_t process;     /* the number of the process that began the session; and the system's number of it */
     pid_t pid;
-    int cancel;           /* whether the thread that has the turn could be cancelled before */
-    _Atomic int callers;  /* how many calls have the turn or wait for it */
-    famsync_core core;    /* the handle; it never leaves the library */
+    int cancel;          /* whether the thread that has the turn could be cancelled before */
+    _Atomic int callers; /* how many calls have the turn or wait for it */
+    famsync_core core;   /* the handle; it never leaves the library */
     struct volume volume;
     int ended;     /* FAMSYNC_DEVICE or FAMSYNC_UNMARKED once a write or a sync has failed */
     int error;     /* and errno then */
