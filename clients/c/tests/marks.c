@@ -6,8 +6,9 @@
 #include <sys/resource.h>
 #include <sys/syscall.h>
 
-/* Syncs of files that fail; the call that makes a mark, where it fails; and syncs of folders. */
-static bool syncs_fail, folder_syncs_fail;
+/* Syncs of files that fail, and of folders; folders that can't be read; and why a mark can't be made, where it can't.
+ */
+static bool syncs_fail, folder_syncs_fail, folders_unreadable;
 static int marks_fail;
 
 int fdatasync(int file)
@@ -32,8 +33,9 @@ int fsync(int file)
 
 int openat(int at, const char *path, int flags, ...)
 {
-    if (flags & O_CREAT && marks_fail) {
-        errno = marks_fail;
+    bool reads_folder = flags & O_DIRECTORY && !(flags & O_PATH);
+    if ((flags & O_CREAT && marks_fail) || (reads_folder && folders_unreadable)) {
+        errno = reads_folder ? EACCES : marks_fail;
         return -1;
     }
     return (int)syscall(SYS_openat, at, path, flags, 0666);
@@ -143,6 +145,23 @@ static void no_mark(void)
     sync_fails(handle, FAMSYNC_UNMARKED);
 }
 
+/* In a folder that may be searched and not read a mark can be made, and nothing says that it stays. */
+static void unreadable_folder(void)
+{
+    famsync *handle;
+    WANT_CODE(famsync_close(stored_to(volume)), FAMSYNC_OK);
+    folders_unreadable = true;
+    WANT_CODE(famsync_open(volume, &(struct famsync_options){.foreground = 1}, &handle), FAMSYNC_OK);
+    WANT_CODE(famsync_close(handle), FAMSYNC_OK);
+    handle = stored_to(volume);
+    sync_fails(handle, FAMSYNC_UNMARKED);
+    WANT(is_there(folder, "v.img.suspect"));
+    WANT_CODE(famsync_open(volume, &(struct famsync_options){.trust = 1}, &handle), FAMSYNC_SYSTEM);
+    WANT(errno == EACCES);
+    folders_unreadable = false;
+    WANT_CODE(famsync_close(stored_to(volume)), FAMSYNC_OK);
+}
+
 /* The file can't be synced as it is opened. */
 static void at_the_opening(void)
 {
@@ -189,6 +208,7 @@ int main(void)
     renamed_file();
     no_descriptors();
     no_mark();
+    unreadable_folder();
     at_the_opening();
     WANT_CODE(famsync_close(stored_to(volume)), FAMSYNC_OK);
     long_names();
