@@ -35,7 +35,8 @@ static struct sigaction earlier[MOST_HANDLERS];
 static atomic_uint handlers;
 
 /* A fault that was passed on has one of these as the uc_link of its context, which the kernel leaves null. A handler
-   that was installed after the library's calls that again, with the same context: then the one before it comes next. */
+   that was installed after the library's calls that again, with the same context: then the one before it comes next.
+   What another copy of the library in this process has put there stays. */
 static unsigned char passed[MOST_HANDLERS + 1];
 
 void lock_table(void)
@@ -156,7 +157,8 @@ static void pass_on(int number, siginfo_t *info, ucontext_t *context)
         end_process(sent);
         return;
     }
-    context->uc_link = (struct ucontext_t *)(void *)(passed + times + 1);
+    if (times > 0 || !link)
+        context->uc_link = (struct ucontext_t *)(void *)(passed + times + 1);
     call_handler(next, number, info, context);
     context->uc_link = link;
 }

@@ -48,7 +48,7 @@ static void make_numbers(unsigned layout)
 /* The volume's bytes, and when they were written last. */
 static struct stat state_of_volume(unsigned char *bytes, size_t count)
 {
-    struct stat found;
+    struct stat found = {0};
     int file = open(volume, O_RDONLY | O_CLOEXEC);
     WANT(file >= 0 && read(file, bytes, count) > 0 && fstat(file, &found) == 0 && close(file) == 0);
     return found;
