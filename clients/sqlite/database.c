@@ -385,7 +385,7 @@ static unsigned wait_of(const char *path)
 
 static int open_volume(struct database *database, int flags)
 {
-    char message[MESSAGE];
+    char message[MESSAGE] = "";
     struct famsync_options options = {.size = sizeof options, .message = message, .message_size = sizeof message};
     int code;
     options.foreground = sqlite3_uri_boolean(database->path, "foreground", 0);
@@ -393,7 +393,9 @@ static int open_volume(struct database *database, int flags)
     options.wait_ms = wait_of(database->path);
     options.readonly = (flags & SQLITE_OPEN_READONLY) != 0;
     code = famsync_open(database->path, &options, &database->volume);
-    return code == FAMSYNC_OK ? SQLITE_OK : fail(code_for_open(code), error_of(code), "%s", message);
+    if (code == FAMSYNC_OK)
+        return SQLITE_OK;
+    return fail(code_for_open(code), error_of(code), "%s", message[0] ? message : famsync_strerror(code));
 }
 
 /* The length of the volume's file with this name, 0 for none. */

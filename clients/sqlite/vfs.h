@@ -29,13 +29,12 @@ struct database {
     sqlite3_int64 size;    /* how many bytes it has now */
     sqlite3_int64 kept;    /* how many it had at the last commit */
     unsigned char **waits; /* one per page: its new bytes, in `pages`, or a null pointer */
-    unsigned char
-        *pages;       /* the new bytes of the waiting pages, in the order in which they came, and room for one more */
-    size_t *order;    /* the numbers of these pages */
-    unsigned waiting; /* how many pages wait for a commit */
-    unsigned limit;   /* the most pages that may wait */
-    bool torn;        /* a commit failed: this connection can't be used any more */
-    int error;        /* errno of that failure */
+    unsigned char *pages;  /* these bytes, in the order in which they came, and room for one more page */
+    size_t *order;         /* the numbers of these pages */
+    unsigned waiting;      /* how many pages wait for a commit */
+    unsigned limit;        /* the most pages that may wait */
+    bool torn;             /* a commit failed: this connection can't be used any more */
+    int error;             /* errno of that failure */
 };
 
 /* A file that SQLite has open: the journal of such a database. */
