@@ -55,7 +55,7 @@ static void stop(const char *what)
 static void compare(void)
 {
     static const char text[] = "SELECT id, number, bytes FROM row ORDER BY id";
-    sqlite3_stmt *one, *other;
+    sqlite3_stmt *one = NULL, *other = NULL;
     int found;
     if (sqlite3_prepare_v2(ours, text, -1, &one, NULL) || sqlite3_prepare_v2(mirror, text, -1, &other, NULL))
         stop(text);
