@@ -6,6 +6,7 @@ import ctypes
 import operator
 import os
 import weakref
+from contextlib import suppress
 from types import TracebackType
 from typing import Any, Dict, List, NoReturn, Optional, Tuple, Type, Union
 
@@ -137,11 +138,11 @@ class Volume:
         return memory
 
     def _take_back(self) -> None:
-        """Closes memory that nobody has any more, and that an interrupt has left open."""
-        for closing, lent in list(self._lent):
-            if lent() is None:
-                closing.end()
-        self._lent[:] = [(closing, lent) for closing, lent in self._lent if closing.pointer]
+        """Closes memory that nobody has any more, and that an interrupt has left open. Threads may do so at once."""
+        for one in [one for one in self._lent if one[1]() is None]:
+            one[0].end()
+            with suppress(ValueError):
+                self._lent.remove(one)
 
     def map(self, name: str, offset: int = 0, length: int = 0, write: Optional[bool] = None) -> Mapping:
         """Maps pages of a file from `offset` on, a multiple of 4,096; a length of 0 is up to the file's end. It is for
@@ -184,7 +185,7 @@ class Volume:
         for memory in list(self._memories):
             memory.close()
         self._take_back()
-        if self._lent:
+        if any(closing.pointer for closing, _ in self._lent):
             # of a Memory that was dropped there is a view
             raise BufferError("the volume can't be closed while somebody has a buffer of its memory")
 

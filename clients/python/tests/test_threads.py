@@ -139,6 +139,21 @@ class Threads(InAFolder):
             together(*[volume.close] * THREADS)
             self.assertRaises(ValueError, volume.commit)
 
+    def test_memories_of_several(self):
+        """Threads open memory of files of their own, and drop it, again and again; then the volume can be closed."""
+        self.make(16, *[f"f{number}=8192" for number in range(THREADS)])
+        volume = self.opened()
+
+        def work(number):
+            for _ in range(50):
+                with volume.memory(f"f{number}") as memory:
+                    memory[0] = 1
+                volume.memory(f"f{number}")[1] = 1
+
+        together(*[lambda number=number: work(number) for number in range(THREADS)])
+        volume.close()
+        famsync.open("v.img").close()
+
     def test_close_from_within_a_call(self):
         volume = self.opened()
         with self.assertRaises(RuntimeError):

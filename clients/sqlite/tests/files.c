@@ -11,9 +11,9 @@ static sqlite3 *database;
 static char path[200];
 static char plain[100];
 
-static void begin(unsigned layout)
+static void begin(unsigned layout, unsigned slots)
 {
-    make_volume_of(layout, 200, "db=4096000 other=4096000");
+    make_volume_of(layout, slots, "db=4096000 other=4096000");
     snprintf(path, sizeof path, "file:%s?vfs=famsync&file=db", volume);
     snprintf(plain, sizeof plain, "%s/plain.db", folder);
     unlink(plain);
@@ -76,7 +76,7 @@ static void copy(sqlite3 *to, sqlite3 *from)
 static void takes_a_database_in_wal_mode(const char *page_size)
 {
     sqlite3 *from;
-    begin(1);
+    begin(1, 200);
     from = plain_with_wal(page_size);
     must(database, "CREATE TABLE old (n); INSERT INTO old VALUES (1)");
     copy(database, from);
@@ -91,12 +91,30 @@ static void takes_a_database_in_wal_mode(const char *page_size)
     end();
 }
 
+/* A restore is one transaction. One that is larger than a commit is refused, and the database is what it was. */
+static void refuses_a_large_restore(void)
+{
+    sqlite3 *from;
+    sqlite3_backup *backup;
+    begin(1, 30);
+    must(database, "CREATE TABLE old (n); INSERT INTO old VALUES (1)");
+    from = plain_with_wal("4096");
+    backup = sqlite3_backup_init(database, "main", from, "main");
+    WANT(backup && sqlite3_backup_step(backup, -1) == SQLITE_FULL && sqlite3_backup_finish(backup) == SQLITE_FULL);
+    WANT(sqlite3_close(from) == SQLITE_OK);
+    WANT(answers(database, "SELECT n FROM old", "1") && answers(database, "PRAGMA integrity_check", "ok"));
+    must(database, "INSERT INTO old VALUES (2)");
+    reopen();
+    WANT(answers(database, "SELECT count(*) FROM old", "2"));
+    end();
+}
+
 /* An earlier version left it so. */
 static void opens_what_says_wal(void)
 {
     famsync *handle;
     uint64_t address;
-    begin(2);
+    begin(2, 200);
     must(database, rows);
     end();
     WANT_CODE(famsync_open(volume, NULL, &handle), FAMSYNC_OK);
@@ -115,7 +133,7 @@ static void opens_what_says_wal(void)
 static void goes_into_a_plain_file(void)
 {
     sqlite3 *to;
-    begin(3);
+    begin(3, 200);
     must(database, rows);
     WANT(sqlite3_open(plain, &to) == SQLITE_OK);
     copy(to, database);
@@ -134,7 +152,7 @@ static bool is_there(const char *suffix)
 static void leaves_plain_files_to_the_default(void)
 {
     sqlite3 *other;
-    begin(1);
+    begin(1, 200);
     must(database, rows);
     must_with(database, "VACUUM INTO '%s'", plain);
     WANT(sqlite3_open(plain, &other) == SQLITE_OK && has_rows(other, "40") && sqlite3_close(other) == SQLITE_OK);
@@ -161,7 +179,7 @@ static void rolls_a_plain_file_back(void)
     sqlite3 *other;
     int status;
     pid_t child;
-    begin(1);
+    begin(1, 200);
     must(database, rows);
     must_with(database, "VACUUM INTO '%s'", plain);
     end();
@@ -199,7 +217,7 @@ static void finds_volumes(void)
 {
     sqlite3 *opened;
     char saved[100], command[300];
-    begin(1);
+    begin(1, 200);
     must(database, rows);
     snprintf(saved, sizeof saved, "%s/saved.img", folder);
     end();
@@ -248,7 +266,7 @@ static void says_why(const char *extension)
 {
     sqlite3 *in, *none;
     char missing[200];
-    begin(1);
+    begin(1, 200);
     WANT(sqlite3_open(":memory:", &in) == SQLITE_OK && sqlite3_enable_load_extension(in, 1) == SQLITE_OK);
     WANT(sqlite3_load_extension(in, extension, NULL, NULL) == SQLITE_OK);
     WANT(answers(in, "SELECT famsync_error()", "NULL"));
@@ -281,7 +299,7 @@ static void keeps_errno(void)
     struct rlimit limit = {4096, 4096};
     sqlite3_vfs *vfs = sqlite3_vfs_find("famsync");
     char said[300];
-    begin(1);
+    begin(1, 200);
     must(database, rows);
     end();
     child = fork();
@@ -305,6 +323,7 @@ int main(int count, char **words)
     takes_a_database_in_wal_mode("4096");
     takes_a_database_in_wal_mode("1024");
     takes_a_database_in_wal_mode("65536");
+    refuses_a_large_restore();
     opens_what_says_wal();
     goes_into_a_plain_file();
     leaves_plain_files_to_the_default();
