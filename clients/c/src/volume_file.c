@@ -92,16 +92,17 @@ static bool has_its_name(const struct volume *volume, const struct stat *found)
            named.st_ino == found->st_ino;
 }
 
-/* A mark is of use only beside the file's name: one that was renamed isn't marked by it. */
+/* A file that was renamed meanwhile isn't marked: the mark would be that of another file, if any. */
 int mark_suspect(const struct volume *volume)
 {
     struct stat found;
-    if (make_mark(volume) != 0 || sync_folder(volume) != 0 || fstat(volume->file, &found) != 0)
+    if (fstat(volume->file, &found) != 0)
         return FAMSYNC_SYSTEM;
-    if (has_its_name(volume, &found))
-        return FAMSYNC_OK;
-    errno = ENOENT;
-    return FAMSYNC_SYSTEM;
+    if (!has_its_name(volume, &found)) {
+        errno = ENOENT;
+        return FAMSYNC_SYSTEM;
+    }
+    return make_mark(volume) == 0 && sync_folder(volume) == 0 ? FAMSYNC_OK : FAMSYNC_SYSTEM;
 }
 
 /* Whether a volume is marked; FAMSYNC_SYSTEM where that can't be seen, as where the mark's name would be too long. */

@@ -107,14 +107,15 @@ static void renamed_folder(void)
     WANT(rename(after, volume) == 0);
 }
 
-/* A file that has another name by now isn't marked by a mark beside its old one. */
+/* A file that has another name by now isn't marked: its old name may be that of another volume. */
 static void renamed_file(void)
 {
     char moved[100];
-    famsync *handle = stored_to(volume);
+    famsync *handle = stored_to(volume); /* which takes a mark away */
     snprintf(moved, sizeof moved, "%s/w.img", folder);
     WANT(rename(volume, moved) == 0);
     sync_fails(handle, FAMSYNC_UNMARKED);
+    WANT(!is_there(folder, "v.img.suspect") && !is_there(folder, "w.img.suspect"));
     WANT(rename(moved, volume) == 0);
 }
 
