@@ -11,6 +11,7 @@
  *   session VOLUME load                       the same for ever, by three threads, each with pages of its own
  *   session VOLUME children                   the same, and another thread makes children meanwhile, which store, too
  *   session VOLUME find [trust]               prints the numbers that are there
+ *   session VOLUME read                       opens it for reading alone, and keeps it until its input ends
  *
  * A call that fails is printed with its code, and with errno where that says how.
  */
@@ -171,6 +172,18 @@ static int find(bool trust)
     return 0;
 }
 
+static int reads(void)
+{
+    famsync *handle;
+    int code = famsync_open(volume, &(struct famsync_options){.readonly = 1}, &handle);
+    if (report("open", code))
+        return 0;
+    puts("reading");
+    while (getchar() != EOF)
+        continue;
+    return report("close", famsync_close(handle));
+}
+
 int main(int count, char **words)
 {
     WANT(count >= 3);
@@ -185,5 +198,7 @@ int main(int count, char **words)
         return work((uint64_t)atoi(words[3]), count > 4 ? words[4] : "");
     if (strcmp(words[2], "load") == 0 || strcmp(words[2], "children") == 0)
         return loaded(words[2][0] == 'c');
+    if (strcmp(words[2], "read") == 0)
+        return reads();
     return find(count > 3);
 }
