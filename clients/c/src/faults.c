@@ -150,7 +150,7 @@ static void pass_on(int number, siginfo_t *info, ucontext_t *context)
     unsigned count = atomic_load(&handlers), times = times_passed(context);
     const struct sigaction *next = times < count ? &earlier[count - 1 - times] : &none;
     bool sent = info->si_code <= 0, informed = next->sa_flags & SA_SIGINFO;
-    struct ucontext_t *link = context->uc_link;
+    void *link = context->uc_link;
     if (!informed && next->sa_handler == SIG_IGN && sent)
         return;
     if (!informed && (next->sa_handler == SIG_DFL || next->sa_handler == SIG_IGN)) {
@@ -158,7 +158,7 @@ static void pass_on(int number, siginfo_t *info, ucontext_t *context)
         return;
     }
     if (times > 0 || !link)
-        context->uc_link = (struct ucontext_t *)(void *)(passed + times + 1);
+        context->uc_link = (void *)(passed + times + 1);
     call_handler(next, number, info, context);
     context->uc_link = link;
 }
