@@ -1,7 +1,7 @@
 # For who installs famsync, and for who works on the repository. The merge check is `.ci/run`.
 #
 #   make              the C library, in clients/c/out
-#   make install      everything that users need; PREFIX, DESTDIR, PYTHONDIR say where (packaging/install.sh)
+#   make install      everything that users need; PREFIX, DESTDIR, LIBDIR, PYTHONDIR say where (packaging/install.sh)
 #   make uninstall    takes it away again; with the same PREFIX and DESTDIR
 #   make dist         out/famsync-VERSION-linux-x86_64.tar.gz, for users without the kit
 #
@@ -17,7 +17,7 @@ all:
 install:
 	@tree=$$(mktemp -d) && trap 'rm -rf "$$tree"' EXIT && $(PROVED) packaging/stage "$$tree" && \
 		"$$tree/install.sh" --prefix '$(PREFIX)' $(if $(DESTDIR),--destdir '$(DESTDIR)') \
-			$(if $(PYTHONDIR),--pythondir '$(PYTHONDIR)')
+			$(if $(LIBDIR),--libdir '$(LIBDIR)') $(if $(PYTHONDIR),--pythondir '$(PYTHONDIR)')
 
 uninstall:
 	@packaging/install.sh --uninstall --prefix '$(PREFIX)' $(if $(DESTDIR),--destdir '$(DESTDIR)')

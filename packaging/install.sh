@@ -1,11 +1,12 @@
 #!/bin/sh
 # Installs famsync from the folder in which this script stands, or takes an installation away.
 #
-# usage: install.sh [--prefix DIR] [--destdir DIR] [--pythondir DIR]
+# usage: install.sh [--prefix DIR] [--destdir DIR] [--libdir DIR] [--pythondir DIR]
 #        install.sh --uninstall [--prefix DIR] [--destdir DIR]
 #
 #   --prefix      the folder below which everything is put: /usr/local where it isn't said
 #   --destdir     is put before each path, for who makes a package
+#   --libdir      where the libraries are put, and pkg-config's file: PREFIX/lib where it isn't said
 #   --pythondir   where the package for Python is put: PREFIX/lib/python3/dist-packages where it isn't said
 #
 # PREFIX/share/famsync/installed lists each file and each folder before it is made, and what it lists is what is taken
@@ -14,7 +15,7 @@
 set -eu
 
 tree=$(cd "$(dirname "$0")" && pwd)
-prefix=/usr/local destdir='' python='' uninstall=''
+prefix=/usr/local destdir='' libraries='' python='' uninstall=''
 packages=lib/python3/dist-packages
 
 fail() {
@@ -28,9 +29,9 @@ read_words() {
         shift
         case $word in
         --uninstall) uninstall=yes && continue ;;
-        --prefix | --destdir | --pythondir) [ $# -gt 0 ] || status=2 fail "$word wants a folder" ;;
+        --prefix | --destdir | --libdir | --pythondir) [ $# -gt 0 ] || status=2 fail "$word wants a folder" ;;
         *) status=2 fail "'$word' isn't known: usage: install.sh [--uninstall] [--prefix DIR] [--destdir DIR]" \
-            "[--pythondir DIR]" ;;
+            "[--libdir DIR] [--pythondir DIR]" ;;
         esac
         case $1 in
         /*) ;;
@@ -39,10 +40,12 @@ read_words() {
         case $word in
         --prefix) prefix=${1%/} ;;
         --destdir) destdir=${1%/} ;;
+        --libdir) libraries=${1%/} ;;
         --pythondir) python=${1%/} ;;
         esac
         shift
     done
+    libraries=${libraries:-$prefix/lib}
     python=${python:-$prefix/$packages}
     list=$prefix/share/famsync/installed
 }
@@ -51,6 +54,7 @@ read_words() {
 place() {
     case $1 in
     "$packages"/*) echo "$python/${1#"$packages"/}" ;;
+    lib/*) echo "$libraries/${1#lib/}" ;;
     *) echo "$prefix/$1" ;;
     esac
 }
@@ -66,9 +70,18 @@ missing_folders() {
     done | LC_ALL=C sort -u
 }
 
+# pkg-config's file says where the prefix is from its own place.
+put_package() {
+    up=$(realpath -ms --relative-to="$libraries/pkgconfig" "$prefix/.")
+    sed "s,^prefix=.*,prefix=\${pcfiledir}/$up," "$1" >"$2"
+    chmod 644 "$2"
+}
+
 put() {
     from=$tree/$1 to=$destdir$(place "$1")
-    if [ -L "$from" ]; then
+    if [ "$1" = lib/pkgconfig/famsync.pc ]; then
+        put_package "$from" "$to"
+    elif [ -L "$from" ]; then
         leads_to=$(realpath "$from")
         ln -sfr "$destdir$(place "${leads_to#"$(realpath "$tree")"/}")" "$to"
     elif [ -x "$from" ]; then
