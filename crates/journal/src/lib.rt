@@ -3,6 +3,7 @@
 //! moment is said by the contents that a volume's bytes recover to.
 #![tactic(auto)]
 
+mod batch_of_blocks;
 mod copying;
 mod finishing;
 mod flush;

@@ -30,12 +30,12 @@ use volume_codec::{Geometry, Super};
 /// shared, until the older one's home blocks are sure.
 #[derive(Drop)]
 pub struct WriteOuts<A: Allocator + Copy> {
-    geometry: Geometry,
-    next: u32,
+    pub(crate) geometry: Geometry,
+    pub(crate) next: u32,
     // The oldest first. There is room for one in each journal.
-    queued: Vec<Queued<A>, A>,
+    pub(crate) queued: Vec<Queued<A>, A>,
     // Lists with room for the home blocks of a batch, for the journals that have none.
-    spare: Vec<Vec<u32, A>, A>,
+    pub(crate) spare: Vec<Vec<u32, A>, A>,
     // Records are read into it on their way to their home blocks.
     buffer: [u8; 4096],
     broken: bool,
@@ -58,7 +58,7 @@ impl<A: Allocator + Copy> Model for WriteOuts<A> {
 }
 
 // The journal whose turn it is after this one.
-fn journal_after(geometry: &Geometry, journal: u32) -> u32
+pub(crate) fn journal_after(geometry: &Geometry, journal: u32) -> u32
     requires { journal < journals_of geometry.now.layout }
     ensures { result ≡ following geometry.now.layout journal }
 {
@@ -130,18 +130,6 @@ fn add_homes<A: Allocator + Copy>(list: &mut Vec<u32, A>, table: &Super<A>, page
         // There is room for it.
         let _ = list.push(home_of(table, *page));
     }
-}
-
-// These home blocks, in the memory of another list.
-fn filled<A: Allocator + Copy>(mut list: Vec<u32, A>, homes: &[u32]) -> Vec<u32, A>
-    requires { length homes.now ≤ vec_capacity list }
-    ensures items { result.items ≡ homes.now }
-    ensures room { vec_capacity list ≤ vec_capacity result }
-{
-    list.clear();
-    // There is room for them.
-    let _ = list.extend_from_slice(homes);
-    list
 }
 
 // What follows of a step's answer: the oldest leaves where it is done, and its list is spare again; or a device call
@@ -342,23 +330,6 @@ impl<A: Allocator + Copy> WriteOuts<A> {
     {
         let mut list = refilled(self.spare.pop().unwrap(), table, resized);
         add_homes(&mut list, table, pages);
-        let one = Queued::new(&self.geometry, self.next, mark, list);
-        // There is room for a write-out in each journal.
-        let _ = self.queued.push(one);
-        self.next = journal_after(&self.geometry, self.next);
-    }
-
-    /// Begins the write-out of a batch of these home blocks, as `begin` does. It takes no memory and makes no device
-    /// call.
-    pub fn begin_blocks(&mut self, mark: u64, homes: &[u32])
-        requires whole { self.old.broken ≡ false }
-        requires free { is_busy self.old ≡ false }
-        requires some_mark { 0 < mark }
-        requires homes { AreHomes self.old.geometry homes.now }
-        requires newest { AllByRecursion (λ w. w.batch.mark < mark) self.old.batches }
-        ensures { self.new ≡ begun self.old mark homes.now }
-    {
-        let list = filled(self.spare.pop().unwrap(), homes);
         let one = Queued::new(&self.geometry, self.next, mark, list);
         // There is room for a write-out in each journal.
         let _ = self.queued.push(one);
