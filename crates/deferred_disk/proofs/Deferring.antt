@@ -18,14 +18,16 @@ use Rattle.deferred_disk.specs.Deferred.{Deferred, as_recorded, reaches}
 use Rattle.deferred_disk.specs.Deferred.{one_reaches, block_of, made_before, done_by, first_unknown, with_known}
 use Rattle.deferred_disk.specs.Deferred.{first_block, end_block, lacked_by_read, lacked_by_write, or_else}
 use Rattle.device.specs.Work.{TornByWork}
-use Rattle.device.specs.declared.log.Logged.{Logged}
+use Rattle.deferred_disk.specs.declared.waiting.WaitingCall.{WaitingCall}
 use Rattle.deferred_disk.specs.inside.Deferring.{IsKnownAt, AreKnown, AgreeWhereKnown, IsKept}
-use Rattle.device.specs.inside.Logged.{change_of, changes_of}
+use Rattle.deferred_disk.specs.inside.Waiting.{change_of, changes_of}
 use Rattle.device.specs.inside.Replay.{AreWithin}
 use Rattle.device.proofs.Public.{length-content_after, part_at, length-part, length-written, torn_before, torn_after}
 use Rattle.device.proofs.Public.{written_before, written_within, written_after, replaced_before, replaced_within}
-use Rattle.device.proofs.Public.{replaced_after, changes_of-more, changes_of-append, changes_of-split}
-use Rattle.device.proofs.Public.{length-changes_of, within_newer, within_older}
+use Rattle.device.proofs.Public.{replaced_after}
+use Rattle.deferred_disk.proofs.Waits.{changes_of-more, changes_of-append, changes_of-split}
+use Rattle.device.proofs.Public.{within_newer, within_older}
+use Rattle.deferred_disk.proofs.Waits.{length-changes_of}
 
 module _ (flags : List Bool) (from to : ℕ) (le : from ≤ to) (fits : to ≤ length flags) where
   many : from + length (replicate (to - from) true) ≡ to
@@ -185,6 +187,32 @@ prefix_taken : {A : Type 0} (xs ys all : List A) (m : ℕ) → length xs ≤ m �
 prefix_taken xs ys all m le is =
     sym (take_at xs ys (length xs) refl) ∙ ap (take (length xs)) is ∙ take-take (length xs) m all le
 
+-- A disk begins with no block that is known, and no call.
+pub kept_at_start : (first : List ℕ) (changes : List DiskChange) (supplied : List (List ℕ × List ℕ)) (bytes : List ℕ)
+    (flags : List Bool) (waiting : List DiskChange) (blocks : ℕ) → length first ≡ 4096 * blocks → changes ≡ []
+    → length bytes ≡ 4096 * blocks → flags ≡ replicate blocks false → waiting ≡ []
+    → IsKept first changes supplied bytes flags waiting (4096 * blocks)
+kept_at_start first changes supplied bytes flags waiting blocks size none long blank idle =
+    let wide = ap length blank ∙ length-replicate blocks false in
+    record {
+      first_length = omega (arith, size, wide);
+      bytes_length = omega (arith, long, wide);
+      len_is = sym size;
+      within = subst (AreWithin (length first)) (sym none) tt;
+      waits = idle ∙ sym (ap (λ n. take n changes) (ap length idle));
+      reached = subst (AreKnown flags) (sym idle) tt;
+      agrees = λ alike i known. absurd (cc (
+        never (i / 4096) blocks,
+        ap (λ (l : List Bool). get_or l (i / 4096) false) blank,
+        known,
+      ));
+    }
+  where
+    never : (b n : ℕ) → get_or (replicate n false) b false ≡ false
+    never b zero = refl
+    never zero (suc n) = refl
+    never (suc b) (suc n) = never b n
+
 -- The oldest waiting call is taken away: the others stay, as the newest changes, and what they write is known.
 pub kept_without_oldest : (first : List ℕ) (changes : List DiskChange) (supplied : List (List ℕ × List ℕ))
     (bytes : List ℕ) (flags : List Bool) (newer : List DiskChange) (change : DiskChange) (len : ℕ)
@@ -299,7 +327,7 @@ got_at [] older change = refl
 got_at (x ∷ newer) older change = got_at newer older change
 
 -- The call at the front of the log is the oldest that waits.
-pub front_is_oldest : {A : Type 0} (log : List (Logged A)) (changes : List DiskChange)
+pub front_is_oldest : {A : Type 0} (log : List (WaitingCall A)) (changes : List DiskChange)
     → changes_of log ≡ take (length (changes_of log)) changes
     → made_before (length log) changes ≡ option_map change_of (slice_get log 0)
 front_is_oldest [] changes waits = refl
@@ -311,7 +339,7 @@ front_is_oldest (e ∷ log) changes waits =
     ∙ got_at (changes_of log) (drop m changes) (change_of e)
 
 -- The call at an index of the log is the one that waits behind as many others.
-pub waits_at : {A : Type 0} (log : List (Logged A)) (changes : List DiskChange) (i : ℕ)
+pub waits_at : {A : Type 0} (log : List (WaitingCall A)) (changes : List DiskChange) (i : ℕ)
     → changes_of log ≡ take (length (changes_of log)) changes
     → made_before (length log - i) changes ≡ option_map change_of (slice_get log i)
 waits_at log changes zero waits =
@@ -329,16 +357,16 @@ waits_at (e ∷ log) changes (suc i) waits =
 
 -- The front of the log is taken away.
 pub kept_without_front : {A : Type 0} (first : List ℕ) (changes : List DiskChange) (supplied : List (List ℕ × List ℕ))
-    (bytes : List ℕ) (flags : List Bool) (log new : List (Logged A)) (len : ℕ) → new ≡ drop 1 log
+    (bytes : List ℕ) (flags : List Bool) (log new : List (WaitingCall A)) (len : ℕ) → new ≡ drop 1 log
     → IsKept first changes supplied bytes flags (changes_of log) len
     → IsKept first changes supplied bytes flags (changes_of new) len
 kept_without_front first changes supplied bytes flags [] new len rest kept =
-    subst (λ (l : List (Logged _)). IsKept first changes supplied bytes flags (changes_of l) len) (sym rest) kept
+    subst (λ (l : List (WaitingCall _)). IsKept first changes supplied bytes flags (changes_of l) len) (sym rest) kept
 kept_without_front first changes supplied bytes flags (e ∷ log) new len rest kept =
-    subst (λ (l : List (Logged _)). IsKept first changes supplied bytes flags (changes_of l) len) (sym rest)
+    subst (λ (l : List (WaitingCall _)). IsKept first changes supplied bytes flags (changes_of l) len) (sym rest)
     (kept_without_oldest first changes supplied bytes flags (changes_of log) (change_of e) len kept)
 
-pub few_wait : {A : Type 0} (log : List (Logged A)) (changes : List DiskChange)
+pub few_wait : {A : Type 0} (log : List (WaitingCall A)) (changes : List DiskChange)
     → changes_of log ≡ take (length (changes_of log)) changes → length log ≤ length changes
 few_wait log changes waits =
     omega (arith, length-changes_of log, ap length waits, length-take (length (changes_of log)) changes)
@@ -468,7 +496,8 @@ same_deferred f c w k s l n m = λ i. record {
 }
 
 -- one more call waits
-pub one_more : {A : Type 0} (log new : List (Logged A)) (change : DiskChange) → changes_of new ≡ change ∷ changes_of log
+pub one_more : {A : Type 0} (log new : List (WaitingCall A)) (change : DiskChange)
+    → changes_of new ≡ change ∷ changes_of log
     → length new ≡ length log + 1
 one_more log new change more = omega (arith, ap length more, length-changes_of log, length-changes_of new)
 
@@ -511,21 +540,23 @@ known_without flags block (write at bytes ∷ older) none known =
       known_without flags block older parts.1 known.1,
     )
 
--- A block that no waiting call writes to is forgotten.
+-- A block that no waiting call writes to is forgotten: the bytes of the others stay.
 pub kept_without_block : (first : List ℕ) (changes : List DiskChange) (supplied : List (List ℕ × List ℕ))
-    (bytes : List ℕ) (flags : List Bool) (waiting : List DiskChange) (len block : ℕ)
+    (bytes left : List ℕ) (flags : List Bool) (waiting : List DiskChange) (len block : ℕ)
     → IsKept first changes supplied bytes flags waiting len → block < length flags → one_reaches waiting block ≡ false
-    → IsKept first changes supplied bytes (set flags block false) waiting len
-kept_without_block first changes supplied bytes flags waiting len block kept inside none =
+    → length left ≡ length bytes
+    → ((i : ℕ) → IsKnownAt (set flags block false) i → get_or left i 0 ≡ get_or bytes i 0)
+    → IsKept first changes supplied left (set flags block false) waiting len
+kept_without_block first changes supplied bytes left flags waiting len block kept inside none same stays =
     let wide = length-set flags block false in
     record {
       first_length = omega (arith, wide, kept.first_length);
-      bytes_length = omega (arith, wide, kept.bytes_length);
+      bytes_length = omega (arith, wide, same, kept.bytes_length);
       len_is = kept.len_is;
       within = kept.within;
       waits = kept.waits;
       reached = known_without flags block waiting none kept.reached;
-      agrees = λ alike i known. kept.agrees alike i (was i known);
+      agrees = λ alike i known. stays i known ∙ kept.agrees alike i (was i known);
     }
   where
     was : (i : ℕ) → IsKnownAt (set flags block false) i → IsKnownAt flags i
@@ -550,14 +581,14 @@ one_of_both (x ∷ newer) older block one =
     or_true false b one = one
 
 -- One more call of a log doesn't reach the block, or one does.
-pub none_more : {A : Type 0} (log : List (Logged A)) (k block : ℕ) (entry : Logged A) → k < length log
+pub none_more : {A : Type 0} (log : List (WaitingCall A)) (k block : ℕ) (entry : WaitingCall A) → k < length log
     → entry ≡ get_or log k entry → reaches (change_of entry) block ≡ false
     → one_reaches (changes_of (take k log)) block ≡ false → one_reaches (changes_of (take (k + 1) log)) block ≡ false
 none_more log k block entry lt is not_here none =
     ap (λ (l : List DiskChange). one_reaches l block) (changes_of-more log k entry lt is)
     ∙ ap (λ b. b || one_reaches (changes_of (take k log)) block) not_here ∙ none
 
-pub one_there : {A : Type 0} (log : List (Logged A)) (k block : ℕ) (entry : Logged A) → k < length log
+pub one_there : {A : Type 0} (log : List (WaitingCall A)) (k block : ℕ) (entry : WaitingCall A) → k < length log
     → entry ≡ get_or log k entry → reaches (change_of entry) block ≡ true → one_reaches (changes_of log) block ≡ true
 one_there log k block entry lt is here =
     ap (λ (l : List DiskChange). one_reaches l block) (changes_of-split log (k + 1))
@@ -566,7 +597,7 @@ one_there log k block entry lt is here =
     ∙ ap (λ b. b || one_reaches (changes_of (take k log)) block) here)
 
 -- the changes of a log in two parts
-pub changes_of_both : {A : Type 0} (older newer log : List (Logged A)) → older ++ newer ≡ log
+pub changes_of_both : {A : Type 0} (older newer log : List (WaitingCall A)) → older ++ newer ≡ log
     → changes_of log ≡ changes_of newer ++ changes_of older
 changes_of_both older newer log is = ap changes_of (sym is) ∙ changes_of-append older newer
 

@@ -2,3 +2,5 @@ mod Carrying
 mod Counting
 mod Deferring
 mod Pasts
+mod Rooms
+mod Waits

@@ -1,44 +1,62 @@
 // The blocks of a disk that are known.
-ghost use Rattle.std.specs.Prelude.{◌≡◌, ℕ, ◌+◌, ◌-◌, ◌*◌, ◌^◌, ◌<◌, ◌≤◌, false, None, List, length, get_or, set, replicate, slice_range, IfOk, OnOk, OnErr};
+ghost use Rattle.std.specs.Prelude.{◌≡◌, ℕ, ◌+◌, ◌-◌, ◌*◌, ◌/◌, ◌^◌, ◌<◌, ◌≤◌, min, replicate, false, None, is_some, List, ◌++◌, length, get_or, set, slice_range, IfNone, IfSome, IfOk, OnOk, OnErr};
+ghost use Rattle.std.specs.List.{All};
+ghost use Rattle.std.specs.HashMap.{get, spare, IsUnchanged};
+ghost use Rattle.std.specs.Prelude.{nat_eq};
 ghost use Rattle.device.specs.Device.{written};
-ghost use Rattle.deferred_disk.specs.Deferred.{first_unknown, lacked_by_read, lacked_by_write, with_known, first_block, end_block};
+ghost use Rattle.deferred_disk.specs.Deferred.{first_unknown, lacked_by_read, lacked_by_write, with_known, first_block, end_block, block_of};
+ghost use Rattle.deferred_disk.specs.inside.Blocks.{Known, blank, Enters};
+ghost use Rattle.deferred_disk.specs.inside.Deferring.{IsKnownAt};
 
+use crate::run::{Part, Run, shares_of};
 use device::put;
 use std::alloc::{AllocError, Allocator};
+use std::collections::HashMap;
+use std::hash::{BuildHasherDefault, FoldHasher};
 use std::marker::Model;
+use std::rc::Rc;
 
 // How many bytes a block has.
 const BLOCK: usize = 4096;
 
-// Some blocks, of which some are known. What stands in place of the others says nothing.
+// The blocks that are known, by their numbers.
+type Rooms<A> = HashMap<usize, Part<A>, BuildHasherDefault<FoldHasher>, A>;
+
+// Some blocks, of which some are known. It keeps the bytes of those alone.
 #[derive(Drop)]
 pub struct Blocks<A: Allocator + Copy> {
-    bytes: Vec<u8, A>,
-    known: Vec<bool, A>,
+    alloc: A,
+    count: usize,
+    rooms: Rooms<A>,
 }
 
 impl<A: Allocator + Copy> Model for Blocks<A> {
-    ghost use Rattle.std.specs.Prelude.{◌≡◌, ◌*◌, length};
-    ghost use Rattle.deferred_disk.specs.inside.Blocks.{Known};
+    ghost use Rattle.std.specs.Prelude.{◌*◌, ◌^◌, ◌<◌, nat_eq};
+    ghost use Rattle.std.specs.HashMap.{get};
+    ghost use Rattle.deferred_disk.specs.inside.Blocks.{Known, bytes_of, flags_of, AreWhole};
 
     ghost Value = { Known };
 
-    ghost view = { λ blocks. record { bytes = blocks.bytes.items; flags = blocks.known.items } };
+    ghost view = { λ blocks. record {
+      bytes = bytes_of (get nat_eq blocks.rooms) blocks.count;
+      flags = flags_of (get nat_eq blocks.rooms) blocks.count;
+    } };
 
-    ghost invariant = { λ blocks. length blocks.bytes.items ≡ 4096 * length blocks.known.items };
+    ghost invariant = { λ blocks. AreWhole (get nat_eq blocks.rooms) × 4096 * blocks.count < 2 ^ 64 };
 }
 
 impl<A: Allocator + Copy> Blocks<A> {
     // None of them known.
-    pub(crate) fn new(alloc: A, count: usize) -> Result<Self, AllocError>
+    pub(crate) fn new(alloc: A, count: usize) -> Self
         requires { 4096 * count < 2 ^ 64 }
-        ensures flags { IfOk result (λ blocks. blocks.flags ≡ replicate count false) }
-        ensures bytes { IfOk result (λ blocks. length blocks.bytes ≡ 4096 * count) }
+        ensures flags { result.flags ≡ replicate count false }
+        ensures bytes { length result.bytes ≡ 4096 * count }
     {
-        Ok(Blocks {
-            bytes: vec![in alloc; 0; BLOCK * count]?,
-            known: vec![in alloc; false; count]?,
-        })
+        Blocks {
+            alloc,
+            count,
+            rooms: HashMap::new(alloc),
+        }
     }
 
     // The end of so many bytes from an offset on.
@@ -47,15 +65,53 @@ impl<A: Allocator + Copy> Blocks<A> {
         ensures { result ≡ at + count }
     {
         // The blocks' length is below 2^64, so the end of a range within it doesn't wrap.
-        let _ = self.bytes.len();
+        let _count = self.count;
         at + count
+    }
+
+    // The bytes of a block that is known.
+    fn room(&self, block: usize) -> Option<&[u8]>
+        ensures known { is_some result ≡ get_or self.now.flags block false }
+        ensures bytes { IfSome result (λ bytes. bytes.now ≡ block_of self.now.bytes block) }
+        ensures whole { IfSome result (λ bytes. length bytes.now ≡ 4096) }
+        ensures blank { IfNone result (block < length self.now.flags → block_of self.now.bytes block ≡ blank) }
+    {
+        if block >= self.count {
+            return None;
+        }
+        match self.rooms.get(&block) {
+            Some(room) => Some(room.bytes()),
+            None => None,
+        }
+    }
+
+    // The bytes of a block, zeros where it isn't known.
+    fn room_or_blank(&self, block: usize) -> &[u8]
+        requires { block < length self.now.flags }
+        ensures { result.now ≡ block_of self.now.bytes block }
+    {
+        match self.room(block) {
+            Some(bytes) => bytes,
+            None => &[0; 4096],
+        }
+    }
+
+    pub(crate) fn is_known(&self, block: usize) -> bool
+        ensures { result ≡ get_or self.now.flags block false }
+    {
+        self.room(block).is_some()
     }
 
     // The first that isn't known of those from one up to another.
     fn first_unknown(&self, from: usize, to: usize) -> Option<usize>
         ensures { result ≡ first_unknown self.now.flags from (to - from) }
     {
-        first_false(&self.known, from, to)
+        for block in from..to {
+            if !self.is_known(block) {
+                return Some(block);
+            }
+        }
+        None
     }
 
     // The first that isn't known of those that a write of so many bytes from an offset on covers in part.
@@ -70,79 +126,126 @@ impl<A: Allocator + Copy> Blocks<A> {
         }
     }
 
-    pub(crate) fn is_known(&self, block: usize) -> bool
-        ensures { result ≡ get_or self.now.flags block false }
-    {
-        flag(&self.known, block)
-    }
-
     // Copies bytes from an offset on, or says which block is the first that isn't known of those that they reach.
     pub(crate) fn read(&self, at: usize, buffer: &mut [u8]) -> Option<usize>
         requires { at + length buffer.old ≤ length self.now.bytes }
         ensures lacked { result ≡ lacked_by_read self.now.flags at (length buffer.old) }
         ensures bytes { result ≡ None → buffer.new ≡ slice_range self.now.bytes at (at + length buffer.old) }
     {
+        let _count = self.count;
         let end = self.end_of(at, buffer.len());
-        match self.first_unknown(at / BLOCK, end.div_ceil(BLOCK)) {
-            Some(block) => Some(block),
-            None => {
-                buffer.copy_from_slice(&self.bytes[at..end]);
-                None
+        for block in at / BLOCK..end.div_ceil(BLOCK) {
+            match self.room(block) {
+                Some(bytes) => copy_part(bytes, BLOCK * block, at, buffer),
+                None => return Some(block),
             }
         }
+        None
     }
 
-    // Puts bytes at an offset; the blocks that they reach are known. It is refused memory, or does it.
-    pub(crate) fn put(&mut self, at: usize, bytes: &[u8]) -> Result<(), AllocError>
+    // Puts bytes at an offset. The blocks that they reach are known then. Answers the bytes, which the blocks share. It
+    // fails where memory is refused.
+    pub(crate) fn put(&mut self, at: usize, bytes: &[u8]) -> Result<Part<A>, AllocError>
         requires { at + length bytes.now ≤ length self.old.bytes }
+        ensures part { IfOk result (λ part. part ≡ bytes.now) }
         ensures bytes { OnOk result (self.new.bytes ≡ written self.old.bytes at bytes.now) }
         ensures flags { OnOk result (self.new.flags
             ≡ with_known self.old.flags (first_block at) (end_block at (length bytes.now))) }
         ensures err { OnErr result (self.new ≡ self.old) }
     {
-        put(&mut self.bytes, at, bytes);
-        let from = at / BLOCK;
-        let to = (at + bytes.len()).div_ceil(BLOCK);
-        mark(&mut self.known, from, to);
+        let _count = self.count;
+        let run = self.run_with(at, bytes)?;
+        self.enter(at / BLOCK, &run)?;
+        Ok(Part::new(run, at % BLOCK, at % BLOCK + bytes.len()))
+    }
+
+    // The blocks that bytes at an offset reach, with these bytes there.
+    fn run_with(&self, at: usize, bytes: &[u8]) -> Result<Run<A>, AllocError>
+        requires { at + length bytes.now ≤ length self.now.bytes }
+        ensures { IfOk result (λ run. run.value.items ≡ slice_range (written self.now.bytes at bytes.now)
+            (4096 * first_block at) (4096 * end_block at (length bytes.now))) }
+    {
+        let end = self.end_of(at, bytes.len());
+        if at % BLOCK == 0 && end % BLOCK == 0 {
+            return Ok(Rc::new(self.alloc, Vec::from_slice(self.alloc, bytes)?)?);
+        }
+        let mut run = self.run_of(at / BLOCK, end.div_ceil(BLOCK))?;
+        put(&mut run, at % BLOCK, bytes);
+        Ok(Rc::new(self.alloc, run)?)
+    }
+
+    // The bytes of the blocks from one up to another.
+    fn run_of(&self, from: usize, to: usize) -> Result<Vec<u8, A>, AllocError>
+        requires from { from ≤ to }
+        requires to { to ≤ length self.now.flags }
+        ensures { IfOk result (λ run. run.items ≡ slice_range self.now.bytes (4096 * from) (4096 * to)) }
+    {
+        let mut run = Vec::with_capacity(self.alloc, BLOCK * (to - from))?;
+        for block in from..to {
+            run.extend_from_slice(self.room_or_blank(block))?;
+        }
+        Ok(run)
+    }
+
+    // The blocks of a run are known, from this number on.
+    fn enter(&mut self, from: usize, run: &Run<A>) -> Result<(), AllocError>
+        requires whole { length run.now.value.items ≡ 4096 * (length run.now.value.items / 4096) }
+        requires fits { 4096 * from + length run.now.value.items ≤ length self.old.bytes }
+        ensures bytes { OnOk result (self.new.bytes ≡ written self.old.bytes (4096 * from) run.now.value.items) }
+        ensures flags { OnOk result (self.new.flags
+            ≡ with_known self.old.flags from (from + length run.now.value.items / 4096)) }
+        ensures err { OnErr result (self.new ≡ self.old) }
+    {
+        let count = run.len() / BLOCK;
+        let shares = shares_of(self.alloc, run, count)?;
+        self.rooms.reserve(count)?;
+        enter_rooms(&mut self.rooms, from, run, shares);
         Ok(())
     }
-}
 
-impl<A: Allocator + Copy> Blocks<A> {
     // One isn't known any more.
     pub(crate) fn forget(&mut self, block: usize)
         requires { block < length self.old.flags }
-        ensures bytes { self.new.bytes ≡ self.old.bytes }
+        ensures size { length self.new.bytes ≡ length self.old.bytes }
+        ensures bytes { (i : ℕ) → IsKnownAt self.new.flags i → get_or self.new.bytes i 0 ≡ get_or self.old.bytes i 0 }
         ensures flags { self.new.flags ≡ set self.old.flags block false }
     {
-        self.known[block] = false;
+        drop(self.rooms.remove(&block));
     }
 }
 
-// The first of these flags from one up to another that isn't set.
-fn first_false(flags: &[bool], from: usize, to: usize) -> Option<usize>
-    ensures { result ≡ first_unknown flags.now from (to - from) }
+// Puts the blocks of a run into a map, from this number on.
+fn enter_rooms<A: Allocator + Copy>(
+    rooms: &mut Rooms<A>,
+    from: usize,
+    run: &Run<A>,
+    shares: Vec<Run<A>, A>,
+)
+    requires room { length shares.items ≤ spare rooms.old }
+    requires whole { 4096 * length shares.items ≤ length run.now.value.items }
+    requires fits { from + length shares.items < 2 ^ 64 }
+    requires same { All (λ share. share.value ≡ run.now.value) shares.items }
+    ensures { Enters (get nat_eq rooms.old) (get nat_eq rooms.new) from (length shares.items) run.now.value.items }
 {
-    for block in from..to {
-        if !flag(flags, block) {
-            return Some(block);
+    let mut shares = shares;
+    for k in 0..shares.len() {
+        if let Some(share) = shares.pop() {
+            drop(rooms.insert(from + k, Part::new(share, BLOCK * k, BLOCK * k + BLOCK)));
         }
     }
-    None
 }
 
-// Whether there is this flag and it is set.
-fn flag(flags: &[bool], block: usize) -> bool
-    ensures { result ≡ get_or flags.now block false }
+// Copies what a block that begins at an offset has of the bytes from another offset on.
+fn copy_part(bytes: &[u8], start: usize, at: usize, buffer: &mut [u8])
+    requires block { length bytes.now ≡ 4096 }
+    requires begins { start ≤ at + length buffer.old }
+    requires ends { at ≤ start + 4096 }
+    requires start { start + 4096 < 2 ^ 64 }
+    requires at { at + length buffer.old < 2 ^ 64 }
+    ensures { buffer.new ≡ written buffer.old (start - at)
+        (slice_range bytes.now (at - start) (min 4096 (at + length buffer.old - start))) }
 {
-    block < flags.len() && flags[block]
-}
-
-// Sets the flags from one up to another.
-fn mark(flags: &mut [bool], from: usize, to: usize)
-    requires from { from ≤ to }
-    requires to { to ≤ length flags.old }
-    ensures { flags.new ≡ with_known flags.old from to }
-{
-    flags[from..to].fill(true);
+    let from = at.saturating_sub(start);
+    let to = BLOCK.min(at + buffer.len() - start);
+    put(buffer, start.saturating_sub(at), &bytes[from..to]);
 }

@@ -8,12 +8,13 @@ ghost use Rattle.device.specs.Memory.DiskChange.{write, sync};
 ghost use Rattle.deferred_disk.specs.Deferred.{deferred, as_recorded, carried_out, block_of, with_known, first_block, end_block, lacked_by_read, lacked_by_write, IsSuppliedWell, after_read, after_write, after_sync, after_refusal, after_supply, after_forget, reaches, one_reaches, with_waiting, oldest, waits_behind, done_by, recorded_calls};
 ghost use Rattle.device.specs.Work.{TornByWork};
 ghost use Rattle.deferred_disk.specs.Lent.{change_lent};
-ghost use Rattle.device.specs.inside.Logged.{change_of, changes_of};
+ghost use Rattle.deferred_disk.specs.inside.Waiting.{change_of, changes_of};
 ghost use Rattle.device.specs.inside.Replay.{AreWithin};
 
 use crate::blocks::Blocks;
 use crate::past::Past;
-use device::{Device, DeviceFault, Logged, make_durable, raise, write_at};
+use crate::waiting::{WaitingCall, keep_sync, keep_write, lend_at, make_first, waits_for};
+use device::{Device, DeviceFault, raise};
 use std::alloc::{AllocError, Allocator};
 use std::collections::VecDeque;
 use std::marker::Model;
@@ -35,10 +36,9 @@ pub enum DeferredCall<'a> {
 /// A write or a sync that is refused memory fails and changes nothing but the counts.
 #[derive(Drop)]
 pub struct DeferredDisk<A: Allocator + Copy> {
-    alloc: A,
     blocks: Blocks<A>,
     // The oldest call first.
-    log: VecDeque<Logged<A>, A>,
+    log: VecDeque<WaitingCall<A>, A>,
     past: Past,
     // How many writes and syncs were recorded.
     recorded: u64,
@@ -57,7 +57,7 @@ impl<A: Allocator + Copy> Model for DeferredDisk<A> {
 
     ghost coded = { deferred_code };
 
-    ghost use Rattle.device.specs.inside.Logged.{changes_of};
+    ghost use Rattle.deferred_disk.specs.inside.Waiting.{changes_of};
     ghost use Rattle.deferred_disk.specs.inside.Deferring.{IsKept, AreCounted};
 
     ghost view = { λ disk. record {
@@ -77,17 +77,15 @@ impl<A: Allocator + Copy> Model for DeferredDisk<A> {
 }
 
 impl<A: Allocator + Copy> DeferredDisk<A> {
-    /// A disk of this many blocks, none of which is known. What they hold only the host knows. It takes memory for all
-    /// of them.
-    pub fn new(alloc: A, blocks: u32) -> Result<Self, AllocError>
+    /// A disk of this many blocks, none of which is known. What they hold only the host knows. It takes memory for the
+    /// blocks that are known, once they are.
+    pub fn new(alloc: A, blocks: u32) -> Self
         ghost content: { List ℕ }
         requires { length content ≡ 4096 * blocks }
-        ensures { IfOk result (λ disk. disk ≡ deferred content blocks) }
+        ensures { result ≡ deferred content blocks }
     {
-        let count = blocks as usize;
-        Ok(DeferredDisk {
-            alloc,
-            blocks: Blocks::new(alloc, count)?,
+        DeferredDisk {
+            blocks: Blocks::new(alloc, blocks as usize),
             log: VecDeque::new(alloc),
             past: Past::begin(),
             recorded: 0,
@@ -95,7 +93,7 @@ impl<A: Allocator + Copy> DeferredDisk<A> {
             wanted: None,
             calls: 0,
             faults: 0,
-        })
+        }
     }
 
     /// The host has read this block. One that is known keeps its bytes: what was written there, or supplied before.
@@ -111,7 +109,7 @@ impl<A: Allocator + Copy> DeferredDisk<A> {
         if self.blocks.is_known(place) {
             return Ok(());
         }
-        self.blocks.put(4096 * place, bytes)?;
+        drop(self.blocks.put(4096 * place, bytes)?);
         self.past = Past::with_block(&self.past, block, bytes);
         Ok(())
     }
@@ -298,7 +296,7 @@ impl<A: Allocator + Copy> Device for DeferredDisk<A> {
             raise(&mut self.faults);
             return Err(DeviceFault);
         }
-        if keep_write(self.alloc, &mut self.log, &mut self.blocks, at, bytes).is_err() {
+        if keep_write(&mut self.log, &mut self.blocks, at, bytes).is_err() {
             raise(&mut self.faults);
             return Err(DeviceFault);
         }
@@ -328,138 +326,5 @@ impl<A: Allocator + Copy> Device for DeferredDisk<A> {
 
     fn faults(&self) -> u64 {
         self.faults
-    }
-}
-
-// Whether a call of a log writes to a block.
-fn waits_for<A: Allocator + Copy>(log: &VecDeque<Logged<A>, A>, block: u32) -> bool
-    requires { AreWithin (2 ^ 64 - 1) (changes_of log.now.items) }
-    ensures { result ≡ one_reaches (changes_of log.now.items) block }
-{
-    let (older, newer) = log.as_slices();
-    let newer_one = one_writes_to(newer, block);
-    let older_one = one_writes_to(older, block);
-    newer_one || older_one
-}
-
-fn one_writes_to<A: Allocator + Copy>(calls: &[Logged<A>], block: u32) -> bool
-    requires { AreWithin (2 ^ 64 - 1) (changes_of calls.now) }
-    ensures { result ≡ one_reaches (changes_of calls.now) block }
-{
-    for entry in calls {
-        if writes_to(entry, block) {
-            return true;
-        }
-    }
-    false
-}
-
-fn writes_to<A: Allocator + Copy>(call: &Logged<A>, block: u32) -> bool
-    requires { AreWithin (2 ^ 64 - 1) (change_of call.now ∷ []) }
-    ensures { result ≡ reaches (change_of call.now) block }
-{
-    let start = 4096 * u64::from(block);
-    match call {
-        Logged::Write(at, bytes) => *at < start + 4096 && start < *at + bytes.len() as u64,
-        Logged::Sync => false,
-    }
-}
-
-// Lends the call of a log that has this index.
-fn lend_at<A: Allocator + Copy>(
-    log: &VecDeque<Logged<A>, A>,
-    index: usize,
-) -> Option<DeferredCall<'_>>
-    ensures { option_map change_lent result ≡ option_map change_of (slice_get log.now.items index) }
-{
-    match log.get(index) {
-        Some(call) => Some(lend(call)),
-        None => None,
-    }
-}
-
-// Lends a recorded call.
-fn lend<A: Allocator + Copy>(call: &Logged<A>) -> DeferredCall<'_>
-    ensures { change_lent result ≡ change_of call.now }
-{
-    match call {
-        Logged::Write(at, bytes) => DeferredCall::Write { at: *at, bytes },
-        Logged::Sync => DeferredCall::Sync,
-    }
-}
-
-// Makes the first call of a log on a device.
-fn make_first<A: Allocator + Copy, D: Device>(
-    log: &VecDeque<Logged<A>, A>,
-    device: &mut D,
-) -> Result<(), DeviceFault>
-    requires { AreWithin (length (D.seen device.old)) (changes_of log.now.items) }
-    ensures { Did D.Device device.old (done_by (option_map change_of (slice_get log.now.items 0)))
-        (is_ok result) device.new }
-{
-    match log.front() {
-        Some(call) => make_call(call, device),
-        None => Ok(()),
-    }
-}
-
-// Makes a recorded call on a device.
-fn make_call<A: Allocator + Copy, D: Device>(
-    call: &Logged<A>,
-    device: &mut D,
-) -> Result<(), DeviceFault>
-    requires { AreWithin (length (D.seen device.old)) (change_of call.now ∷ []) }
-    ensures { Did D.Device device.old (done_by (Some (change_of call.now))) (is_ok result) device.new }
-{
-    match call {
-        Logged::Write(at, bytes) => write_at(device, *at, bytes),
-        Logged::Sync => make_durable(device),
-    }
-}
-
-// Records a write behind the others, and puts its bytes into its blocks, or changes nothing.
-fn keep_write<A: Allocator + Copy>(
-    alloc: A,
-    log: &mut VecDeque<Logged<A>, A>,
-    blocks: &mut Blocks<A>,
-    at: u64,
-    bytes: &[u8],
-) -> Result<(), AllocError>
-    requires { at + length bytes.now ≤ length blocks.old.bytes }
-    ensures log { OnOk result (changes_of log.new.items ≡ write at bytes.now ∷ changes_of log.old.items) }
-    ensures bytes { OnOk result (blocks.new.bytes ≡ written blocks.old.bytes at bytes.now) }
-    ensures flags { OnOk result (blocks.new.flags
-        ≡ with_known blocks.old.flags (first_block at) (end_block at (length bytes.now))) }
-    ensures log_stays { OnErr result (log.new.items ≡ log.old.items) }
-    ensures blocks_stay { OnErr result (blocks.new ≡ blocks.old) }
-{
-    keep(log, Logged::Write(at, Vec::from_slice(alloc, bytes)?))?;
-    match blocks.put(at as usize, bytes) {
-        Ok(()) => Ok(()),
-        Err(refused) => {
-            let _ = log.pop_back();
-            Err(refused)
-        }
-    }
-}
-
-// Records a sync behind the others.
-fn keep_sync<A: Allocator + Copy>(log: &mut VecDeque<Logged<A>, A>) -> Result<(), AllocError>
-    ensures ok { OnOk result (changes_of log.new.items ≡ sync ∷ changes_of log.old.items) }
-    ensures err { OnErr result (log.new.items ≡ log.old.items) }
-{
-    keep(log, Logged::Sync)
-}
-
-fn keep<A: Allocator + Copy>(
-    log: &mut VecDeque<Logged<A>, A>,
-    call: Logged<A>,
-) -> Result<(), AllocError>
-    ensures ok { OnOk result (log.new.items ≡ log.old.items ++ call ∷ []) }
-    ensures err { OnErr result (log.new.items ≡ log.old.items) }
-{
-    match log.push_back(call) {
-        Ok(()) => Ok(()),
-        Err(failed) => Err(failed.into()),
     }
 }

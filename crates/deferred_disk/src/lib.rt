@@ -4,5 +4,7 @@
 mod blocks;
 mod deferred;
 mod past;
+mod run;
+mod waiting;
 
 pub use deferred::{DeferredCall, DeferredDisk};

@@ -1,14 +1,12 @@
 // A disk whose writes and syncs are recorded, and made later on a disk in memory.
 use crate::disks::{disk_of, read, write};
-use deferred_disk::DeferredDisk;
+use counting_alloc::CountingAllocator;
+use deferred_disk::{DeferredCall, DeferredDisk};
 use device::{Device, MemDisk};
-use std::alloc::{AllocError, Allocator};
+use std::alloc::{Allocator, Global};
 
 // A disk of zeros none of whose blocks is known.
-fn unknown_zeros<A: Allocator + Copy>(
-    alloc: A,
-    blocks: u32,
-) -> Result<DeferredDisk<A>, AllocError> {
+fn unknown_zeros<A: Allocator + Copy>(alloc: A, blocks: u32) -> DeferredDisk<A> {
     DeferredDisk::new(alloc, blocks)
 }
 
@@ -25,7 +23,7 @@ fn wants_a_block<A: Allocator + Copy>(disk: &mut DeferredDisk<A>) -> bool {
 
 #[test]
 fn a_block_that_is_not_there_is_wanted(rt: HostRuntime) {
-    let mut disk = unknown_zeros(rt.alloc(), 2).expect(&rt, "memory");
+    let mut disk = unknown_zeros(rt.alloc(), 2);
     assert!(rt; wants_a_block(&mut disk));
 }
 
@@ -63,7 +61,122 @@ fn are_carried_out<A: Allocator + Copy>(
 
 #[test]
 fn recorded_calls_are_carried_out(rt: HostRuntime) {
-    let mut disk = unknown_zeros(rt.alloc(), 2).expect(&rt, "memory");
+    let mut disk = unknown_zeros(rt.alloc(), 2);
     let mut device = disk_of(&rt, 8192);
     assert!(rt; records(&mut disk) && are_carried_out(&mut disk, &mut device));
+}
+
+// The counts of a disk, and whether its first four blocks are known.
+#[derive(PartialEq, Eq)]
+struct Shown {
+    waiting: usize,
+    recorded: u64,
+    known: [bool; 4],
+}
+
+fn shown<A: Allocator + Copy>(disk: &DeferredDisk<A>) -> Shown {
+    Shown {
+        waiting: disk.waiting(),
+        recorded: disk.recorded(),
+        known: [0, 1, 2, 3].map(|block| disk.is_known(block)),
+    }
+}
+
+// Whether the newest of so many calls that wait writes these bytes there.
+fn writes_last<A: Allocator + Copy>(
+    disk: &DeferredDisk<A>,
+    count: usize,
+    place: u64,
+    written: &[u8],
+) -> bool {
+    match disk.call(count.saturating_sub(1)) {
+        Some(DeferredCall::Write { at, bytes }) => {
+            disk.waiting() == count && at == place && bytes == written
+        }
+        Some(DeferredCall::Sync) | None => false,
+    }
+}
+
+// A call that may be refused memory.
+#[derive(Clone, Copy)]
+enum Call {
+    Supply,
+    WriteWhole,
+    WritePart,
+    WriteSeveral,
+    Sync,
+}
+
+// Makes a call: whether it succeeded.
+fn makes<A: Allocator + Copy>(disk: &mut DeferredDisk<A>, call: Call) -> bool {
+    if disk.len() != 16_384 {
+        return false;
+    }
+    match call {
+        Call::Supply => disk.supply(3, &[0; 4096]).is_ok(),
+        Call::WriteWhole => write(disk, 8192, &[5; 4096]).is_ok(),
+        Call::WritePart => write(disk, 4099, &[6]).is_ok(),
+        Call::WriteSeveral => write(disk, 4096, &[7; 8192]).is_ok(),
+        Call::Sync => disk.sync().is_ok(),
+    }
+}
+
+// Makes a call with the nth request for memory refused, on a disk whose second block is known: how many requests were
+// refused, and whether a call that was refused one changed nothing.
+fn refuses<A: Allocator + Copy>(alloc: &CountingAllocator<A>, call: Call, n: u64) -> (u64, bool) {
+    let mut disk = unknown_zeros(alloc, 4);
+    let is_ready = disk.len() == 16_384 && disk.supply(1, &[0; 4096]).is_ok();
+    let before = shown(&disk);
+    alloc.restart();
+    alloc.refuse_nth(n);
+    let is_done = makes(&mut disk, call);
+    let refused = alloc.refused();
+    alloc.restart();
+    let is_kept = shown(&disk) == before && makes(&mut disk, call) && shown(&disk) != before;
+    (refused, is_ready && is_done != (refused > 0) && (is_done || is_kept))
+}
+
+// Whether each request of a call is refused in turn, of which it makes some.
+fn is_refused_in_turn(alloc: Global, call: Call) -> bool {
+    let counting = CountingAllocator::new(alloc);
+    for n in 1..20 {
+        let (refused, is_right) = refuses(&counting, call, n);
+        if !is_right {
+            return false;
+        }
+        if refused == 0 {
+            return n > 1;
+        }
+    }
+    false
+}
+
+#[test]
+fn calls_that_are_refused_memory_change_nothing(rt: HostRuntime) {
+    let alloc = rt.alloc();
+    assert!(rt; is_refused_in_turn(alloc, Call::Supply) && is_refused_in_turn(alloc, Call::Sync));
+    assert!(rt; is_refused_in_turn(alloc, Call::WriteWhole));
+    assert!(rt; is_refused_in_turn(alloc, Call::WritePart));
+    assert!(rt; is_refused_in_turn(alloc, Call::WriteSeveral));
+}
+
+// Whether a disk of 16 TB takes no memory, and then 4,096 bytes and a little for each block that is known or waits.
+fn takes_what_is_known<A: Allocator + Copy>(alloc: &CountingAllocator<A>) -> bool {
+    let mut disk = unknown_zeros(alloc, u32::MAX);
+    let none = alloc.held();
+    let is_written = disk.len() == 4096 * 4_294_967_295
+        && disk.supply(7, &[1; 4096]).is_ok()
+        && write(&mut disk, 1 << 43, &[2; 4096]).is_ok()
+        && write(&mut disk, 4096, &[3; 8192]).is_ok()
+        && writes_last(&disk, 2, 4096, &[3; 8192]);
+    let some = alloc.held();
+    disk.carried_out();
+    disk.carried_out();
+    none == 0 && is_written && 4 * 4096 < some && some < 4 * 4096 + 2000 && alloc.held() == some
+}
+
+#[test]
+fn memory_is_taken_for_what_is_known(rt: HostRuntime) {
+    let counting = CountingAllocator::new(rt.alloc());
+    assert!(rt; takes_what_is_known(&counting));
 }

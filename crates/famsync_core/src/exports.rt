@@ -14,11 +14,7 @@ pub extern "C" fn famsync_core_begin(alloc: Global, blocks: u32, at: &mut *mut u
     if blocks == 0 {
         return ARGUMENT;
     }
-    let state = match State::begin(alloc, blocks) {
-        Ok(state) => state,
-        Err(_) => return NO_MEMORY,
-    };
-    match Box::new(alloc, state) {
+    match Box::new(alloc, State::begin(alloc, blocks)) {
         Ok(state) => {
             *at = Box::into_raw(state) as *mut u8;
             OK

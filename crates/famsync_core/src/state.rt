@@ -42,17 +42,14 @@ impl Model for State {
 
 impl State {
     /// Before anything is known of a volume of this many blocks, which have this content.
-    pub(crate) fn begin(alloc: Global, blocks: u32) -> Result<Self, AllocError>
+    pub(crate) fn begin(alloc: Global, blocks: u32) -> Self
         ghost content: { List ℕ }
         requires { length content ≡ 4096 * blocks }
     {
-        match disk_of(alloc, blocks) {
-            Ok(disk) => Ok(State {
-                disk: Some(disk),
-                session: None,
-                frames: 0,
-            }),
-            Err(refused) => Err(refused),
+        State {
+            disk: Some(disk_of(alloc, blocks)),
+            session: None,
+            frames: 0,
         }
     }
 
@@ -429,7 +426,7 @@ impl State {
 }
 
 // A disk of this many blocks, which have this content.
-fn disk_of<A: Allocator + Copy>(alloc: A, blocks: u32) -> Result<DeferredDisk<A>, AllocError>
+fn disk_of<A: Allocator + Copy>(alloc: A, blocks: u32) -> DeferredDisk<A>
     ghost content: { List ℕ }
     requires { length content ≡ 4096 * blocks }
 {

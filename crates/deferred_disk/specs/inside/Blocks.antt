@@ -1,7 +1,36 @@
--- The blocks of a disk that are known, and what stands there.
-use Rattle.std.specs.Prelude.{ℕ, Bool, List}
+-- The blocks of a disk that are known, and their bytes.
+use Rattle.std.specs.Prelude.{◌≡◌, ◌⊎◌, ℕ, zero, suc, ◌+◌, ◌*◌, ◌<◌, ◌≤◌, Bool, List, [], ◌∷◌, ◌++◌, length}
+use Rattle.std.specs.Prelude.{replicate, slice_range, Option, Some, None, is_some, IfSome}
 
 -- the bytes of all blocks, one after another, and whether each block is known
 pub record Known : Type 0 where
   pub bytes : List ℕ
   pub flags : List Bool
+
+-- what stands in place of a block that isn't known
+unfoldable pub blank : List ℕ
+blank = replicate 4096 0
+
+-- the bytes of a block, where a map has it
+abbrev pub bytes_in : Option (List ℕ) → List ℕ
+bytes_in None = blank
+bytes_in (Some bytes) = bytes
+
+-- the bytes of n blocks, one after another
+abbrev pub bytes_of : (ℕ → Option (List ℕ)) → ℕ → List ℕ
+bytes_of rooms zero = []
+bytes_of rooms (suc n) = bytes_of rooms n ++ bytes_in (rooms n)
+
+-- whether each of n blocks is known
+abbrev pub flags_of : (ℕ → Option (List ℕ)) → ℕ → List Bool
+flags_of rooms zero = []
+flags_of rooms (suc n) = flags_of rooms n ++ is_some (rooms n) ∷ []
+
+-- each block that a map has is whole
+abbrev pub AreWhole : (ℕ → Option (List ℕ)) → Type 0
+AreWhole rooms = (block : ℕ) → IfSome (rooms block) (λ bytes. length bytes ≡ 4096)
+
+-- a map has, from this block on, the blocks of a run of n, and else what another one has
+pub record Enters (rooms new : ℕ → Option (List ℕ)) (from n : ℕ) (run : List ℕ) : Type 0 where
+  pub inside : (k : ℕ) → k < n → new (from + k) ≡ Some (slice_range run (4096 * k) (4096 * k + 4096))
+  pub outside : (block : ℕ) → (block < from) ⊎ (from + n ≤ block) → new block ≡ rooms block

@@ -2,7 +2,7 @@ use Rattle.std.proofs.Common.{sym, ◌∙◌, ap, length, subst, true, false}
 use Rattle.deferred_disk.specs.Deferred.{Deferred, as_recorded, oldest, done_by}
 use Rattle.device.specs.Did.{Did}
 use Rattle.device.specs.Memory.{seen_of}
-use Rattle.device.specs.inside.Logged.{changes_of}
+use Rattle.deferred_disk.specs.inside.Waiting.{changes_of}
 use Rattle.deferred_disk.proofs.Deferring.{front_is_oldest, within_log}
 use Rattle.deferred_disk.proofs.deferred.DeferredDisk.carry_one.Goals as goal
 

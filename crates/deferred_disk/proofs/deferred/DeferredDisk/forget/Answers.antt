@@ -1,10 +1,11 @@
-use Rattle.std.proofs.Common.{◌≡◌, ◌-◌, ◌^◌, ◌+◌, ◌*◌, not, List, length, take, refl, sym, ◌∙◌, ap, arith}
+use Rattle.std.proofs.Common.{◌≡◌, ◌-◌, ◌^◌, ◌+◌, ◌*◌, not, Bool, List, length, take, refl, sym, ◌∙◌, ap, subst, arith}
+use Rattle.deferred_disk.specs.inside.Deferring.{IsKnownAt}
 use Rattle.deferred_disk.specs.Deferred.{Deferred, one_reaches}
 use Rattle.device.specs.Memory.{DiskChange}
-use Rattle.device.specs.inside.Logged.{changes_of}
+use Rattle.deferred_disk.specs.inside.Waiting.{changes_of}
 use Rattle.deferred_disk.proofs.Deferring.{kept_as, kept_without_block, within_kept, within_log}
 use Rattle.device.proofs.Public.{length-content_after, within_wider}
-use Rattle.device.proofs.Public.{length-changes_of}
+use Rattle.deferred_disk.proofs.Waits.{length-changes_of}
 use Rattle.deferred_disk.proofs.deferred.DeferredDisk.forget.Goals.{After-self}
 use Rattle.deferred_disk.proofs.deferred.DeferredDisk.forget.Goals as goal
 
@@ -21,11 +22,14 @@ pub invariant_of-self : goal.invariant_of-self
 invariant_of-self g c =
     let disk = c.self.inside in
     let room = within_kept (4096 * c.args.block + 4096) c.self.view_is c.self.invariant.0 c.requires in (
-      kept_as refl refl refl c.forget.ensures.bytes c.forget.ensures.flags refl
-          (kept_without_block disk.past.first disk.past.changes disk.past.supplied disk.blocks.bytes disk.blocks.flags
+      kept_as refl refl refl refl c.forget.ensures.flags refl
+          (kept_without_block disk.past.first disk.past.changes disk.past.supplied disk.blocks.bytes
+          c.forget.new.self.bytes disk.blocks.flags
           (changes_of disk.log.items) disk.len c.args.block c.self.invariant.0
           (omega (arith, room.0, c.self.invariant.0.first_length))
-          (sym c.waits_for.ensures ∙ c.if-waits_for.false)),
+          (sym c.waits_for.ensures ∙ c.if-waits_for.false) c.forget.ensures.size
+          (λ i known. c.forget.ensures.bytes i (subst (λ (l : List Bool). IsKnownAt l i) (sym c.forget.ensures.flags)
+          known))),
       c.self.invariant.1,
     )
 

@@ -2,10 +2,10 @@ use Rattle.std.proofs.Common.{◌≡◌, ◌≤◌, ◌+◌, ◌*◌, length, dr
 use Rattle.deferred_disk.specs.Deferred.{Deferred, as_recorded, carried_out, oldest, made_before, done_by, block_of}
 use Rattle.device.specs.Memory.{seen_of, content_after}
 use Rattle.device.specs.Work.{TornByWork}
-use Rattle.device.specs.inside.Logged.{changes_of}
+use Rattle.deferred_disk.specs.inside.Waiting.{changes_of}
 use Rattle.deferred_disk.proofs.Deferring.{unknown_there}
 use Rattle.device.proofs.Public.{length-content_after}
-use Rattle.device.proofs.Public.{length-changes_of}
+use Rattle.deferred_disk.proofs.Waits.{length-changes_of}
 use Rattle.deferred_disk.proofs.deferred.DeferredDisk.is_known.Goals as goal
 
 pub returns-clause-there : goal.returns-clause-there

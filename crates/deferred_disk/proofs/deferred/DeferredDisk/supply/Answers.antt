@@ -1,7 +1,7 @@
 use Rattle.std.proofs.Common.{◌≡◌, ◌+◌, ◌*◌, ap, subst, refl, sym, ◌∙◌, arith, length}
 use Rattle.deferred_disk.specs.Deferred.{with_known, first_block, end_block}
 use Rattle.deferred_disk.specs.inside.Deferring.{AreCounted}
-use Rattle.device.specs.inside.Logged.{changes_of}
+use Rattle.deferred_disk.specs.inside.Waiting.{changes_of}
 use Rattle.deferred_disk.proofs.Deferring.{kept_as, kept_with_block, within_kept}
 use Rattle.deferred_disk.proofs.deferred.DeferredDisk.supply.Goals as goal
 

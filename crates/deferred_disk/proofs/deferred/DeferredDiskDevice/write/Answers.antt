@@ -2,7 +2,7 @@ use Rattle.std.proofs.Common.{◌≡◌, ◌+◌, None, refl, sym, ◌∙◌, ap
 use Rattle.deferred_disk.specs.Deferred.{Deferred, after_write, lacked_by_write}
 use Rattle.device.specs.Memory.DiskChange.{write}
 use Rattle.deferred_disk.specs.inside.Deferring.{AreCounted}
-use Rattle.device.specs.inside.Logged.{changes_of}
+use Rattle.deferred_disk.specs.inside.Waiting.{changes_of}
 use Rattle.deferred_disk.proofs.Counting.{counted_more}
 use Rattle.deferred_disk.proofs.Deferring.{kept_as, kept_with_write, none_of, same_deferred, one_more, within_kept}
 use Rattle.device.proofs.Public.{on_ok}

@@ -1,11 +1,11 @@
 use Rattle.std.proofs.Common.{◌-◌, ◌^◌, List, sym, ◌∙◌, ap}
 use Rattle.std.proofs.lemmas.List.{take_all}
 use Rattle.deferred_disk.specs.Deferred.{one_reaches}
-use Rattle.device.specs.declared.log.Logged.{Logged}
-use Rattle.device.specs.inside.Logged.{changes_of}
+use Rattle.deferred_disk.specs.declared.waiting.WaitingCall.{WaitingCall}
+use Rattle.deferred_disk.specs.inside.Waiting.{changes_of}
 use Rattle.deferred_disk.proofs.Deferring.{none_more, one_there}
-use Rattle.device.proofs.Public.{within_at}
-use Rattle.deferred_disk.proofs.deferred.one_writes_to.Goals as goal
+use Rattle.deferred_disk.proofs.Waits.{within_at}
+use Rattle.deferred_disk.proofs.waiting.one_writes_to.Goals as goal
 
 pub writes_to-requires : goal.writes_to-requires
 writes_to-requires g c =
@@ -24,5 +24,5 @@ returns-then-writes_to g c =
 
 pub returns : goal.returns
 returns g c =
-    sym (ap (λ (l : List (Logged g.row.A.Denot)). one_reaches (changes_of l) c.args.block)
+    sym (ap (λ (l : List (WaitingCall g.row.A.Denot)). one_reaches (changes_of l) c.args.block)
     (sym (take_all c.loop-entry.entry-index c.args.calls.now c.loop-entry-test.false)) ∙ c.loop-entry.invariant)

@@ -1,12 +1,12 @@
 use Rattle.std.proofs.Common.{◌≡◌, ◌-◌, ◌^◌, Bool, true, false, ◌||◌, List, ◌++◌, sym, ◌∙◌, ap, subst}
 use Rattle.deferred_disk.specs.Deferred.{one_reaches}
 use Rattle.device.specs.Memory.{DiskChange}
-use Rattle.device.specs.inside.Logged.{changes_of}
+use Rattle.deferred_disk.specs.inside.Waiting.{changes_of}
 use Rattle.device.specs.inside.Replay.{AreWithin}
 use Rattle.deferred_disk.proofs.Deferring.{changes_of_both, one_of_two}
 use Rattle.device.proofs.Public.{within_newer, within_older}
-use Rattle.deferred_disk.proofs.deferred.waits_for.Goals.{After-as_slices, After-one_writes_to-newer_one}
-use Rattle.deferred_disk.proofs.deferred.waits_for.Goals as goal
+use Rattle.deferred_disk.proofs.waiting.waits_for.Goals.{After-as_slices, After-one_writes_to-newer_one}
+use Rattle.deferred_disk.proofs.waiting.waits_for.Goals as goal
 
 -- the calls of both parts are within what an offset can say
 within_parts : (g : _) (c : After-as_slices g) → AreWithin (2 ^ 64 - 1)

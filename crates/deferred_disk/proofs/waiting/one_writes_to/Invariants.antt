@@ -1,7 +1,7 @@
 use Rattle.std.proofs.Common.{◌≡◌, false, take}
 use Rattle.deferred_disk.specs.Deferred.{one_reaches}
-use Rattle.device.specs.inside.Logged.{changes_of}
-use Rattle.deferred_disk.proofs.deferred.one_writes_to.Given as goal
+use Rattle.deferred_disk.specs.inside.Waiting.{changes_of}
+use Rattle.deferred_disk.proofs.waiting.one_writes_to.Given as goal
 
 -- no call so far writes to the block
 abbrev pub invariant-loop-entry : goal.invariant-loop-entry

@@ -1,6 +1,6 @@
 use Rattle.std.proofs.Common.{◌<◌, length, refl, arith}
-use Rattle.device.proofs.Public.{within_at}
-use Rattle.deferred_disk.proofs.deferred.make_first.Goals as goal
+use Rattle.deferred_disk.proofs.Waits.{within_at}
+use Rattle.deferred_disk.proofs.waiting.make_first.Goals as goal
 
 pub make_call-requires : goal.make_call-requires
 make_call-requires g c =

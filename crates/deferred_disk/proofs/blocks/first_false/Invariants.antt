@@ -1,7 +1,0 @@
-use Rattle.std.proofs.Common.{◌≡◌, ◌-◌}
-use Rattle.deferred_disk.specs.Deferred.{first_unknown}
-use Rattle.deferred_disk.proofs.blocks.first_false.Given as goal
-
--- none of the blocks so far is unknown
-abbrev pub invariant-loop-block : goal.invariant-loop-block
-invariant-loop-block l = first_unknown l.flags l.from (l.to - l.from) ≡ first_unknown l.flags l.block (l.to - l.block)
