@@ -133,7 +133,10 @@ fn refuses<A: Allocator + Copy>(alloc: &CountingAllocator<A>, call: Call, n: u64
     let refused = alloc.refused();
     alloc.restart();
     let is_kept = shown(&disk) == before && makes(&mut disk, call) && shown(&disk) != before;
-    (refused, is_ready && is_done != (refused > 0) && (is_done || is_kept))
+    (
+        refused,
+        is_ready && is_done != (refused > 0) && (is_done || is_kept),
+    )
 }
 
 // Whether each request of a call is refused in turn, of which it makes some.
