@@ -115,13 +115,14 @@ static int open_core(famsync *handle, const struct famsync_options *options)
 {
     int code = code_of(famsync_core_begin(handle->blocks, &handle->core.at));
     int32_t answer = FAMSYNC_CORE_WANTED;
+    struct reading last = {0, 0};
     if (code == FAMSYNC_OK)
         code = supply_head(handle);
     while (code == FAMSYNC_OK && answer == FAMSYNC_CORE_WANTED) {
         uint32_t wanted = 0;
         answer = famsync_core_open(handle->core, options->frames, options->copies, &wanted, &handle->core.at);
         if (answer == FAMSYNC_CORE_WANTED)
-            code = supply(handle, wanted, 0);
+            code = supply_to_open(handle, wanted, &last);
         else if (answer == FAMSYNC_CORE_DEVICE) /* there was no memory for a call that it would record */
             code = FAMSYNC_NOMEMORY;
         else

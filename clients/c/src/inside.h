@@ -83,7 +83,7 @@ struct stored {
     uint32_t places; /* a power of two */
 };
 
-/* Blocks that were supplied for the sake of one access. */
+/* Blocks that were supplied at once. */
 struct reading {
     uint32_t first, count;
 };
@@ -183,8 +183,11 @@ bool has_write(famsync *handle);
 int begin_gathering(struct gathered *gathered, unsigned pieces);
 void end_gathering(struct gathered *gathered);
 
-/* supply.c: reads blocks of the volume, and supplies them to the core. */
+/* supply.c: reads blocks of the volume, and supplies them to the core. Before the volume is opened, the first block; and
+   then each block that opening wants, with those behind it if it wanted the block after the last ones. `*last` begins as
+   zeros. */
 int supply_head(famsync *handle);
+int supply_to_open(famsync *handle, uint32_t block, struct reading *last);
 /* Reads up to MOST_READ blocks to `read`, whole. */
 int read_blocks(famsync *handle, uint32_t block, uint32_t count);
 /* The block that the core wants, and up to as many behind it as `bytes` take. */

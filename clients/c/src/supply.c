@@ -45,10 +45,24 @@ int supply_head(famsync *handle)
     if (head < 0)
         return code_of(head);
     handle->head = (uint32_t)head;
-    for (uint32_t block = 1; block < handle->head && block < handle->blocks && code == FAMSYNC_OK; block += MOST_READ) {
-        uint32_t end = handle->head < handle->blocks ? handle->head : handle->blocks;
+    return FAMSYNC_OK;
+}
+
+/* The core opens the volume from the beginning after each block that it lacked. So where it wants the block behind those
+   that it wanted last, as it does for the records of an open journal, twice as many are read. */
+int supply_to_open(famsync *handle, uint32_t block, struct reading *last)
+{
+    uint64_t count = last->count > 0 && block == last->first + last->count ? 2 * (uint64_t)last->count : 1;
+    uint32_t end = block < handle->head && handle->head < handle->blocks ? handle->head : handle->blocks;
+    int code = FAMSYNC_OK;
+    /* what is known isn't wanted: it would be asked for again and again */
+    if (block >= end || famsync_core_is_known(handle->core, block, &handle->core.at) != 0)
+        return FAMSYNC_DEVICE;
+    if (count > end - block)
+        count = end - block;
+    *last = (struct reading){block, (uint32_t)count};
+    for (end = block + (uint32_t)count; block < end && code == FAMSYNC_OK; block += MOST_READ)
         code = read_and_supply(handle, block, end - block < MOST_READ ? end - block : MOST_READ);
-    }
     return code;
 }
 

@@ -514,19 +514,51 @@ static int recover_all(struct core *core)
     return FAMSYNC_CORE_OK;
 }
 
+static bool lacks(const struct core *core, uint32_t block, uint32_t *wanted)
+{
+    if (core->block[block])
+        return false;
+    *wanted = block;
+    return true;
+}
+
+/* Whether it lacks what a journal has, which is its gate alone where it is closed. */
+static bool lacks_of_journal(const struct core *core, const struct journal *journal, uint32_t *wanted)
+{
+    uint32_t count;
+    if (lacks(core, journal->gate, wanted))
+        return true;
+    if (core->block[journal->gate][0] != GATE_OPEN)
+        return false;
+    for (uint32_t i = 0; i < descriptor_blocks(core); i++)
+        if (lacks(core, descriptor_block(journal) + i, wanted))
+            return true;
+    count = (uint32_t)described(core, journal, 8, 4);
+    for (uint32_t i = 0; i < count && i < core->slots; i++)
+        if (lacks(core, record_block(core, journal, i), wanted))
+            return true;
+    return false;
+}
+
+/* Whether it lacks a block that opening needs. */
+static bool lacks_any(const struct core *core, uint32_t *wanted)
+{
+    for (unsigned i = 0; i < journals(core); i++)
+        if (lacks_of_journal(core, &core->journal[i], wanted))
+            return true;
+    return has_lengths(core) && lacks(core, first_home(core), wanted);
+}
+
 int32_t famsync_core_open(famsync_core handle, uint32_t frames, uint32_t copies, uint32_t *wanted, uint8_t **at)
 {
     struct core *core = core_of(handle);
     uint32_t most;
     int code = core->open ? FAMSYNC_CORE_ORDER : read_head(core);
     *at = handle.at;
-    for (uint32_t block = 0; code == FAMSYNC_CORE_OK && block < core->head; block++)
-        if (block >= core->blocks) {
-            code = FAMSYNC_CORE_DAMAGED;
-        } else if (!core->block[block]) {
-            *wanted = block;
-            code = FAMSYNC_CORE_WANTED;
-        }
+    if (code == FAMSYNC_CORE_OK && core->head > core->blocks)
+        code = FAMSYNC_CORE_DAMAGED;
+    if (code == FAMSYNC_CORE_OK && lacks_any(core, wanted))
+        code = FAMSYNC_CORE_WANTED;
     if (code == FAMSYNC_CORE_OK)
         code = read_table(core);
     most = core->slots - has_lengths(core);

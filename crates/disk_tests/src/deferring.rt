@@ -67,14 +67,14 @@ fn recorded_calls_are_carried_out(rt: HostRuntime) {
 }
 
 // The counts of a disk, and whether its first four blocks are known.
-#[derive(PartialEq, Eq)]
+#[derive(Drop, PartialEq, Eq)]
 struct Shown {
     waiting: usize,
     recorded: u64,
     known: [bool; 4],
 }
 
-fn shown<A: Allocator + Copy>(disk: &DeferredDisk<A>) -> Shown {
+fn look_at<A: Allocator + Copy>(disk: &DeferredDisk<A>) -> Shown {
     Shown {
         waiting: disk.waiting(),
         recorded: disk.recorded(),
@@ -93,7 +93,8 @@ fn writes_last<A: Allocator + Copy>(
         Some(DeferredCall::Write { at, bytes }) => {
             disk.waiting() == count && at == place && bytes == written
         }
-        Some(DeferredCall::Sync) | None => false,
+        Some(DeferredCall::Sync) => false,
+        None => false,
     }
 }
 
@@ -126,13 +127,13 @@ fn makes<A: Allocator + Copy>(disk: &mut DeferredDisk<A>, call: Call) -> bool {
 fn refuses<A: Allocator + Copy>(alloc: &CountingAllocator<A>, call: Call, n: u64) -> (u64, bool) {
     let mut disk = unknown_zeros(alloc, 4);
     let is_ready = disk.len() == 16_384 && disk.supply(1, &[0; 4096]).is_ok();
-    let before = shown(&disk);
+    let before = look_at(&disk);
     alloc.restart();
     alloc.refuse_nth(n);
     let is_done = makes(&mut disk, call);
     let refused = alloc.refused();
     alloc.restart();
-    let is_kept = shown(&disk) == before && makes(&mut disk, call) && shown(&disk) != before;
+    let is_kept = look_at(&disk) == before && makes(&mut disk, call) && look_at(&disk) != before;
     (
         refused,
         is_ready && is_done != (refused > 0) && (is_done || is_kept),

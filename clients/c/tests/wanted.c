@@ -1,0 +1,103 @@
+/* Opening a volume reads what it needs, and takes memory for that: of a volume without an open journal the super block,
+   the lengths and the gates. The records of an open journal are read in runs, each twice as long as the one before. */
+#include "test.h"
+
+#include <sys/syscall.h>
+
+#define MB 1048576
+
+static unsigned reads;
+
+ssize_t pread(int file, void *bytes, size_t count, off_t offset)
+{
+    reads++;
+    return syscall(SYS_pread64, file, bytes, count, offset);
+}
+
+/* How much of this process is in memory, in bytes. */
+static uint64_t resident(void)
+{
+    unsigned long long all, here;
+    FILE *file = fopen("/proc/self/statm", "r");
+    WANT(file && fscanf(file, "%llu %llu", &all, &here) == 2 && fclose(file) == 0);
+    return here * 4096;
+}
+
+/* A volume whose file has holes where it is zeros. */
+static void make_sparse_volume(unsigned layout, unsigned slots, const char *files)
+{
+    unsigned char super[4096] = {0}, lengths[4096] = {0};
+    uint32_t lengths_at, blocks = lay_out(layout, slots, files, super, lengths, &lengths_at);
+    int file;
+    make_folder();
+    file = open(volume, O_RDWR | O_CREAT | O_TRUNC | O_CLOEXEC, 0600);
+    WANT(file >= 0 && ftruncate(file, (off_t)blocks * 4096) == 0 && pwrite(file, super, 4096, 0) == 4096);
+    if (lengths_at)
+        WANT(pwrite(file, lengths, 4096, (off_t)lengths_at * 4096) == 4096);
+    WANT(close(file) == 0);
+}
+
+/* Opens a volume and closes it: at most 20 reads, and 16 MB. */
+static void opens_by_few_reads(void)
+{
+    uint64_t before = resident();
+    famsync *handle;
+    reads = 0;
+    handle = opened_with((struct famsync_options){.foreground = 1, .frames = 64});
+    printf("wanted: %u reads and %.1f MB to open\n", reads, (double)(resident() - before) / MB);
+    WANT(reads <= 20 && resident() < before + 16 * MB);
+    WANT_CODE(famsync_close(handle), FAMSYNC_OK);
+}
+
+/* A commit of so many pages that isn't written home, since its process ends. */
+static void leave_a_commit(unsigned pages)
+{
+    pid_t child = fork();
+    int status;
+    if (child == 0) {
+        famsync *handle = opened_with((struct famsync_options){.foreground = 1});
+        uint64_t address;
+        WANT_CODE(famsync_map(handle, "a", 0, 0, FAMSYNC_READ | FAMSYNC_WRITE, &address), FAMSYNC_OK);
+        for (unsigned page = 0; page < pages; page++)
+            WANT_CODE(famsync_store(handle, address + 4096 * page, &page, sizeof page, NULL), FAMSYNC_OK);
+        WANT_CODE(famsync_msync(handle, NULL), FAMSYNC_OK);
+        _exit(0);
+    }
+    WANT(child > 0 && waitpid(child, &status, 0) == child && WIFEXITED(status) && WEXITSTATUS(status) == 0);
+}
+
+/* Its records are found, by few reads: some for the volume, and one for each time that the core lacks a block. */
+static void recovers_by_few_reads(unsigned layout, unsigned pages)
+{
+    famsync *handle;
+    uint64_t address;
+    make_volume_of(layout, 1020, "a=4177920");
+    leave_a_commit(pages);
+    WANT(open_gates(layout, 1020) == 1);
+    reads = 0;
+    handle = opened();
+    printf("wanted: %u reads to open with %u records, layout %u\n", reads, pages, layout);
+    WANT(reads <= 50);
+    WANT_CODE(famsync_map(handle, "a", 0, 0, FAMSYNC_READ, &address), FAMSYNC_OK);
+    for (unsigned page = 0; page < pages; page++) {
+        unsigned found = pages;
+        WANT_CODE(famsync_load(handle, address + 4096 * page, &found, sizeof found, NULL), FAMSYNC_OK);
+        WANT(found == page);
+    }
+    WANT_CODE(famsync_close(handle), FAMSYNC_OK);
+}
+
+int main(void)
+{
+    make_sparse_volume(4, 65535, "a=4096");
+    opens_by_few_reads();
+    make_sparse_volume(1, 64, "a=1073741824");
+    opens_by_few_reads();
+    make_sparse_volume(3, 1020, "a=1073741824/2147483648 b=1/4096");
+    opens_by_few_reads();
+    for (unsigned layout = 1; layout <= LAYOUTS; layout++) {
+        recovers_by_few_reads(layout, 1);
+        recovers_by_few_reads(layout, 900);
+    }
+    return 0;
+}
