@@ -1,7 +1,7 @@
 /*
  * famsync_core: a session with one volume, as a library that makes no system call.
  *
- * The core keeps the volume's blocks in memory, makes the steps of a session on them, and records the writes and syncs
+ * The core keeps blocks of the volume in memory, makes the steps of a session on them, and records the writes and syncs
  * that a disk would get. Its host, a program in C or the like, reads blocks of the volume and supplies them, makes the
  * recorded calls on the volume's file, in order, and says so. What is made how is the host's; what is written is the
  * core's, and proved.
@@ -9,8 +9,8 @@
  *   famsync_core core = {0};
  *   famsync_core_begin(blocks, &core.at);                             blocks of 4,096 bytes that the volume has
  *   famsync_core_supply(core, block, bytes, 4096, &core.at);          block 0
- *   famsync_core_head(core, &core.at);                                how many blocks have to be supplied before ..
- *   famsync_core_open(core, 0, 64, &wanted, &core.at);                .. the volume is opened
+ *   while (famsync_core_open(core, 0, 64, &wanted, &core.at) == FAMSYNC_CORE_WANTED)
+ *       famsync_core_supply(core, wanted, bytes, 4096, &core.at);     each block that opening wants
  *   famsync_core_map(core, file, 0, length, 3, address, &core.at);
  *   famsync_core_store(core, address, bytes, count, &done, &wanted, &core.at);
  *   famsync_core_commit(core, &mark, &wanted, &core.at);
@@ -95,14 +95,14 @@ int32_t famsync_core_supply(famsync_core core, uint32_t block, const uint8_t *by
 /* Whether a block is known: 1 or 0. At any time. */
 int32_t famsync_core_is_known(famsync_core core, uint32_t block, uint8_t **at);
 
-/* How many blocks, from block 0 on, have to be supplied before the volume is opened: block 0 says so. ARGUMENT where
-   it isn't known, NOTAVOLUME, DAMAGED, OUTOFMEMORY, ORDER. */
+/* How many blocks lie before those of the first file, as block 0 says. ARGUMENT (block 0 isn't known), NOTAVOLUME,
+   DAMAGED, OUTOFMEMORY, ORDER. */
 int64_t famsync_core_head(famsync_core core, uint8_t **at);
 
 /* Opens the volume, with a machine of one processor, so many frames (0: as many pages as one commit can have) and so
    many copy frames, 0 to 64; makes a space, and makes it current. Opening records calls where a crash left a commit
-   to be carried out. OK, WANTED (a block that wasn't supplied: nothing is open; supply it and call again),
-   NOTAVOLUME, DAMAGED, BADSHAPE, OUTOFMEMORY (close the handle, and begin again), ORDER. */
+   to be carried out. OK, WANTED (a block that wasn't supplied: nothing is open; supply it and call again.
+   Opening wants block 0, the gates, the lengths, and what an open journal has, one block after the other), NOTAVOLUME, DAMAGED, BADSHAPE, OUTOFMEMORY (close the handle, and begin again), ORDER. */
 int32_t famsync_core_open(famsync_core core, uint32_t frames, uint32_t copies, uint32_t *wanted, uint8_t **at);
 
 /* How many files the volume has, numbered from 0, and how many pages one commit can have at most. ORDER. */

@@ -48,8 +48,8 @@ int supply_head(famsync *handle)
     return FAMSYNC_OK;
 }
 
-/* The core opens the volume from the beginning after each block that it lacked. So where it wants the block behind those
-   that it wanted last, as it does for the records of an open journal, twice as many are read. */
+/* The core opens the volume from the beginning after each block that it lacked. So where it wants the block behind
+   those that it wanted last, as it does for the records of an open journal, twice as many are read. */
 int supply_to_open(famsync *handle, uint32_t block, struct reading *last)
 {
     uint64_t count = last->count > 0 && block == last->first + last->count ? 2 * (uint64_t)last->count : 1;

@@ -44,7 +44,7 @@ static void opens_by_few_reads(void)
     famsync *handle;
     reads = 0;
     handle = opened_with((struct famsync_options){.foreground = 1, .frames = 64});
-    printf("wanted: %u reads and %.1f MB to open\n", reads, (double)(resident() - before) / MB);
+    printf("clients/c: wanted: %u reads and %.1f MB to open\n", reads, (double)(resident() - before) / MB);
     WANT(reads <= 20 && resident() < before + 16 * MB);
     WANT_CODE(famsync_close(handle), FAMSYNC_OK);
 }
@@ -76,7 +76,6 @@ static void recovers_by_few_reads(unsigned layout, unsigned pages)
     WANT(open_gates(layout, 1020) == 1);
     reads = 0;
     handle = opened();
-    printf("wanted: %u reads to open with %u records, layout %u\n", reads, pages, layout);
     WANT(reads <= 50);
     WANT_CODE(famsync_map(handle, "a", 0, 0, FAMSYNC_READ, &address), FAMSYNC_OK);
     for (unsigned page = 0; page < pages; page++) {
@@ -99,5 +98,6 @@ int main(void)
         recovers_by_few_reads(layout, 1);
         recovers_by_few_reads(layout, 900);
     }
+    printf("clients/c: wanted: as it should be\n");
     return 0;
 }

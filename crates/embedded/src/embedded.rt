@@ -58,9 +58,9 @@ impl<A: Allocator + Copy> Model for Embedded<A> {
 /// Opens the volume of a disk, and boots a machine of this shape over it. It lists the files of the volume with their
 /// lengths, as they were opened: those that the disk's bytes recover to (`IsStarted`). A refusal hands the disk back.
 ///
-/// `Device` where a block was lacking, which the disk says (`wanted`): the host supplies it, and opens again. So it is
-/// best to supply all blocks below the first file's home before. `NotAVolume`, `Damaged` as `recovery::open`,
-/// `BadShape` as `Machine::boot`, and `OutOfMemory` where memory was refused.
+/// `Device` where a block was lacking, which the disk says (`wanted`): the host supplies it, and opens again. Of a
+/// closed journal the gate alone is wanted. `NotAVolume`, `Damaged` as `recovery::open`, `BadShape` as `Machine::boot`,
+/// and `OutOfMemory` where memory was refused.
 pub fn open<A: Allocator + Copy>(
     alloc: A,
     disk: DeferredDisk<A>,

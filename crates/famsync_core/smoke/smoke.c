@@ -103,14 +103,15 @@ static famsync_core begin(void)
 {
     famsync_core core = {0};
     uint32_t wanted = 0;
+    int32_t code;
     HAVE(famsync_core_begin(BLOCKS, &core.at) == FAMSYNC_CORE_OK);
     HAVE(famsync_core_head(core, &core.at) == FAMSYNC_CORE_ARGUMENT);
     HAVE(famsync_core_files(core, &core.at) == FAMSYNC_CORE_ORDER);
     supply(&core, 0);
     HAVE(famsync_core_head(core, &core.at) == HOME);
-    for (uint32_t block = 1; block < HOME; block++)
-        supply(&core, block);
-    HAVE(famsync_core_open(core, 0, 64, &wanted, &core.at) == FAMSYNC_CORE_OK);
+    while ((code = famsync_core_open(core, 0, 64, &wanted, &core.at)) == FAMSYNC_CORE_WANTED)
+        supply(&core, wanted);
+    HAVE(code == FAMSYNC_CORE_OK);
     HAVE(famsync_core_open(core, 0, 64, &wanted, &core.at) == FAMSYNC_CORE_ORDER);
     drain(&core);
     HAVE(famsync_core_map(core, 0, 0, (uint64_t)PAGES * PAGE, 3, ADDRESS, &core.at) == FAMSYNC_CORE_OK);

@@ -104,7 +104,7 @@ impl State {
         if is_forgotten { OK } else { NONE }
     }
 
-    /// How many blocks have to be supplied before the volume is opened.
+    /// How many blocks lie before those of the first file.
     pub(crate) fn head(&mut self, alloc: Global) -> i64 {
         let Some(disk) = &mut self.disk else {
             return i64::from(ORDER);
