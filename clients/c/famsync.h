@@ -104,8 +104,8 @@ struct famsync_options {
 const char *famsync_version(void);
 
 /* Begins a session with a volume, a regular file with one name; where the path is a link, the file that it leads to is
-   meant. The file is locked until the session ends. It takes as much memory as the volume is long. On failure `*handle`
-   is a null pointer.
+   meant. The file is locked until the session ends. It takes memory for its frames, and for the blocks that it has
+   read or written. On failure `*handle` is a null pointer.
 
    FAMSYNC_INUSE means that another session has the volume, and `wait_ms` has passed. FAMSYNC_SYSTEM with ENAMETOOLONG
    means that the name of the volume's file is longer than 247 bytes: the name of a mark beside it would be too long.
