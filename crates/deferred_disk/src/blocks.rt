@@ -1,7 +1,7 @@
 // The blocks of a disk that are known.
-ghost use Rattle.std.specs.Prelude.{◌≡◌, ℕ, ◌+◌, ◌-◌, ◌*◌, ◌/◌, ◌^◌, ◌<◌, ◌≤◌, min, replicate, false, None, is_some, List, ◌++◌, length, get_or, set, slice_range, IfNone, IfSome, IfOk, OnOk, OnErr};
+ghost use Rattle.std.specs.Prelude.{◌≡◌, ℕ, ◌+◌, ◌-◌, ◌*◌, ◌/◌, ◌^◌, ◌<◌, ◌≤◌, min, replicate, false, None, is_some, length, get_or, set, slice_range, IfNone, IfSome, IfOk, OnOk, OnErr};
 ghost use Rattle.std.specs.List.{All};
-ghost use Rattle.std.specs.HashMap.{get, spare, IsUnchanged};
+ghost use Rattle.std.specs.HashMap.{get, spare};
 ghost use Rattle.std.specs.Prelude.{nat_eq};
 ghost use Rattle.device.specs.Device.{written};
 ghost use Rattle.deferred_disk.specs.Deferred.{first_unknown, lacked_by_read, lacked_by_write, with_known, first_block, end_block, block_of};

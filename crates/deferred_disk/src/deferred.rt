@@ -1,14 +1,14 @@
 // A disk whose writes and syncs somebody else makes.
-ghost use Rattle.std.specs.Prelude.{◌≡◌, ℕ, ◌+◌, ◌-◌, ◌*◌, ◌^◌, ◌<◌, ◌≤◌, false, Some, None, List, [], ◌∷◌, ◌++◌, length, take, get_or, not, true, is_none, is_ok, option_map, slice_get, slice_range, IfOk, OnOk, OnErr, IsOk};
+ghost use Rattle.std.specs.Prelude.{◌≡◌, ℕ, ◌+◌, ◌-◌, ◌*◌, ◌^◌, ◌<◌, ◌≤◌, false, None, List, length, take, get_or, not, true, is_none, is_ok, option_map, slice_range, OnOk, OnErr, IsOk};
 ghost use Rattle.deferred_disk.specs.Carrying.{CarriedOut};
 ghost use Rattle.device.specs.Device.{written};
 ghost use Rattle.device.specs.Did.{Did};
 ghost use Rattle.device.specs.Memory.{seen_of};
 ghost use Rattle.device.specs.Memory.DiskChange.{write, sync};
-ghost use Rattle.deferred_disk.specs.Deferred.{deferred, as_recorded, carried_out, block_of, with_known, first_block, end_block, lacked_by_read, lacked_by_write, IsSuppliedWell, after_read, after_write, after_sync, after_refusal, after_supply, after_forget, reaches, one_reaches, with_waiting, oldest, waits_behind, done_by, recorded_calls};
+ghost use Rattle.deferred_disk.specs.Deferred.{deferred, as_recorded, carried_out, block_of, lacked_by_read, lacked_by_write, IsSuppliedWell, after_read, after_write, after_sync, after_refusal, after_supply, after_forget, reaches, one_reaches, with_waiting, oldest, waits_behind, done_by, recorded_calls};
 ghost use Rattle.device.specs.Work.{TornByWork};
 ghost use Rattle.deferred_disk.specs.Lent.{change_lent};
-ghost use Rattle.deferred_disk.specs.inside.Waiting.{change_of, changes_of};
+ghost use Rattle.deferred_disk.specs.inside.Waiting.{changes_of};
 ghost use Rattle.device.specs.inside.Replay.{AreWithin};
 
 use crate::blocks::Blocks;
