@@ -12,8 +12,8 @@ use Rattle.journal.specs.inside.Sound.{IsSound}
 use Rattle.journal.proofs.Alls.{all_back}
 use Rattle.journal.proofs.Sounding.{IsFree, not_busy, next_is_batch, begun_sound}
 use Rattle.journal.proofs.Rooms.{begun_view, begun_room, popped_last, length-write_outs}
-use Rattle.journal.proofs.batch_of_blocks.WriteOuts.begin_blocks.Goals.{After-unwrap}
-use Rattle.journal.proofs.batch_of_blocks.WriteOuts.begin_blocks.Goals as goal
+use Rattle.journal.proofs.write_outs.WriteOuts.begin_blocks.Goals.{After-unwrap}
+use Rattle.journal.proofs.write_outs.WriteOuts.begin_blocks.Goals as goal
 
 -- a spare list has room for the home blocks of a batch
 module _ (g : _) (c : After-unwrap g) where
