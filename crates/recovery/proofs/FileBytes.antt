@@ -1,14 +1,15 @@
 -- Where the bytes of a file lie on a device.
 use Rattle.std.proofs.Common.{◌≡◌, ◌<◌, ◌≤◌, ℕ, zero, suc, ◌+◌, ◌-◌, ◌*◌, List, [], ◌∷◌}
-use Rattle.std.proofs.Common.{length, take, drop, map, slice_get, slice_index, slice_range}
+use Rattle.std.proofs.Common.{length, take, drop, map, ◌++◌, slice_get, slice_index, slice_range}
 use Rattle.std.proofs.Common.{Some, refl, sym, ◌∙◌, ap, subst, arith, length-take, length-drop}
-use Rattle.std.proofs.lemmas.List.{drop-drop, take-take}
+use Rattle.std.proofs.lemmas.List.{drop-drop, take-take, take_at, drop_at}
 use Rattle.volume_codec.specs.Files.{File, TableFile}
 use Rattle.volume_codec.specs.Layout.{block_at}
 use Rattle.volume_codec.specs.Super.{SuperValue, pages_of, first_home_of, block_count}
 use Rattle.volume_codec.specs.Lengths.{AreLengths, lengths_in}
+use Rattle.volume_codec.specs.Recovery.{blocks_from, files_in}
 use Rattle.volume_codec.proofs.Places.{first_home_of-next, first_home_of-le}
-use Rattle.volume_codec.proofs.Recovered.{file_in-at, blocks_from-device}
+use Rattle.volume_codec.proofs.Recovered.{file_in-at, length-file, blocks_from-device}
 use Rattle.recovery.specs.Volume.{VolumeState, files_of, bytes_of}
 use Rattle.recovery.proofs.BlockRanges.{range-take}
 
@@ -105,3 +106,70 @@ module _ (table : SuperValue) (lengths : List ℕ) (are : AreLengths table lengt
       ∙ sym (range-take at n size (drop (4096 * home) bytes) within)
       ∙ ap (λ k. take k (drop at (take size (drop (4096 * home) bytes)))) (sym rest)
       ∙ ap (λ (l : List ℕ). slice_range l at (at + n)) (sym whole)
+
+-- block p of blocks one after another
+block_of : (contents : ℕ → List ℕ) (b n p : ℕ) → p < n
+    → ((i : ℕ) → b ≤ i → i ≤ b + p → length (contents i) ≡ 4096)
+    → take 4096 (drop (4096 * p) (blocks_from contents b n)) ≡ contents (b + p)
+block_of contents b zero p below whole = absurd (omega arith)
+block_of contents b (suc n) zero below whole =
+    let here : b ≡ b + 0 = omega arith in
+    take_at (contents b) (blocks_from contents (b + 1) n) 4096 (whole b (omega arith) (omega arith)) ∙ ap contents here
+block_of contents b (suc n) (suc p) below whole =
+    let rest = blocks_from contents (b + 1) n in
+    let past : 4096 * suc p ≡ 4096 + 4096 * p = omega arith in
+    let there : b + 1 + p ≡ b + suc p = omega arith in
+    ap (λ k. take 4096 (drop k (contents b ++ rest))) past
+    ∙ ap (take 4096) (sym (drop-drop (4096 * p) 4096 (contents b ++ rest)))
+    ∙ ap (λ l. take 4096 (drop (4096 * p) l))
+    (drop_at (contents b) rest 4096 (whole b (omega arith) (omega arith)))
+    ∙ block_of contents (b + 1) n p (omega arith) (λ i low high. whole i (omega arith) (omega arith))
+    ∙ ap contents there
+
+-- a part of a page of a file, in contents: the page's block has it
+pub part_in_block : (table : SuperValue) (lengths : List ℕ) → AreLengths table lengths → (contents : ℕ → List ℕ)
+    (file page n : ℕ) → file < length table.files → lengths ≡ lengths_in table contents
+    → 4096 * page + n ≤ slice_index lengths file → n ≤ 4096 → 0 < n
+    → ((b : ℕ) → b < block_count table → length (contents b) ≡ 4096)
+    → slice_range (bytes_of (files_in table contents) file) (4096 * page) (4096 * page + n)
+    ≡ take n (contents (first_home_of table file + page))
+part_in_block table lengths are contents file page n there same within few some whole =
+    let at = 4096 * page in
+    let size = slice_index lengths file in
+    let f = some_at table.files file there in
+    let at_length = index_at lengths file (omega (arith, are.count)) in
+    let le = are.within file size f.0 f.1 at_length in
+    let b = first_home_of table file in
+    let blocks = blocks_from contents b (pages_of f.0.capacity) in
+    let next = first_home_of-next table file there in
+    let last = first_home_of-le table (file + 1) in
+    let cap = capacity_of table.files file f.0 f.1 in
+    let rest : at + n - at ≡ n = omega arith in
+    let bytes : bytes_of (files_in table contents) file ≡ take size blocks =
+    bytes_at (files_in table contents) file _ (file_in-at table contents file size f.0 f.1
+    (ap (λ (l : List ℕ). slice_get l file) (sym same) ∙ at_length)) in
+    let below : page < pages_of f.0.capacity = omega (arith, within, le, some) in
+    ap (λ (l : List ℕ). slice_range l at (at + n)) bytes
+    ∙ ap (λ k. take k (drop at (take size blocks))) rest
+    ∙ range-take at n size blocks within
+    ∙ sym (take-take n 4096 (drop at blocks) few)
+    ∙ ap (take n) (block_of contents b (pages_of f.0.capacity) page below
+    (λ i low high. whole i (omega (arith, high, below, next, last, cap))))
+
+-- as many bytes as its length
+pub length_of_contents : (table : SuperValue) (lengths : List ℕ) → AreLengths table lengths → (contents : ℕ → List ℕ)
+    (file : ℕ) → file < length table.files → lengths ≡ lengths_in table contents
+    → ((b : ℕ) → b < block_count table → length (contents b) ≡ 4096)
+    → length (bytes_of (files_in table contents) file) ≡ slice_index lengths file
+length_of_contents table lengths are contents file there same whole =
+    let size = slice_index lengths file in
+    let f = some_at table.files file there in
+    let at_length = index_at lengths file (omega (arith, are.count)) in
+    let le = are.within file size f.0 f.1 at_length in
+    let b = first_home_of table file in
+    let next = first_home_of-next table file there in
+    let last = first_home_of-le table (file + 1) in
+    let cap = capacity_of table.files file f.0 f.1 in
+    ap length (bytes_at (files_in table contents) file _ (file_in-at table contents file size f.0 f.1
+    (ap (λ (l : List ℕ). slice_get l file) (sym same) ∙ at_length)))
+    ∙ length-file contents b size f.0.capacity (λ i low high. whole i (omega (arith, high, next, last, cap))) le

@@ -1,6 +1,11 @@
 -- The block that has the lengths, where journals are open.
-use Rattle.std.proofs.Common.{◌≡◌, ◌≢◌, ◌<◌, ◌≤◌, inl, inr, ℕ, ◌+◌, ◌*◌, List, [], ◌∷◌}
+use Rattle.std.proofs.Common.{◌≡◌, ◌≢◌, ◌<◌, ◌≤◌, ◌⊎◌, inl, inr, ℕ, suc, ◌+◌, ◌*◌, List, [], ◌∷◌}
 use Rattle.std.proofs.Common.{length, drop, get_or, sym, ◌∙◌, ap, subst, arith}
+use Rattle.std.specs.Prelude.{Result, Ok, Err, MatchResult}
+use Rattle.std.specs.Ordering.{nat_cmp}
+use Rattle.std.specs.List.Sorted.{IsBinarySearchResult}
+use Rattle.std.proofs.lemmas.List.Sorted.{searched}
+use Rattle.std.proofs.lemmas.Bool.{cases_eq, cases_lt}
 use Rattle.std.proofs.lemmas.List.{drop_more, drop_all}
 use Rattle.std.proofs.lemmas.List.Sums.{sum_by-cons}
 use Rattle.std.specs.List.{AllByRecursion}
@@ -14,6 +19,7 @@ use Rattle.volume_codec.specs.Recovery.{Batch, IsVolume, recovered_block, conten
 use Rattle.volume_codec.proofs.Batches.{one_contents}
 use Rattle.volume_codec.proofs.Lengths.{fixed_lengths, fixed_has_lengths, said_lengths}
 use Rattle.volume_codec.proofs.Lengths.{lengths_block-home, reads_lengths, has_lengths-same}
+use Rattle.volume_codec.proofs.Public.{rising_apart}
 use Rattle.volume_codec.proofs.Recovered.{recovered_block-at, recovered_block-other}
 use Rattle.journal.specs.WriteOut.{IsBatch}
 use Rattle.recovery.specs.declared.opening.OpenJournal.{OpenJournal}
@@ -36,47 +42,52 @@ batch_next {Z} g found i e h is each =
     let next = subst P (next_is found i e h is) each in
     (next.0, next.1)
 
--- homes that begin above a block don't have it
-all_above : (low high b : ℕ) (homes : List ℕ) → RiseWithin low high homes → b < low
+-- where the next of the open journals comes first
+pub recovered_next : {Z : Type 0} (g : GeometryValue) (found : List (OpenJournal Z)) (i : ℕ) (e : OpenJournal Z)
+    → i < length found → e ≡ get_or found i e → (b : ℕ)
+    → recovered_block g.slots (batches_of (drop i found)) b
+    ≡ recovered_block g.slots (batch_of e ∷ batches_of (drop (i + 1) found)) b
+recovered_next {Z} g found i e h is b =
+    ap (λ (l : List (OpenJournal Z)). recovered_block g.slots (batches_of l) b) (next_is found i e h is)
+
+-- where none is left, a home block is where it belongs
+pub recovered_none : {Z : Type 0} (g : GeometryValue) (found : List (OpenJournal Z)) (i b : ℕ) → length found ≤ i
+    → b ≡ recovered_block g.slots (batches_of (drop i found)) b
+recovered_none {Z} g found i b h =
+    sym (ap (λ (l : List (OpenJournal Z)). recovered_block g.slots (batches_of l) b) (drop_all i found h))
+
+-- numbers of which those before a place are below b, and the others above it
+none_of : (homes : List ℕ) (b : ℕ) → ((k : ℕ) → k < length homes → get_or homes k 0 ≢ b)
     → AllByRecursion (λ home. home ≢ b) homes
-all_above low high b [] rise h = tt
-all_above low high b (n ∷ ns) rise h =
-    (λ same. omega (arith, rise.0, same), all_above (n + 1) high b ns rise.2 (omega (arith, rise.0)))
+none_of [] b apart = tt
+none_of (n ∷ ns) b apart = (apart 0 (omega arith), none_of ns b (λ k h. apart (suc k) (omega arith)))
 
-others_above : (low high : ℕ) (homes : List ℕ) → RiseWithin low high homes → get_or homes 0 0 ≢ low
-    → AllByRecursion (λ home. home ≢ low) homes
-others_above low high [] rise other = tt
-others_above low high (n ∷ ns) rise other = (other, all_above (n + 1) high low ns rise.2 (omega (arith, rise.0)))
+rise_ordered : (low high : ℕ) (homes : List ℕ) → RiseWithin low high homes → (i j : ℕ) → i ≤ j → j < length homes
+    → get_or homes i 0 ≤ get_or homes j 0
+rise_ordered low high homes rise i j le lt = elim (cases_eq i j) [
+  | inl same ↦ omega (arith, ap (λ k. get_or homes k 0) same)
+  | inr other ↦ (let above = rising_apart low high homes i j rise (omega arith) lt in omega (arith, above))
+]
 
--- a journal whose first record is for another block has no record of the first home block
-pub recovered_past : {Z : Type 0} (g : GeometryValue) (found : List (OpenJournal Z)) (i : ℕ) (e : OpenJournal Z)
-    → i < length found → e ≡ get_or found i e → IsBatch g (batch_of e)
-    → get_or (batch_of e).homes 0 0 ≢ first_home g.layout g.slots
-    → recovered_block g.slots (batches_of (drop (i + 1) found)) (first_home g.layout g.slots)
-    ≡ recovered_block g.slots (batches_of (drop i found)) (first_home g.layout g.slots)
-recovered_past {Z} g found i e h is batch other =
-    let home = first_home g.layout g.slots in
-    sym (ap (λ (l : List (OpenJournal Z)). recovered_block g.slots (batches_of l) home) (next_is found i e h is)
-    ∙ recovered_block-other g.slots home (batch_of e) (batches_of (drop (i + 1) found))
-    (others_above home g.blocks _ batch.described.homes.rising other))
-
--- and one whose first record is for it has it there
-pub recovered_here : {Z : Type 0} (g : GeometryValue) (found : List (OpenJournal Z)) (i : ℕ) (e : OpenJournal Z)
-    → i < length found → e ≡ get_or found i e → IsBatch g (batch_of e)
-    → get_or (batch_of e).homes 0 0 ≡ first_home g.layout g.slots → record_block g.slots e.journal 0
-    ≡ recovered_block g.slots (batches_of (drop i found)) (first_home g.layout g.slots)
-recovered_here {Z} g found i e h is batch first =
-    let home = first_home g.layout g.slots in
-    sym (ap (λ (l : List (OpenJournal Z)). recovered_block g.slots (batches_of l) home) (next_is found i e h is)
-    ∙ ap (recovered_block g.slots (batch_of e ∷ batches_of (drop (i + 1) found))) (sym first)
-    ∙ recovered_block-at g.slots home g.blocks (batch_of e)
-    (batches_of (drop (i + 1) found)) 0 batch.described.homes.rising batch.described.homes.some)
-
--- where none has it, it is where it belongs
-pub recovered_none : {Z : Type 0} (g : GeometryValue) (found : List (OpenJournal Z)) (i : ℕ) → length found ≤ i
-    → first_home g.layout g.slots ≡ recovered_block g.slots (batches_of (drop i found)) (first_home g.layout g.slots)
-recovered_none {Z} g found i h = sym (ap (λ (l : List (OpenJournal Z)).
-    recovered_block g.slots (batches_of l) (first_home g.layout g.slots)) (drop_all i found h))
+-- what a binary search finds of a home block in a batch
+pub record_found : (g : GeometryValue) (batch : Batch) (b : ℕ) (r : Result ℕ ℕ) → IsBatch g batch
+    → IsBinarySearchResult (λ y. nat_cmp y b) batch.homes r → (older : List Batch)
+    → MatchResult r (λ i. recovered_block g.slots (batch ∷ older) b ≡ record_block g.slots batch.journal i)
+    (λ i. recovered_block g.slots (batch ∷ older) b ≡ recovered_block g.slots older b)
+record_found g batch b (Ok i) is found older =
+    let rise = is.described.homes.rising in
+    let at = searched batch.homes b (Ok i) found (rise_ordered _ _ batch.homes rise) in
+    ap (recovered_block g.slots (batch ∷ older)) (sym at.1)
+    ∙ recovered_block-at g.slots (first_home g.layout g.slots) g.blocks batch older i rise at.0
+record_found g batch b (Err i) is found older =
+    let at = searched batch.homes b (Err i) found (rise_ordered _ _ batch.homes is.described.homes.rising) in
+    recovered_block-other g.slots b batch older (none_of batch.homes b (λ k h. apart k h (cases_lt k i) at.1 at.2))
+  where
+    apart : (k : ℕ) → k < length batch.homes → (k < i) ⊎ (i ≤ k)
+        → ((k : ℕ) → k < i → get_or batch.homes k 0 < b)
+        → ((k : ℕ) → i ≤ k → k < length batch.homes → b < get_or batch.homes k 0) → get_or batch.homes k 0 ≢ b
+    apart k h (inl below) under over = λ same. omega (arith, under k below, same)
+    apart k h (inr above) under over = λ same. omega (arith, over k above h, same)
 
 -- without a block for lengths the capacities are found
 pub found_fixed : (table : SuperValue) (batches : List Batch) (bytes lengths : List ℕ) → lengths_blocks table.layout ≡ 0

@@ -1,12 +1,12 @@
 // A volume is opened, whatever a crash left of it: the batches of open journals are carried out first.
-ghost use Rattle.std.specs.Prelude.{◌≡◌, ◌↔◌, ◌+◌, ◌*◌, ◌≤◌, ◌<◌, List, [], ◌∷◌, ℕ, true, false, length, slice_index, slice_index_or, IsTrue, IfOk, IfErr, OnOk};
+ghost use Rattle.std.specs.Prelude.{◌≡◌, ◌↔◌, ◌+◌, ◌*◌, ◌≤◌, ◌<◌, List, [], ◌∷◌, ℕ, true, false, length, slice_index, slice_index_or, IsTrue, IfOk, IfErr, IfSome, OnOk, unwrap_or};
 ghost use Rattle.std.specs.List.{AllByRecursion};
 ghost use Rattle.device.specs.Device.{Only};
 ghost use Rattle.volume_codec.specs.Layout.{IsGeometry, journals_of, lengths_blocks, descriptor_block, descriptor_blocks, first_home, block_at, blocks_at};
 ghost use Rattle.volume_codec.specs.Super.{IsSuper, Fits, block_count, geometry_of, capacities_in};
 ghost use Rattle.volume_codec.specs.Descriptor.{IsDescribed, IsDescriptor};
 ghost use Rattle.volume_codec.specs.Lengths.{AreLengths, IsLengths};
-ghost use Rattle.volume_codec.specs.Recovery.{AreFalling, AreOpen, IsOpen, IsVolume, recovered_block};
+ghost use Rattle.volume_codec.specs.Recovery.{Batch, AreFalling, AreOpen, IsOpen, IsVolume, recovered_block};
 ghost use Rattle.journal.specs.Finished.{Finishes};
 ghost use Rattle.journal.specs.WriteOut.{IsBatch};
 ghost use Rattle.recovery.specs.Counts.{Rises, RisesWithin, IsAccounted};
@@ -311,27 +311,38 @@ fn judge<D: Device, A: Allocator + Copy>(
     Ok((table, found))
 }
 
-/// Whether the first record of an open journal is for this home block.
-fn begins_with<A: Allocator + Copy>(journal: &OpenJournal<A>, home: u32) -> bool
-    requires { 0 < length journal.now.descriptor.homes }
-    ensures { IsTrue result ↔ slice_index journal.now.descriptor.homes 0 ≡ home }
-{
-    journal.descriptor.homes()[0] == home
+impl<A: Allocator + Copy> OpenJournal<A> {
+    // The block of its record for a home block, if it has one.
+    fn record_of(&self, geometry: &Geometry, home: u32) -> Option<u32>
+        requires { IsBatch geometry.now (batch_of self.now) }
+        ensures value { (older : List Batch) → recovered_block geometry.now.slots (batch_of self.now ∷ older) home
+            ≡ unwrap_or result (recovered_block geometry.now.slots older home) }
+        ensures within { IfSome result (λ block. block < geometry.now.blocks) }
+    {
+        // No journal has more slots than a number of 4 bytes counts.
+        let _ = geometry.first_home();
+        match self.descriptor.homes().binary_search(&home) {
+            Ok(record) => Some(geometry.record_block(self.journal, record as u32)),
+            Err(_) => None,
+        }
+    }
 }
 
 // Rule: recovered lengths
-/// The block that has the recovered bytes of the first home block, where these journals are open, the newest first. A
-/// record for that block is the first of its journal, as records are in the order of their home blocks.
-fn recovered_first<A: Allocator + Copy>(geometry: &Geometry, found: &[OpenJournal<A>]) -> u32
-    requires { AllByRecursion (IsBatch geometry.now) (batches_of found.now) }
-    ensures value { result ≡ recovered_block geometry.now.slots (batches_of found.now)
-        (first_home geometry.now.layout geometry.now.slots) }
+/// The block that has the recovered bytes of a home block, where these journals are open, the newest first.
+pub fn find_block<A: Allocator + Copy>(
+    geometry: &Geometry,
+    found: &[OpenJournal<A>],
+    home: u32,
+) -> u32
+    requires carry { AllByRecursion (IsBatch geometry.now) (batches_of found.now) }
+    requires within { home < geometry.now.blocks }
+    ensures value { result ≡ recovered_block geometry.now.slots (batches_of found.now) home }
     ensures within { result < geometry.now.blocks }
 {
-    let home = geometry.first_home();
     for newest in found {
-        if begins_with(newest, home) {
-            return geometry.record_block(newest.journal, 0);
+        if let Some(block) = newest.record_of(geometry, home) {
+            return block;
         }
     }
     home
@@ -388,7 +399,12 @@ pub fn find_lengths<D: Device, A: Allocator + Copy>(
         };
         return Ok(lengths);
     }
-    let lengths = read_lengths_at(alloc, device, table, recovered_first(&geometry, found))?;
+    let lengths = read_lengths_at(
+        alloc,
+        device,
+        table,
+        find_block(&geometry, found, geometry.first_home()),
+    )?;
     Ok(lengths)
 }
 
