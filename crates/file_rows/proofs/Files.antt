@@ -1,22 +1,34 @@
--- The files of a volume that is only read, and what is written of them.
-use Rattle.std.proofs.Common.{◌≡◌, ◌<◌, ◌≤◌, ℕ, zero, suc, add-one, ◌+◌, List, [], ◌∷◌}
-use Rattle.std.proofs.Common.{◌++◌, length, map, take, slice_get, Option, Some}
+-- The files of a volume that was found by reading, and what is written of them.
+use Rattle.std.proofs.Common.{◌≡◌, ◌<◌, ◌≤◌, ℕ, zero, suc, add-one, ◌+◌, ◌-◌, ◌*◌, ◌^◌, min, List, [], ◌∷◌}
+use Rattle.std.proofs.Common.{◌++◌, length, map, take, drop, slice_get, slice_index, slice_range, Option, Some}
 use Rattle.std.proofs.Common.{refl, sym, ◌∙◌, ap, subst, arith, append-nil}
-use Rattle.std.proofs.lemmas.List.{length-map}
+use Rattle.std.proofs.lemmas.List.{length-map, take-take}
 use Rattle.std.proofs.lemmas.Grind.{flat_map-append}
-use Rattle.device.specs.declared.device.Device.{Ghosts}
 use Rattle.volume_codec.specs.Files.{File, TableFile}
 use Rattle.volume_codec.specs.Layout.{block_at, first_file_home}
-use Rattle.volume_codec.specs.Super.{pages_of, names_in}
+use Rattle.volume_codec.specs.Super.{pages_of, names_in, block_count, first_home_of}
 use Rattle.volume_codec.specs.Lengths.{lengths_in}
-use Rattle.volume_codec.specs.Recovery.{files_from}
-use Rattle.recovery.specs.Volume.{VolumeState, IsWellFormed, files_of, bytes_of}
-use Rattle.recovery.specs.VolumeReading.{IsVolumeOnlyRead}
-use Rattle.recovery.proofs.Public.{lengths_of_well_formed, files_read, lengths_after_reading}
+use Rattle.volume_codec.specs.Recovery.{RecoversTo, contents_in, files_from, recovered_block}
+use Rattle.recovery.specs.Volume.{bytes_of}
+use Rattle.recovery.proofs.FileBytes.{file_room, length_of_contents, part_in_block}
+use Rattle.recovery.proofs.Public.{length-contents_in}
 use Rattle.std.specs.Io.KnownBytes.{Appends}
 use Rattle.file_rows.specs.Rows.{rows_text, row_count, file_listing, files_listing}
-use Rattle.file_rows.specs.Reading.{AreFilesOf}
+use Rattle.file_rows.specs.Reading.{part_of}
+use Rattle.file_rows.specs.Recovered.{RecoveredState, IsRecovered, IsSound, recovered_files}
 use Rattle.file_rows.proofs.Appending.{appends_both}
+use Rattle.file_rows.proofs.PageText.{page_read}
+
+-- what a device's bytes recover to are the files that were found
+pub recovers_to : (volume : RecoveredState) (bytes : List ℕ) → IsRecovered volume bytes
+    → RecoversTo bytes (recovered_files volume bytes)
+recovers_to volume bytes is = record {
+  table = volume.table;
+  contents = contents_in volume.table.slots volume.batches bytes;
+  recovers = record { batches = volume.batches; volume = is.holds; contents_are = λ b home. refl };
+  lengths = is.found.fit;
+  files_are = refl;
+}
 
 named_from : (contents : ℕ → List ℕ) (b : ℕ) (fs : List TableFile) (lengths : List ℕ) → length lengths ≡ length fs
     → map (λ (f : File). f.name) (files_from contents b fs lengths) ≡ map (λ (f : TableFile). f.name) fs
@@ -25,27 +37,13 @@ named_from contents b (f ∷ fs) [] count = absurd (omega (arith, count))
 named_from contents b (f ∷ fs) (n ∷ ns) count =
     ap (λ rest. f.name ∷ rest) (named_from contents (b + pages_of f.capacity) fs ns (omega (arith, count)))
 
--- a volume as it was opened
-pub files_of_well_formed : {D : Type 0} (disk : Ghosts D) (volume : VolumeState D) → IsWellFormed disk volume
-    → disk.is_honest volume.device → AreFilesOf volume (disk.seen volume.device)
-files_of_well_formed disk volume well_formed honest =
-    let bytes = disk.seen volume.device in
-    let b = first_file_home volume.table.layout volume.table.slots in
-    record {
-      names = named_from (block_at bytes) b volume.table.files
-          (lengths_in volume.table (block_at bytes)) (well_formed.at_rest honest).lengths_fit.are.count;
-      lengths = lengths_of_well_formed disk volume well_formed honest;
-    }
-
--- a volume that was only read has the same files, with the same names and lengths
-pub files_after_reading : {D : Type 0} (disk : Ghosts D) (old new : VolumeState D) → IsVolumeOnlyRead disk old new
-    → disk.is_honest old.device → AreFilesOf old (disk.seen old.device) → AreFilesOf new (disk.seen new.device)
-files_after_reading disk old new only honest are =
-    let files = files_read disk old new only honest in
-    record {
-      names = ap (map (λ (f : File). f.name)) files ∙ are.names ∙ ap names_in (sym only.table);
-      lengths = lengths_after_reading disk old new only honest are.lengths;
-    }
+-- the files have the names of the table
+pub names_of_files : (volume : RecoveredState) (bytes : List ℕ) → IsRecovered volume bytes
+    → map (λ (f : File). f.name) (recovered_files volume bytes) ≡ names_in volume.table
+names_of_files volume bytes is =
+    let contents = contents_in volume.table.slots volume.batches bytes in
+    named_from contents (first_file_home volume.table.layout volume.table.slots) volume.table.files
+    (lengths_in volume.table contents) is.found.fit.are.count
 
 -- the file at a place
 pub file_at : (files : List File) (i : ℕ) (f : File) → slice_get files i ≡ Some f → bytes_of files i ≡ f.bytes
@@ -60,11 +58,12 @@ name_at (g ∷ fs) zero f name e named = let same : g ≡ f = cc in let is : g.n
     sym is ∙ ap (λ (x : File). x.name) same
 name_at (g ∷ fs) (suc i) f name e named = name_at fs i f name e named
 
-pub name_of_file : {D : Type 0} (volume : VolumeState D) (bytes : List ℕ) (file : ℕ) (f : File) (name : List ℕ)
-    → AreFilesOf volume bytes → slice_get (files_of volume.table bytes) file ≡ Some f
+pub name_of_file : (volume : RecoveredState) (bytes : List ℕ) (file : ℕ) (f : File) (name : List ℕ)
+    → IsRecovered volume bytes → slice_get (recovered_files volume bytes) file ≡ Some f
     → slice_get (names_in volume.table) file ≡ Some name → name ≡ f.name
-name_of_file volume bytes file f name are at named =
-    name_at (files_of volume.table bytes) file f name at (ap (λ names. slice_get names file) are.names ∙ named)
+name_of_file volume bytes file f name is at named =
+    name_at (recovered_files volume bytes) file f name at
+    (ap (λ names. slice_get names file) (names_of_files volume bytes is) ∙ named)
 
 taken_more : (files : List File) (i : ℕ) (f : File) → slice_get files i ≡ Some f
     → take (suc i) files ≡ take i files ++ f ∷ []
@@ -87,10 +86,10 @@ file_more head row old mid new files i f at before this =
     subst P text (appends_both old mid new (all (take i files)) (one f) before this)
 
 -- as many files as the table has
-pub as_many_files : {D : Type 0} (volume : VolumeState D) (bytes : List ℕ) → AreFilesOf volume bytes
-    → length (files_of volume.table bytes) ≡ length volume.table.files
-as_many_files volume bytes are =
-    sym (length-map (files_of volume.table bytes) (λ (f : File). f.name)) ∙ ap length are.names
+pub as_many_files : (volume : RecoveredState) (bytes : List ℕ) → IsRecovered volume bytes
+    → length (recovered_files volume bytes) ≡ length volume.table.files
+as_many_files volume bytes is =
+    sym (length-map (recovered_files volume bytes) (λ (f : File). f.name)) ∙ ap length (names_of_files volume bytes is)
     ∙ length-map volume.table.files (λ (f : TableFile). f.name)
 
 -- the head of a file and its rows
@@ -101,3 +100,48 @@ file_listing_is head row f name bytes n named same long =
     ap (λ (s : List ℕ). head s n ++ rows_text row bytes (row_count n)) named
     ∙ ap (λ (k : ℕ). head f.name k ++ rows_text row bytes (row_count k)) (sym long)
     ∙ ap (λ (b : List ℕ). head f.name (length b) ++ rows_text row b (row_count (length b))) same
+
+pub index_of : (xs : List ℕ) (i n : ℕ) → slice_get xs i ≡ Some n → slice_index xs i ≡ n
+index_of [] i n e = cc
+index_of (x ∷ xs) zero n e = let same : Some x ≡ Some n = e in cc
+index_of (x ∷ xs) (suc i) n e = index_of xs i n e
+
+-- a page that a file's bytes reach into has a block of the volume, whose number has 4 bytes
+pub page_within : (volume same : RecoveredState) (file page : ℕ) → volume ≡ same → IsSound volume
+    → file < length same.table.files → 4096 * page < slice_index same.lengths file
+    → (first_home_of volume.table file + page < block_count volume.table) × (block_count volume.table < 2 ^ 32)
+page_within volume same file page is sound there within =
+    let P : RecoveredState → Type 0 =
+    λ v. (file < length v.table.files) × (4096 * page < slice_index v.lengths file) in
+    let reach = subst P (sym is) (there, within) in
+    let room = file_room volume.table volume.lengths sound.lengths file (4096 * page) 1 reach.0 (omega (arith, reach.1))
+    (4096 * block_count volume.table) (omega arith) in
+    (omega (arith, room), sound.fits.few_blocks)
+
+module _ (volume : RecoveredState) (bytes : List ℕ) (is : IsRecovered volume bytes) (sound : IsSound volume)
+    (file n : ℕ) (there : file < length volume.table.files) (size : slice_get volume.lengths file ≡ Some n) where
+  abbrev contents : ℕ → List ℕ
+  contents b = contents_in volume.table.slots volume.batches bytes b
+
+  -- the length of a file
+  pub length_of_file : length (bytes_of (recovered_files volume bytes) file) ≡ n
+  length_of_file =
+      length_of_contents volume.table volume.lengths sound.lengths contents file there is.found.are
+      (λ b. length-contents_in volume.table volume.batches bytes b is.holds) ∙ index_of volume.lengths file n size
+
+  -- what is read where its page was recovered is a page of it
+  pub page_read_at : (page block part : ℕ) (read : List ℕ) → 4096 * page < n → part ≡ min (n - 4096 * page) 4096
+      → block ≡ recovered_block volume.table.slots volume.batches (first_home_of volume.table file + page)
+      → read ≡ slice_range bytes (4096 * block) (4096 * block + part)
+      → read ≡ part_of (bytes_of (recovered_files volume bytes) file) page
+  page_read_at page block part read below room at is_read =
+      let b = first_home_of volume.table file + page in
+      let rest : 4096 * block + part - 4096 * block ≡ part = omega arith in
+      let index = index_of volume.lengths file n size in
+      is_read ∙ ap (λ k. take k (drop (4096 * block) bytes)) rest
+      ∙ sym (take-take part 4096 (drop (4096 * block) bytes) (omega (arith, room)))
+      ∙ ap (λ k. take part (block_at bytes k)) at
+      ∙ sym (part_in_block volume.table volume.lengths sound.lengths contents file page part there is.found.are
+      (omega (arith, room, below, index)) (omega (arith, room)) (omega (arith, room, below))
+      (λ b. length-contents_in volume.table volume.batches bytes b is.holds))
+      ∙ page_read (bytes_of (recovered_files volume bytes) file) page n part length_of_file below room

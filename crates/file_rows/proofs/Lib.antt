@@ -1,4 +1,5 @@
 mod Appending
+mod Faults
 mod Files
 mod PageText
 pub mod Public

@@ -1,3 +1,5 @@
+pub mod Faults
 pub mod Reading
+pub mod Recovered
 pub mod Rows
 pub mod inside

@@ -1,8 +1,5 @@
 -- The pages of a volume's files.
-use Rattle.std.specs.Prelude.{ℕ, zero, suc, ◌≡◌, ◌+◌, ◌*◌, ◌/◌, List, [], ◌++◌, map, take, drop}
-use Rattle.recovery.specs.Volume.{VolumeState, files_of}
-use Rattle.recovery.specs.VolumeReading.{HasLengthsOf}
-use Rattle.volume_codec.specs.Super.{names_in}
+use Rattle.std.specs.Prelude.{ℕ, zero, suc, ◌+◌, ◌*◌, ◌/◌, List, [], ◌++◌, take, drop}
 
 -- the part of these bytes that is page n, or what there is of it
 abbrev pub part_of : List ℕ → ℕ → List ℕ
@@ -16,8 +13,3 @@ pages_text page bytes (suc n) = pages_text page bytes n ++ page (4096 * n) (part
 -- how many pages n bytes have; the last one may be shorter
 abbrev pub page_count : ℕ → ℕ
 page_count n = (n + 4095) / 4096
-
--- the files of a volume whose device has these bytes, as its table and its lengths say
-pub record AreFilesOf {D : Type 0} (volume : VolumeState D) (bytes : List ℕ) : Type 0 where
-  pub names : map (λ f. f.name) (files_of volume.table bytes) ≡ names_in volume.table
-  pub lengths : HasLengthsOf volume bytes

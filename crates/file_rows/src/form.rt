@@ -10,9 +10,17 @@ use thiserror::Error;
 /// Why the files of a volume weren't written, or not all of them.
 #[derive(Debug, Drop, Error)]
 pub enum ListFault {
-    /// A file couldn't be read.
+    /// A file couldn't be read: a call of the device failed.
     #[error("{0}")]
     Unreadable(Refusal),
+    /// A form couldn't write what was read.
+    #[error("{0}")]
+    Unwritten(WriteFault),
+}
+
+/// Why a form didn't write a head, a row or a page, or not all of it.
+#[derive(Debug, Drop, Error)]
+pub enum WriteFault {
     /// The output couldn't be written.
     #[error("output: {0}")]
     Output(#[from] io::Error),
@@ -30,10 +38,15 @@ pub trait Form {
     ghost row_text: { Self → ℕ → List ℕ → List ℕ };
 
     /// Writes the head of a file.
-    fn write_head<W: io::Write>(&self, name: &str, bytes: u64, out: &mut W) -> Result<(), ListFault>
+    fn write_head<W: io::Write>(
+        &self,
+        name: &str,
+        bytes: u64,
+        out: &mut W,
+    ) -> Result<(), WriteFault>
         ensures { OnOk result (Appends (W.contents out.old) (W.contents out.new) (head_text self.now name.now bytes)) };
 
     /// Writes a row.
-    fn write_row<W: io::Write>(&self, at: u64, bytes: &[u8], out: &mut W) -> Result<(), ListFault>
+    fn write_row<W: io::Write>(&self, at: u64, bytes: &[u8], out: &mut W) -> Result<(), WriteFault>
         ensures { OnOk result (Appends (W.contents out.old) (W.contents out.new) (row_text self.now at bytes.now)) };
 }

@@ -1,81 +1,94 @@
 // The files of a volume in their order, and their rows.
-ghost use Rattle.std.specs.Prelude.{◌≡◌, ◌==◌, ◌<◌, List, length, slice_get, Some, Err, IfOk, IfErr, OnOk};
+ghost use Rattle.std.specs.Prelude.{◌≡◌, ◌==◌, ◌<◌, ◌*◌, ◌≤◌, List, length, slice_get, Some, IfOk, IfErr, OnOk};
 ghost use Rattle.std.specs.Io.KnownBytes.{Appends};
 ghost use Rattle.std.specs.List.{list_all};
 ghost use Rattle.volume_codec.specs.Files.{File};
+ghost use Rattle.volume_codec.specs.Super.{block_count};
 ghost use Rattle.volume_codec.specs.Recovery.{RecoversTo};
-ghost use Rattle.recovery.specs.Opening.{Opens};
-ghost use Rattle.recovery.specs.Volume.{files_of};
-ghost use Rattle.recovery.specs.VolumeReading.{IsVolumeOnlyRead};
+ghost use Rattle.recovery.specs.Counts.{HasCause};
+ghost use Rattle.recovery.specs.Opening.{RefusesOpening};
+ghost use Rattle.recovery.specs.Reading.{IsOnlyRead};
+ghost use Rattle.file_rows.specs.Faults.{HasListed};
+ghost use Rattle.file_rows.specs.Recovered.{IsRecovered, recovered_files};
 ghost use Rattle.file_rows.specs.Rows.{shown, row_count, file_listing, files_listing};
-ghost use Rattle.file_rows.specs.Reading.{AreFilesOf};
 ghost use Rattle.file_rows.specs.inside.Pages.{rows_at};
 
-use crate::form::{Form, ListFault};
+use crate::form::{Form, ListFault, WriteFault};
 use crate::pages::{PageForm, write_pages};
+use crate::recovered::Recovered;
 use device::Device;
 use page_entry::Refusal;
-use recovery::Volume;
 use std::alloc::Allocator;
 use std::io;
 
 /// Bytes in a row.
 const ROW: usize = 16;
 
-/// Writes the files of the volume of a device, as it would be opened, in the table's order: of each its head, and its
-/// rows of 16 bytes that aren't all zero. A refusal to open the volume hands the device back.
-pub fn list_files<D: Device + Drop, A: Allocator + Copy, F: Form, W: io::Write>(
+/// Writes the files of the volume of a device, as it recovers, in the table's order: of each its head, and its rows of
+/// 16 bytes that aren't all zero. The volume is refused as opening refuses it. The device is only read.
+pub fn list_files<D: Device, A: Allocator + Copy, F: Form, W: io::Write>(
     alloc: A,
-    device: D,
+    device: &mut D,
     form: &F,
     out: &mut W,
-) -> Result<Result<(), ListFault>, (Refusal, D)>
-    ensures printed { D.is_honest device → IfOk result (λ printed. OnOk printed ((files : List File)
-        × RecoversTo (D.seen device) files × Appends (W.contents out.old) (W.contents out.new)
+) -> Result<Result<(), ListFault>, Refusal>
+    ensures printed { D.is_honest device.old → IfOk result (λ printed. OnOk printed ((files : List File)
+        × RecoversTo (D.seen device.old) files × Appends (W.contents out.old) (W.contents out.new)
         (files_listing (F.head_text form.now) (F.row_text form.now) files))) }
-    ensures refused { IfErr result (λ refused. Opens D.Device device (Err refused.0) refused.1) }
+    ensures cause { IfOk result (HasListed (D.faults_met device.old) (D.faults_met device.new)) }
+    ensures refused { D.is_honest device.old → IfErr result (RefusesOpening (D.seen device.old)) }
+    ensures counted { IfErr result (HasCause (D.faults_met device.old) (D.faults_met device.new)) }
+    ensures read { IsOnlyRead D.Device device.old device.new }
 {
-    recovery::opened_as_recovered(&device);
-    match recovery::open(alloc, device) {
-        Ok(mut volume) => Ok(write_files(&mut volume, form, out)),
-        Err(refused) => Err(refused),
+    match Recovered::find(alloc, device) {
+        Ok(volume) => Ok(write_files(&volume, device, form, out)),
+        Err(refusal) => Err(refusal),
     }
 }
 
-fn write_files<D: Device + Drop, A: Allocator + Copy, F: Form, W: io::Write>(
-    volume: &mut Volume<D, A>,
+fn write_files<D: Device, A: Allocator + Copy, F: Form, W: io::Write>(
+    volume: &Recovered<A>,
+    device: &mut D,
     form: &F,
     out: &mut W,
 ) -> Result<(), ListFault>
-    ensures { D.is_honest volume.old.device → OnOk result (Appends (W.contents out.old) (W.contents out.new)
-        (files_listing (F.head_text form.now) (F.row_text form.now)
-        (files_of volume.old.table (D.seen volume.old.device)))) }
+    requires long { 4096 * block_count volume.now.table ≤ length (D.seen device.old) }
+    requires recovered { D.is_honest device.old → IsRecovered volume.now (D.seen device.old) }
+    ensures printed { D.is_honest device.old → OnOk result (Appends (W.contents out.old) (W.contents out.new)
+        (files_listing (F.head_text form.now) (F.row_text form.now) (recovered_files volume.now (D.seen device.old)))) }
+    ensures read { IsOnlyRead D.Device device.old device.new }
+    ensures cause { HasListed (D.faults_met device.old) (D.faults_met device.new) result }
 {
     for file in 0..volume.file_count() {
-        write_file(volume, file, form, out)?;
+        write_file(volume, device, file, form, out)?;
     }
     Ok(())
 }
 
 // Writes one file.
-fn write_file<D: Device + Drop, A: Allocator + Copy, F: Form, W: io::Write>(
-    volume: &mut Volume<D, A>,
+fn write_file<D: Device, A: Allocator + Copy, F: Form, W: io::Write>(
+    volume: &Recovered<A>,
+    device: &mut D,
     file: usize,
     form: &F,
     out: &mut W,
 ) -> Result<(), ListFault>
-    requires there { file < length volume.old.table.files }
-    requires files { D.is_honest volume.old.device → AreFilesOf volume.old (D.seen volume.old.device) }
-    ensures printed { D.is_honest volume.old.device → (f : File)
-        → slice_get (files_of volume.old.table (D.seen volume.old.device)) file ≡ Some f
+    requires there { file < length volume.now.table.files }
+    requires long { 4096 * block_count volume.now.table ≤ length (D.seen device.old) }
+    requires recovered { D.is_honest device.old → IsRecovered volume.now (D.seen device.old) }
+    ensures printed { D.is_honest device.old → (f : File)
+        → slice_get (recovered_files volume.now (D.seen device.old)) file ≡ Some f
         → OnOk result (Appends (W.contents out.old) (W.contents out.new)
         (file_listing (F.head_text form.now) (F.row_text form.now) f)) }
-    ensures read { IsVolumeOnlyRead D.Device volume.old volume.new }
+    ensures read { IsOnlyRead D.Device device.old device.new }
+    ensures cause { HasListed (D.faults_met device.old) (D.faults_met device.new) result }
 {
     let bytes = volume.length(file);
     let name = volume.name(file);
-    form.write_head(name, bytes, out)?;
-    write_pages(volume, file, bytes, &Rows { form }, out)
+    if let Err(fault) = form.write_head(name, bytes, out) {
+        return Err(ListFault::Unwritten(fault));
+    }
+    write_pages(volume, device, file, bytes, &Rows { form }, out)
 }
 
 // The pages of a file as their rows.
@@ -87,7 +100,12 @@ struct Rows<'a, F> {
 impl<F: Form> PageForm for Rows<'_, F> {
     ghost page_text = { λ rows at page. rows_at (F.row_text rows.form.now) at page (row_count (length page)) };
 
-    fn write_page<W: io::Write>(&self, at: u64, page: &[u8], out: &mut W) -> Result<(), ListFault> {
+    fn write_page<W: io::Write>(
+        &self,
+        at: u64,
+        page: &[u8],
+        out: &mut W,
+    ) -> Result<(), WriteFault> {
         for row in 0..page.len().div_ceil(ROW) {
             let from = ROW * row;
             let to = page.len().min(from + ROW);
@@ -99,7 +117,7 @@ impl<F: Form> PageForm for Rows<'_, F> {
 
 impl<F: Form> Rows<'_, F> {
     // Writes a row, unless its bytes are all zero.
-    fn show_row<W: io::Write>(&self, at: u64, bytes: &[u8], out: &mut W) -> Result<(), ListFault>
+    fn show_row<W: io::Write>(&self, at: u64, bytes: &[u8], out: &mut W) -> Result<(), WriteFault>
         ensures { OnOk result (Appends (W.contents out.old) (W.contents out.new)
             (shown (F.row_text self.now.form.now) at bytes.now)) }
     {

@@ -1,22 +1,25 @@
 // The files of a volume as lines of JSON.
-ghost use Rattle.std.specs.Prelude.{◌≡◌, List, false, Err, IfOk, IfErr, OnOk};
+ghost use Rattle.std.specs.Prelude.{◌≡◌, List, false, IfOk, IfErr, OnOk};
 ghost use Rattle.std.specs.Io.KnownBytes.{Appends};
 ghost use Rattle.serde_json.specs.View.{view};
 ghost use Rattle.serde_json.specs.Written.{has_float};
 ghost use Rattle.volume_codec.specs.Files.{File};
 ghost use Rattle.volume_codec.specs.Recovery.{RecoversTo};
-ghost use Rattle.recovery.specs.Opening.{Opens};
+ghost use Rattle.recovery.specs.Counts.{HasCause};
+ghost use Rattle.recovery.specs.Opening.{RefusesOpening};
+ghost use Rattle.recovery.specs.Reading.{IsOnlyRead};
+ghost use Rattle.file_rows.specs.Faults.{HasListed};
 ghost use Rattle.inspection.specs.Lines.{json_line, head_data, head_json, row_data, row_json, files_json};
 
 use device::Device;
-use file_rows::{Form, ListFault, list_files};
+use file_rows::{Form, ListFault, WriteFault, list_files};
 use page_entry::Refusal;
 use serde_json::{Value, json};
 use std::alloc::{AllocError, Allocator, Global};
 use std::io::Write;
 
 /// Writes a line with a value that has no float.
-pub fn write_line<W: Write>(global: Global, value: &Value, out: &mut W) -> Result<(), ListFault>
+pub fn write_line<W: Write>(global: Global, value: &Value, out: &mut W) -> Result<(), WriteFault>
     ensures { has_float (view value.now) ≡ false
         → OnOk result (Appends (W.contents out.old) (W.contents out.new) (json_line (view value.now))) }
 {
@@ -25,18 +28,22 @@ pub fn write_line<W: Write>(global: Global, value: &Value, out: &mut W) -> Resul
     Ok(())
 }
 
-/// Writes the files of the volume of a device, as it would be opened: for each a line with its name and its length, and
-/// one for each row of 16 bytes that aren't all zero, with its offset and the bytes in hexadecimal. A refusal to open
-/// the volume hands the device back.
-pub fn write_file_lines<D: Device + Drop, A: Allocator + Copy, W: Write>(
+/// Writes the files of the volume of a device, as it recovers: for each a line with its name and its length, and one
+/// for each row of 16 bytes that aren't all zero, with its offset and the bytes in hexadecimal. The volume is refused
+/// as opening refuses it. The device is only read.
+pub fn write_file_lines<D: Device, A: Allocator + Copy, W: Write>(
     global: Global,
     alloc: A,
-    device: D,
+    device: &mut D,
     out: &mut W,
-) -> Result<Result<(), ListFault>, (Refusal, D)>
-    ensures printed { D.is_honest device → IfOk result (λ printed. OnOk printed ((files : List File)
-        × RecoversTo (D.seen device) files × Appends (W.contents out.old) (W.contents out.new) (files_json files))) }
-    ensures refused { IfErr result (λ refused. Opens D.Device device (Err refused.0) refused.1) }
+) -> Result<Result<(), ListFault>, Refusal>
+    ensures printed { D.is_honest device.old → IfOk result (λ printed. OnOk printed ((files : List File)
+        × RecoversTo (D.seen device.old) files × Appends (W.contents out.old) (W.contents out.new)
+        (files_json files))) }
+    ensures cause { IfOk result (HasListed (D.faults_met device.old) (D.faults_met device.new)) }
+    ensures refused { D.is_honest device.old → IfErr result (RefusesOpening (D.seen device.old)) }
+    ensures counted { IfErr result (HasCause (D.faults_met device.old) (D.faults_met device.new)) }
+    ensures read { IsOnlyRead D.Device device.old device.new }
 {
     list_files(alloc, device, &JsonLines { global }, out)
 }
@@ -52,12 +59,12 @@ impl Form for JsonLines {
 
     ghost row_text = { λ lines. row_json };
 
-    fn write_head<W: Write>(&self, name: &str, bytes: u64, out: &mut W) -> Result<(), ListFault> {
+    fn write_head<W: Write>(&self, name: &str, bytes: u64, out: &mut W) -> Result<(), WriteFault> {
         let head = head_value(self.global, name, bytes)?;
         write_line(self.global, &head, out)
     }
 
-    fn write_row<W: Write>(&self, at: u64, bytes: &[u8], out: &mut W) -> Result<(), ListFault> {
+    fn write_row<W: Write>(&self, at: u64, bytes: &[u8], out: &mut W) -> Result<(), WriteFault> {
         let line = row_value(self.global, at, bytes)?;
         write_line(self.global, &line, out)
     }

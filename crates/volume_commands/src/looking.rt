@@ -5,7 +5,7 @@ ghost use Rattle.volume_commands.specs.inside.Health.{health_status};
 
 use crate::print::print_value;
 use command_line::{Look, Sight};
-use device::{Device, OverlayDisk};
+use device::Device;
 use inspection::{
     Found, Health, damage_value, examine, found_value, health_value, inspect, write_file_lines,
     write_found,
@@ -16,8 +16,8 @@ use std::fs::File;
 use std::io;
 use std::rt::Files;
 use volume_files::{
-    Access, FileFailure, Refused, SyncNote, dump, not_listed, not_opened, not_opened_on_copy,
-    open_disk, place, refused_to_open,
+    Access, FileFailure, Refused, SyncNote, dump, not_listed, not_opened, not_read, open_disk,
+    place, refused_to_open,
 };
 
 /// Prints what is looked at of a volume, and answers the status: 0, and of a volume's health 0, 1 or 3. `note` gets
@@ -59,9 +59,9 @@ where
         }
         Sight::Files => {
             if look.json {
-                print_lines(global, alloc, look.disk, disk, out)?;
+                print_lines(global, alloc, look.disk, &mut disk, out)?;
             } else {
-                dump(alloc, look.disk, disk, out)?;
+                dump(alloc, look.disk, &mut disk, out)?;
             }
             Ok(0)
         }
@@ -165,22 +165,22 @@ fn print_damage<'a, W: io::Write>(
     Ok(())
 }
 
-// Prints the files of the volume of a device as lines of JSON, from a copy that keeps in memory what is written.
+// Prints the files of the volume of a device as lines of JSON.
 fn print_lines<'a, D, A, W>(
     global: Global,
     alloc: A,
     path: &'a str,
-    disk: D,
+    disk: &mut D,
     out: &mut W,
 ) -> Result<(), FileFailure<'a>>
 where
-    D: Device + Drop,
+    D: Device,
     A: Allocator + Copy,
     W: io::Write,
 {
-    match write_file_lines(global, alloc, OverlayDisk::new(alloc, disk), out) {
+    match write_file_lines(global, alloc, disk, out) {
         Ok(Ok(())) => Ok(()),
         Ok(Err(fault)) => Err(not_listed(path, fault)),
-        Err((refusal, mut copy)) => Err(not_opened_on_copy(alloc, path, refusal, &mut copy)),
+        Err(refusal) => Err(not_read(alloc, path, refusal, disk)),
     }
 }

@@ -1,8 +1,8 @@
 // What is printed of a command that is done, as text or as JSON.
-use file_rows::ListFault;
+use file_rows::WriteFault;
 use inspection::write_line;
 use serde_json::{Value, json};
-use std::alloc::{AllocError, Global};
+use std::alloc::Global;
 use std::io;
 use volume_files::FileFailure;
 
@@ -31,7 +31,7 @@ pub fn print_value<'a, W: io::Write>(
 ) -> Result<(), FileFailure<'a>> {
     match write_line(global, value, out) {
         Ok(()) => Ok(()),
-        Err(ListFault::Output(fault)) => Err(FileFailure::Output(fault)),
-        Err(_) => Err(FileFailure::Memory(AllocError)),
+        Err(WriteFault::Output(fault)) => Err(FileFailure::Output(fault)),
+        Err(WriteFault::Memory(fault)) => Err(FileFailure::Memory(fault)),
     }
 }

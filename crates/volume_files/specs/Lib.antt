@@ -1,3 +1,4 @@
 pub mod Dump
 pub mod Export
+pub mod Failures
 pub mod Migration

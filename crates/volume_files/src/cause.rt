@@ -1,9 +1,11 @@
 // Why a volume is refused, as far as it can be told: what was found, and what is allowed.
 ghost use Rattle.std.specs.Prelude.{◌≡◌, ◌+◌};
 ghost use Rattle.volume_codec.specs.Layout.{lengths_blocks, max_slots as most_slots};
+ghost use Rattle.recovery.specs.Reading.{IsOnlyRead};
 
 use device::Device;
 use page_entry::{PAGE, Refusal};
+use recovery::reading::read;
 use std::alloc::Allocator;
 use std::fmt;
 use thiserror::Error;
@@ -213,7 +215,11 @@ pub fn refused_to_open<'a, D: Device, A: Allocator + Copy>(
     alloc: A,
     refusal: Refusal,
     device: &mut D,
-) -> Refused<'a> {
+) -> Refused<'a>
+    ensures refusal { result.refusal ≡ refusal }
+    ensures still { refusal ≡ Refusal.Device → device.new ≡ device.old }
+    ensures read { IsOnlyRead D.Device device.old device.new }
+{
     let cause = cause_in_bytes(alloc, refusal, device);
     Refused { refusal, cause }
 }
@@ -223,7 +229,10 @@ fn cause_in_bytes<D: Device, A: Allocator + Copy>(
     alloc: A,
     refusal: Refusal,
     device: &mut D,
-) -> Option<Cause<'static>> {
+) -> Option<Cause<'static>>
+    ensures still { refusal ≡ Refusal.Device → device.new ≡ device.old }
+    ensures read { IsOnlyRead D.Device device.old device.new }
+{
     let found = device.len();
     match refusal {
         Refusal::NotAVolume if found < PAGE => Some(Cause::TooShort(found)),
@@ -257,11 +266,13 @@ fn cause_of_damage<A: Allocator + Copy>(
 }
 
 /// The first block of a device, where it can be read.
-pub fn first_block<D: Device>(device: &mut D) -> Option<[u8; 4096]> {
+pub fn first_block<D: Device>(device: &mut D) -> Option<[u8; 4096]>
+    ensures { IsOnlyRead D.Device device.old device.new }
+{
     if device.len() < PAGE {
         return None;
     }
     let mut block = [0; PAGE as usize];
-    device.read(0, &mut block).ok()?;
+    read(device, 0, &mut block).ok()?;
     Some(block)
 }

@@ -1,15 +1,14 @@
 // The bytes of one file of a volume.
-ghost use Rattle.std.specs.Prelude.{◌≡◌, ◌≢◌, ℕ, ◌<◌, length, slice_get, Some, IfOk, IfErr, IfSome, IfNone, Err};
-ghost use Rattle.volume_codec.specs.Super.{names_in};
-ghost use Rattle.recovery.specs.Opening.{Opens};
-ghost use Rattle.recovery.specs.Volume.{IsWellFormed, files_of};
+ghost use Rattle.std.specs.Prelude.{◌≡◌, ◌≢◌, ℕ, ◌*◌, ◌<◌, ◌≤◌, length, slice_get, Some, IfOk, IfErr, IfSome, IfNone};
+ghost use Rattle.volume_codec.specs.Super.{block_count, names_in};
+ghost use Rattle.recovery.specs.Opening.{RefusesOpening};
+ghost use Rattle.recovery.specs.Reading.{IsOnlyRead};
+ghost use Rattle.file_rows.specs.Recovered.{IsRecovered, IsSound, recovered_files};
 ghost use Rattle.volume_files.specs.Export.{IsCopied, IsExported};
-ghost use Rattle.file_rows.specs.Reading.{AreFilesOf};
 
 use device::Device;
-use file_rows::{ListFault, PageForm, write_pages};
+use file_rows::{ListFault, PageForm, Recovered, WriteFault, write_pages};
 use page_entry::Refusal;
-use recovery::Volume;
 use std::alloc::Allocator;
 use std::io;
 
@@ -29,73 +28,85 @@ struct Whole;
 impl PageForm for Whole {
     ghost page_text = { λ whole at page. page };
 
-    fn write_page<W: io::Write>(&self, at: u64, page: &[u8], out: &mut W) -> Result<(), ListFault> {
+    fn write_page<W: io::Write>(
+        &self,
+        at: u64,
+        page: &[u8],
+        out: &mut W,
+    ) -> Result<(), WriteFault> {
         out.write_all(page)?;
         Ok(())
     }
 }
 
-/// Writes all bytes of the file of this name of a device's volume, as it would be opened, and says how many there are.
-/// A refusal to open the volume hands the device back.
+/// Writes all bytes of the file of this name of a device's volume, as it recovers, and says how many there are. The
+/// volume is refused as opening refuses it. The device is only read.
 pub fn copy_file<D, A, W>(
     alloc: A,
-    device: D,
+    device: &mut D,
     name: &str,
     out: &mut W,
-) -> Result<Result<u64, CopyFault>, (Refusal, D)>
+) -> Result<Result<u64, CopyFault>, Refusal>
 where
-    D: Device + Drop,
+    D: Device,
     A: Allocator + Copy,
     W: io::Write,
-    ensures copied { D.is_honest device → IfOk result (λ copied. IfOk copied
-        (IsExported (D.seen device) name.now (W.contents out.old) (W.contents out.new))) }
-    ensures refused { IfErr result (λ refused. Opens D.Device device (Err refused.0) refused.1) }
+    ensures copied { D.is_honest device.old → IfOk result (λ copied. IfOk copied
+        (IsExported (D.seen device.old) name.now (W.contents out.old) (W.contents out.new))) }
+    ensures refused { D.is_honest device.old → IfErr result (RefusesOpening (D.seen device.old)) }
+    ensures read { IsOnlyRead D.Device device.old device.new }
 {
-    recovery::opened_as_recovered(&device);
-    match recovery::open(alloc, device) {
-        Ok(mut volume) => Ok(copy_named(&mut volume, name, out)),
-        Err(refused) => Err(refused),
+    match Recovered::find(alloc, device) {
+        Ok(volume) => Ok(copy_named(&volume, device, name, out)),
+        Err(refusal) => Err(refusal),
     }
 }
 
 // Writes all bytes of the file of this name, and says how many there are.
-fn copy_named<D: Device + Drop, A: Allocator + Copy, W: io::Write>(
-    volume: &mut Volume<D, A>,
+fn copy_named<D: Device, A: Allocator + Copy, W: io::Write>(
+    volume: &Recovered<A>,
+    device: &mut D,
     name: &str,
     out: &mut W,
 ) -> Result<u64, CopyFault>
-    ensures copied { D.is_honest volume.old.device → IfOk result (IsCopied
-        (files_of volume.old.table (D.seen volume.old.device)) name.now (W.contents out.old) (W.contents out.new)) }
+    requires long { 4096 * block_count volume.now.table ≤ length (D.seen device.old) }
+    requires recovered { D.is_honest device.old → IsRecovered volume.now (D.seen device.old) }
+    ensures copied { D.is_honest device.old → IfOk result (IsCopied
+        (recovered_files volume.now (D.seen device.old)) name.now (W.contents out.old) (W.contents out.new)) }
+    ensures read { IsOnlyRead D.Device device.old device.new }
 {
     match find(volume, name) {
-        Some(file) => copy_found(volume, name, file, out),
+        Some(file) => copy_found(volume, device, name, file, out),
         None => Err(CopyFault::NoFile),
     }
 }
 
 // Writes all bytes of this file, which has this name, and says how many there are.
-fn copy_found<D: Device + Drop, A: Allocator + Copy, W: io::Write>(
-    volume: &mut Volume<D, A>,
+fn copy_found<D: Device, A: Allocator + Copy, W: io::Write>(
+    volume: &Recovered<A>,
+    device: &mut D,
     name: &str,
     file: usize,
     out: &mut W,
 ) -> Result<u64, CopyFault>
-    requires there { file < length volume.old.table.files }
-    requires named { slice_get (names_in volume.old.table) file ≡ Some name.now }
-    requires files { D.is_honest volume.old.device → AreFilesOf volume.old (D.seen volume.old.device) }
-    ensures copied { D.is_honest volume.old.device → IfOk result (IsCopied
-        (files_of volume.old.table (D.seen volume.old.device)) name.now (W.contents out.old) (W.contents out.new)) }
+    requires there { file < length volume.now.table.files }
+    requires named { slice_get (names_in volume.now.table) file ≡ Some name.now }
+    requires long { 4096 * block_count volume.now.table ≤ length (D.seen device.old) }
+    requires recovered { D.is_honest device.old → IsRecovered volume.now (D.seen device.old) }
+    ensures copied { D.is_honest device.old → IfOk result (IsCopied
+        (recovered_files volume.now (D.seen device.old)) name.now (W.contents out.old) (W.contents out.new)) }
+    ensures read { IsOnlyRead D.Device device.old device.new }
 {
     let bytes = volume.length(file);
-    match write_pages(volume, file, bytes, &Whole, out) {
+    match write_pages(volume, device, file, bytes, &Whole, out) {
         Ok(()) => Ok(bytes),
         Err(fault) => Err(CopyFault::Pages(fault)),
     }
 }
 
 // The file of this name.
-fn find<D: Device, A: Allocator + Copy>(volume: &Volume<D, A>, name: &str) -> Option<usize>
-    ensures well_formed { IsWellFormed D.Device volume.now }
+fn find<A: Allocator + Copy>(volume: &Recovered<A>, name: &str) -> Option<usize>
+    ensures sound { IsSound volume.now }
     ensures within { IfSome result (λ file. file < length volume.now.table.files) }
     ensures named { IfSome result (λ file. slice_get (names_in volume.now.table) file ≡ Some name.now) }
     ensures none { IfNone result ((file : ℕ) → slice_get (names_in volume.now.table) file ≢ Some name.now) }

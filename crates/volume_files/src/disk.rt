@@ -1,10 +1,13 @@
 // The disk of a volume over its file, and printing the files of a volume.
-ghost use Rattle.std.specs.Prelude.{List, IfOk, IfErr, OnOk};
+ghost use Rattle.std.specs.Prelude.{◌≡◌, List, IfErr, OnOk};
 ghost use Rattle.std.specs.Io.KnownBytes.{Appends};
 ghost use Rattle.volume_codec.specs.Files.{File as VolumeFile};
 ghost use Rattle.volume_codec.specs.Recovery.{RecoversTo};
-ghost use Rattle.recovery.specs.Opening.{Opens};
+ghost use Rattle.recovery.specs.Opening.{RefusesOpening};
+ghost use Rattle.recovery.specs.Reading.{IsOnlyRead};
+ghost use Rattle.file_rows.specs.Faults.{IsOfDevice};
 ghost use Rattle.volume_files.specs.Dump.{dump_text};
+ghost use Rattle.volume_files.specs.Failures.{IsOfVolume};
 
 use crate::cause::{Cause, Refused, refused_to_open};
 use crate::failure::FileFailure;
@@ -15,7 +18,7 @@ use crate::sync_note::SyncNote;
 use crate::volume_file::{Access, off_streams, open_locked};
 use crate::watched_file::WatchedFile;
 use device::{Device, FileDisk, OverlayDisk};
-use file_rows::{ListFault, list_files};
+use file_rows::{ListFault, WriteFault, list_files};
 use page_entry::Refusal;
 use std::alloc::{AllocError, Allocator};
 use std::fs::{File, Files};
@@ -70,35 +73,56 @@ pub fn open_to_write<'a, 'b, R: Files<File = File> + AllocGlobal>(
     Ok(disk)
 }
 
-/// Prints the files of the volume of a device, as it would be opened, and leaves its bytes as they are: what opening
-/// writes is kept in memory. `path` names the volume in a failure.
-pub fn dump<'a, D: Device + Drop, A: Allocator + Copy, W: Write>(
+/// Prints the files of the volume of a device, as it recovers. The device is only read. `path` names the volume in a
+/// failure.
+pub fn dump<'a, D: Device, A: Allocator + Copy, W: Write>(
     alloc: A,
     path: &'a str,
-    device: D,
+    device: &mut D,
     out: &mut W,
 ) -> Result<(), FileFailure<'a>>
-    ensures { D.is_honest device → OnOk result ((files : List VolumeFile)
-        × RecoversTo (D.seen device) files × Appends (W.contents out.old) (W.contents out.new) (dump_text files)) }
+    ensures printed { D.is_honest device.old → OnOk result ((files : List VolumeFile)
+        × RecoversTo (D.seen device.old) files × Appends (W.contents out.old) (W.contents out.new) (dump_text files)) }
+    ensures refused { D.is_honest device.old
+        → IfErr result (IsOfVolume path.now (RefusesOpening (D.seen device.old))) }
+    ensures read { IsOnlyRead D.Device device.old device.new }
 {
-    match print_volume(alloc, OverlayDisk::new(alloc, device), out) {
+    match list_files(alloc, device, &DumpLines, out) {
         Ok(Ok(())) => Ok(()),
         Ok(Err(fault)) => Err(not_listed(path, fault)),
-        Err((refusal, mut copy)) => Err(not_opened_on_copy(alloc, path, refusal, &mut copy)),
+        Err(refusal) => Err(not_read(alloc, path, refusal, device)),
     }
 }
 
+/// Why the volume of a device at a path wasn't read. The device is only read.
+pub fn not_read<'a, D: Device, A: Allocator + Copy>(
+    alloc: A,
+    path: &'a str,
+    refusal: Refusal,
+    device: &mut D,
+) -> FileFailure<'a>
+    ensures told { IsOfVolume path.now (λ told. told ≡ refusal) result }
+    ensures still { refusal ≡ Refusal.Device → device.new ≡ device.old }
+    ensures read { IsOnlyRead D.Device device.old device.new }
+{
+    not_opened(path, refused_to_open(alloc, refusal, device))
+}
+
 /// Why the files of the volume at a path weren't printed.
-pub fn not_listed(path: &str, fault: ListFault) -> FileFailure<'_> {
+pub fn not_listed(path: &str, fault: ListFault) -> FileFailure<'_>
+    ensures { IsOfDevice fault → IsOfVolume path.now (λ refusal. refusal ≡ Refusal.Device) result }
+{
     match fault {
         ListFault::Unreadable(refusal) => unreadable(path, refusal),
-        ListFault::Output(fault) => FileFailure::Output(fault),
-        ListFault::Memory(fault) => FileFailure::Memory(fault),
+        ListFault::Unwritten(WriteFault::Output(fault)) => FileFailure::Output(fault),
+        ListFault::Unwritten(WriteFault::Memory(fault)) => FileFailure::Memory(fault),
     }
 }
 
 /// Why a file of the volume at a path couldn't be read.
-pub fn unreadable(path: &str, refusal: Refusal) -> FileFailure<'_> {
+pub fn unreadable(path: &str, refusal: Refusal) -> FileFailure<'_>
+    ensures { IsOfVolume path.now (λ told. told ≡ refusal) result }
+{
     FileFailure::Disk {
         path,
         cause: Refused {
@@ -113,7 +137,9 @@ pub fn refused_on_copy<'a>(
     path: &'a str,
     was_refused_memory: bool,
     cause: Refused<'a>,
-) -> FileFailure<'a> {
+) -> FileFailure<'a>
+    ensures { IsOfVolume path.now (λ told. told ≡ cause.entry.refusal) result }
+{
     if was_refused_memory && cause.refusal == Refusal::Device {
         FileFailure::Memory(AllocError)
     } else {
@@ -122,7 +148,9 @@ pub fn refused_on_copy<'a>(
 }
 
 /// Why the volume at a path wasn't opened.
-pub fn not_opened<'a>(path: &'a str, cause: Refused<'a>) -> FileFailure<'a> {
+pub fn not_opened<'a>(path: &'a str, cause: Refused<'a>) -> FileFailure<'a>
+    ensures { IsOfVolume path.now (λ told. told ≡ cause.entry.refusal) result }
+{
     match cause.refusal {
         Refusal::OutOfMemory => FileFailure::Memory(AllocError),
         _ => FileFailure::Disk { path, cause },
@@ -135,23 +163,12 @@ pub fn not_opened_on_copy<'a, D: Device, A: Allocator + Copy>(
     path: &'a str,
     refusal: Refusal,
     copy: &mut OverlayDisk<D, A>,
-) -> FileFailure<'a> {
+) -> FileFailure<'a>
+    ensures { IsOfVolume path.now (λ told. told ≡ refusal) result }
+{
     let was_refused_memory = copy.was_refused_memory();
     let cause = refused_to_open(alloc, refusal, copy);
     refused_on_copy(path, was_refused_memory, cause)
-}
-
-// Prints the files of the volume of a device, as it would be opened. A refusal to open it hands the device back.
-fn print_volume<D: Device + Drop, A: Allocator + Copy, W: Write>(
-    alloc: A,
-    device: D,
-    out: &mut W,
-) -> Result<Result<(), ListFault>, (Refusal, D)>
-    ensures printed { D.is_honest device → IfOk result (λ printed. OnOk printed ((files : List VolumeFile)
-        × RecoversTo (D.seen device) files × Appends (W.contents out.old) (W.contents out.new) (dump_text files))) }
-    ensures refused { IfErr result (λ refused. Opens D.Device device (Err refused.0) refused.1) }
-{
-    list_files(alloc, device, &DumpLines, out)
 }
 
 /// The bytes of a file, which may be a pipe.

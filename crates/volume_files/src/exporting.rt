@@ -1,12 +1,14 @@
 // Copying a file out of a volume: whole, in a file of its own, which then takes the name that was asked for.
+ghost use Rattle.recovery.specs.Reading.{IsOnlyRead};
+
 use crate::copying::{CopyFault, copy_file};
-use crate::disk::{not_opened_on_copy, open_disk, unreadable};
+use crate::disk::{not_read, open_disk, unreadable};
 use crate::failure::FileFailure;
 use crate::sync_note::SyncNote;
 use crate::target::{Target, new_file, take_after};
 use crate::volume_file::{Access, apart, found_at, off_streams, other_kind, place};
-use device::{Device, OverlayDisk};
-use file_rows::ListFault;
+use device::Device;
+use file_rows::{ListFault, WriteFault};
 use std::alloc::Allocator;
 use std::fs::{File, Files, Metadata, TryLockError};
 use std::{fs, io};
@@ -21,7 +23,7 @@ pub struct ExportPlan<'a> {
 }
 
 /// Copies a file of a volume, as it would be found when the volume is opened, and says how many bytes it has. The
-/// volume's file stays as it is: what opening writes is kept in memory. The copy is made in another file beside its
+/// volume's file is only read. The copy is made in another file beside its
 /// place, `.new`, which takes its name once all of it is on the disk: where this fails before or is cut off, a file
 /// that had the name is as it was. A copy doesn't replace the file of the volume, one that another process has locked,
 /// or anything else than a regular file.
@@ -33,18 +35,21 @@ pub fn export<'a, R: Files<File = File> + AllocGlobal, A: Allocator + Copy>(
     note: &mut SyncNote,
 ) -> Result<u64, FileFailure<'a>> {
     let from = place(rt, plan.disk)?;
-    let disk = open_disk(rt, plan.disk, &from, Access::Read, trust, note)?;
-    copied_out(rt, alloc, plan, disk, &from)
+    let mut disk = open_disk(rt, plan.disk, &from, Access::Read, trust, note)?;
+    copied_out(rt, alloc, plan, &mut disk, &from)
 }
 
-// Copies a file of the volume of a disk, whose own file is at a place, to where it was asked for.
-fn copied_out<'a, R: Files<File = File> + AllocGlobal, D: Device + Drop, A: Allocator + Copy>(
+// Copies a file of the volume of a disk, whose own file is at a place, to where it was asked for. The disk is only
+// read.
+fn copied_out<'a, R: Files<File = File> + AllocGlobal, D: Device, A: Allocator + Copy>(
     rt: &R,
     alloc: A,
     plan: ExportPlan<'a>,
-    disk: D,
+    disk: &mut D,
     from: &str,
-) -> Result<u64, FileFailure<'a>> {
+) -> Result<u64, FileFailure<'a>>
+    ensures { IsOnlyRead D.Device disk.old disk.new }
+{
     let to = place(rt, plan.out)?;
     let target = Target {
         rt,
@@ -60,13 +65,15 @@ fn copied_out<'a, R: Files<File = File> + AllocGlobal, D: Device + Drop, A: Allo
 
 // Makes the copy in another file, and gives that the name that was asked for. Where it wasn't made, or can't have the
 // name, it is taken away. Where that can't be done either, the next export finds that it is there.
-fn named_copy<'a, R: Files<File = File> + AllocGlobal, D: Device + Drop, A: Allocator + Copy>(
+fn named_copy<'a, R: Files<File = File> + AllocGlobal, D: Device, A: Allocator + Copy>(
     target: &Target<'a, '_, R>,
     alloc: A,
     plan: ExportPlan<'a>,
-    disk: D,
+    disk: &mut D,
     old: Option<&File>,
-) -> Result<(u64, File), FileFailure<'a>> {
+) -> Result<(u64, File), FileFailure<'a>>
+    ensures { IsOnlyRead D.Device disk.old disk.new }
+{
     let new = target.new_path()?;
     let Some(mut file) = new_file(target.rt, &new)? else {
         return Err(FileFailure::CopyIsThere {
@@ -135,13 +142,15 @@ fn locked(out: &str, file: File) -> Result<File, FileFailure<'_>> {
 }
 
 // Makes the copy in a new file, with all of it on the disk, and says how many bytes it has.
-fn copied<'a, D: Device + Drop, A: Allocator + Copy>(
+fn copied<'a, D: Device, A: Allocator + Copy>(
     alloc: A,
     plan: ExportPlan<'a>,
-    disk: D,
+    disk: &mut D,
     old: Option<&File>,
     file: &mut File,
-) -> Result<u64, FileFailure<'a>> {
+) -> Result<u64, FileFailure<'a>>
+    ensures { IsOnlyRead D.Device disk.old disk.new }
+{
     let path = plan.out;
     let failed = |cause| FileFailure::File { path, cause };
     after(old, file).map_err(failed)?;
@@ -159,16 +168,26 @@ fn after(old: Option<&File>, file: &File) -> io::Result<()> {
 }
 
 // Writes the bytes of the file in the volume of a disk to a file, and says how many they are.
-fn written<'a, D: Device + Drop, A: Allocator + Copy>(
+fn written<'a, D: Device, A: Allocator + Copy>(
     alloc: A,
     plan: ExportPlan<'a>,
-    disk: D,
+    disk: &mut D,
     file: &mut File,
-) -> Result<u64, FileFailure<'a>> {
-    match copy_file(alloc, OverlayDisk::new(alloc, disk), plan.file, file) {
+) -> Result<u64, FileFailure<'a>>
+    ensures { IsOnlyRead D.Device disk.old disk.new }
+{
+    match copy_file(alloc, disk, plan.file, file) {
         Ok(Ok(count)) => Ok(count),
         Ok(Err(fault)) => Err(fault.of(plan)),
-        Err((refusal, mut copy)) => Err(not_opened_on_copy(alloc, plan.disk, refusal, &mut copy)),
+        Err(refusal) => Err(not_read(alloc, plan.disk, refusal, disk)),
+    }
+}
+
+// Why the copy at a path couldn't be written.
+fn unwritten(out: &str, fault: WriteFault) -> FileFailure<'_> {
+    match fault {
+        WriteFault::Output(cause) => FileFailure::File { path: out, cause },
+        WriteFault::Memory(fault) => FileFailure::Memory(fault),
     }
 }
 
@@ -181,11 +200,7 @@ impl CopyFault {
                 file: plan.file,
             },
             CopyFault::Pages(ListFault::Unreadable(refusal)) => unreadable(plan.disk, refusal),
-            CopyFault::Pages(ListFault::Output(cause)) => FileFailure::File {
-                path: plan.out,
-                cause,
-            },
-            CopyFault::Pages(ListFault::Memory(fault)) => FileFailure::Memory(fault),
+            CopyFault::Pages(ListFault::Unwritten(fault)) => unwritten(plan.out, fault),
         }
     }
 }

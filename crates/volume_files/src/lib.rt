@@ -19,8 +19,8 @@ mod watched_file;
 
 pub use cause::{Cause, Refused, first_block, refused_to_open};
 pub use disk::{
-    VolumeDisk, dump, not_listed, not_opened, not_opened_on_copy, open_disk, open_to_write,
-    read_file, refused_on_copy, unreadable,
+    VolumeDisk, dump, not_listed, not_opened, not_opened_on_copy, not_read, open_disk,
+    open_to_write, read_file, refused_on_copy, unreadable,
 };
 pub use exporting::{ExportPlan, export};
 pub use failure::FileFailure;

@@ -2,7 +2,7 @@
 ghost use Rattle.std.specs.Prelude.{Some};
 ghost use Rattle.volume_files.specs.Dump.{head_line, row_text, row_line};
 
-use file_rows::{Form, ListFault};
+use file_rows::{Form, WriteFault};
 use std::fmt;
 use std::io::Write;
 
@@ -36,12 +36,12 @@ impl Form for DumpLines {
 
     ghost row_text = { λ lines. row_line };
 
-    fn write_head<W: Write>(&self, name: &str, bytes: u64, out: &mut W) -> Result<(), ListFault> {
+    fn write_head<W: Write>(&self, name: &str, bytes: u64, out: &mut W) -> Result<(), WriteFault> {
         writeln!(out, "{name} {bytes}")?;
         Ok(())
     }
 
-    fn write_row<W: Write>(&self, at: u64, bytes: &[u8], out: &mut W) -> Result<(), ListFault> {
+    fn write_row<W: Write>(&self, at: u64, bytes: &[u8], out: &mut W) -> Result<(), WriteFault> {
         let row = Row { at, bytes };
         writeln!(out, "{row}")?;
         Ok(())

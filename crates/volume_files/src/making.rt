@@ -1,4 +1,8 @@
 // Making a volume: whole, in a file of its own, which then takes the old one's name.
+ghost use Rattle.std.specs.Prelude.{IfOk, OnOk};
+ghost use Rattle.volume_codec.specs.Files.{asked_by};
+ghost use Rattle.recovery.specs.Format.{HasFormatted};
+
 use crate::cause::refused_to_format;
 use crate::failure::FileFailure;
 use crate::target::Target;
@@ -63,21 +67,26 @@ fn named_volume<'a, R: Files<File = File> + AllocGlobal, A: Allocator + Copy>(
 ) -> Result<File, FileFailure<'a>> {
     let (new, file) = target.new_volume()?;
     let volume = match target.ready(alloc, blocks, old, file) {
-        Ok(disk) => made(alloc, target.path, plan, disk),
+        Ok(disk) => made(alloc, target.path, plan, disk).map(FileDisk::into_file),
         Err(failure) => Err(failure),
     };
     target.named(&new, volume)
 }
 
-// Makes the volume on a disk over a new file, and hands the file back, all of it on the disk.
-fn made<'a, A: Allocator + Copy>(
+// Makes the volume on a new device, and hands that back where all of the volume is on it: where this failed, no device
+// comes back whose file could take a name.
+fn made<'a, D: Device + Drop, A: Allocator + Copy>(
     alloc: A,
     path: &'a str,
     plan: Plan<'a, '_>,
-    mut disk: FileDisk<File>,
-) -> Result<File, FileFailure<'a>> {
-    match format_on(alloc, plan, &mut disk) {
-        Ok(()) => Ok(disk.into_file()),
+    mut new: D,
+) -> Result<D, FileFailure<'a>>
+    ensures { D.is_honest new → IfOk result
+        (λ made. HasFormatted D.Device plan.entry.layout (asked_by plan.entry.files.now)
+        plan.entry.slots new made) }
+{
+    match format_on(alloc, plan, &mut new) {
+        Ok(()) => Ok(new),
         Err(refusal) => Err(plan.refused(path, refusal)),
     }
 }
@@ -86,7 +95,10 @@ fn made<'a, A: Allocator + Copy>(
 fn format_on<D: Device, A: Allocator + Copy>(
     alloc: A,
     plan: Plan<'_, '_>,
-    disk: &mut D,
-) -> Result<(), Refusal> {
-    recovery::format_as(alloc, disk, plan.layout, plan.files, plan.slots)
+    new: &mut D,
+) -> Result<(), Refusal>
+    ensures { D.is_honest new.old → OnOk result
+        (HasFormatted D.Device plan.entry.layout (asked_by plan.entry.files.now) plan.entry.slots new.old new.new) }
+{
+    recovery::format_as(alloc, new, plan.layout, plan.files, plan.slots)
 }

@@ -167,24 +167,28 @@ fn named_copy<'a, R: Files<File = File> + AllocGlobal, D: Device, A: Allocator +
 ) -> Result<File, FileFailure<'a>> {
     let (new, file) = target.new_volume()?;
     let made = match target.ready(alloc, blocks, old, file) {
-        Ok(disk) => copied(alloc, plan, volume, disk),
+        Ok(disk) => copied(alloc, plan, volume, disk).map(FileDisk::into_file),
         Err(failure) => Err(failure),
     };
     target.named(&new, made)
 }
 
-// Copies the volume on to a disk over a new file, and hands the file back, all of it on the disk.
-fn copied<'a, D: Device, A: Allocator + Copy>(
+// Copies the volume on to a new device, and hands that back where all of the volume is on it: where the copy failed,
+// no device comes back whose file could take a name.
+fn copied<'a, D: Device, E: Device + Drop, A: Allocator + Copy>(
     alloc: A,
     plan: MigrationPlan<'a>,
     volume: &mut Volume<D, A>,
-    mut disk: FileDisk<File>,
-) -> Result<File, FileFailure<'a>> {
+    mut new: E,
+) -> Result<E, FileFailure<'a>>
+    ensures { D.is_honest volume.old.device → E.is_honest new → IfOk result
+        (λ made. HasMigrated D.Device E.Device plan.entry.layout plan.entry.slots volume.old new made) }
+{
     let old = volume.layout();
-    match copy(alloc, plan, volume, &mut disk) {
-        Ok(()) => Ok(disk.into_file()),
+    match copy(alloc, plan, volume, &mut new) {
+        Ok(()) => Ok(new),
         Err(refusal) => {
-            let new_failed = disk.faults() > 0;
+            let new_failed = new.faults() > 0;
             Err(plan.refused(refusal, old, new_failed))
         }
     }

@@ -1,18 +1,22 @@
-use Rattle.std.proofs.Common.{◌≡◌, ◌+◌, ◌*◌, length, slice_range, ◌∙◌}
+use Rattle.std.proofs.Common.{rules, ◌∙◌, ◌≡◌, ◌+◌, ◌*◌, length, slice_range, arith}
 use Rattle.std.proofs.lemmas.Result.{on_ok_weaker}
-use Rattle.recovery.specs.Volume.{files_of, bytes_of}
-use Rattle.recovery.proofs.Public.{length_of_file}
-use Rattle.file_rows.proofs.PageText.{page_read}
+use Rattle.file_rows.proofs.Files.{index_of, page_read_at}
 use Rattle.file_rows.proofs.reading.read_page.Goals as goal
+
+pub block_of-block-requires-clause-within : goal.block_of-block-requires-clause-within
+block_of-block-requires-clause-within g c =
+    omega (arith, c.requires.within, index_of c.args.volume.now.lengths c.args.file c.args.bytes c.requires.size)
 
 pub returns-clause-page : goal.returns-clause-page
 returns-clause-page g c = λ honest.
     let volume = c.args.volume.now in
-    let seen = g.D.Device.seen volume.device in
-    let files = bytes_of (files_of volume.table seen) c.args.file in
-    let long = length_of_file volume seen c.args.file c.args.bytes (c.requires.files honest).lengths c.requires.long in
-    on_ok_weaker c.read_file.result
-    (λ (is : c.read_file.new.buffer
-    ≡ slice_range files (4096 * c.args.page) (4096 * c.args.page + length c.args.part.now)).
-    is ∙ page_read files c.args.page c.args.bytes (length c.args.part.now) long c.requires.within c.requires.room)
-    (c.read_file.ensures.bytes honest)
+    let seen = g.D.Device.seen c.args.device.now in
+    let block = c.from.result in
+    let is : block ≡ c.block_of-block.result = search rules in
+    let n = length c.args.part.now in
+    on_ok_weaker c.read.result
+    (λ (read : c.read.new.buffer ≡ slice_range seen (4096 * block) (4096 * block + n)).
+    page_read_at volume seen (c.requires.recovered honest) c.block_of-block.ensures.sound c.args.file c.args.bytes
+    c.requires.there c.requires.size c.args.page block n c.read.new.buffer c.requires.within c.requires.room
+    (is ∙ c.block_of-block.ensures.value) read)
+    (c.read.ensures.bytes honest)

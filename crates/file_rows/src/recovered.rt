@@ -1,0 +1,116 @@
+// The volume of a device as it recovers.
+ghost use Rattle.std.specs.Prelude.{◌≡◌, ◌<◌, ◌+◌, ◌*◌, ◌≤◌, length, slice_get, slice_index, Some, IfOk, IfErr};
+ghost use Rattle.volume_codec.specs.Super.{Fits, block_count, first_home_of, geometry_of, names_in};
+ghost use Rattle.volume_codec.specs.Recovery.{IsVolume, recovered_block};
+ghost use Rattle.recovery.specs.Counts.{IsAccounted};
+ghost use Rattle.recovery.specs.Opening.{RefusesOpening};
+ghost use Rattle.recovery.specs.Reading.{AreBatches, IsOnlyRead, batches_of};
+ghost use Rattle.file_rows.specs.Recovered.{IsSound, IsRecovered};
+
+use device::Device;
+use page_entry::Refusal;
+use recovery::reading::{OpenJournal, find_block, find_lengths, read_open, read_table};
+use std::alloc::Allocator;
+use std::marker::Model;
+use volume_codec::Super;
+
+/// What the volume of a device recovers to: the table of its files, its open journals, the newest first, and the
+/// length of each file. Files are counted from 0, in the table's order.
+#[derive(Drop)]
+pub struct Recovered<A: Allocator + Copy> {
+    table: Super<A>,
+    open: Vec<OpenJournal<A>, A>,
+    lengths: Vec<u64, A>,
+}
+
+impl<A: Allocator + Copy> Model for Recovered<A> {
+    ghost use Rattle.recovery.specs.Reading.{batches_of};
+    ghost use Rattle.file_rows.specs.Recovered.{RecoveredState, IsSound};
+
+    ghost Value = { RecoveredState };
+
+    ghost view = { λ v.
+        record { table = v.table; batches = batches_of v.open.items; lengths = v.lengths.items } };
+
+    ghost invariant = { λ v.
+        IsSound (record { table = v.table; batches = batches_of v.open.items; lengths = v.lengths.items }) };
+}
+
+impl<A: Allocator + Copy> Recovered<A> {
+    /// Finds what the volume of a device recovers to. It is refused as opening refuses it: `NotAVolume` where the bytes
+    /// are no volume, `Damaged` where they are a damaged one, `Device` where a device call failed. The device is only
+    /// read.
+    pub fn find<D: Device>(alloc: A, device: &mut D) -> Result<Self, Refusal>
+        ensures found { D.is_honest device.old → IfOk result (λ volume. IsRecovered volume (D.seen device.old)) }
+        ensures long { IfOk result (λ volume. 4096 * block_count volume.table ≤ length (D.seen device.old)) }
+        ensures refused { D.is_honest device.old → IfErr result (RefusesOpening (D.seen device.old)) }
+        ensures read { IsOnlyRead D.Device device.old device.new }
+        ensures kept { IsAccounted D.Device device.old result device.new }
+    {
+        let (table, open) = find_parts(alloc, device)?;
+        let lengths = find_lengths(alloc, device, &table, &open)?;
+        Ok(Recovered {
+            table,
+            open,
+            lengths,
+        })
+    }
+
+    /// The block that has the recovered bytes of a page of a file.
+    pub(crate) fn block_of(&self, file: usize, page: u64) -> u32
+        requires there { file < length self.now.table.files }
+        requires within { 4096 * page < slice_index self.now.lengths file }
+        ensures value { result ≡ recovered_block self.now.table.slots self.now.batches
+            (first_home_of self.now.table file + page) }
+        ensures within { result < block_count self.now.table }
+        ensures sound { IsSound self.now }
+    {
+        let home = self.table.first_home(file) + page as u32;
+        find_block(&self.table.geometry(), &self.open, home)
+    }
+
+    /// The number of files, 1 to 64.
+    pub fn file_count(&self) -> usize
+        ensures value { result ≡ length self.now.table.files }
+        ensures sound { IsSound self.now }
+    {
+        self.table.file_count()
+    }
+
+    /// The name of a file.
+    pub fn name(&self, file: usize) -> &str
+        requires { file < length self.now.table.files }
+        ensures named { slice_get (names_in self.now.table) file ≡ Some result.now }
+        ensures sound { IsSound self.now }
+    {
+        self.table.name(file)
+    }
+
+    /// The length of a file in bytes.
+    pub fn length(&self, file: usize) -> u64
+        requires { file < length self.now.table.files }
+        ensures size { slice_get self.now.lengths file ≡ Some result }
+        ensures sound { IsSound self.now }
+    {
+        self.lengths[file]
+    }
+}
+
+// The table of the volume of a device, and its open journals, the newest first.
+fn find_parts<D: Device, A: Allocator + Copy>(
+    alloc: A,
+    device: &mut D,
+) -> Result<(Super<A>, Vec<OpenJournal<A>, A>), Refusal>
+    ensures volume { D.is_honest device.old
+        → IfOk result (λ parts. IsVolume parts.0 (batches_of parts.1.items) (D.seen device.old)) }
+    ensures fits { IfOk result (λ parts. Fits parts.0) }
+    ensures batches { IfOk result (λ parts. AreBatches (geometry_of parts.0) (batches_of parts.1.items)) }
+    ensures long { IfOk result (λ parts. 4096 * block_count parts.0 ≤ length (D.seen device.old)) }
+    ensures refused { D.is_honest device.old → IfErr result (RefusesOpening (D.seen device.old)) }
+    ensures read { IsOnlyRead D.Device device.old device.new }
+    ensures kept { IsAccounted D.Device device.old result device.new }
+{
+    let table = read_table(alloc, device)?;
+    let open = read_open(alloc, device, &table.geometry())?;
+    Ok((table, open))
+}
