@@ -1,4 +1,4 @@
-use Rattle.std.proofs.Common.{inl, inr, IfOk, IfErr, subst}
+use Rattle.std.proofs.Common.{inl, inr}
 use Rattle.std.proofs.lemmas.Result.{IfErr-weaker}
 use Rattle.engine.proofs.Public.{begins}
 use Rattle.crash_table.proofs.Marks.{if_ok_always}

@@ -1,4 +1,4 @@
-use Rattle.std.proofs.Common.{rules, ◌≡◌, ℕ, ◌+◌, ◌<◌, ◌≤◌, List, [], ◌∷◌, ◌++◌, length, take, refl, sym, ap, subst, ◌∙◌}
+use Rattle.std.proofs.Common.{rules, ℕ, ◌+◌, ◌<◌, ◌≤◌, List, [], ◌∷◌, ◌++◌, length, take, refl, sym, ap, subst, ◌∙◌}
 use Rattle.std.proofs.lemmas.List.{take_all}
 use Rattle.machine.specs.declared.act.Reply.{Reply}
 use Rattle.machine.specs.declared.act.Step.{Step}
@@ -22,9 +22,8 @@ loop-step-preserved g c =
     let new = c.enter.new.self in
     let P : List Reply → Type 0 = λ l.
     StepsCounted disk c.args.machine.now (take (index + 1) steps) l c.push-in-loop-step.new.self.items new in
-    let Q : List ℕ → Type 0 = λ l.
-    StepsCounted disk c.args.machine.now (take (index + 1) steps) (c.loop-step.replies.items ++ c.enter.result ∷ []) l new
-    in
+    let Q : List ℕ → Type 0 = λ l. StepsCounted disk c.args.machine.now (take (index + 1) steps)
+    (c.loop-step.replies.items ++ c.enter.result ∷ []) l new in
     let count = c.calls.ensures ∙ ap (λ d. disk.calls_made d) c.device.ensures in
     subst P (sym c.in_ok-push.ensures.items)
     (subst Q (sym c.in_ok-push-2.ensures.items)

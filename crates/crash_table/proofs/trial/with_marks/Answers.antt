@@ -6,7 +6,8 @@ use Rattle.crash_table.proofs.trial.with_marks.Goals as goal
 pub invariant_of-result : goal.invariant_of-result
 invariant_of-result g c =
     let found = c.requires.files in
-    let P : List Reply → Type 0 = λ l. AreKept found.0 c.args.plan.now.shape c.args.plan.now.steps.now l c.in-Ok.marks.items in (
+    let plan = c.args.plan.now in
+    let P : List Reply → Type 0 = λ l. AreKept found.0 plan.shape plan.steps.now l c.in-Ok.marks.items in (
       record {
         files = found.0;
         before = found.1;

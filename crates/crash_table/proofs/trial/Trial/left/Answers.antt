@@ -2,7 +2,7 @@ use Rattle.std.proofs.Common.{◌≡◌, ◌⊎◌, ⊎_elim, ℕ, ◌<◌, List
 use Rattle.device.specs.Device.{Only}
 use Rattle.device.specs.Memory.{Recorded, new_disk, seen_of, may_leave_of, after_stop}
 use Rattle.volume_codec.specs.Recovery.{RecoversTo}
-use Rattle.crash_states.specs.Calls.{DeviceCall, ListedDisk, device_calls_of, calls_until, listing}
+use Rattle.crash_states.specs.Calls.{ListedDisk, device_calls_of, calls_until, listing}
 use Rattle.crash_table.specs.Calls.{listing_memory}
 use Rattle.crash_table.specs.Crashes.{HasEnded, IsUpTo}
 use Rattle.crash_table.specs.Trials.{TrialValue, Leaves}
