@@ -1,5 +1,6 @@
 // Programs are run over a disk: a machine is booted over its volume and shared, and each thread has a processor of it.
-ghost use Rattle.std.specs.Prelude.{ℕ, ◌≡◌, ◌≢◌, ◌↔◌, ◌<◌, ◌++◌, ◌∷◌, [], false, length, slice_get, Some, IsTrue, IfOk, IfErr};
+ghost use Rattle.std.specs.Prelude.{ℕ, ◌≡◌, ◌≢◌, ◌↔◌, ◌+◌, ◌*◌, ◌<◌, ◌++◌, ◌∷◌, [], false, length, slice_get, Some, IsTrue};
+ghost use Rattle.std.specs.Prelude.{IfOk, IfErr};
 ghost use Rattle.engine.specs.Engine.{HasRun};
 ghost use Rattle.machine.specs.Fresh.{IsFresh};
 ghost use Rattle.machine.specs.State.{Whole};
@@ -101,7 +102,7 @@ fn named<D: Device + Send + Drop, R: Threads + Wait + Sync>(
     ensures ended { IfOk result (λ ran. IsEnd script.now.trace (length ran.trace.items) ran.ended) }
     ensures refused { IfErr result (HasNotShared D.Device machine script.now.trace) }
 {
-    let blank = Blank::new(u64::from(machine.processors()));
+    let blank = Blank::new(2 * u64::from(machine.processors()) + 1);
     serve::<D, Brand, R>(rt, alloc, machine, script, turns, blank)
 }
 
@@ -116,8 +117,8 @@ fn serve<D: Device + Send + Drop, L: Origin<D> + Send + Sync, R: Threads + Wait 
     requires fresh { IsFresh machine.state }
     requires origin { (L.start ≡ Some machine) × (L.capacity ≡ script.now.trace) }
     requires name { blank.name ≡ L.name }
-    requires parts { (blank.parts ≡ L.parts) × (L.all ≡ L.parts)
-        × (blank.parts ≡ length machine.state.hardware.shootdown.processors) }
+    requires parts { (blank.parts ≡ L.parts) × (L.parts ≡ 2 * L.all + 1)
+        × (L.all ≡ length machine.state.hardware.shootdown.processors) }
     ensures ran { IfOk result (HasRanFrom D.Device machine script.now.steps.items script.now.trace) }
     ensures ended { IfOk result (λ ran. IsEnd script.now.trace (length ran.trace.items) ran.ended) }
     ensures refused { IfErr result (HasNotShared D.Device machine script.now.trace) }
@@ -257,7 +258,7 @@ fn gathered<D: Device + Drop, L: Origin<D>, R: Wait>(
     script: &ThreadScript<Global>,
     ran_out: bool,
 ) -> Result<Ran<D>, NotRun<D>>
-    requires all { L.all ≡ L.parts }
+    requires parts { L.parts ≡ 2 * L.all + 1 }
     requires ready { AreReady script.now.steps.items script.now.trace cpus.items }
     ensures ran { IfOk result (λ ran. (start : Whole D) → L.start ≡ Some start
         → HasRanFrom D.Device start script.now.steps.items script.now.trace ran) }

@@ -1,4 +1,5 @@
 pub mod Traces
 pub mod Counting
+mod Answering
 mod Raises
 mod Starts

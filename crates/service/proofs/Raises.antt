@@ -7,11 +7,11 @@ use Rattle.machine.specs.declared.act.Reply.{Reply}
 use Rattle.machine.specs.declared.act.Reply.TheVariants as replies
 use Rattle.service.specs.declared.entry.Entry.{Entry}
 use Rattle.service.specs.declared.raising.Raise.TheVariants as raises
-use Rattle.horizon.specs.Seen.{SeenState, IsRaisedTo}
+use Rattle.horizon.specs.Seen.{SeenState}
 use Rattle.service.specs.declared.raising.Raise.{Raise}
 use Rattle.machine.specs.Unmarked.{unmarked_by}
 use Rattle.service.specs.Marks.{has_unmarked, HasReached, acknowledged_with, marks_of}
-use Rattle.service.specs.Marks.{last_acknowledged, Words, LeavesCommitted, RaisesCommitted, HasRaised}
+use Rattle.service.specs.Marks.{last_acknowledged, LeavesCommitted, RaisesCommitted, HasRaised}
 use Rattle.service.specs.inside.Raising.{raise_by, RaisesUpTo, RaisesSo}
 use Rattle.service.specs.inside.Rising.{seen_words}
 

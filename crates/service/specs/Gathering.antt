@@ -1,5 +1,5 @@
 -- What the processors of a service know of their own calls, and what is known once all of them were given back.
-use Rattle.std.specs.Prelude.{ℕ, ◌≡◌, ◌<◌, ◌≤◌, List, [], length, sum_by, slice_get, Option, Some}
+use Rattle.std.specs.Prelude.{ℕ, ◌≡◌, ◌<◌, ◌≤◌, ◌⊎◌, List, [], length, sum_by, slice_get, Option, Some}
 use Rattle.device.specs.declared.device.Device.{Ghosts}
 use Rattle.machine.specs.declared.act.Act.{Act}
 use Rattle.machine.specs.declared.act.Reply.{Reply}
@@ -8,6 +8,7 @@ use Rattle.machine.specs.Runs.{StepsTaken}
 use Rattle.machine.specs.State.{Whole}
 use Rattle.service.specs.declared.entry.Entry.{Entry}
 use Rattle.service.specs.Marks.{Words}
+use Rattle.service.specs.Serving.{SharedState, ServesFrom}
 use Rattle.service.specs.Trace.{steps_of, replies_of, of_processor}
 
 -- a processor of a service: its number, its acts with their replies, in order, the greatest numbers of marks that it
@@ -44,7 +45,12 @@ idle_cpu number = record {
 abbrev pub IsAmong : List CpuState → ℕ → Type 0
 IsAmong cpus number = (i : ℕ) × (cpu : CpuState) × (slice_get cpus i ≡ Some cpu) × (cpu.number ≡ number)
 
--- how many calls these processors made that were answered
+-- these are all processors of a service that has this many
+pub record AreAll (all : ℕ) (cpus : List CpuState) : Type 0 where
+  pub as_many : length cpus ≡ all
+  pub whole : (p : ℕ) → p < all → IsAmong cpus p
+
+-- the number of calls of these processors that were answered
 abbrev pub answered_calls : List CpuState → ℕ
 answered_calls cpus = sum_by (λ cpu. length cpu.answered) cpus
 
@@ -52,6 +58,20 @@ answered_calls cpus = sum_by (λ cpu. length cpu.answered) cpus
 abbrev pub AreAnswered : List Entry → List CpuState → Type 0
 AreAnswered trace cpus =
     (i : ℕ) (cpu : CpuState) → slice_get cpus i ≡ Some cpu → of_processor cpu.number trace ≡ cpu.answered
+
+-- The lock of a service kept a trace with as many entries as these processors were answered, which isn't what they were
+-- answered.
+pub record IsAnotherTrace {D : Type 0} (disk : Ghosts D) (start : Option (Whole D)) (all capacity : ℕ)
+    (cpus : List CpuState) : Type 0 where
+  pub found : SharedState D
+  pub serves : ServesFrom disk start all capacity found
+  pub counted : length found.trace ≡ answered_calls cpus
+  pub differs : AreAnswered found.trace cpus → ⊥
+
+-- why processors aren't gathered: one is missing, or the trace isn't what they were answered
+abbrev pub IsNotGathered : {D : Type 0} → Ghosts D → Option (Whole D) → ℕ → ℕ → List CpuState → Type 0
+IsNotGathered disk start all capacity cpus =
+    (AreAll all cpus → ⊥) ⊎ IsAnotherTrace disk start all capacity cpus
 
 -- What is handed out once all processors of a service were given back.
 pub record HasGathered {D : Type 0} (disk : Ghosts D) (start : Option (Whole D)) (capacity : ℕ)

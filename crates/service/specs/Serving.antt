@@ -44,6 +44,12 @@ pub record ServesFrom {D : Type 0} (disk : Ghosts D) (start : Option (Whole D)) 
   pub capacity_is : s.capacity ≡ capacity
   pub serving : IsServing disk first s
 
+-- At some moment the lock of a service kept a trace that is full, or has more entries that are progress than this.
+pub record HasMoved {D : Type 0} (disk : Ghosts D) (start : Option (Whole D)) (all capacity seen : ℕ) : Type 0 where
+  pub found : SharedState D
+  pub serves : ServesFrom disk start all capacity found
+  pub moved : (seen < found.progress) ⊎ (length found.trace ≡ capacity)
+
 -- what is observed of a trace from this start
 abbrev pub observed_by : {D : Type 0} → List File → Whole D → List Entry → Observed
 observed_by files start trace = observe_all (observed_first files start.state) (steps_of trace) (replies_of trace)

@@ -1,27 +1,27 @@
-// What is compared when a service is gathered, and how its count is closed.
-ghost use Rattle.std.specs.Prelude.{ℕ, ◌≡◌, ◌↔◌, ◌<◌, length, IsTrue, Some, None, IfSome};
+// What is compared when a service is gathered, and how the machine is taken out.
+ghost use Rattle.std.specs.Prelude.{ℕ, ◌≡◌, ◌↔◌, ◌+◌, ◌*◌, ◌<◌, length, IsTrue, IsSome, IfOk, IfErr};
 ghost use Rattle.service.specs.Trace.{of_processor};
-ghost use Rattle.service.specs.Gathering.{IsAmong, AreAnswered, answered_calls};
+ghost use Rattle.service.specs.Gathering.{IsAmong, AreAll, AreAnswered, IsAnotherTrace, answered_calls};
 ghost use Rattle.service.specs.Serving.{ServesFrom};
 
-use crate::locked::{Locked, Room};
+use crate::locked::{Kept, Locked, Right, Room};
 use crate::{Cpu, Entry, Origin};
 use device::Device;
 use machine::{Act, Machine, Reply};
 use page_entry::ProcessorNumber;
 use std::alloc::Allocator;
+use std::mem::replace;
 use std::sync::Wait;
-use std::sync::ledger::Share;
+use std::sync::ledger::{Book, Share};
 
-// Whether these are so many processors, and each number below that is the number of one.
+// Whether these are all processors of a service that has `count` of them.
 pub(crate) fn are_all<D: Device, A: Allocator + Copy, L: Origin<D>>(
     cpus: &[Cpu<D, A, L>],
     count: u64,
 ) -> bool
-    ensures count { IsTrue result → (length cpus.now ≡ count) × (0 < count) }
-    ensures whole { IsTrue result → (p : ℕ) → p < length cpus.now → IsAmong cpus.now p }
+    ensures { IsTrue result ↔ AreAll count cpus.now }
 {
-    if cpus.is_empty() || cpus.len() as u64 != count {
+    if cpus.len() as u64 != count {
         return false;
     }
     for p in 0..count {
@@ -33,7 +33,7 @@ pub(crate) fn are_all<D: Device, A: Allocator + Copy, L: Origin<D>>(
 }
 
 fn is_among<D: Device, A: Allocator + Copy, L: Origin<D>>(cpus: &[Cpu<D, A, L>], p: u64) -> bool
-    ensures { IsTrue result → IsAmong cpus.now p }
+    ensures { IsTrue result ↔ IsAmong cpus.now p }
 {
     for cpu in cpus {
         if cpu.number() == p {
@@ -52,7 +52,7 @@ fn is_answer_of(entry: &Entry, answer: &(Act, Reply)) -> bool
 
 // Whether the entries of a processor are these acts with these replies, in order.
 fn is_answered(trace: &[Entry], p: ProcessorNumber, answered: &[(Act, Reply)]) -> bool
-    ensures { IsTrue result → of_processor p trace.now ≡ answered.now }
+    ensures { IsTrue result ↔ (of_processor p trace.now ≡ answered.now) }
 {
     let mut met = 0;
     for entry in trace {
@@ -71,7 +71,7 @@ fn are_answered<D: Device, A: Allocator + Copy, L: Origin<D>>(
     trace: &[Entry],
     cpus: &[Cpu<D, A, L>],
 ) -> bool
-    ensures { IsTrue result → AreAnswered trace.now cpus.now }
+    ensures { IsTrue result ↔ AreAnswered trace.now cpus.now }
 {
     for cpu in cpus {
         if !is_answered(trace, cpu.p, cpu.answered()) {
@@ -81,87 +81,148 @@ fn are_answered<D: Device, A: Allocator + Copy, L: Origin<D>>(
     true
 }
 
-// What the lock keeps, taken out if its trace is what these processors were answered; else it stays there.
-fn take_answered<D: Device + Drop, A: Allocator + Copy, L: Origin<D>>(
-    kept: &mut Option<Locked<D, A, L>>,
-    cpus: &[Cpu<D, A, L>],
-) -> Option<Locked<D, A, L>>
-    ensures taken { IfSome result (λ locked. (kept.old ≡ Some locked) × AreAnswered locked.trace cpus.now) }
-    ensures left { result ≡ None → kept.new ≡ kept.old }
+// Lends the share of each processor, and compares the book with all of them: it has counted just their calls.
+fn audit<D: Device, A: Allocator + Copy, L: Origin<D>>(
+    calls: &mut Book<L>,
+    seen: &mut Share<L>,
+    cpus: &mut [Cpu<D, A, L>],
+)
+    requires whole { seen.old.parts + length cpus.old ≡ L.parts }
+    requires some { 0 < seen.old.parts }
+    ensures counted { calls.old.total ≡ seen.old.amount + answered_calls cpus.old }
+    ensures total { calls.new.total ≡ calls.old.total }
+    ensures parts { seen.new.parts ≡ seen.old.parts }
+    ensures amount { seen.new.amount ≡ seen.old.amount }
+    ensures cpus { cpus.new ≡ cpus.old }
 {
-    let locked = kept.take()?;
-    if are_answered(locked.shared.trace(), cpus) {
-        Some(locked)
-    } else {
-        *kept = Some(locked);
-        None
+    match cpus.split_first_mut() {
+        None => calls.audit(seen),
+        Some((cpu, rest)) => {
+            let Cpu {
+                share,
+                answered,
+                ..
+            } = cpu;
+            let count = answered.len() as u64;
+            share.give(seen, 1, count);
+            audit(calls, seen, rest);
+            seen.give(share, 1, count);
+        }
     }
 }
 
+impl<D: Device, A: Allocator + Copy, L: Origin<D>> Locked<D, A, L> {
+    // The trace has as many entries as all processors were answered.
+    fn count(&mut self, right: &mut Right<D, L>, cpus: &mut [Cpu<D, A, L>])
+        requires parts { L.parts ≡ 2 * L.all + 1 }
+        requires all { length cpus.old ≡ L.all }
+        ensures counted { length self.old.trace ≡ answered_calls cpus.old }
+        ensures same { self.new ≡ self.old }
+        ensures cpus { cpus.new ≡ cpus.old }
+    {
+        let Locked { calls, .. } = self;
+        let Right { share, .. } = right;
+        audit(calls, share, cpus)
+    }
+
+    // Whether the trace is what all processors were answered.
+    fn is_answered(&mut self, right: &mut Right<D, L>, cpus: &mut [Cpu<D, A, L>]) -> bool
+        requires parts { L.parts ≡ 2 * L.all + 1 }
+        requires all { length cpus.old ≡ L.all }
+        ensures counted { length self.old.trace ≡ answered_calls cpus.old }
+        ensures answered { IsTrue result ↔ AreAnswered self.old.trace cpus.old }
+        ensures serves { ServesFrom D.Device L.start L.all L.capacity self.old }
+        ensures same { self.new ≡ self.old }
+        ensures cpus { cpus.new ≡ cpus.old }
+    {
+        self.count(right, cpus);
+        are_answered(self.shared.trace(), cpus)
+    }
+}
+
+// What the lock keeps is taken out if its trace is what these processors were answered, and the right is left in its
+// place. Else the machine stays there.
+fn take_answered<D: Device + Drop, A: Allocator + Copy, L: Origin<D>>(
+    kept: &mut Kept<D, A, L>,
+    mut right: Right<D, L>,
+    cpus: &mut [Cpu<D, A, L>],
+) -> Result<Locked<D, A, L>, Right<D, L>>
+    requires parts { L.parts ≡ 2 * L.all + 1 }
+    requires all { length cpus.old ≡ L.all }
+    ensures taken { IfOk result (λ locked. AreAnswered locked.trace cpus.old
+        × (length locked.trace ≡ answered_calls cpus.old)) }
+    ensures refused { IfErr result (λ _. IsAnotherTrace D.Device L.start L.all L.capacity cpus.old) }
+    ensures cpus { cpus.new ≡ cpus.old }
+{
+    match kept {
+        Ok(locked) => {
+            if !locked.is_answered(&mut right, cpus) {
+                return Err(right);
+            }
+        }
+        Err(gone) => {
+            gone.meet(&mut right);
+            unreachable!()
+        }
+    }
+    match replace(kept, Err(right)) {
+        Ok(locked) => Ok(locked),
+        Err(_) => unreachable!(),
+    }
+}
+
+// The same of what lies under the lock of a service.
 pub(crate) fn take_if_answered<D: Device + Drop, A: Allocator + Copy, L: Origin<D>, R: Wait>(
     rt: &R,
     room: &Room<D, A, L>,
-    cpus: &[Cpu<D, A, L>],
-) -> Option<Locked<D, A, L>>
-    ensures { IfSome result (λ locked. AreAnswered locked.trace cpus.now) }
+    right: Right<D, L>,
+    cpus: &mut [Cpu<D, A, L>],
+) -> Result<Locked<D, A, L>, Right<D, L>>
+    requires parts { L.parts ≡ 2 * L.all + 1 }
+    requires all { length cpus.old ≡ L.all }
+    ensures taken { IfOk result (λ locked. AreAnswered locked.trace cpus.old
+        × (length locked.trace ≡ answered_calls cpus.old)) }
+    ensures refused { IfErr result (λ _. IsAnotherTrace D.Device L.start L.all L.capacity cpus.old) }
+    ensures cpus { cpus.new ≡ cpus.old }
 {
-    take_answered(&mut *room.lock.lock(rt), cpus)
+    take_answered(&mut *room.lock.wait(rt).lock(rt), right, cpus)
 }
 
-// The part and the amount of all processors together.
-pub(crate) fn merged<D: Device + Drop, A: Allocator + Copy, L: Origin<D>>(
-    mut cpus: Vec<Cpu<D, A, L>, A>,
-) -> Share<L>
-    requires { 0 < length cpus.items }
-    ensures parts { result.parts ≡ length cpus.items }
-    ensures amount { result.amount ≡ answered_calls cpus.items }
-{
-    let mut all = share_of(cpus.take_last());
-    while let Some(cpu) = cpus.pop() {
-        all.merge(share_of(cpu));
-    }
-    all
-}
-
-fn share_of<D: Device + Drop, A: Allocator + Copy, L: Origin<D>>(cpu: Cpu<D, A, L>) -> Share<L>
-    ensures parts { result.parts ≡ 1 }
-    ensures amount { result.amount ≡ length cpu.answered }
-{
-    let Cpu { share, .. } = cpu;
-    share
-}
-
-// The machine and the trace, of which the calls of all processors together made the entries.
+// The machine and the trace.
 pub(crate) fn ended<D: Device + Drop, A: Allocator + Copy, L: Origin<D>>(
     locked: Locked<D, A, L>,
-    mut all: Share<L>,
 ) -> (Machine<D, A>, Vec<Entry, A>)
-    requires { all.parts ≡ L.parts }
     ensures machine { result.0 ≡ locked.machine }
     ensures trace { result.1.items ≡ locked.trace }
-    ensures counted { length locked.trace ≡ all.amount }
-    ensures serves { ServesFrom D.Device L.start L.all L.capacity locked }
-{
-    let Locked { shared, mut calls } = locked;
-    calls.audit(&mut all);
-    shared.into_parts()
-}
-
-// What the lock keeps, taken out with nothing compared.
-pub(crate) fn taken<D: Device + Drop, A: Allocator + Copy, L: Origin<D>, R: Wait>(
-    rt: &R,
-    room: &Room<D, A, L>,
-) -> Option<Locked<D, A, L>> {
-    room.lock.lock(rt).take()
-}
-
-// The machine alone, which its trace led to.
-pub(crate) fn abandoned<D: Device + Drop, A: Allocator + Copy, L: Origin<D>>(
-    locked: Locked<D, A, L>,
-) -> Machine<D, A>
-    ensures machine { result ≡ locked.machine }
     ensures serves { ServesFrom D.Device L.start L.all L.capacity locked }
 {
     let Locked { shared, .. } = locked;
-    shared.into_parts().0
+    shared.into_parts()
+}
+
+// What the lock keeps is taken out with nothing compared.
+fn take<D: Device + Drop, A: Allocator + Copy, L: Origin<D>>(
+    kept: &mut Kept<D, A, L>,
+    mut right: Right<D, L>,
+) -> Option<Locked<D, A, L>>
+    ensures { L.parts ≡ 2 * L.all + 1 → IsSome result }
+{
+    match kept {
+        Ok(_) => {}
+        Err(gone) => {
+            gone.meet(&mut right);
+            return None;
+        }
+    }
+    replace(kept, Err(right)).ok()
+}
+
+pub(crate) fn taken<D: Device + Drop, A: Allocator + Copy, L: Origin<D>, R: Wait>(
+    rt: &R,
+    room: &Room<D, A, L>,
+    right: Right<D, L>,
+) -> Option<Locked<D, A, L>>
+    ensures { L.parts ≡ 2 * L.all + 1 → IsSome result }
+{
+    take(&mut *room.lock.wait(rt).lock(rt), right)
 }

@@ -1,10 +1,10 @@
 // What the lock of a service keeps: the shared machine with its trace, and the count of all calls.
-ghost use Rattle.std.specs.Prelude.{ℕ, ◌≡◌, ◌≢◌, ◌↔◌, ◌+◌, ◌<◌, Option, None, length, IsTrue};
+ghost use Rattle.std.specs.Prelude.{ℕ, ◌≡◌, ◌≢◌, ◌↔◌, ◌+◌, ◌<◌, ◌≤◌, Option, None, length, IsTrue};
 ghost use Rattle.page_entry.specs.declared.refusal.Refusal.{Refusal};
 ghost use Rattle.machine.specs.declared.act.Reply.{Reply};
 ghost use Rattle.machine.specs.State.{Whole};
 ghost use Rattle.service.specs.Marks.{has_unmarked, last_acknowledged};
-ghost use Rattle.service.specs.Serving.{ServesFrom, HasEntered};
+ghost use Rattle.service.specs.Serving.{ServesFrom, HasEntered, HasMoved};
 ghost use Rattle.service.specs.declared.raising.Raise.{Raise};
 ghost use Rattle.service.specs.inside.Raising.{raise_by};
 
@@ -15,12 +15,13 @@ use horizon::Horizon;
 use machine::{Act, Reply};
 use page_entry::{ProcessorNumber, Refusal};
 use std::alloc::Allocator;
-use std::marker::{Brand, Model};
-use std::sync::Mutex;
+use std::marker::{Brand, Model, PhantomData};
 use std::sync::ledger::{Book, Ledger, Share};
+use std::sync::{Mutex, OnceLock};
 
-/// What a type that names a service stands for: how many processors it has, the machine from which it started, and how
-/// many entries its trace may have. The ledger counts the service's calls; each processor has one part of it.
+/// What a type that names a service stands for: the number of its processors, the machine from which it started, and
+/// the most entries that its trace may have. The ledger counts the service's calls. Each processor has one part of it,
+/// and the service all others, which are more than half.
 pub trait Origin<D>: Ledger {
     ghost use Rattle.std.specs.Prelude.{ℕ, Option};
     ghost use Rattle.machine.specs.State.{Whole};
@@ -68,12 +69,58 @@ impl<D: Device, A: Allocator + Copy, L: Origin<D>> Model for Locked<D, A, L> {
         × ServesFrom D.Device L.start L.all L.capacity l.shared };
 }
 
-/// What the processors of a service share. There is no machine under the lock before the service has started, and after
-/// it was gathered.
+/// The right to take the machine out. It has more than half of the ledger's parts, so there is only one. The service
+/// has it as long as the machine is under the lock.
+/// Contracts see nothing of it.
+#[derive(Drop)]
+pub(crate) struct Right<D, L: Origin<D>> {
+    pub(crate) share: Share<L>,
+    pub(crate) of: PhantomData<D>,
+}
+
+impl<D, L: Origin<D>> Model for Right<D, L> {
+    ghost use Rattle.std.specs.Prelude.{⊤, ◌≡◌, ◌+◌};
+    ghost use Rattle.std.specs.Coded.{codes};
+
+    ghost Value = { ⊤ };
+
+    ghost coded = { Prim.hlevel codes };
+
+    ghost view = { λ r. tt };
+
+    ghost invariant = { λ r. (r.share.parts ≡ L.all + 1) × (r.share.amount ≡ 0) };
+}
+
+/// What the lock keeps: the machine with its trace, or the right by which it was taken out.
+pub(crate) type Kept<D, A, L> = Result<Locked<D, A, L>, Right<D, L>>;
+
+/// What the processors of a service share. The lock is set once, when the service starts.
 #[derive(Drop)]
 pub(crate) struct Room<D: Device, A: Allocator + Copy, L: Origin<D>> {
-    pub(crate) lock: Mutex<Option<Locked<D, A, L>>>,
+    pub(crate) lock: OnceLock<Mutex<Kept<D, A, L>>>,
     pub(crate) horizon: Horizon,
+}
+
+impl<D, L: Origin<D>> Right<D, L> {
+    // All parts of the ledger but those of the processors.
+    pub(crate) fn new(share: Share<L>) -> Self
+        requires parts { share.parts ≡ L.all + 1 }
+        requires unused { share.amount ≡ 0 }
+    {
+        Right {
+            share,
+            of: PhantomData,
+        }
+    }
+
+    // Two rights together have no more parts than the ledger.
+    pub(crate) fn meet(&mut self, other: &mut Self)
+        ensures { (L.all + 1) + (L.all + 1) ≤ L.parts }
+    {
+        let Right { share: mine, .. } = self;
+        let Right { share: theirs, .. } = other;
+        mine.give(theirs, 0, 0)
+    }
 }
 
 // Whether a reply says that the trace is full.
@@ -84,6 +131,13 @@ pub(crate) fn is_trace_full(reply: &Reply) -> bool
 }
 
 impl<D: Device, A: Allocator + Copy, L: Origin<D>> Locked<D, A, L> {
+    // Whether more entries are progress than `seen`, or the trace is full.
+    pub(crate) fn has_moved(&self, seen: u64) -> bool
+        ensures { IsTrue result → HasMoved D.Device L.start L.all L.capacity seen }
+    {
+        self.shared.progress() > seen || self.shared.is_full()
+    }
+
     // A machine with an empty trace, from which the service starts, and the book in which no call is counted yet.
     pub(crate) fn new(shared: Shared<D, A>, calls: Book<L>) -> Self
         requires started { ServesFrom D.Device L.start L.all L.capacity shared }

@@ -1,9 +1,9 @@
 // A processor of a service, which is to be moved to a thread.
-ghost use Rattle.std.specs.Prelude.{ℕ, ◌≡◌, ◌≢◌, ◌++◌, ◌∷◌, [], ◌+◌, ◌<◌, ◌≤◌, length};
+ghost use Rattle.std.specs.Prelude.{ℕ, ◌≡◌, ◌≢◌, ◌++◌, ◌∷◌, [], ◌+◌, ◌<◌, ◌≤◌, length, IsTrue};
 ghost use Rattle.page_entry.specs.declared.refusal.Refusal.{Refusal};
 ghost use Rattle.machine.specs.declared.act.Reply.{Reply};
 ghost use Rattle.service.specs.Gathering.{words_of};
-ghost use Rattle.service.specs.Serving.{HasCalled};
+ghost use Rattle.service.specs.Serving.{HasCalled, HasMoved};
 ghost use Rattle.service.specs.declared.raising.Raise.{Raise};
 ghost use Rattle.service.specs.inside.Raising.{RaisesUpTo, RaisesSo};
 ghost use Rattle.service.specs.inside.Rising.{HasRisen, seen_words};
@@ -126,17 +126,19 @@ impl<D: Device, A: Allocator + Copy, L: Origin<D>> Cpu<D, A, L> {
     /// fills and evictions whose reply isn't `Nothing` nor a refusal other than `Device`. It adds no entry. If the call
     /// returns.
     pub fn look<R: Wait>(&self, rt: &R) -> (ProcState, u64) {
-        let guard = self.room.lock.lock(rt);
+        let guard = self.room.lock.wait(rt).lock(rt);
         match &*guard {
-            Some(locked) => locked.shared.look(self.p).unwrap_or((ProcState::Idle, 0)),
-            None => (ProcState::Idle, 0),
+            Ok(locked) => locked.shared.look(self.p).unwrap_or((ProcState::Idle, 0)),
+            Err(_) => (ProcState::Idle, 0),
         }
     }
 
     /// Looks at most `turns` times whether more entries of the trace are progress than `seen`, or the trace is full,
     /// and answers whether that was so. It adds no entry. A turn at which another thread has the lock sees nothing; at
     /// every 32nd turn other threads may run on this thread's processor.
-    pub fn wait<R: Wait>(&self, _rt: &R, seen: u64, turns: u64) -> bool {
+    pub fn wait<R: Wait>(&self, _rt: &R, seen: u64, turns: u64) -> bool
+        ensures { IsTrue result → HasMoved D.Device L.start L.all L.capacity seen }
+    {
         for turn in 0..turns {
             if self.has_moved(seen) {
                 return true;
@@ -151,13 +153,18 @@ impl<D: Device, A: Allocator + Copy, L: Origin<D>> Cpu<D, A, L> {
     }
 
     // Whether more entries are progress than `seen`, or the trace is full, if the lock is free to look.
-    fn has_moved(&self, seen: u64) -> bool {
-        let Some(guard) = self.room.lock.try_lock() else {
+    fn has_moved(&self, seen: u64) -> bool
+        ensures { IsTrue result → HasMoved D.Device L.start L.all L.capacity seen }
+    {
+        let Some(lock) = self.room.lock.get() else {
+            return false;
+        };
+        let Some(guard) = lock.try_lock() else {
             return false;
         };
         match &*guard {
-            Some(locked) => locked.shared.progress() > seen || locked.shared.is_full(),
-            None => false,
+            Ok(locked) => locked.has_moved(seen),
+            Err(_) => false,
         }
     }
 
@@ -196,8 +203,8 @@ fn call_locked<D: Device, A: Allocator + Copy, L: Origin<D>, R: Wait>(
     ensures marked { (mark : ℕ) → result ≡ Reply.Marked mark → mark ≤ seen.new.stalled }
     ensures committed { (mark : ℕ) → result ≡ Reply.Committed mark → mark ≤ seen.new.committed }
 {
-    let mut guard = room.lock.lock(rt);
-    let Some(locked) = &mut *guard else {
+    let mut guard = room.lock.wait(rt).lock(rt);
+    let Ok(locked) = &mut *guard else {
         return Reply::Refused(Refusal::TraceFull);
     };
     let (reply, raise) = locked.call(mine, p, act);

@@ -1,5 +1,5 @@
 // A service: how it starts, with a processor for each thread, and how it ends.
-ghost use Rattle.std.specs.Prelude.{ℕ, ◌≡◌, ◌<◌, List, length, slice_get, Some, IfOk, IfErr, IfSome};
+ghost use Rattle.std.specs.Prelude.{ℕ, ◌≡◌, ◌+◌, ◌*◌, ◌<◌, List, length, slice_get, Some, IfOk, IfErr, IfSome, IsSome};
 ghost use Rattle.page_entry.specs.declared.refusal.Refusal.{Refusal};
 ghost use Rattle.machine.specs.declared.act.Reply.{Reply};
 ghost use Rattle.machine.specs.declared.act.Step.{Step};
@@ -7,10 +7,10 @@ ghost use Rattle.machine.specs.Fresh.{IsFresh};
 ghost use Rattle.machine.specs.Runs.{StepsTaken};
 ghost use Rattle.machine.specs.State.{Whole};
 ghost use Rattle.service.specs.Serving.{IsCapacity, RefusesCapacity};
-ghost use Rattle.service.specs.Gathering.{HasGathered, idle_cpu};
+ghost use Rattle.service.specs.Gathering.{HasGathered, IsNotGathered, idle_cpu};
 
-use crate::gathering::{abandoned, are_all, ended, merged, take_if_answered, taken};
-use crate::locked::Room;
+use crate::gathering::{are_all, ended, take_if_answered, taken};
+use crate::locked::{Right, Room};
 use crate::shared::is_capacity;
 use crate::starting::Unstarted;
 use crate::{Cpu, Entry, Origin};
@@ -25,6 +25,7 @@ use std::sync::{Arc, Wait};
 #[derive(Drop)]
 pub struct Service<D: Device, A: Allocator + Copy, L: Origin<D>> {
     pub(crate) room: Arc<Room<D, A, L>, A>,
+    pub(crate) right: Right<D, L>,
     pub(crate) cpus: u64,
     ghost all: { cpus ≡ L.all },
 }
@@ -50,8 +51,8 @@ impl<D: Device + Drop, A: Allocator + Copy, L: Origin<D>> Service<D, A, L> {
         requires fresh { IsFresh machine.state }
         requires origin { (L.start ≡ Some machine) × (IsCapacity capacity → L.capacity ≡ capacity) }
         requires name { blank.name ≡ L.name }
-        requires parts { (blank.parts ≡ L.parts) × (L.all ≡ L.parts)
-            × (blank.parts ≡ length machine.state.hardware.shootdown.processors) }
+        requires parts { (blank.parts ≡ L.parts) × (L.parts ≡ 2 * L.all + 1)
+            × (L.all ≡ length machine.state.hardware.shootdown.processors) }
         ensures capacity { IfOk result (λ _. IsCapacity capacity) }
         ensures count { IfOk result (λ started.
             length started.1.items ≡ length machine.state.hardware.shootdown.processors) }
@@ -65,44 +66,56 @@ impl<D: Device + Drop, A: Allocator + Copy, L: Origin<D>> Service<D, A, L> {
         }
         let count = machine.processors();
         match Unstarted::new(alloc, global, count, capacity) {
-            Ok(unstarted) => match unstarted.started(machine, capacity, blank, count) {
-                Ok(started) => Ok(started),
-                Err((machine, blank)) => Err((Refusal::OutOfMemory, machine, blank)),
-            },
+            Ok(unstarted) => Ok(unstarted.started(machine, capacity, blank, count)),
             Err(_) => Err((Refusal::OutOfMemory, machine, blank)),
         }
     }
 
-    /// Takes the machine and the trace out of the service. It first compares the trace's entries of each processor with
-    /// what its `Cpu` was answered; where they differ, or without all `Cpu` values of the service, `Einval`, and all is
-    /// handed back. If the call returns.
+    /// Takes the machine and the trace out of the service, if these are all of its `Cpu` values and the trace is what
+    /// they were answered. Otherwise `Einval`, with everything handed back. The machine is then still in the service,
+    /// since only the service's right can take it out. If the call returns.
     pub fn gather<R: Wait>(
         self,
         rt: &R,
-        cpus: Vec<Cpu<D, A, L>, A>,
+        mut cpus: Vec<Cpu<D, A, L>, A>,
     ) -> Result<(Machine<D, A>, Vec<Entry, A>), (Refusal, Self, Vec<Cpu<D, A, L>, A>)>
-        requires { L.all ≡ L.parts }
+        requires { L.parts ≡ 2 * L.all + 1 }
         ensures gathered { IfOk result (λ gathered.
             HasGathered D.Device L.start L.capacity cpus.items gathered.0 gathered.1.items) }
         ensures refused { IfErr result (λ refused. (refused.0 ≡ Refusal.Einval) × (refused.1 ≡ self)
             × (refused.2.items ≡ cpus.items)) }
+        ensures why { IfErr result (λ _. IsNotGathered D.Device L.start L.all L.capacity cpus.items) }
     {
         if !are_all(cpus.as_slice(), self.cpus) {
             return Err((Refusal::Einval, self, cpus));
         }
-        match take_if_answered(rt, &*self.room, cpus.as_slice()) {
-            Some(locked) => Ok(ended(locked, merged(cpus))),
-            None => Err((Refusal::Einval, self, cpus)),
+        let Service {
+            room,
+            right,
+            cpus: count,
+        } = self;
+        match take_if_answered(rt, &*room, right, cpus.as_mut_slice()) {
+            Ok(locked) => Ok(ended(locked)),
+            Err(right) => {
+                let service = Service {
+                    room,
+                    right,
+                    cpus: count,
+                };
+                Err((Refusal::Einval, service, cpus))
+            }
         }
     }
 
-    /// Takes the machine out of a service that isn't gathered, if it is still there. The steps that were made of it
-    /// since the service started are a legal run, but of who made them nothing is said. If the call returns.
+    /// Takes the machine out of a service that isn't gathered. It is always there. The steps that were made of it since
+    /// the service started are a legal run, but of who made them nothing is said. If the call returns.
     pub fn abandon<R: Wait>(self, rt: &R) -> Option<Machine<D, A>>
-        ensures { IfSome result (λ machine. (first : Whole D) × (steps : List Step) × (replies : List Reply)
+        ensures led { IfSome result (λ machine. (first : Whole D) × (steps : List Step) × (replies : List Reply)
             × (L.start ≡ Some first) × StepsTaken D.Device first steps replies machine) }
+        ensures there { L.parts ≡ 2 * L.all + 1 → IsSome result }
     {
-        let locked = taken(rt, &*self.room)?;
-        Some(abandoned(locked))
+        let Service { room, right, .. } = self;
+        let locked = taken(rt, &*room, right)?;
+        Some(ended(locked).0)
     }
 }

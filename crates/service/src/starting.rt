@@ -1,5 +1,5 @@
 // How a service starts: all memory first, then the ledger is opened and the machine is put under the lock.
-ghost use Rattle.std.specs.Prelude.{ℕ, ◌≡◌, ◌<◌, ◌≤◌, [], length, slice_get, Some, IfOk, IfErr};
+ghost use Rattle.std.specs.Prelude.{ℕ, ◌≡◌, ◌+◌, ◌*◌, ◌<◌, ◌≤◌, [], length, slice_get, Some, IfOk};
 ghost use Rattle.std.specs.Arc.{arc_value};
 ghost use Rattle.std.specs.Vec.{vec_capacity, vec_len};
 ghost use Rattle.horizon.specs.Seen.{nothing_seen};
@@ -7,7 +7,7 @@ ghost use Rattle.machine.specs.Fresh.{IsFresh};
 ghost use Rattle.service.specs.Serving.{IsCapacity};
 ghost use Rattle.service.specs.Gathering.{idle_cpu};
 
-use crate::locked::{Locked, Room};
+use crate::locked::{Locked, Right, Room};
 use crate::{Cpu, Entry, Origin, Service, Shared};
 use device::Device;
 use horizon::{Horizon, Seen};
@@ -15,7 +15,7 @@ use machine::{Act, Machine, Reply};
 use page_entry::ProcessorNumber;
 use std::alloc::{AllocError, Allocator, Global};
 use std::sync::ledger::{Blank, Share};
-use std::sync::{Arc, Mutex};
+use std::sync::{Arc, Mutex, OnceLock};
 
 // What a processor needs beside its number and its part of the ledger.
 #[derive(Drop)]
@@ -95,7 +95,7 @@ impl<D: Device + Drop, A: Allocator + Copy, L: Origin<D>> Unstarted<D, A, L> {
         let room = Arc::new(
             alloc,
             Room {
-                lock: Mutex::new(None),
+                lock: OnceLock::new(),
                 horizon,
             },
         )?;
@@ -108,24 +108,23 @@ impl<D: Device + Drop, A: Allocator + Copy, L: Origin<D>> Unstarted<D, A, L> {
         })
     }
 
-    // Starts with this machine, unless the lock is held, which nobody can do yet.
+    // Starts with this machine. Of the ledger's parts each processor gets one, and the service all others.
     pub(crate) fn started(
         self,
         machine: Machine<D, A>,
         capacity: u64,
         blank: Blank,
         count: u8,
-    ) -> Result<(Service<D, A, L>, Vec<Cpu<D, A, L>, A>), (Machine<D, A>, Blank)>
+    ) -> (Service<D, A, L>, Vec<Cpu<D, A, L>, A>)
         requires fresh { IsFresh machine.state }
         requires origin { (L.start ≡ Some machine) × (L.capacity ≡ capacity) }
         requires name { blank.name ≡ L.name }
-        requires parts { (blank.parts ≡ L.parts) × (L.all ≡ L.parts) × (blank.parts ≡ count) }
+        requires parts { (blank.parts ≡ L.parts) × (L.parts ≡ 2 * L.all + 1) × (L.all ≡ count) }
         requires all { L.all ≡ length machine.state.hardware.shootdown.processors }
         requires capacity { IsCapacity capacity × (capacity ≤ vec_capacity self.trace) }
         requires seats { vec_len self.seats ≡ count }
-        ensures count { IfOk result (λ started. length started.1.items ≡ count) }
-        ensures cpus { IfOk result (λ started. (i : ℕ) → i < count → slice_get started.1.items i ≡ Some (idle_cpu i)) }
-        ensures refused { IfErr result (λ refused. (refused.0 ≡ machine) × (refused.1 ≡ blank)) }
+        ensures count { length result.1.items ≡ count }
+        ensures cpus { (i : ℕ) → i < count → slice_get result.1.items i ≡ Some (idle_cpu i) }
     {
         let Unstarted {
             room,
@@ -133,20 +132,18 @@ impl<D: Device + Drop, A: Allocator + Copy, L: Origin<D>> Unstarted<D, A, L> {
             seats,
             cpus,
         } = self;
-        match put_in(&*room, machine, trace, capacity, blank) {
-            Ok(all) => {
-                let cpus = seated(seats, cpus, all, count);
-                let cpus_count = u64::from(count);
-                Ok((
-                    Service {
-                        room,
-                        cpus: cpus_count,
-                    },
-                    cpus,
-                ))
-            }
-            Err(refused) => Err(refused),
-        }
+        let mut all = put_in(&*room, machine, trace, capacity, blank);
+        let count_all = u64::from(count);
+        let right = Right::new(all.split_off(count_all + 1, 0));
+        let cpus = seated(seats, cpus, all, count);
+        (
+            Service {
+                room,
+                right,
+                cpus: count_all,
+            },
+            cpus,
+        )
     }
 }
 
@@ -168,28 +165,25 @@ fn seats_for<D: Device + Drop, A: Allocator + Copy, L: Origin<D>>(
     Ok(seats)
 }
 
-// Opens the ledger and puts the machine under the lock.
+// Opens the ledger, and puts the machine under the lock, which nobody else can have set.
 fn put_in<D: Device + Drop, A: Allocator + Copy, L: Origin<D>>(
     room: &Room<D, A, L>,
     machine: Machine<D, A>,
     trace: Vec<Entry, A>,
     capacity: u64,
     blank: Blank,
-) -> Result<Share<L>, (Machine<D, A>, Blank)>
+) -> Share<L>
     requires fresh { IsFresh machine.state }
     requires origin { (L.start ≡ Some machine) × (L.capacity ≡ capacity) }
     requires blank { (blank.name ≡ L.name) × (blank.parts ≡ L.parts) }
     requires all { L.all ≡ length machine.state.hardware.shootdown.processors }
     requires trace { (trace.items ≡ []) × IsCapacity capacity × (capacity ≤ vec_capacity trace) }
-    ensures opened { IfOk result (λ all. (all.parts ≡ L.parts) × (all.amount ≡ 0)) }
-    ensures refused { IfErr result (λ refused. (refused.0 ≡ machine) × (refused.1 ≡ blank)) }
+    ensures { (result.parts ≡ L.parts) × (result.amount ≡ 0) }
 {
-    let Some(mut guard) = room.lock.try_lock() else {
-        return Err((machine, blank));
-    };
     let (calls, all) = blank.open::<L>();
-    *guard = Some(Locked::new(Shared::over(machine, trace, capacity), calls));
-    Ok(all)
+    let locked = Locked::new(Shared::over(machine, trace, capacity), calls);
+    let _ = room.lock.try_set(Mutex::new(Ok(locked)));
+    all
 }
 
 // Gives each seat a number and a part of the ledger.

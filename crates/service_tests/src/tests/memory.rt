@@ -1,5 +1,5 @@
 // What `Service::start` answers where memory is refused, by an allocator that counts and refuses.
-ghost use Rattle.std.specs.Prelude.{◌≡◌, length, Some};
+ghost use Rattle.std.specs.Prelude.{◌≡◌, ◌+◌, ◌*◌, length, Some};
 ghost use Rattle.machine.specs.Fresh.{IsFresh};
 ghost use Rattle.service.specs.Serving.{IsCapacity};
 
@@ -51,8 +51,8 @@ fn starts_again<D: Device + Drop, A: Allocator + Copy, L: Origin<D>, R: Wait>(
     requires fresh { IsFresh machine.state }
     requires origin { (L.start ≡ Some machine) × (L.capacity ≡ 5) }
     requires name { blank.name ≡ L.name }
-    requires parts { (blank.parts ≡ L.parts) × (L.all ≡ L.parts)
-        × (blank.parts ≡ length machine.state.hardware.shootdown.processors) }
+    requires parts { (blank.parts ≡ L.parts) × (L.parts ≡ 2 * L.all + 1)
+        × (L.all ≡ length machine.state.hardware.shootdown.processors) }
 {
     counts.restart();
     counts.refuse_nth(refused.request);
@@ -88,7 +88,7 @@ fn named<D: Device + Drop, A: Allocator + Copy, R: Wait>(
     requires capacity { IsCapacity refused.now.capacity → refused.now.capacity ≡ 5 }
     requires fresh { IsFresh machine.state }
 {
-    let blank = Blank::new(u64::from(machine.processors()));
+    let blank = Blank::new(2 * u64::from(machine.processors()) + 1);
     starts_again::<D, A, Brand, R>(rt, alloc, counts, global, machine, blank, refused)
 }
 

@@ -1,5 +1,5 @@
 // What is tried with a machine, and with a service of it. Contracts know the disk as any device, which costs the least.
-ghost use Rattle.std.specs.Prelude.{◌≡◌, length, Some};
+ghost use Rattle.std.specs.Prelude.{◌≡◌, ◌+◌, ◌*◌, length, Some};
 ghost use Rattle.machine.specs.Fresh.{IsFresh};
 
 use super::machines::{formatted, shape};
@@ -139,7 +139,7 @@ fn holds_of<D: Device + Send + Drop, R: Threads + Wait + Sync>(
         Trial::Loads(count) => loads::are_entered(machine, *count),
         Trial::Served(calls) => {
             // The service's name stands for this machine.
-            let blank = Blank::new(u64::from(machine.processors()));
+            let blank = Blank::new(2 * u64::from(machine.processors()) + 1);
             served::<D, Brand, R>(rt, alloc, machine, calls.capacity(), blank, again, calls)
         }
     }
@@ -157,8 +157,8 @@ fn served<D: Device + Send + Drop, L: Origin<D> + Send + Sync, R: Threads + Wait
     requires fresh { IsFresh machine.state }
     requires origin { (L.start ≡ Some machine) × (L.capacity ≡ capacity) }
     requires name { blank.name ≡ L.name }
-    requires parts { (blank.parts ≡ L.parts) × (L.all ≡ L.parts)
-        × (blank.parts ≡ length machine.state.hardware.shootdown.processors) }
+    requires parts { (blank.parts ≡ L.parts) × (L.parts ≡ 2 * L.all + 1)
+        × (L.all ≡ length machine.state.hardware.shootdown.processors) }
 {
     match Service::<D, Global, L>::start(alloc, alloc, machine, capacity, blank) {
         Ok((service, cpus)) => answered(rt, service, cpus, again, calls),
@@ -173,7 +173,7 @@ fn answered<D: Device + Send + Drop, L: Origin<D> + Send + Sync, R: Threads + Wa
     again: &mut Machine<D, Global>,
     calls: &Calls,
 ) -> bool
-    requires { L.all ≡ L.parts }
+    requires { L.parts ≡ 2 * L.all + 1 }
 {
     let are_answered = calls.are_answered(rt, cpus.as_mut_slice());
     match calls {
@@ -193,7 +193,7 @@ fn gathered<D: Device + Drop, L: Origin<D>, R: Wait>(
     again: &mut Machine<D, Global>,
     calls: &Calls,
 ) -> bool
-    requires { L.all ≡ L.parts }
+    requires { L.parts ≡ 2 * L.all + 1 }
 {
     let Some(last) = cpus.pop() else {
         return false;

@@ -3,7 +3,7 @@ use Rattle.driver.proofs.running.abandoned.Goals as goal
 
 pub returns-in-Some : goal.returns-in-Some
 returns-in-Some g c =
-    let led = c.in-Some.ensures in
+    let led = c.in-Some.ensures.led in
     λ start is. (
       led.1,
       led.2,

@@ -2,8 +2,8 @@ use Rattle.std.proofs.Common.{refl, sym, subst, arith}
 use Rattle.service.specs.Serving.{SharedState, ServesFrom}
 use Rattle.service.proofs.starting.put_in.Goals as goal
 
-pub new-requires-clause-started : goal.new-requires-clause-started
-new-requires-clause-started g c =
+pub new-locked-requires-clause-started : goal.new-locked-requires-clause-started
+new-locked-requires-clause-started g c =
     let P : SharedState g.row.D.Denot → Type 0 =
     λ s. ServesFrom g.D.Device g.L.Origin.start g.L.Origin.all g.L.Origin.capacity s in
     subst P (sym c.over.ensures) (record {

@@ -1,8 +1,12 @@
-use Rattle.std.specs.Prelude.{Some}
+use Rattle.std.specs.Prelude.{length, Some}
 use Rattle.service_tests.proofs.tests.trials.holds_of.Given as goal
 
 abbrev pub ghosts-served-L-Origin : goal.ghosts-served-L-Origin
-ghosts-served-L-Origin g a = record { all = a.blank.parts; start = Some a.machine; capacity = a.capacity }
+ghosts-served-L-Origin g a = record {
+  all = length a.machine.state.hardware.shootdown.processors;
+  start = Some a.machine;
+  capacity = a.capacity;
+}
 
 abbrev pub ghosts-served-L-Ledger : goal.ghosts-served-L-Ledger
 ghosts-served-L-Ledger g a = record { name = a.blank.name; parts = a.blank.parts }
