@@ -1,9 +1,11 @@
-// Waits that run out, and refusals, which hand the disk back.
+// Waits that run out, a commit that is waited for, and refusals, which hand the disk back.
 use device::{Device, MemDisk};
 use driver::{Ended, NotRun, run_programs};
+use machine::Reply;
 use page_entry::Refusal;
 use recovery::format_as;
 use scripts::ThreadScript;
+use service::Entry;
 use std::alloc::Global;
 use std::sync::Wait;
 use std::thread::Threads;
@@ -44,12 +46,18 @@ struct Case {
     ended: Ended,
 }
 
-const CASES: [Case; 6] = [
+const CASES: [Case; 7] = [
     // Nobody stores the byte: a fault, its service and one load are all that the program makes.
     Case {
         text: r#"{"cpus":1,"tlb":2,"frames":4,"copies":0,"trace":100,"steps":[[0,"create"],[0,"map",1,4096,4096,0,0,"rw","rw"],[0,"switch",1,"drop"]],"programs":[[["await",4096,1],["store",4096,[2]]]]}"#,
         entries: Some(6),
         ended: Ended::RanOut,
+    },
+    // The same where these fill the trace: the wait sees that, and doesn't run out.
+    Case {
+        text: r#"{"cpus":1,"tlb":2,"frames":4,"copies":0,"trace":6,"steps":[[0,"create"],[0,"map",1,4096,4096,0,0,"rw","rw"],[0,"switch",1,"drop"]],"programs":[[["await",4096,1],["store",4096,[2]]]]}"#,
+        entries: Some(6),
+        ended: Ended::Full,
     },
     // A step lets the processor sleep, and nothing wakes it: its first act is refused once.
     Case {
@@ -124,6 +132,47 @@ fn programs_end_as_they_should(rt: HostRuntime) {
     for case in &CASES {
         assert!(rt; holds(&rt, rt.alloc(), case), "{}", case.text);
     }
+}
+
+// The program loads a byte after an `msync` with `MS_SYNC`.
+const SYNCED: &str =
+    r#"{"cpus":1,"tlb":2,"frames":4,"copies":0,"trace":100,"steps":[[0,"create"],[0,"map",1,4096,4096,0,0,"rw","rw"],[0,"switch",1,"drop"]],"programs":[[["store",4096,[2]],["msync",4096,4096,4],["load",4096,1]]]}"#;
+
+// Whether a trace has a commit, and loads only after it.
+fn loads_after_a_commit(trace: &[Entry]) -> bool {
+    let committed = trace
+        .iter()
+        .position(|entry| matches!(entry.reply, Reply::Committed(_)));
+    let loaded = trace
+        .iter()
+        .position(|entry| matches!(entry.reply, Reply::Bytes(_)));
+    match (committed, loaded) {
+        (Some(committed), Some(loaded)) => committed < loaded,
+        _ => false,
+    }
+}
+
+fn waits_for_its_commit<D: Device + Send + Drop, R: Threads + Wait + Sync>(
+    rt: &R,
+    alloc: Global,
+    disk: Option<D>,
+) -> bool {
+    let Some(disk) = disk else {
+        return false;
+    };
+    match ThreadScript::read(alloc, alloc, SYNCED.as_bytes()) {
+        Ok(script) => match run_programs(rt, alloc, disk, &script, TURNS) {
+            Ok(ran) => ran.ended == Ended::Done && loads_after_a_commit(&ran.trace),
+            Err(_) => false,
+        },
+        Err(_) => false,
+    }
+}
+
+// A thread goes on after such an `msync` once its mark is committed.
+#[test]
+fn a_sync_is_waited_for(rt: HostRuntime) {
+    assert!(rt; waits_for_its_commit(&rt, rt.alloc(), formatted(rt.alloc())));
 }
 
 // Why programs weren't run, and the length of the disk that came back.
