@@ -6,8 +6,8 @@ import os
 import signal
 
 from files.program import (
-    EXPORT, MIGRATE, NEWER, OLD, OTHER, REPLIES, TESTS, TO_OTHER, bytes_of, calls_of, clear, complains, ended, famsync,
-    has, start, stopped, volume, want, write, write_image,
+    EXPORT, NEWER, OLD, OTHER, REPLIES, TESTS, TO_OTHER, bytes_of, calls_of, clear, complains, ended, famsync, has,
+    start, stopped, volume, want, write, write_image,
 )
 
 
@@ -160,31 +160,6 @@ def failed_syncs():
     write("v.img.suspect", "")
     complains(famsync("run", "--trust", "v.img", "newer.json", fault=f"fail:1:{errno.EIO}", only="sync"), "can't be synced")
     want(os.path.exists("v.img.suspect"), "the mark stays")
-
-
-def synced_names():
-    """The last sync of each command that gives a file a name is that of the folder, when the file has the name."""
-    for words, name in ((TO_OTHER, "v.img"), (EXPORT, "a.copy"), (MIGRATE, "w.img")):
-        volume()
-        syncs = calls_of(words, "sync")
-        volume()
-        before = os.path.exists(name) and os.stat(name).st_ino
-        process = stopped(words, syncs, only="sync")
-        opened = [os.readlink(f"/proc/{process.pid}/fd/{number}") for number in os.listdir(f"/proc/{process.pid}/fd")]
-        want(os.path.realpath(".") in opened, "the folder is open to be synced", words, opened)
-        want(os.path.exists(name) and os.stat(name).st_ino != before, "the file has its name", words)
-        os.kill(process.pid, signal.SIGCONT)
-        want(ended(process).status == 0, "it goes on", words)
-        volume()
-        complains(famsync(*words, fault=f"fail:{syncs}:{errno.EIO}", only="sync"))
-    # A volume that is marked as suspect is read by no command without --trust.
-    volume()
-    write("v.img.suspect", "")
-    for words in (
-        ["dump", "--json", "v.img"], ["crashes", "v.img", "old.json"], MIGRATE,
-        ["threads", "v.img", f"{TESTS}/../examples/threads.json"],
-    ):
-        complains(famsync(*words), '"v.img.suspect" says that a sync of it failed', "--trust")
 
 
 def threads_that_fail():
