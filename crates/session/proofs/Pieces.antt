@@ -1,5 +1,5 @@
 -- Pieces of a range, one after the other.
-use Rattle.std.proofs.Common.{◌≡◌, ◌<◌, ◌≤◌, inl, inr, ℕ, ◌+◌, List, [], ◌∷◌, ◌++◌, length}
+use Rattle.std.proofs.Common.{◌≡◌, ◌<◌, ◌≤◌, inl, inr, ℕ, ◌+◌, Bool, true, false, List, [], ◌∷◌, ◌++◌, length}
 use Rattle.std.proofs.Common.{length-append, take, get_or, arith, refl, sym, ◌∙◌, ap, subst}
 use Rattle.std.proofs.lemmas.List.{append_assoc, append-nil, take_more}
 use Rattle.machine.specs.declared.act.Reply.{Reply}
@@ -114,44 +114,44 @@ stores_then p va from [] (reply ∷ replies) bytes steps' replies' bytes' first 
 stores_then p va from (step ∷ steps) [] bytes steps' replies' bytes' first later = absurd first
 
 -- what ends a range comes after its pieces
-loads_ended : (p va from to : ℕ) (steps : List Step) (replies : List Reply) (bytes : List ℕ) (at : ℕ) (reply : Reply)
+loads_ended : (p va from to : ℕ) (steps : List Step) (replies : List Reply) (bytes : List ℕ) (at : ℕ) (write : Bool) (reply : Reply)
     (steps' : List Step) (replies' : List Reply)
-    → AreLoads p va from to steps replies bytes → EndsRange p at reply steps' replies'
-    → EndsRange p at reply (steps ++ steps') (replies ++ replies')
-loads_ended p va from to [] [] bytes at reply steps' replies' first ended = ended
-loads_ended p va from to (step ∷ steps) (other ∷ replies) bytes at reply steps' replies' (inl paging) ended =
-    inl (loads_ended p va from to steps replies bytes at reply steps' replies' paging.1 ended)
-loads_ended p va from to (step ∷ steps) (other ∷ replies) bytes at reply steps' replies'
+    → AreLoads p va from to steps replies bytes → EndsRange p at write reply steps' replies'
+    → EndsRange p at write reply (steps ++ steps') (replies ++ replies')
+loads_ended p va from to [] [] bytes at write reply steps' replies' first ended = ended
+loads_ended p va from to (step ∷ steps) (other ∷ replies) bytes at write reply steps' replies' (inl paging) ended =
+    inl (loads_ended p va from to steps replies bytes at write reply steps' replies' paging.1 ended)
+loads_ended p va from to (step ∷ steps) (other ∷ replies) bytes at write reply steps' replies'
     (inr (count, few, rest, step-is, reply-is, bytes-are, more)) ended =
-    inl (loads_ended p va (from + count) to steps replies rest at reply steps' replies' more ended)
-loads_ended p va from to [] (other ∷ replies) bytes at reply steps' replies' first ended = absurd first
-loads_ended p va from to (step ∷ steps) [] bytes at reply steps' replies' first ended = absurd first
+    inl (loads_ended p va (from + count) to steps replies rest at write reply steps' replies' more ended)
+loads_ended p va from to [] (other ∷ replies) bytes at write reply steps' replies' first ended = absurd first
+loads_ended p va from to (step ∷ steps) [] bytes at write reply steps' replies' first ended = absurd first
 
-stores_ended : (p va from : ℕ) (steps : List Step) (replies : List Reply) (bytes : List ℕ) (at : ℕ) (reply : Reply)
+stores_ended : (p va from : ℕ) (steps : List Step) (replies : List Reply) (bytes : List ℕ) (at : ℕ) (write : Bool) (reply : Reply)
     (steps' : List Step) (replies' : List Reply)
-    → AreStores p va from steps replies bytes → EndsRange p at reply steps' replies'
-    → EndsRange p at reply (steps ++ steps') (replies ++ replies')
-stores_ended p va from [] [] bytes at reply steps' replies' first ended = ended
-stores_ended p va from (step ∷ steps) (other ∷ replies) bytes at reply steps' replies' (inl paging) ended =
-    inl (stores_ended p va from steps replies bytes at reply steps' replies' paging.1 ended)
-stores_ended p va from (step ∷ steps) (other ∷ replies) bytes at reply steps' replies'
+    → AreStores p va from steps replies bytes → EndsRange p at write reply steps' replies'
+    → EndsRange p at write reply (steps ++ steps') (replies ++ replies')
+stores_ended p va from [] [] bytes at write reply steps' replies' first ended = ended
+stores_ended p va from (step ∷ steps) (other ∷ replies) bytes at write reply steps' replies' (inl paging) ended =
+    inl (stores_ended p va from steps replies bytes at write reply steps' replies' paging.1 ended)
+stores_ended p va from (step ∷ steps) (other ∷ replies) bytes at write reply steps' replies'
     (inr (few, rest, step-is, reply-is, bytes-are, more)) ended =
-    inl (stores_ended p va (from + length few) steps replies rest at reply steps' replies' more ended)
-stores_ended p va from [] (other ∷ replies) bytes at reply steps' replies' first ended = absurd first
-stores_ended p va from (step ∷ steps) [] bytes at reply steps' replies' first ended = absurd first
+    inl (stores_ended p va (from + length few) steps replies rest at write reply steps' replies' more ended)
+stores_ended p va from [] (other ∷ replies) bytes at write reply steps' replies' first ended = absurd first
+stores_ended p va from (step ∷ steps) [] bytes at write reply steps' replies' first ended = absurd first
 
 -- and no further one
 pub loads_refused : (p va count done at : ℕ) (bytes : List ℕ) (reply : Reply) → done < count → at ≡ behind va done
     → (steps : List Step) (replies : List Reply) (steps' : List Step) (replies' : List Reply)
-    → LoadsRange p va done bytes steps replies → StopsAt p at reply steps' replies'
+    → LoadsRange p va done bytes steps replies → StopsAt p at false reply steps' replies'
     → LoadsReached p va count bytes (Refused done reply) (steps ++ steps') (replies ++ replies')
 loads_refused p va count done at bytes reply fewer is steps replies steps' replies' first (paging, ends) = (
   fewer,
   subst (λ b. AreLoads p va 0 done (steps ++ steps') (replies ++ replies') b) (append-nil bytes)
       (loads_then p va 0 done done steps replies bytes steps' replies' [] first
       (loads_none p va done steps' replies' paging)),
-  loads_ended p va 0 done steps replies bytes (behind va done) reply steps' replies' first
-      (subst (λ n. EndsRange p n reply steps' replies') is ends),
+  loads_ended p va 0 done steps replies bytes (behind va done) false reply steps' replies' first
+      (subst (λ n. EndsRange p n false reply steps' replies') is ends),
 )
 
 -- a piece that is stored, after steps that read and store nothing
@@ -181,15 +181,15 @@ stores_more p va done bytes few now long all steps replies steps' replies' first
 -- and no further one
 pub stores_refused : (p va done at : ℕ) (bytes : List ℕ) (reply : Reply) → done < length bytes → at ≡ behind va done
     → (steps : List Step) (replies : List Reply) (steps' : List Step) (replies' : List Reply)
-    → StoresRange p va (take done bytes) steps replies → StopsAt p at reply steps' replies'
+    → StoresRange p va (take done bytes) steps replies → StopsAt p at true reply steps' replies'
     → StoresReached p va bytes (Refused done reply) (steps ++ steps') (replies ++ replies')
 stores_refused p va done at bytes reply fewer is steps replies steps' replies' first (paging, ends) = (
   fewer,
   subst (λ b. AreStores p va 0 (steps ++ steps') (replies ++ replies') b) (append-nil (take done bytes))
       (stores_then p va 0 steps replies (take done bytes) steps' replies' [] first
       (stores_none p va (0 + length (take done bytes)) steps' replies' paging)),
-  stores_ended p va 0 steps replies (take done bytes) (behind va done) reply steps' replies' first
-      (subst (λ n. EndsRange p n reply steps' replies') is ends),
+  stores_ended p va 0 steps replies (take done bytes) (behind va done) true reply steps' replies' first
+      (subst (λ n. EndsRange p n true reply steps' replies') is ends),
 )
 
 -- where memory is refused, what was loaded was loaded all the same

@@ -1,8 +1,7 @@
 -- Steps that may make a frame free, and how faults are served and ranges end.
-use Rattle.std.proofs.Common.{◌≡◌, ◌≢◌, inl, inr, ℕ, ◌/◌, ◌==◌, append_assoc, arith, Bool, true, false}
+use Rattle.std.proofs.Common.{◌≡◌, ◌≢◌, inl, inr, ℕ, ◌/◌, append_assoc, Bool, true, false}
 use Rattle.std.proofs.Common.{List, [], ◌∷◌, ◌++◌, refl, sym, ◌∙◌, ap, subst, Contains}
 use Rattle.std.proofs.lemmas.Bool.{false≢true}
-use Rattle.std.proofs.lemmas.Bool.Decides.{nat_tests}
 use Rattle.std.proofs.lemmas.List.Elements.{Contains-append_left, Contains-append_right, Contains-push}
 use Rattle.device.specs.declared.device.Device.{Ghosts}
 use Rattle.page_entry.specs.declared.refusal.Refusal.TheVariants as refusals
@@ -16,13 +15,13 @@ use Rattle.machine.specs.Rules.{Acts}
 use Rattle.machine.specs.Runs.{StepsTaken}
 use Rattle.machine.specs.State.{State, Whole}
 use Rattle.session.specs.declared.notes.Notes.{Notes}
-use Rattle.session.specs.Ends.{reports_fault, reports_reclaimed, is_access, is_access_at, is_served}
-use Rattle.session.specs.Ends.{AreForRoom, is_fruitless, AreFruitless, MakesRoom, IsUnserved, EndsRange}
+use Rattle.session.specs.Ends.{reports_fault, reports_reclaimed, fix_by, IsAccessFor}
+use Rattle.session.specs.Ends.{AreForRoom, is_fruitless, AreFruitless, MakesRoom, TriesAgain, IsUnserved, EndsRange}
 use Rattle.session.specs.Lengths.{AnswersChange, AreOthers, change_steps, change_replies, flush_by}
 use Rattle.session.specs.Ranges.{MakesStepsThat}
 use Rattle.session.specs.Steps.{Makes, is_for_room, is_paging, Passes, IsPaging, IsMadeFor, ArePaging}
 use Rattle.session.specs.Steps.{reports_fixed, reports_reclaim}
-use Rattle.session.specs.inside.Paging.{fix_by, IsAccessFor, EndsBy, Serves, IsUnservedPaging, StopsAt}
+use Rattle.session.specs.inside.Paging.{EndsBy, Serves, IsUnservedPaging, StopsAt}
 use Rattle.session.proofs.Each.{each_of_change, each_so, each_then, ended_by, ends_one}
 use Rattle.session.proofs.Phases.{IsQuiet}
 use Rattle.session.proofs.Stretches.{makes_then}
@@ -56,15 +55,6 @@ room_paging (acts.Load va count) reply is = absurd (false≢true is)
 room_paging (acts.Store va bytes) reply is = absurd (false≢true is)
 room_paging (acts.Fix va write) reply is = refl
 room_paging act reply is = is
-
-room_no_access : (act : Act) (reply : Reply) → is_for_room act reply ≡ true → is_access act ≡ false
-room_no_access (acts.Load va count) reply is = absurd (false≢true is)
-room_no_access (acts.Store va bytes) reply is = absurd (false≢true is)
-room_no_access act reply is = refl
-
-room_not_served : (act : Act) (reply : Reply) → is_for_room act reply ≡ true → is_served act reply ≡ false
-room_not_served (acts.Fix va write) reply is = absurd (false≢true is)
-room_not_served act reply is = refl
 
 -- a load or a store that isn't made
 pub load_unmade : (va count : ℕ) (reply : Reply) → ((bytes : List ℕ) → reply ≢ replies.Bytes bytes)
@@ -165,9 +155,6 @@ reclaim_room p file page begun answer steps replied is change = go (reports_recl
 
 -- ---- a fault is served, or isn't
 
-pub same : (n : ℕ) → (n == n) ≡ true
-same n = grind (arith, nat_tests)
-
 pub ends_later : (step : Step) (reply : Reply) (steps : List Step) (replied : List Reply) (steps' : List Step)
     (replied' : List Reply) → ArePaging step.p steps replied → EndsBy step reply steps' replied'
     → EndsBy step reply (steps ++ steps') (replied ++ replied')
@@ -192,37 +179,46 @@ module _ (p at : ℕ) (write : Bool) where
       ended_by (ArePaging p) (fix_by p at write) replies.Fixed steps replied it (each_then (IsPaging p) it.front
       it.replied (fix_by p at write ∷ []) (replies.Fixed ∷ []) it.paging ((refl, refl), tt))
 
-  pub unserved_one : (answer : Reply) → reports_fixed answer ≡ false → (steps : List Step) (replied : List Reply)
-      → AreFruitless p steps replied → IsUnservedPaging p at answer (fix_by p at write ∷ steps) (answer ∷ replied)
-  unserved_one answer not steps replied vain =
-      (((refl, refl), vain_paging p steps replied vain), inr (refl, same at, refl, not, vain))
+  -- not for want of frames
+  pub unserved_one : (answer : Reply) → reports_fixed answer ≡ false → answer ≢ replies.Refused refusals.NoFrame
+      → IsUnservedPaging p at write answer (fix_by p at write ∷ []) (answer ∷ [])
+  unserved_one answer not other = (((refl, refl), tt), (refl, not, inl (refl, other, refl, refl)))
 
-  unserved_after : (answer : Reply) (steps : List Step) (replied : List Reply)
-      (steps' : List Step) (replied' : List Reply)
-      → AreForRoom p steps replied → IsUnserved p at answer steps' replied'
-      → IsUnserved p at answer (steps ++ steps') (replied ++ replied')
-  unserved_after answer [] [] steps' replied' room later = later
-  unserved_after answer (step ∷ steps) (reply ∷ replied) steps' replied' ((is, mine), more) later = inl (
-    room_no_access step.act reply is,
-    room_not_served step.act reply is,
-    unserved_after answer steps replied steps' replied' more later,
-  )
-  unserved_after answer [] (reply ∷ replied) steps' replied' room later = absurd room
-  unserved_after answer (step ∷ steps) [] steps' replied' room later = absurd room
+  -- no frame is free, and none becomes free
+  pub unserved_vain : (answer : Reply) → reports_fixed answer ≡ false → answer ≡ replies.Refused refusals.NoFrame
+      → (steps : List Step) (replied : List Reply) → MakesRoom p false steps replied
+      → IsUnservedPaging p at write answer (fix_by p at write ∷ steps) (answer ∷ replied)
+  unserved_vain answer not is steps replied vain =
+      (((refl, refl), vain_paging p steps replied vain), (refl, not, inr (inl (is, is, vain))))
 
   -- a second attempt, after a frame was made free
-  pub unserved_first : (first answer : Reply) → reports_fixed first ≡ false → (steps : List Step) (replied : List Reply)
-      → IsUnservedPaging p at answer steps replied
-      → IsUnservedPaging p at answer (fix_by p at write ∷ steps) (first ∷ replied)
-  unserved_first first answer one steps replied later = (((refl, refl), later.0), inl (refl, one, later.1))
+  abbrev pub IsOnlyFix : Reply → List Step → List Reply → Type 0
+  IsOnlyFix answer steps replied = (steps ≡ fix_by p at write ∷ []) × (replied ≡ answer ∷ [])
 
-  pub unserved_later : (answer : Reply) (steps : List Step) (replied : List Reply) (steps' : List Step)
-      (replied' : List Reply) → MakesRoom p true steps replied → IsUnservedPaging p at answer steps' replied'
-      → IsUnservedPaging p at answer (steps ++ steps') (replied ++ replied')
-  unserved_later answer steps replied steps' replied' room later = (
-    each_then (IsPaging p) steps replied steps' replied' (are_paging p steps replied room.0) later.0,
-    unserved_after answer steps replied steps' replied' room.0 later.1,
-  )
+  pub tries_again : (answer : Reply) (steps : List Step) (replied : List Reply) (steps' : List Step)
+      (replied' : List Reply) → MakesRoom p true steps replied → IsOnlyFix answer steps' replied'
+      → TriesAgain p at write answer (steps ++ steps') (replied ++ replied')
+  tries_again answer steps replied steps' replied' room only = record {
+    room = steps;
+    made = replied;
+    makes = room;
+    steps_are = ap (λ l. steps ++ l) only.0;
+    replies_are = ap (λ l. replied ++ l) only.1;
+  }
+
+  again_paging : (answer : Reply) (steps : List Step) (replied : List Reply)
+      → TriesAgain p at write answer steps replied → ArePaging p steps replied
+  again_paging answer steps replied it = subst (ArePaging p steps) (sym it.replies_are)
+      (subst (λ (l : List Step). ArePaging p l (it.made ++ answer ∷ [])) (sym it.steps_are)
+      (each_then (IsPaging p) it.room it.made (fix_by p at write ∷ []) (answer ∷ [])
+      (are_paging p it.room it.made it.makes.0) ((refl, refl), tt)))
+
+  pub unserved_again : (first answer : Reply) → reports_fixed answer ≡ false
+      → first ≡ replies.Refused refusals.NoFrame → (steps : List Step) (replied : List Reply)
+      → TriesAgain p at write answer steps replied
+      → IsUnservedPaging p at write answer (fix_by p at write ∷ steps) (first ∷ replied)
+  unserved_again first answer not is steps replied it =
+      (((refl, refl), again_paging answer steps replied it), (refl, not, inr (inr (is, it))))
 
 -- ---- accesses
 
@@ -240,41 +236,36 @@ access_own at write p (acts.Load va count) is = refl
 access_own at write p (acts.Store va bytes) is = refl
 access_own at write p act is = absurd is
 
-pub access_at : (at : ℕ) (write : Bool) (act : Act) → IsAccessFor at write act → is_access_at at act ≡ true
-access_at at write (acts.Load va count) is = ap (λ n. n == at) is ∙ same at
-access_at at write (acts.Store va bytes) is = ap (λ n. n == at) is.0 ∙ same at
-access_at at write act is = absurd is
-
 pub access_quiet : (at : ℕ) (write : Bool) (act : Act) (reply : Reply) → IsAccessFor at write act → IsQuiet act reply
 access_quiet at write (acts.Load va count) reply is = tt
 access_quiet at write (acts.Store va bytes) reply is = tt
 access_quiet at write act reply is = absurd is
 
 -- what ends a range comes after other steps
-pub ends_after : (p at : ℕ) (answer : Reply) (steps : List Step) (replied : List Reply) (steps' : List Step)
-    (replied' : List Reply) → ArePaging p steps replied → EndsRange p at answer steps' replied'
-    → EndsRange p at answer (steps ++ steps') (replied ++ replied')
-ends_after p at answer [] [] steps' replied' paging ended = ended
-ends_after p at answer (step ∷ steps) (reply ∷ replied) steps' replied' paging ended =
-    inl (ends_after p at answer steps replied steps' replied' paging.1 ended)
-ends_after p at answer [] (reply ∷ replied) steps' replied' paging ended = absurd paging
-ends_after p at answer (step ∷ steps) [] steps' replied' paging ended = absurd paging
+pub ends_after : (p at : ℕ) (write : Bool) (answer : Reply) (steps : List Step) (replied : List Reply) (steps' : List Step)
+    (replied' : List Reply) → ArePaging p steps replied → EndsRange p at write answer steps' replied'
+    → EndsRange p at write answer (steps ++ steps') (replied ++ replied')
+ends_after p at write answer [] [] steps' replied' paging ended = ended
+ends_after p at write answer (step ∷ steps) (reply ∷ replied) steps' replied' paging ended =
+    inl (ends_after p at write answer steps replied steps' replied' paging.1 ended)
+ends_after p at write answer [] (reply ∷ replied) steps' replied' paging ended = absurd paging
+ends_after p at write answer (step ∷ steps) [] steps' replied' paging ended = absurd paging
 
 -- an access that met a fault, which isn't served
-pub stops_unserved : (step : Step) (at : ℕ) (fault answer : Reply) → IsPaging step.p step fault
-    → is_access_at at step.act ≡ true → reports_fault fault ≡ true → (steps : List Step) (replied : List Reply)
-    → IsUnservedPaging step.p at answer steps replied → StopsAt step.p at answer (step ∷ steps) (fault ∷ replied)
-stops_unserved step at fault answer paging here met steps replied later =
+pub stops_unserved : (step : Step) (at : ℕ) (write : Bool) (fault answer : Reply) → IsPaging step.p step fault
+    → IsAccessFor at write step.act → reports_fault fault ≡ true → (steps : List Step) (replied : List Reply)
+    → IsUnservedPaging step.p at write answer steps replied → StopsAt step.p at write answer (step ∷ steps) (fault ∷ replied)
+stops_unserved step at write fault answer paging here met steps replied later =
     ((paging, later.0), inr (inr (refl, here, met, later.1)))
 
 -- an access that isn't made, and meets no fault
-pub stops_answered : (step : Step) (at : ℕ) (answer : Reply) → IsPaging step.p step answer
-    → is_access_at at step.act ≡ true → reports_fault answer ≡ false → (steps : List Step) (replied : List Reply)
-    → EndsBy step answer steps replied → StopsAt step.p at answer steps replied
-stops_answered step at answer paging here no-fault steps replied it =
-    ended_by (StopsAt step.p at answer) step answer steps replied it (
+pub stops_answered : (step : Step) (at : ℕ) (write : Bool) (answer : Reply) → IsPaging step.p step answer
+    → IsAccessFor at write step.act → reports_fault answer ≡ false → (steps : List Step) (replied : List Reply)
+    → EndsBy step answer steps replied → StopsAt step.p at write answer steps replied
+stops_answered step at write answer paging here no-fault steps replied it =
+    ended_by (StopsAt step.p at write answer) step answer steps replied it (
       each_then (IsPaging step.p) it.front it.replied (step ∷ []) (answer ∷ []) it.paging (paging, tt),
-      ends_after step.p at answer it.front it.replied (step ∷ []) (answer ∷ []) it.paging
+      ends_after step.p at write answer it.front it.replied (step ∷ []) (answer ∷ []) it.paging
           (inr (inl (refl, here, paging.0, refl, no-fault, refl, refl))),
     )
 
@@ -285,9 +276,9 @@ no_fault : (s : State) (d : List ℕ) (p at : ℕ) (write : Bool) (act : Act) (r
     → IsAccessFor at write act → Acts s d p act reply new d'
     → (IsAccessOf at write act → IsAnswered act reply) → reports_fault reply ≡ false
 no_fault s d p at write (acts.Load va count) (replies.Refused (refusals.Fault code)) new d' is rule answered =
-    absurd (answered (rule.0.1.access, ap (λ n. n / 4096) is))
+    absurd (answered (rule.0.1.access, ap (λ n. n / 4096) is.0))
 no_fault s d p at write (acts.Store va bytes) (replies.Refused (refusals.Fault code)) new d' is rule answered =
-    absurd (answered (rule.0.1.access, ap (λ n. n / 4096) is.0, is.1))
+    absurd (answered (rule.0.1.access, ap (λ n. n / 4096) is.0, is.1.0))
 no_fault s d p at write (acts.Load va count) (replies.Refused why) new d' is rule answered = refl
 no_fault s d p at write (acts.Store va bytes) (replies.Refused why) new d' is rule answered = refl
 no_fault s d p at write (acts.Load va count) reply new d' is rule answered = refl

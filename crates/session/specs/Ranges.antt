@@ -1,5 +1,5 @@
 -- What a range comes to.
-use Rattle.std.specs.Prelude.{ℕ, ◌<◌, ◌≤◌, List, take, length}
+use Rattle.std.specs.Prelude.{ℕ, ◌<◌, ◌≤◌, true, false, List, take, length}
 use Rattle.device.specs.declared.device.Device.{Ghosts}
 use Rattle.machine.specs.declared.act.Reply.{Reply}
 use Rattle.machine.specs.declared.act.Step.{Step}
@@ -20,7 +20,7 @@ abbrev pub LoadsReached : ℕ → ℕ → ℕ → List ℕ → Reached → List 
 LoadsReached p va count bytes All steps replies = LoadsRange p va count bytes steps replies
 LoadsReached p va count bytes (Refused reached reply) steps replies =
     (reached < count) × LoadsRange p va reached bytes steps replies
-    × EndsRange p (behind va reached) reply steps replies
+    × EndsRange p (behind va reached) false reply steps replies
 LoadsReached p va count bytes NoMemory steps replies =
     (reached : ℕ) × (some : List ℕ) × (reached ≤ count) × LoadsRange p va reached some steps replies
 
@@ -34,7 +34,7 @@ abbrev pub StoresReached : ℕ → ℕ → List ℕ → Reached → List Step �
 StoresReached p va bytes All steps replies = StoresRange p va bytes steps replies
 StoresReached p va bytes (Refused reached reply) steps replies =
     (reached < length bytes) × StoresRange p va (take reached bytes) steps replies
-    × EndsRange p (behind va reached) reply steps replies
+    × EndsRange p (behind va reached) true reply steps replies
 StoresReached p va bytes NoMemory steps replies = ⊥
 
 -- Steps were made of which this holds.

@@ -7,7 +7,7 @@ ghost use Rattle.shootdown.specs.Shootdown.{state_of};
 ghost use Rattle.machine.specs.declared.act.Act.TheVariants as acts;
 ghost use Rattle.machine.specs.declared.act.Reply.TheVariants as replied;
 ghost use Rattle.session.specs.CarriedOut.{CarriesOut};
-ghost use Rattle.session.specs.Ends.{MakesRoom, AreFruitless, reports_reclaimed, IsUnserved};
+ghost use Rattle.session.specs.Ends.{MakesRoom, AreFruitless, reports_reclaimed};
 ghost use Rattle.session.specs.Lengths.{reports_begun, reports_flushed, AnswersChange};
 ghost use Rattle.session.specs.Ranges.{MakesStepsThat};
 ghost use Rattle.session.specs.Steps.{Makes, reports_fixed};
@@ -30,7 +30,7 @@ impl<D: Device, A: Allocator + Copy> Requests<D, A> {
         ensures served { reports_fixed result ≡ true → CarriesOut D.Device self.old.machine self.old.notes
             (Serves p va write) self.new.machine self.new.notes }
         ensures ends { reports_fixed result ≡ false → CarriesOut D.Device self.old.machine self.old.notes
-            (IsUnservedPaging p va result) self.new.machine self.new.notes }
+            (IsUnservedPaging p va write result) self.new.machine self.new.notes }
     {
         let fix = Step {
             p,

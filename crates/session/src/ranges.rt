@@ -4,10 +4,10 @@ ghost use Rattle.std.specs.Prelude.{◌≡◌, ◌↔◌, ◌<◌, ◌≤◌, �
 ghost use Rattle.machine.specs.declared.act.Act.TheVariants as acts;
 ghost use Rattle.machine.specs.declared.act.Reply.TheVariants as replied;
 ghost use Rattle.session.specs.CarriedOut.{CarriesOut};
-ghost use Rattle.session.specs.Ends.{reports_fault};
+ghost use Rattle.session.specs.Ends.{IsAccessFor, IsPiece, reports_fault};
 ghost use Rattle.session.specs.Ranges.{MakesStepsThat, LoadsReached, StoresReached};
 ghost use Rattle.session.specs.Steps.{reports_fixed};
-ghost use Rattle.session.specs.inside.Paging.{EndsBy, StopsAt, IsAccessFor, LoadsOn};
+ghost use Rattle.session.specs.inside.Paging.{EndsBy, StopsAt, LoadsOn};
 
 use crate::requests::Requests;
 use device::Device;
@@ -100,11 +100,11 @@ impl<D: Device, A: Allocator + Copy> Requests<D, A> {
 
     // Loads a piece from an address on. Answers its bytes, or the reply that ends the range before it.
     fn load_piece(&mut self, p: ProcessorNumber, va: u64, count: usize) -> Result<FewBytes, Reply>
-        requires { count ≤ 8 }
+        requires { IsPiece va count }
         ensures ok { IfOk result (λ bytes. CarriesOut D.Device self.old.machine self.old.notes
             (EndsBy (record { p = p; act = acts.Load va count }) (replied.Bytes bytes))
             self.new.machine self.new.notes) }
-        ensures err { IfErr result (λ reply. CarriesOut D.Device self.old.machine self.old.notes (StopsAt p va reply)
+        ensures err { IfErr result (λ reply. CarriesOut D.Device self.old.machine self.old.notes (StopsAt p va false reply)
             self.new.machine self.new.notes) }
     {
         let load = Act::Load {
@@ -121,11 +121,11 @@ impl<D: Device, A: Allocator + Copy> Requests<D, A> {
 
     // Stores a piece from an address on. Where it isn't stored, answers the reply that ends the range before it.
     fn store_piece(&mut self, p: ProcessorNumber, va: u64, bytes: &[u8]) -> Result<(), Reply>
-        requires { length bytes.now ≤ 8 }
+        requires { IsPiece va (length bytes.now) }
         ensures ok { IfOk result (λ _. CarriesOut D.Device self.old.machine self.old.notes
             (EndsBy (record { p = p; act = acts.Store va bytes.now }) replied.Stored)
             self.new.machine self.new.notes) }
-        ensures err { IfErr result (λ reply. CarriesOut D.Device self.old.machine self.old.notes (StopsAt p va reply)
+        ensures err { IfErr result (λ reply. CarriesOut D.Device self.old.machine self.old.notes (StopsAt p va true reply)
             self.new.machine self.new.notes) }
     {
         let bytes = part(bytes);
@@ -144,7 +144,7 @@ impl<D: Device, A: Allocator + Copy> Requests<D, A> {
         ensures ok { IfOk result (λ reply. CarriesOut D.Device self.old.machine self.old.notes
             (EndsBy (record { p = p; act = act }) reply) self.new.machine self.new.notes) }
         ensures no_fault { IfOk result (λ reply. reports_fault reply ≡ false) }
-        ensures err { IfErr result (λ reply. CarriesOut D.Device self.old.machine self.old.notes (StopsAt p va reply)
+        ensures err { IfErr result (λ reply. CarriesOut D.Device self.old.machine self.old.notes (StopsAt p va write reply)
             self.new.machine self.new.notes) }
     {
         let step = Step { p, act };
@@ -165,9 +165,8 @@ impl<D: Device, A: Allocator + Copy> Requests<D, A> {
 // How many bytes the next step of a range has, of those that are left: up to eight, inside the page of the address.
 fn piece(va: u64, left: usize) -> usize
     requires { 0 < left }
-    ensures some { 0 < result }
+    ensures piece { IsPiece va result }
     ensures left { result ≤ left }
-    ensures few { result ≤ 8 }
 {
     let to_border = (PAGE - va % PAGE) as usize;
     left.min(8).min(to_border)

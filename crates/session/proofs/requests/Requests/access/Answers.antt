@@ -4,7 +4,7 @@ use Rattle.machine.specs.declared.act.Step.{Step}
 use Rattle.session.specs.Steps.{ArePaging, IsPaging}
 use Rattle.session.proofs.Carried.{carries_first, carries_more, carries_one, carries_then}
 use Rattle.session.proofs.Each.{ends_one}
-use Rattle.session.proofs.Rooms.{access_paging, access_at, access_quiet, access_own, answered_no_fault, ends_later}
+use Rattle.session.proofs.Rooms.{access_paging, access_quiet, access_own, answered_no_fault, ends_later}
 use Rattle.session.proofs.Rooms.{serves_paging, stops_unserved}
 use Rattle.session.proofs.requests.Requests.access.Goals as goal
 
@@ -19,10 +19,10 @@ pub returns-then-not-is_fixed-clause-err : goal.returns-then-not-is_fixed-clause
 returns-then-not-is_fixed-clause-err g c =
     let step : Step = record { p = c.args.p; act = c.args.act } in
     let fault = sym c.if-not-is_fault.ensures in
-    carries_first g.D.Device _ _ _ _ _ _ _ _ _ _ (stops_unserved step c.args.va _ _ (
+    carries_first g.D.Device _ _ _ _ _ _ _ _ _ _ (stops_unserved step c.args.va c.args.write _ _ (
       access_paging c.args.va c.args.write _ _ c.requires fault,
       access_own c.args.va c.args.write c.args.p c.args.act c.requires,
-    ) (access_at c.args.va c.args.write _ c.requires) fault) c.make-reply.ensures
+    ) c.requires fault) c.make-reply.ensures
     (access_quiet c.args.va c.args.write _ _ c.requires) (c.fix-fixed.ensures.ends (sym c.if-not-is_fixed.ensures))
 
 pub returns-clause-ok : goal.returns-clause-ok

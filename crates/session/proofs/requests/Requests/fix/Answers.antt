@@ -1,10 +1,11 @@
 use Rattle.std.proofs.Common.{[], ◌∷◌, refl, sym, ◌∙◌, ap}
 use Rattle.std.proofs.lemmas.Bool.{false≢true}
 use Rattle.session.specs.Steps.{reports_fixed}
-use Rattle.session.specs.inside.Paging.{fix_by}
+use Rattle.session.specs.Ends.{fix_by}
 use Rattle.machine.specs.declared.act.Reply.TheVariants.{Fixed}
 use Rattle.session.proofs.Carried.{carries_first, carries_one, carries_then}
-use Rattle.session.proofs.Rooms.{are_paging, ends_later, serves_one, unserved_first, unserved_later, unserved_one}
+use Rattle.session.proofs.Rooms.{are_paging, ends_later, serves_one, IsOnlyFix, tries_again}
+use Rattle.session.proofs.Rooms.{unserved_again, unserved_one, unserved_vain}
 use Rattle.session.proofs.requests.Requests.fix.Goals as goal
 
 pub returns-then-not-is_no_frame-clause-served : goal.returns-then-not-is_no_frame-clause-served
@@ -13,7 +14,7 @@ returns-then-not-is_no_frame-clause-served g c = λ is.
 
 pub returns-then-not-is_no_frame-clause-ends : goal.returns-then-not-is_no_frame-clause-ends
 returns-then-not-is_no_frame-clause-ends g c = λ not. carries_one g.D.Device _ _ _ _ _ _ _ c.make-reply.ensures tt
-    (unserved_one c.args.p c.args.va c.args.write _ not [] [] tt)
+    (unserved_one c.args.p c.args.va c.args.write _ not (λ is. false≢true (c.if-not-is_no_frame.ensures.1 is)))
 
 pub returns-then-not-make_room-clause-served : goal.returns-then-not-make_room-clause-served
 returns-then-not-make_room-clause-served g c =
@@ -21,7 +22,8 @@ returns-then-not-make_room-clause-served g c =
 
 pub returns-then-not-make_room-clause-ends : goal.returns-then-not-make_room-clause-ends
 returns-then-not-make_room-clause-ends g c = λ not. carries_first g.D.Device _ _ _ _ _ _ _ _ _ _
-    (unserved_one c.args.p c.args.va c.args.write _ not) c.make-reply.ensures tt c.if-not-make_room.ensures
+    (unserved_vain c.args.p c.args.va c.args.write _ not (c.if-not-is_no_frame.ensures.0 refl)) c.make-reply.ensures tt
+    c.if-not-make_room.ensures
 
 pub returns-clause-served : goal.returns-clause-served
 returns-clause-served g c =
@@ -36,9 +38,9 @@ returns-clause-served g c =
 
 pub returns-clause-ends : goal.returns-clause-ends
 returns-clause-ends g c =
-    let first = ap reports_fixed (c.if-not-is_no_frame.ensures.0 refl) in
-    λ not. carries_first g.D.Device _ _ _ _ _ _ _ _ _ _ (unserved_first c.args.p c.args.va c.args.write _ _ first)
+    λ not. carries_first g.D.Device _ _ _ _ _ _ _ _ _ _
+    (unserved_again c.args.p c.args.va c.args.write _ _ not (c.if-not-is_no_frame.ensures.0 refl))
     c.make-reply.ensures tt
-    (carries_then g.D.Device _ _ _ _ _ _ _ _ _ (unserved_later c.args.p c.args.va c.args.write _)
-    c.if-not-make_room.ensures (carries_one g.D.Device _ _ _ _ _ _ _ c.make.ensures tt
-    (unserved_one c.args.p c.args.va c.args.write _ not [] [] tt)))
+    (carries_then g.D.Device _ _ _ _ _ _ _ (IsOnlyFix c.args.p c.args.va c.args.write c.make.result) _
+    (tries_again c.args.p c.args.va c.args.write _)
+    c.if-not-make_room.ensures (carries_one g.D.Device _ _ _ _ _ _ _ c.make.ensures tt (refl, refl)))
