@@ -8,6 +8,7 @@ use Rattle.machine.specs.declared.act.Step.{Step}
 use Rattle.machine.specs.Runs.{StepTaken}
 use Rattle.machine.specs.State.{Whole}
 use Rattle.engine.specs.Engine.{HasStarted}
+use Rattle.session.specs.declared.files.Files.{Files}
 use Rattle.session.specs.declared.notes.Notes.{Notes}
 use Rattle.session.specs.declared.ranges.Reached.{Reached}
 use Rattle.session.specs.CarriedOut.{CarriesOut}
@@ -15,6 +16,7 @@ use Rattle.session.specs.Commits.{CommitsMark, AnswersCommit}
 use Rattle.session.specs.Ranges.{MakesStepsThat}
 use Rattle.session.specs.Sessions.{no_notes}
 use Rattle.session.specs.Steps.{Makes}
+use Rattle.session.specs.Turns.{InTurn}
 use Rattle.session.proofs.Public.{served_none, served_does, makes_none, makes_then}
 use Rattle.embedded.specs.Recorded.{deferred_disk, recorded_disk, recorded}
 use Rattle.embedded.specs.Embedded.{EmbeddedState, last_committed, last_needed, HasCommitted, HasNeeded, HasMade}
@@ -117,15 +119,15 @@ serves_more committed needed made acknowledged old new before after what served 
     }
 
 -- how far a range was loaded or stored, of the volume and in the words of its users
-pub reached_said : {A : Type 0} (old same : EmbeddedState A) (new : Whole Deferred) (after : Notes)
-    (what : Reached → List Step → List Reply → Type 0) (reached said : Reached) → same ≡ old → said ≡ reached
-    → CarriesOut deferred_disk same.machine same.notes (what reached) new after
-    → CarriesOut deferred_disk old.machine old.notes (what said) new after
-reached_said {A} old same new after what reached said is says done =
+pub reached_said : {A : Type 0} (old same : EmbeddedState A) (new : Whole Deferred) (after : Notes) (left : Files A)
+    (what : Reached → ℕ → List Step → List Reply → Type 0) (reached said : Reached) → same ≡ old → said ≡ reached
+    → CarriesOut deferred_disk same.machine same.notes (InTurn same.files (what reached) left) new after
+    → CarriesOut deferred_disk old.machine old.notes (InTurn old.files (what said) left) new after
+reached_said {A} old same new after left what reached said is says done =
     let P : EmbeddedState A → Type 0 =
-    λ s. CarriesOut deferred_disk s.machine s.notes (what said) new after in
-    subst P is (subst (λ (r : Reached). CarriesOut deferred_disk same.machine same.notes (what r) new after)
-    (sym says) done)
+    λ s. CarriesOut deferred_disk s.machine s.notes (InTurn s.files (what said) left) new after in
+    subst P is (subst (λ (r : Reached). CarriesOut deferred_disk same.machine same.notes
+    (InTurn same.files (what r) left) new after) (sym says) done)
 
 -- a start
 pub serves_none : (before : Deferred) (shape : Shape) (start : Whole Deferred) (needed made : ℕ)

@@ -6,6 +6,7 @@ ghost use Rattle.session.specs.Commits.{AnswersCommit};
 ghost use Rattle.session.specs.Lengths.{AnswersLength};
 ghost use Rattle.session.specs.Ranges.{LoadsReached, StoresReached};
 ghost use Rattle.session.specs.Steps.{Makes};
+ghost use Rattle.session.specs.Turns.{InTurn};
 ghost use Rattle.embedded.specs.Embedded.{are_made, last_committed, last_needed, made_of};
 ghost use Rattle.embedded.specs.Recorded.{deferred_disk};
 ghost use Rattle.embedded.specs.Progress.{reached_by, ReportsWanted};
@@ -40,7 +41,8 @@ impl<A: Allocator + Copy> Embedded<A> {
     ) -> Progress
         requires { bytes.old.items ≡ [] }
         ensures reached { CarriesOut deferred_disk self.old.machine self.old.notes
-            (LoadsReached p va count bytes.new.items (reached_by result)) self.new.machine self.new.notes }
+            (InTurn self.old.files (LoadsReached p va count bytes.new.items (reached_by result)) self.new.files)
+            self.new.machine self.new.notes }
         ensures wanted { ReportsWanted self.new.machine.device.wanted result }
         ensures committed { self.new.committed ≡ self.old.committed }
         ensures needed { self.new.needed ≡ self.old.needed }
@@ -57,7 +59,8 @@ impl<A: Allocator + Copy> Embedded<A> {
     /// Stores bytes from an address on. Where a block is wanted, so many of them were stored.
     pub fn store(&mut self, p: ProcessorNumber, va: u64, bytes: &[u8]) -> Progress
         ensures reached { CarriesOut deferred_disk self.old.machine self.old.notes
-            (StoresReached p va bytes.now (reached_by result)) self.new.machine self.new.notes }
+            (InTurn self.old.files (StoresReached p va bytes.now (reached_by result)) self.new.files)
+            self.new.machine self.new.notes }
         ensures wanted { ReportsWanted self.new.machine.device.wanted result }
         ensures committed { self.new.committed ≡ self.old.committed }
         ensures needed { self.new.needed ≡ self.old.needed }
@@ -74,7 +77,8 @@ impl<A: Allocator + Copy> Embedded<A> {
     /// Sets the length of a file. It answers as a session does; where a block is wanted, a device call failed.
     pub fn set_length(&mut self, p: ProcessorNumber, file: u16, length: u64) -> Reply
         ensures answers { CarriesOut deferred_disk self.old.machine self.old.notes
-            (AnswersLength p file length result) self.new.machine self.new.notes }
+            (InTurn self.old.files (AnswersLength p file length result) self.new.files)
+            self.new.machine self.new.notes }
         ensures committed { self.new.committed ≡ self.old.committed }
         ensures needed { self.new.needed ≡ self.old.needed }
         ensures made { self.new.made ≡ self.old.made }

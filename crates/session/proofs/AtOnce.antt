@@ -10,15 +10,18 @@ use Rattle.machine.specs.declared.act.Reply.TheVariants.{Stored}
 use Rattle.machine.specs.declared.act.Step.{Step}
 use Rattle.machine.specs.Runs.{StepsTaken}
 use Rattle.machine.specs.State.{Whole}
+use Rattle.session.specs.declared.files.Files.{Files}
 use Rattle.session.specs.declared.notes.Notes.{Notes}
 use Rattle.session.specs.CarriedOut.{CarriesOut}
 use Rattle.session.specs.Locks.{KeepsPhases}
 use Rattle.session.specs.Notes.{noted_after, noted_all}
 use Rattle.session.specs.Ranges.{LoadsRange}
 use Rattle.session.specs.Steps.{Makes, behind, AreLoads, AreStores}
+use Rattle.session.specs.Turns.{InTurn}
 use Rattle.session.specs.inside.Paging.{LoadsOn}
 use Rattle.session.proofs.Phases.{act_keeps, keeps_none, keeps_then}
 use Rattle.session.proofs.Pieces.{loads_then}
+use Rattle.session.proofs.Turns.{in_turn_aside, stores_aside}
 
 -- ---- how many
 
@@ -99,15 +102,19 @@ module _ {D : Type 0} (disk : Ghosts D) where
       (run_keeps p (at + 1) bytes mid new rest)
 
   module _ (old new : Whole D) (before after : Notes) (p at : ℕ) (bytes : List ℕ) where
-    pub stores_run_carries : (va done : ℕ) → at ≡ behind va done → at + length bytes ≤ 2 ^ 64
+    pub stores_run_carries : {A : Type 0} (files left : Files A) → left ≡ files → (va done : ℕ)
+        → at ≡ behind va done → at + length bytes ≤ 2 ^ 64
         → Makes disk old before (store_steps p at bytes) (store_replies bytes) new after
-        → CarriesOut disk old before (λ steps replies. AreStores p va done steps replies bytes) new after
-    stores_run_carries va done is below makes = record {
+        → CarriesOut disk old before
+        (InTurn files (λ _ steps replies. AreStores p va done steps replies bytes) left) new after
+    stores_run_carries files left same va done is below makes = record {
       makes = record {
         steps = store_steps p at bytes;
         replies = store_replies bytes;
         makes = makes;
-        holds = stores_run p va done at bytes is below;
+        holds = in_turn_aside files left (λ _ steps replies. AreStores p va done steps replies bytes)
+            (store_steps p at bytes) (store_replies bytes) same (stores_aside p at bytes)
+            (stores_run p va done at bytes is below);
       };
       phases = run_keeps p at bytes old new makes.taken;
     }

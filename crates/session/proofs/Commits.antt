@@ -18,10 +18,10 @@ use Rattle.session.specs.Commits.{AreWaits, BeginsMark, RefusesMark, IsLastAttem
 use Rattle.session.specs.Commits.{IsLeftUnwritten, WritesUntil, MarksAnd, CommitsMark, StopsCommit, AnswersCommit}
 use Rattle.session.specs.Commits.{msync_by, reports_unmade}
 use Rattle.session.specs.Lengths.{AnswersChange, AreOthers, EndsWaiting, change_steps, change_replies}
-use Rattle.session.specs.Lengths.{flush_by, reports_begun, reports_flushed, reports_refused}
+use Rattle.session.specs.Lengths.{flush_by, reports_begun, reports_refused}
 use Rattle.session.specs.Notes.{noted_all}
 use Rattle.session.specs.Ranges.{MakesStepsThat}
-use Rattle.session.specs.Steps.{Makes, is_of_commit, Passes, AreOfCommit, reports_mark}
+use Rattle.session.specs.Steps.{Makes, is_of_commit, Passes, AreOfCommit, reports_flushed, reports_mark}
 use Rattle.session.specs.inside.Changing.{BeginsChange, IsOver}
 use Rattle.session.specs.inside.Made.{Waits}
 use Rattle.session.proofs.Each.{each_of_change, each_then}

@@ -25,9 +25,9 @@ use Rattle.machine.specs.Runs.{StepTaken, StepsTaken}
 use Rattle.machine.specs.State.{State, Whole}
 use Rattle.session.specs.declared.notes.Notes.{Notes}
 use Rattle.session.specs.Commits.{msync_by}
-use Rattle.session.specs.Lengths.{reports_flushed, reports_later, flush_by, set_length_by, IsTry}
+use Rattle.session.specs.Lengths.{reports_later, flush_by, set_length_by, IsTry}
 use Rattle.session.specs.Ranges.{MakesStepsThat}
-use Rattle.session.specs.Steps.{Makes, is_paging, reports_reclaim}
+use Rattle.session.specs.Steps.{Makes, is_paging, reports_flushed, reports_reclaim}
 use Rattle.session.specs.inside.Made.{AttemptsLength, Waits}
 
 -- one more than the steps that a write-out has left
@@ -249,16 +249,16 @@ module _ {D : Type 0} (disk : Ghosts D) where
 
   -- attempts to begin to set a length, the last of which is busy
   attempts_keep : (old new : Whole D) (p file to : ℕ) (tried : Reply) → tried ≡ replies.Refused refusals.Busy
-      → (steps : List Step) (replied : List Reply) → AttemptsLength p file to tried steps replied
+      → (all : ℕ) (steps : List Step) (replied : List Reply) → AttemptsLength p file to tried all steps replied
       → StepsTaken disk old steps replied new → LeftAfter old new
-  attempts_keep old new p file to tried was (step ∷ steps) (reply ∷ replied) (inl (try, more)) (mid, here, rest) =
+  attempts_keep old new p file to tried was all (step ∷ steps) (reply ∷ replied) (inl (try, more)) (mid, here, rest) =
       omega (
         arith,
         try_taken old mid p file to step reply try here,
-        attempts_keep mid new p file to tried was steps replied more rest,
+        attempts_keep mid new p file to tried was all steps replied more rest,
       )
-  attempts_keep old new p file to tried was (step ∷ steps) (reply ∷ replied)
-      (inr (is, busy, inl (none, silent))) (mid, here, rest) =
+  attempts_keep old new p file to tried was all (step ∷ steps) (reply ∷ replied)
+      (inr (is, busy, inl (enough, none, silent))) (mid, here, rest) =
       let S : List Step → Type 0 = λ l. StepsTaken disk mid l replied new in
       let T : List Reply → Type 0 = λ l. StepsTaken disk mid [] l new in
       let ends : new ≡ mid = subst T silent (subst S none rest) in
@@ -267,15 +267,15 @@ module _ {D : Type 0} (disk : Ghosts D) where
         ap (λ (m : Whole D). left_of m.state) ends,
         later_taken old mid p file to step reply is (ap reports_later (busy ∙ was)) here,
       )
-  attempts_keep old new p file to tried was (step ∷ steps) (reply ∷ replied)
+  attempts_keep old new p file to tried was all (step ∷ steps) (reply ∷ replied)
       (inr (is, busy, inr (other, vain))) taken = absurd (cc)
-  attempts_keep old new p file to tried was [] [] it taken = absurd it
-  attempts_keep old new p file to tried was [] (reply ∷ replied) it taken = absurd it
-  attempts_keep old new p file to tried was (step ∷ steps) [] it taken = absurd it
+  attempts_keep old new p file to tried was all [] [] it taken = absurd it
+  attempts_keep old new p file to tried was all [] (reply ∷ replied) it taken = absurd it
+  attempts_keep old new p file to tried was all (step ∷ steps) [] it taken = absurd it
 
   pub attempts_left : (old new : Whole D) (before after : Notes) (p file to : ℕ) (tried : Reply)
       → tried ≡ replies.Refused refusals.Busy
-      → MakesStepsThat disk old before (AttemptsLength p file to tried) new after
+      → (all : ℕ) → MakesStepsThat disk old before (AttemptsLength p file to tried all) new after
       → LeftAfter old new
-  attempts_left old new before after p file to tried was it =
-      attempts_keep old new p file to tried was it.steps it.replies it.holds it.makes.taken
+  attempts_left old new before after p file to tried was all it =
+      attempts_keep old new p file to tried was all it.steps it.replies it.holds it.makes.taken

@@ -5,7 +5,7 @@ use Rattle.page_entry.specs.declared.refusal.Refusal.TheVariants.{Busy, NoFrame}
 use Rattle.machine.specs.declared.act.Reply.{Reply}
 use Rattle.machine.specs.declared.act.Reply.TheVariants.{Begun, Refused}
 use Rattle.machine.specs.declared.act.Step.{Step}
-use Rattle.session.specs.Ends.{AreFruitless}
+use Rattle.session.specs.Ends.{MakesRoom}
 use Rattle.session.specs.Lengths.{reports_begun, reports_later, flush_by, set_length_by}
 use Rattle.session.specs.Lengths.{AnswersChange, EndsWaiting, IsTry, IsLeft, ChangesLength, RefusesLength}
 use Rattle.session.specs.Steps.{IsPaging, ArePaging}
@@ -57,19 +57,20 @@ module _ (p file to : ℕ) where
 
   -- ---- attempts
 
-  pub attempts_later : (answer : Reply) (steps : List Step) (replies : List Reply) (steps' : List Step)
-      (replies' : List Reply) → AreTries p file to steps replies → AttemptsLength p file to answer steps' replies'
-      → AttemptsLength p file to answer (steps ++ steps') (replies ++ replies')
-  attempts_later answer =
-      tries_then (AttemptsLength p file to answer) (λ step reply steps replies try more. inl (try, more))
+  pub attempts_later : (answer : Reply) (all : ℕ) (steps : List Step) (replies : List Reply) (steps' : List Step)
+      (replies' : List Reply) → AreTries p file to steps replies → AttemptsLength p file to answer all steps' replies'
+      → AttemptsLength p file to answer all (steps ++ steps') (replies ++ replies')
+  attempts_later answer all =
+      tries_then (AttemptsLength p file to answer all) (λ step reply steps replies try more. inl (try, more))
 
-  pub attempts_one : (answer : Reply) → AttemptsLength p file to answer (set_length_by p file to ∷ []) (answer ∷ [])
-  attempts_one answer = inr (refl, refl, inl (refl, refl))
+  pub attempts_one : (answer : Reply) → answer ≢ Refused NoFrame → (all : ℕ)
+      → AttemptsLength p file to answer all (set_length_by p file to ∷ []) (answer ∷ [])
+  attempts_one answer enough all = inr (refl, refl, inl (enough, refl, refl))
 
-  pub attempts_first : (answer : Reply) → answer ≡ Refused NoFrame → (steps : List Step) (replies : List Reply)
-      → AreFruitless p steps replies
-      → AttemptsLength p file to answer (set_length_by p file to ∷ steps) (answer ∷ replies)
-  attempts_first answer is steps replies vain = inr (refl, refl, inr (is, vain))
+  pub attempts_first : (answer : Reply) → answer ≡ Refused NoFrame → (all : ℕ) (steps : List Step)
+      (replies : List Reply) → MakesRoom p false all steps replies
+      → AttemptsLength p file to answer all (set_length_by p file to ∷ steps) (answer ∷ replies)
+  attempts_first answer is all steps replies vain = inr (refl, refl, inr (is, vain))
 
   -- an attempt that is refused for a while is made again
   pub tries_one : (reply : Reply) → reports_later reply ≡ true
@@ -86,83 +87,81 @@ module _ (p file to : ℕ) where
       → IsTry p file to step reply
   tries_step step reply is later = inl (is, later)
 
-  pub tries_attempted : (answer : Reply) → reports_later answer ≡ true → (steps : List Step) (replies : List Reply)
-      → AttemptsLength p file to answer steps replies → AreTries p file to steps replies
-  tries_attempted answer later (step ∷ steps) (reply ∷ replies) (inl (try, more)) =
-      (try, tries_attempted answer later steps replies more)
-  tries_attempted answer later (step ∷ steps) (reply ∷ replies) (inr (is, replied, inl (none, silent))) =
+  pub tries_attempted : (answer : Reply) → reports_later answer ≡ true → (all : ℕ) (steps : List Step)
+      (replies : List Reply) → AttemptsLength p file to answer all steps replies → AreTries p file to steps replies
+  tries_attempted answer later all (step ∷ steps) (reply ∷ replies) (inl (try, more)) =
+      (try, tries_attempted answer later all steps replies more)
+  tries_attempted answer later all (step ∷ steps) (reply ∷ replies) (inr (is, replied, inl (enough, none, silent))) =
       let S : List Step → Type 0 = λ l. AreTries p file to l replies in
       let T : List Reply → Type 0 = λ l. AreTries p file to [] l in
       (tries_step step reply is (ap reports_later replied ∙ later), subst S (sym none) (subst T (sym silent) tt))
-  tries_attempted answer later (step ∷ steps) (reply ∷ replies) (inr (is, replied, inr (no-frame, vain))) = (
+  tries_attempted answer later all (step ∷ steps) (reply ∷ replies) (inr (is, replied, inr (no-frame, vain))) = (
     tries_step step reply is (ap reports_later replied ∙ later),
-    tries_paging steps replies (vain_paging p steps replies vain),
+    tries_paging steps replies (vain_paging p steps replies vain.0),
   )
-  tries_attempted answer later [] [] it = absurd it
-  tries_attempted answer later [] (reply ∷ replies) it = absurd it
-  tries_attempted answer later (step ∷ steps) [] it = absurd it
+  tries_attempted answer later all [] [] it = absurd it
+  tries_attempted answer later all [] (reply ∷ replies) it = absurd it
+  tries_attempted answer later all (step ∷ steps) [] it = absurd it
 
   -- ---- the last one begins it
 
-  pub begins_attempted : (answer : Reply) → reports_begun answer ≡ true → (steps : List Step) (replies : List Reply)
-      → AttemptsLength p file to answer steps replies → BeginsLength p file to steps replies
-  begins_attempted answer is (step ∷ steps) (reply ∷ replies) (inl (try, more)) =
-      inl (try, begins_attempted answer is steps replies more)
-  begins_attempted answer is (step ∷ steps) (reply ∷ replies) (inr (attempt, replied, inl (none, silent))) =
+  pub begins_attempted : (answer : Reply) → reports_begun answer ≡ true → (all : ℕ) (steps : List Step)
+      (replies : List Reply) → AttemptsLength p file to answer all steps replies → BeginsLength p file to steps replies
+  begins_attempted answer is all (step ∷ steps) (reply ∷ replies) (inl (try, more)) =
+      inl (try, begins_attempted answer is all steps replies more)
+  begins_attempted answer is all (step ∷ steps) (reply ∷ replies) (inr (attempt, replied, inl (enough, none, silent))) =
       inr (attempt, replied ∙ begun_is answer is, none, silent)
-  begins_attempted answer is (step ∷ steps) (reply ∷ replies) (inr (attempt, replied, inr (no-frame, vain))) =
+  begins_attempted answer is all (step ∷ steps) (reply ∷ replies) (inr (attempt, replied, inr (no-frame, vain))) =
       absurd (false≢true (ap reports_begun (sym no-frame) ∙ is))
-  begins_attempted answer is [] [] it = absurd it
-  begins_attempted answer is [] (reply ∷ replies) it = absurd it
-  begins_attempted answer is (step ∷ steps) [] it = absurd it
+  begins_attempted answer is all [] [] it = absurd it
+  begins_attempted answer is all [] (reply ∷ replies) it = absurd it
+  begins_attempted answer is all (step ∷ steps) [] it = absurd it
 
   -- ---- or it isn't begun
 
   -- for good, or for want of frames
   left_unbusy : (answer reply : Reply) → reply ≡ answer → reports_begun answer ≡ false → answer ≢ Refused Busy
-      → (steps : List Step) (replies : List Reply) → steps ≡ [] → replies ≡ [] → IsLeft p answer reply steps replies
-  left_unbusy (Refused Busy) reply replied vain other steps replies none silent = absurd (other refl)
-  left_unbusy (Refused NoFrame) reply replied vain other steps replies none silent =
-      let S : List Step → Type 0 = λ l. AreFruitless p l replies in
-      let T : List Reply → Type 0 = λ l. AreFruitless p [] l in
-      inr (inl (replied, refl, subst S (sym none) (subst T (sym silent) tt)))
-  left_unbusy (Refused why) reply replied vain other steps replies none silent = inl (replied, refl, refl, none, silent)
-  left_unbusy Begun reply replied vain other steps replies none silent = absurd (false≢true (sym vain))
-  left_unbusy answer reply replied vain other steps replies none silent = inl (replied, refl, refl, none, silent)
+      → answer ≢ Refused NoFrame → (all : ℕ) (steps : List Step) (replies : List Reply) → steps ≡ [] → replies ≡ []
+      → IsLeft p answer reply all steps replies
+  left_unbusy (Refused Busy) reply replied vain other enough all steps replies none silent = absurd (other refl)
+  left_unbusy (Refused NoFrame) reply replied vain other enough all steps replies none silent = absurd (enough refl)
+  left_unbusy (Refused why) reply replied vain other enough all steps replies none silent = inl (replied, refl, refl, none, silent)
+  left_unbusy Begun reply replied vain other enough all steps replies none silent = absurd (false≢true (sym vain))
+  left_unbusy answer reply replied vain other enough all steps replies none silent = inl (replied, refl, refl, none, silent)
 
   pub refuses_attempted : (answer : Reply) → reports_begun answer ≡ false → answer ≢ Refused Busy
-      → (steps : List Step) (replies : List Reply) → AttemptsLength p file to answer steps replies
-      → RefusesLength p file to answer steps replies
-  refuses_attempted answer vain other (step ∷ steps) (reply ∷ replies) (inl (try, more)) =
-      inl (try, refuses_attempted answer vain other steps replies more)
-  refuses_attempted answer vain other (step ∷ steps) (reply ∷ replies) (inr (is, replied, inl (none, silent))) =
-      inr (is, left_unbusy answer reply replied vain other steps replies none silent)
-  refuses_attempted answer vain other (step ∷ steps) (reply ∷ replies) (inr (is, replied, inr (no-frame, fruitless))) =
+      → (all : ℕ) (steps : List Step) (replies : List Reply) → AttemptsLength p file to answer all steps replies
+      → RefusesLength p file to answer all steps replies
+  refuses_attempted answer vain other all (step ∷ steps) (reply ∷ replies) (inl (try, more)) =
+      inl (try, refuses_attempted answer vain other all steps replies more)
+  refuses_attempted answer vain other all (step ∷ steps) (reply ∷ replies) (inr (is, replied, inl (enough, none, silent))) =
+      inr (is, left_unbusy answer reply replied vain other enough all steps replies none silent)
+  refuses_attempted answer vain other all (step ∷ steps) (reply ∷ replies) (inr (is, replied, inr (no-frame, fruitless))) =
       inr (is, inr (inl (replied ∙ no-frame, no-frame, fruitless)))
-  refuses_attempted answer vain other [] [] it = absurd it
-  refuses_attempted answer vain other [] (reply ∷ replies) it = absurd it
-  refuses_attempted answer vain other (step ∷ steps) [] it = absurd it
+  refuses_attempted answer vain other all [] [] it = absurd it
+  refuses_attempted answer vain other all [] (reply ∷ replies) it = absurd it
+  refuses_attempted answer vain other all (step ∷ steps) [] it = absurd it
 
   -- it is busy, and no other attempt is made
   pub refuses_waiting : (answer tried : Reply) → tried ≡ Refused Busy
-      → (steps : List Step) (replies : List Reply) (steps' : List Step) (replies' : List Reply)
-      → AttemptsLength p file to tried steps replies → EndsWaiting p answer steps' replies'
-      → RefusesLength p file to answer (steps ++ steps') (replies ++ replies')
-  refuses_waiting answer tried busy (step ∷ steps) (reply ∷ replies) steps' replies' (inl (try, more)) ends =
-      inl (try, refuses_waiting answer tried busy steps replies steps' replies' more ends)
-  refuses_waiting answer tried busy (step ∷ steps) (reply ∷ replies) steps' replies'
-      (inr (is, replied, inl (none, silent))) ends =
+      → (all : ℕ) (steps : List Step) (replies : List Reply) (steps' : List Step) (replies' : List Reply)
+      → AttemptsLength p file to tried all steps replies → EndsWaiting p answer steps' replies'
+      → RefusesLength p file to answer all (steps ++ steps') (replies ++ replies')
+  refuses_waiting answer tried busy all (step ∷ steps) (reply ∷ replies) steps' replies' (inl (try, more)) ends =
+      inl (try, refuses_waiting answer tried busy all steps replies steps' replies' more ends)
+  refuses_waiting answer tried busy all (step ∷ steps) (reply ∷ replies) steps' replies'
+      (inr (is, replied, inl (enough, none, silent))) ends =
       let S : List Step → Type 0 = λ l. EndsWaiting p answer (l ++ steps') (replies ++ replies') in
       let T : List Reply → Type 0 = λ l. EndsWaiting p answer steps' (l ++ replies') in
       inr (is, inr (inr (replied ∙ busy, subst S (sym none) (subst T (sym silent) ends))))
-  refuses_waiting answer tried busy (step ∷ steps) (reply ∷ replies) steps' replies'
+  refuses_waiting answer tried busy all (step ∷ steps) (reply ∷ replies) steps' replies'
       (inr (is, replied, inr (no-frame, vain))) ends = absurd (cc)
-  refuses_waiting answer tried busy [] [] steps' replies' it ends = absurd it
-  refuses_waiting answer tried busy [] (reply ∷ replies) steps' replies' it ends = absurd it
-  refuses_waiting answer tried busy (step ∷ steps) [] steps' replies' it ends = absurd it
+  refuses_waiting answer tried busy all [] [] steps' replies' it ends = absurd it
+  refuses_waiting answer tried busy all [] (reply ∷ replies) steps' replies' it ends = absurd it
+  refuses_waiting answer tried busy all (step ∷ steps) [] steps' replies' it ends = absurd it
 
-  pub refuses_later : (answer : Reply) (steps : List Step) (replies : List Reply) (steps' : List Step)
-      (replies' : List Reply) → AreTries p file to steps replies → RefusesLength p file to answer steps' replies'
-      → RefusesLength p file to answer (steps ++ steps') (replies ++ replies')
-  refuses_later answer =
-      tries_then (RefusesLength p file to answer) (λ step reply steps replies try more. inl (try, more))
+  pub refuses_later : (answer : Reply) (all : ℕ) (steps : List Step) (replies : List Reply) (steps' : List Step)
+      (replies' : List Reply) → AreTries p file to steps replies → RefusesLength p file to answer all steps' replies'
+      → RefusesLength p file to answer all (steps ++ steps') (replies ++ replies')
+  refuses_later answer all =
+      tries_then (RefusesLength p file to answer all) (λ step reply steps replies try more. inl (try, more))

@@ -5,8 +5,11 @@ pub mod Carried
 pub mod Pieces
 pub mod AtOnce
 pub mod Rooms
+pub mod Turns
+pub mod Tries
 pub mod Changes
 pub mod Left
+pub mod Taken
 pub mod Commits
 pub mod Lengths
 pub mod Lines

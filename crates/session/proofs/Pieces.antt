@@ -114,44 +114,44 @@ stores_then p va from [] (reply ∷ replies) bytes steps' replies' bytes' first 
 stores_then p va from (step ∷ steps) [] bytes steps' replies' bytes' first later = absurd first
 
 -- what ends a range comes after its pieces
-loads_ended : (p va from to : ℕ) (steps : List Step) (replies : List Reply) (bytes : List ℕ) (at : ℕ) (write : Bool) (reply : Reply)
+loads_ended : (p va from to : ℕ) (steps : List Step) (replies : List Reply) (bytes : List ℕ) (at : ℕ) (write : Bool) (reply : Reply) (all : ℕ)
     (steps' : List Step) (replies' : List Reply)
-    → AreLoads p va from to steps replies bytes → EndsRange p at write reply steps' replies'
-    → EndsRange p at write reply (steps ++ steps') (replies ++ replies')
-loads_ended p va from to [] [] bytes at write reply steps' replies' first ended = ended
-loads_ended p va from to (step ∷ steps) (other ∷ replies) bytes at write reply steps' replies' (inl paging) ended =
-    inl (loads_ended p va from to steps replies bytes at write reply steps' replies' paging.1 ended)
-loads_ended p va from to (step ∷ steps) (other ∷ replies) bytes at write reply steps' replies'
+    → AreLoads p va from to steps replies bytes → EndsRange p at write reply all steps' replies'
+    → EndsRange p at write reply all (steps ++ steps') (replies ++ replies')
+loads_ended p va from to [] [] bytes at write reply all steps' replies' first ended = ended
+loads_ended p va from to (step ∷ steps) (other ∷ replies) bytes at write reply all steps' replies' (inl paging) ended =
+    inl (loads_ended p va from to steps replies bytes at write reply all steps' replies' paging.1 ended)
+loads_ended p va from to (step ∷ steps) (other ∷ replies) bytes at write reply all steps' replies'
     (inr (count, few, rest, step-is, reply-is, bytes-are, more)) ended =
-    inl (loads_ended p va (from + count) to steps replies rest at write reply steps' replies' more ended)
-loads_ended p va from to [] (other ∷ replies) bytes at write reply steps' replies' first ended = absurd first
-loads_ended p va from to (step ∷ steps) [] bytes at write reply steps' replies' first ended = absurd first
+    inl (loads_ended p va (from + count) to steps replies rest at write reply all steps' replies' more ended)
+loads_ended p va from to [] (other ∷ replies) bytes at write reply all steps' replies' first ended = absurd first
+loads_ended p va from to (step ∷ steps) [] bytes at write reply all steps' replies' first ended = absurd first
 
-stores_ended : (p va from : ℕ) (steps : List Step) (replies : List Reply) (bytes : List ℕ) (at : ℕ) (write : Bool) (reply : Reply)
+stores_ended : (p va from : ℕ) (steps : List Step) (replies : List Reply) (bytes : List ℕ) (at : ℕ) (write : Bool) (reply : Reply) (all : ℕ)
     (steps' : List Step) (replies' : List Reply)
-    → AreStores p va from steps replies bytes → EndsRange p at write reply steps' replies'
-    → EndsRange p at write reply (steps ++ steps') (replies ++ replies')
-stores_ended p va from [] [] bytes at write reply steps' replies' first ended = ended
-stores_ended p va from (step ∷ steps) (other ∷ replies) bytes at write reply steps' replies' (inl paging) ended =
-    inl (stores_ended p va from steps replies bytes at write reply steps' replies' paging.1 ended)
-stores_ended p va from (step ∷ steps) (other ∷ replies) bytes at write reply steps' replies'
+    → AreStores p va from steps replies bytes → EndsRange p at write reply all steps' replies'
+    → EndsRange p at write reply all (steps ++ steps') (replies ++ replies')
+stores_ended p va from [] [] bytes at write reply all steps' replies' first ended = ended
+stores_ended p va from (step ∷ steps) (other ∷ replies) bytes at write reply all steps' replies' (inl paging) ended =
+    inl (stores_ended p va from steps replies bytes at write reply all steps' replies' paging.1 ended)
+stores_ended p va from (step ∷ steps) (other ∷ replies) bytes at write reply all steps' replies'
     (inr (few, rest, step-is, reply-is, bytes-are, more)) ended =
-    inl (stores_ended p va (from + length few) steps replies rest at write reply steps' replies' more ended)
-stores_ended p va from [] (other ∷ replies) bytes at write reply steps' replies' first ended = absurd first
-stores_ended p va from (step ∷ steps) [] bytes at write reply steps' replies' first ended = absurd first
+    inl (stores_ended p va (from + length few) steps replies rest at write reply all steps' replies' more ended)
+stores_ended p va from [] (other ∷ replies) bytes at write reply all steps' replies' first ended = absurd first
+stores_ended p va from (step ∷ steps) [] bytes at write reply all steps' replies' first ended = absurd first
 
 -- and no further one
 pub loads_refused : (p va count done at : ℕ) (bytes : List ℕ) (reply : Reply) → done < count → at ≡ behind va done
-    → (steps : List Step) (replies : List Reply) (steps' : List Step) (replies' : List Reply)
-    → LoadsRange p va done bytes steps replies → StopsAt p at false reply steps' replies'
-    → LoadsReached p va count bytes (Refused done reply) (steps ++ steps') (replies ++ replies')
-loads_refused p va count done at bytes reply fewer is steps replies steps' replies' first (paging, ends) = (
+    → (all : ℕ) (steps : List Step) (replies : List Reply) (steps' : List Step) (replies' : List Reply)
+    → LoadsRange p va done bytes steps replies → StopsAt p at false reply all steps' replies'
+    → LoadsReached p va count bytes (Refused done reply) all (steps ++ steps') (replies ++ replies')
+loads_refused p va count done at bytes reply fewer is all steps replies steps' replies' first (paging, ends) = (
   fewer,
   subst (λ b. AreLoads p va 0 done (steps ++ steps') (replies ++ replies') b) (append-nil bytes)
       (loads_then p va 0 done done steps replies bytes steps' replies' [] first
       (loads_none p va done steps' replies' paging)),
-  loads_ended p va 0 done steps replies bytes (behind va done) false reply steps' replies' first
-      (subst (λ n. EndsRange p n false reply steps' replies') is ends),
+  loads_ended p va 0 done steps replies bytes (behind va done) false reply all steps' replies' first
+      (subst (λ n. EndsRange p n false reply all steps' replies') is ends),
 )
 
 -- a piece that is stored, after steps that read and store nothing
@@ -180,32 +180,33 @@ stores_more p va done bytes few now long all steps replies steps' replies' first
 
 -- and no further one
 pub stores_refused : (p va done at : ℕ) (bytes : List ℕ) (reply : Reply) → done < length bytes → at ≡ behind va done
-    → (steps : List Step) (replies : List Reply) (steps' : List Step) (replies' : List Reply)
-    → StoresRange p va (take done bytes) steps replies → StopsAt p at true reply steps' replies'
-    → StoresReached p va bytes (Refused done reply) (steps ++ steps') (replies ++ replies')
-stores_refused p va done at bytes reply fewer is steps replies steps' replies' first (paging, ends) = (
+    → (all : ℕ) (steps : List Step) (replies : List Reply) (steps' : List Step) (replies' : List Reply)
+    → StoresRange p va (take done bytes) steps replies → StopsAt p at true reply all steps' replies'
+    → StoresReached p va bytes (Refused done reply) all (steps ++ steps') (replies ++ replies')
+stores_refused p va done at bytes reply fewer is all steps replies steps' replies' first (paging, ends) = (
   fewer,
   subst (λ b. AreStores p va 0 (steps ++ steps') (replies ++ replies') b) (append-nil (take done bytes))
       (stores_then p va 0 steps replies (take done bytes) steps' replies' [] first
       (stores_none p va (0 + length (take done bytes)) steps' replies' paging)),
-  stores_ended p va 0 steps replies (take done bytes) (behind va done) true reply steps' replies' first
-      (subst (λ n. EndsRange p n true reply steps' replies') is ends),
+  stores_ended p va 0 steps replies (take done bytes) (behind va done) true reply all steps' replies' first
+      (subst (λ n. EndsRange p n true reply all steps' replies') is ends),
 )
 
 -- where memory is refused, what was loaded was loaded all the same
 pub loads_cut : (p va count done : ℕ) (bytes bytes' : List ℕ) → done ≤ count
-    → (steps : List Step) (replies : List Reply) → LoadsRange p va done bytes steps replies
-    → LoadsReached p va count bytes' NoMemory steps replies
-loads_cut p va count done bytes bytes' fits steps replies it = (done, bytes, fits, it)
+    → (all : ℕ) (steps : List Step) (replies : List Reply) → LoadsRange p va done bytes steps replies
+    → LoadsReached p va count bytes' NoMemory all steps replies
+loads_cut p va count done bytes bytes' fits all steps replies it = (done, bytes, fits, it)
 
-pub loads_all : (p va count done : ℕ) (bytes : List ℕ) → done ≡ count → (steps : List Step) (replies : List Reply)
-    → LoadsRange p va done bytes steps replies → LoadsReached p va count bytes All steps replies
-loads_all p va count done bytes whole steps replies it =
+pub loads_all : (p va count done : ℕ) (bytes : List ℕ) → done ≡ count → (all : ℕ) (steps : List Step)
+    (replies : List Reply) → LoadsRange p va done bytes steps replies
+    → LoadsReached p va count bytes All all steps replies
+loads_all p va count done bytes whole all steps replies it =
     subst (λ n. AreLoads p va 0 n steps replies bytes) whole it
 
-pub stores_all : (p va : ℕ) (some bytes : List ℕ) → some ≡ bytes → (steps : List Step) (replies : List Reply)
-    → StoresRange p va some steps replies → StoresReached p va bytes All steps replies
-stores_all p va some bytes whole steps replies it = subst (λ b. AreStores p va 0 steps replies b) whole it
+pub stores_all : (p va : ℕ) (some bytes : List ℕ) → some ≡ bytes → (all : ℕ) (steps : List Step)
+    (replies : List Reply) → StoresRange p va some steps replies → StoresReached p va bytes All all steps replies
+stores_all p va some bytes whole all steps replies it = subst (λ b. AreStores p va 0 steps replies b) whole it
 
 -- one more of the steps that were asked for
 pub first_more : {D : Type 0} (disk : Ghosts D) (old mid new : Whole D) (before between after : Notes)

@@ -16,7 +16,7 @@ use Rattle.machine.specs.Runs.{StepsTaken}
 use Rattle.machine.specs.State.{State, Whole}
 use Rattle.session.specs.declared.notes.Notes.{Notes}
 use Rattle.session.specs.Ends.{reports_fault, reports_reclaimed, fix_by, IsAccessFor}
-use Rattle.session.specs.Ends.{AreForRoom, is_fruitless, AreFruitless, MakesRoom, TriesAgain, IsUnserved, EndsRange}
+use Rattle.session.specs.Ends.{AreForRoom, is_fruitless, AreFruitless, MakesRoom, TriesAgain, EndsRange}
 use Rattle.session.specs.Lengths.{AnswersChange, AreOthers, change_steps, change_replies, flush_by}
 use Rattle.session.specs.Ranges.{MakesStepsThat}
 use Rattle.session.specs.Steps.{Makes, is_for_room, is_paging, Passes, IsPaging, IsMadeFor, ArePaging}
@@ -32,13 +32,13 @@ kept_reclaim : (reply : Reply) → is_fruitless acts.Change reply ≡ true → r
 kept_reclaim replies.Kept is = refl
 kept_reclaim reply is = absurd (false≢true is)
 
-reclaim_kept : (reply : Reply) → reports_reclaim reply ≡ true → reports_reclaimed reply ≡ false
+pub reclaim_kept : (reply : Reply) → reports_reclaim reply ≡ true → reports_reclaimed reply ≡ false
     → is_fruitless acts.Change reply ≡ true
 reclaim_kept replies.Reclaimed is other = absurd (false≢true (sym other))
 reclaim_kept replies.Kept is other = refl
 reclaim_kept reply is other = absurd (false≢true is)
 
-reclaimed_is : (reply : Reply) → reports_reclaimed reply ≡ true → reply ≡ replies.Reclaimed
+pub reclaimed_is : (reply : Reply) → reports_reclaimed reply ≡ true → reply ≡ replies.Reclaimed
 reclaimed_is replies.Reclaimed is = refl
 reclaimed_is reply is = absurd (false≢true is)
 
@@ -69,7 +69,7 @@ store_unmade va bytes reply other = refl
 
 -- ---- one after the other
 
-vain_room : (p : ℕ) (steps : List Step) (replied : List Reply) → AreFruitless p steps replied
+pub vain_room : (p : ℕ) (steps : List Step) (replied : List Reply) → AreFruitless p steps replied
     → AreForRoom p steps replied
 vain_room p = each_so (Passes is_fruitless p) (Passes is_for_room p)
     (λ step reply is. (fruitless_room step.act reply is.0, is.1))
@@ -82,23 +82,8 @@ pub vain_paging : (p : ℕ) (steps : List Step) (replied : List Reply) → AreFr
     → ArePaging p steps replied
 vain_paging p steps replied vain = are_paging p steps replied (vain_room p steps replied vain)
 
--- no frame became free, and then one did or didn't
-pub makes_room_then : (p : ℕ) (made : Bool) (steps : List Step) (replied : List Reply) (steps' : List Step)
-    (replied' : List Reply) → AreFruitless p steps replied → MakesRoom p made steps' replied'
-    → MakesRoom p made (steps ++ steps') (replied ++ replied')
-makes_room_then p true steps replied steps' replied' first later = (
-  each_then (Passes is_for_room p) steps replied steps' replied' (vain_room p steps replied first) later.0,
-  Contains-append_right replied replied' replies.Reclaimed later.1,
-)
-makes_room_then p false steps replied steps' replied' first later =
-    each_then (Passes is_fruitless p) steps replied steps' replied' first later
-
 pub flush_vain : (p : ℕ) (reply : Reply) → AreFruitless p (flush_by p ∷ []) (reply ∷ [])
 flush_vain p reply = ((refl, refl), tt)
-
-pub reclaim_vain : (p file page : ℕ) (reply : Reply)
-    → AreFruitless p (record { p = p; act = acts.Reclaim file page } ∷ []) (reply ∷ [])
-reclaim_vain p file page reply = ((refl, refl), tt)
 
 -- ---- a page is taken out
 
@@ -110,13 +95,13 @@ change_has P p answer steps replies it holds = subst (P steps) (sym it.replies_a
     (subst (λ (l : List Step). P l (change_replies answer it.others)) (sym it.steps_are) holds)
 
 -- the change of a reclaim, which is answered so
-change_vain : (p : ℕ) (answer : Reply) (others : List ℕ) → AreOthers p others
+pub change_vain : (p : ℕ) (answer : Reply) (others : List ℕ) → AreOthers p others
     → is_fruitless acts.Change answer ≡ true
     → AreFruitless p (change_steps p others) (change_replies answer others)
 change_vain p answer others differ is = each_of_change (Passes is_fruitless p) p answer others differ (is, refl)
     (λ other not. (refl, not)) (λ other not. (refl, not))
 
-change_room : (p : ℕ) (answer : Reply) (others : List ℕ) → AreOthers p others → reports_reclaim answer ≡ true
+pub change_room : (p : ℕ) (answer : Reply) (others : List ℕ) → AreOthers p others → reports_reclaim answer ≡ true
     → AreForRoom p (change_steps p others) (change_replies answer others)
 change_room p answer others differ is = each_of_change (Passes is_for_room p) p answer others differ (is, refl)
     (λ other not. (refl, not)) (λ other not. (refl, not))
@@ -128,30 +113,11 @@ change_replied answer (other ∷ others) =
     Contains-append_right (replies.Acked ∷ []) (change_replies answer others ++ replies.Resumed ∷ []) answer
     (Contains-append_left (change_replies answer others) (replies.Resumed ∷ []) answer (change_replied answer others))
 
-pub reclaim_room : (p file page : ℕ) (begun answer : Reply) (steps : List Step) (replied : List Reply)
-    → reports_reclaim answer ≡ true → AnswersChange p answer steps replied
-    → MakesRoom p (reports_reclaimed answer) (record { p = p; act = acts.Reclaim file page } ∷ steps) (begun ∷ replied)
-reclaim_room p file page begun answer steps replied is change = go (reports_reclaimed answer) refl
-  where
-    has : Contains replied answer
-    has = change_has (λ steps replied. Contains replied answer) p answer steps replied change
-        (change_replied answer change.others)
-
-    go : (b : Bool) → reports_reclaimed answer ≡ b
-        → MakesRoom p b (record { p = p; act = acts.Reclaim file page } ∷ steps) (begun ∷ replied)
-    go true made = (
-      (
-        (refl, refl),
-        change_has (AreForRoom p) p answer steps replied change (change_room p answer change.others change.differ is),
-      ),
-      Contains-append_right (begun ∷ []) replied replies.Reclaimed
-          (subst (Contains replied) (reclaimed_is answer made) has),
-    )
-    go false kept = (
-      (refl, refl),
-      change_has (AreFruitless p) p answer steps replied change
-          (change_vain p answer change.others change.differ (reclaim_kept answer is kept)),
-    )
+pub change_replied_in : (p : ℕ) (answer : Reply) (steps : List Step) (replied : List Reply)
+    → AnswersChange p answer steps replied → Contains replied answer
+change_replied_in p answer steps replied change =
+    change_has (λ steps replied. Contains replied answer) p answer steps replied change
+    (change_replied answer change.others)
 
 -- ---- a fault is served, or isn't
 
@@ -181,24 +147,24 @@ module _ (p at : ℕ) (write : Bool) where
 
   -- not for want of frames
   pub unserved_one : (answer : Reply) → reports_fixed answer ≡ false → answer ≢ replies.Refused refusals.NoFrame
-      → IsUnservedPaging p at write answer (fix_by p at write ∷ []) (answer ∷ [])
-  unserved_one answer not other = (((refl, refl), tt), (refl, not, inl (refl, other, refl, refl)))
+      → (all : ℕ) → IsUnservedPaging p at write answer all (fix_by p at write ∷ []) (answer ∷ [])
+  unserved_one answer not other all = (((refl, refl), tt), (refl, not, inl (refl, other, refl, refl)))
 
   -- no frame is free, and none becomes free
   pub unserved_vain : (answer : Reply) → reports_fixed answer ≡ false → answer ≡ replies.Refused refusals.NoFrame
-      → (steps : List Step) (replied : List Reply) → MakesRoom p false steps replied
-      → IsUnservedPaging p at write answer (fix_by p at write ∷ steps) (answer ∷ replied)
-  unserved_vain answer not is steps replied vain =
-      (((refl, refl), vain_paging p steps replied vain), (refl, not, inr (inl (is, is, vain))))
+      → (all : ℕ) (steps : List Step) (replied : List Reply) → MakesRoom p false all steps replied
+      → IsUnservedPaging p at write answer all (fix_by p at write ∷ steps) (answer ∷ replied)
+  unserved_vain answer not is all steps replied vain =
+      (((refl, refl), vain_paging p steps replied vain.0), (refl, not, inr (inl (is, is, vain))))
 
   -- a second attempt, after a frame was made free
   abbrev pub IsOnlyFix : Reply → List Step → List Reply → Type 0
   IsOnlyFix answer steps replied = (steps ≡ fix_by p at write ∷ []) × (replied ≡ answer ∷ [])
 
-  pub tries_again : (answer : Reply) (steps : List Step) (replied : List Reply) (steps' : List Step)
-      (replied' : List Reply) → MakesRoom p true steps replied → IsOnlyFix answer steps' replied'
+  pub tries_again : (answer : Reply) (all : ℕ) (steps : List Step) (replied : List Reply) (steps' : List Step)
+      (replied' : List Reply) → MakesRoom p true all steps replied → IsOnlyFix answer steps' replied'
       → TriesAgain p at write answer (steps ++ steps') (replied ++ replied')
-  tries_again answer steps replied steps' replied' room only = record {
+  tries_again answer all steps replied steps' replied' room only = record {
     room = steps;
     made = replied;
     makes = room;
@@ -214,10 +180,10 @@ module _ (p at : ℕ) (write : Bool) where
       (are_paging p it.room it.made it.makes.0) ((refl, refl), tt)))
 
   pub unserved_again : (first answer : Reply) → reports_fixed answer ≡ false
-      → first ≡ replies.Refused refusals.NoFrame → (steps : List Step) (replied : List Reply)
+      → first ≡ replies.Refused refusals.NoFrame → (all : ℕ) (steps : List Step) (replied : List Reply)
       → TriesAgain p at write answer steps replied
-      → IsUnservedPaging p at write answer (fix_by p at write ∷ steps) (first ∷ replied)
-  unserved_again first answer not is steps replied it =
+      → IsUnservedPaging p at write answer all (fix_by p at write ∷ steps) (first ∷ replied)
+  unserved_again first answer not is all steps replied it =
       (((refl, refl), again_paging answer steps replied it), (refl, not, inr (inr (is, it))))
 
 -- ---- accesses
@@ -242,30 +208,30 @@ access_quiet at write (acts.Store va bytes) reply is = tt
 access_quiet at write act reply is = absurd is
 
 -- what ends a range comes after other steps
-pub ends_after : (p at : ℕ) (write : Bool) (answer : Reply) (steps : List Step) (replied : List Reply) (steps' : List Step)
-    (replied' : List Reply) → ArePaging p steps replied → EndsRange p at write answer steps' replied'
-    → EndsRange p at write answer (steps ++ steps') (replied ++ replied')
-ends_after p at write answer [] [] steps' replied' paging ended = ended
-ends_after p at write answer (step ∷ steps) (reply ∷ replied) steps' replied' paging ended =
-    inl (ends_after p at write answer steps replied steps' replied' paging.1 ended)
-ends_after p at write answer [] (reply ∷ replied) steps' replied' paging ended = absurd paging
-ends_after p at write answer (step ∷ steps) [] steps' replied' paging ended = absurd paging
+pub ends_after : (p at : ℕ) (write : Bool) (answer : Reply) (all : ℕ) (steps : List Step) (replied : List Reply) (steps' : List Step)
+    (replied' : List Reply) → ArePaging p steps replied → EndsRange p at write answer all steps' replied'
+    → EndsRange p at write answer all (steps ++ steps') (replied ++ replied')
+ends_after p at write answer all [] [] steps' replied' paging ended = ended
+ends_after p at write answer all (step ∷ steps) (reply ∷ replied) steps' replied' paging ended =
+    inl (ends_after p at write answer all steps replied steps' replied' paging.1 ended)
+ends_after p at write answer all [] (reply ∷ replied) steps' replied' paging ended = absurd paging
+ends_after p at write answer all (step ∷ steps) [] steps' replied' paging ended = absurd paging
 
 -- an access that met a fault, which isn't served
 pub stops_unserved : (step : Step) (at : ℕ) (write : Bool) (fault answer : Reply) → IsPaging step.p step fault
-    → IsAccessFor at write step.act → reports_fault fault ≡ true → (steps : List Step) (replied : List Reply)
-    → IsUnservedPaging step.p at write answer steps replied → StopsAt step.p at write answer (step ∷ steps) (fault ∷ replied)
-stops_unserved step at write fault answer paging here met steps replied later =
+    → IsAccessFor at write step.act → reports_fault fault ≡ true → (all : ℕ) (steps : List Step) (replied : List Reply)
+    → IsUnservedPaging step.p at write answer all steps replied → StopsAt step.p at write answer all (step ∷ steps) (fault ∷ replied)
+stops_unserved step at write fault answer paging here met all steps replied later =
     ((paging, later.0), inr (inr (refl, here, met, later.1)))
 
 -- an access that isn't made, and meets no fault
 pub stops_answered : (step : Step) (at : ℕ) (write : Bool) (answer : Reply) → IsPaging step.p step answer
-    → IsAccessFor at write step.act → reports_fault answer ≡ false → (steps : List Step) (replied : List Reply)
-    → EndsBy step answer steps replied → StopsAt step.p at write answer steps replied
-stops_answered step at write answer paging here no-fault steps replied it =
-    ended_by (StopsAt step.p at write answer) step answer steps replied it (
+    → IsAccessFor at write step.act → reports_fault answer ≡ false → (all : ℕ) (steps : List Step) (replied : List Reply)
+    → EndsBy step answer steps replied → StopsAt step.p at write answer all steps replied
+stops_answered step at write answer paging here no-fault all steps replied it =
+    ended_by (StopsAt step.p at write answer all all) step answer steps replied it (
       each_then (IsPaging step.p) it.front it.replied (step ∷ []) (answer ∷ []) it.paging (paging, tt),
-      ends_after step.p at write answer it.front it.replied (step ∷ []) (answer ∷ []) it.paging
+      ends_after step.p at write answer all it.front it.replied (step ∷ []) (answer ∷ []) it.paging
           (inr (inl (refl, here, paging.0, refl, no-fault, refl, refl))),
     )
 

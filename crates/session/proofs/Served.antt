@@ -29,11 +29,12 @@ answers_do : (before : Notes) (what : Asked) (answer : List ℕ) (steps : List S
     → AnswersRequest before what answer steps replies → IsDoneFor what steps replies
 answers_do before (asks_steps wanted) answer steps replies it =
     (length wanted, it.0 ∙ sym (take_all (length wanted) wanted (omega arith)))
-answers_do before (asks_load p va count) answer steps replies (bytes, reached, it, replied) = (bytes, reached, it)
-answers_do before (asks_store p va bytes) answer steps replies (reached, it, replied) = (reached, it)
+answers_do before (asks_load p va count) answer steps replies (all, bytes, reached, it, replied) =
+    (all, bytes, reached, it)
+answers_do before (asks_store p va bytes) answer steps replies (all, reached, it, replied) = (all, reached, it)
 answers_do before (asks_commit p) answer steps replies (committed, it, replied) =
     answers_of_commit p before committed steps replies it
-answers_do before (asks_length p file to) answer steps replies (reply, it, replied) = (reply, it)
+answers_do before (asks_length p file to) answer steps replies (all, reply, it, replied) = (all, reply, it)
 
 -- a request was carried out, and then its answer was written
 pub answered_for : {D T E F : Type 0} (disk : Ghosts D) (old new : Whole D) (before after : Notes) (wanted what : Asked)
@@ -55,7 +56,7 @@ answered_for disk old new before after wanted what did text written result a b i
 
 answers_serve : (before : Notes) (line answer : List ℕ) (steps : List Step) (replies : List Reply)
     → AnswersLine before line answer steps replies → IsServedFor line steps replies
-answers_serve before line answer steps replies (inl (none, (cause, one-line, text, no-steps, no-replies))) =
+answers_serve before line answer steps replies (inl (none, (cause, of, (detail, one-line, text, no-steps, no-replies)))) =
     inl (no-steps, no-replies)
 answers_serve before line answer steps replies (inr (what, is, it)) =
     inr (what, is, answers_do before what answer steps replies it)

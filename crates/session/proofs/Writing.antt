@@ -11,6 +11,7 @@ use Rattle.machine.specs.declared.act.Reply.{Reply}
 use Rattle.machine.specs.declared.act.Step.{Step}
 use Rattle.machine.specs.State.{Whole}
 use Rattle.machine.specs.Words.{reply_text}
+use Rattle.session.specs.declared.files.Files.{Files}
 use Rattle.session.specs.declared.notes.Notes.{Notes}
 use Rattle.session.specs.declared.ranges.Reached.{Reached}
 use Rattle.session.specs.declared.ranges.Reached.TheVariants.{All, Refused, NoMemory}
@@ -23,9 +24,12 @@ use Rattle.session.specs.Answers.{digits_text, ReportsLoaded, AsksNothing}
 use Rattle.session.specs.Answers.{WritesAnswer, WritesAnswerOf, AnswersLines, WritesAnswers, AnswersInput}
 use Rattle.session.specs.Lines.{HasNoFeed, ReadsLines}
 use Rattle.session.specs.Asked.{AreFirst, IsMemory}
+use Rattle.session.specs.Causes.{IsFaultOf, cause_words}
 use Rattle.session.specs.Ranges.{MakesStepsThat, LoadsReached}
 use Rattle.session.specs.Requests.{Asked, asks_steps, asks_load, request_in}
 use Rattle.session.specs.Steps.{Makes}
+use Rattle.session.specs.Files.{round_of}
+use Rattle.session.specs.Turns.{InTurn}
 use Rattle.session.proofs.Lines.{reads_both, end_after_lines}
 use Rattle.session.proofs.Stretches.{makes_none, makes_then, noted_then}
 
@@ -145,17 +149,17 @@ reports_reached old new (Refused count reply) bytes digits some are wrote = (
 reports_reached old new NoMemory bytes digits some are wrote = absurd (some refl)
 
 -- a range was loaded
-pub load_answered : {D : Type 0} (disk : Ghosts D) (old new : Whole D) (before after : Notes) (p va count : ℕ)
-    (bytes : List ℕ) (reached : Reached) (a b : Option (List ℕ))
-    → MakesStepsThat disk old before (LoadsReached p va count bytes reached) new after
+pub load_answered : {D A : Type 0} (disk : Ghosts D) (old new : Whole D) (before after : Notes) (files left : Files A)
+    (p va count : ℕ) (bytes : List ℕ) (reached : Reached) (a b : Option (List ℕ))
+    → MakesStepsThat disk old before (InTurn files (LoadsReached p va count bytes reached) left) new after
     → ((answer : List ℕ) × ReportsLoaded reached bytes answer × Appends a b (answer ++ 10 ∷ []))
     → MakesStepsThat disk old before (WritesAnswer before (asks_load p va count) a b) new after
-load_answered disk old new before after p va count bytes reached a b it wrote =
+load_answered disk old new before after files left p va count bytes reached a b it wrote =
     record {
       steps = it.steps;
       replies = it.replies;
       makes = it.makes;
-      holds = (wrote.0, (bytes, reached, it.holds, wrote.1), wrote.2);
+      holds = (wrote.0, (round_of files.lines.items, bytes, reached, it.holds.does, wrote.1), wrote.2);
     }
 
 -- a line that asks for this
@@ -183,22 +187,42 @@ not_memory (fault.Step why) not is = is
 not_memory (fault.Steps number found why) not is = is
 not_memory (fault.Bytes most) not is = is
 
-asks_nothing : (line : List ℕ) (cause : RequestFault) → IsMemory cause ⊎ AsksNothing line → ¬ (IsMemory cause)
-    → AsksNothing line
-asks_nothing line cause (inl is) not = absurd (not is)
-asks_nothing line cause (inr is) not = is
+unless_memory : (cause : RequestFault) (P : Type 0) → IsMemory cause ⊎ P → ¬ (IsMemory cause) → P
+unless_memory cause P (inl is) not = absurd (not is)
+unless_memory cause P (inr is) not = is
+
+-- the words for a fault were written, and a detail
+abbrev SaysCause : RequestFault → Option (List ℕ) → Option (List ℕ) → Type 0
+SaysCause cause a b =
+    (detail : List ℕ) × HasNoFeed detail × Appends a b (codes "badline " ++ cause_words cause ++ detail ++ 10 ∷ [])
+
+said_cause : (cause : RequestFault) (detail : List ℕ) (a b : Option (List ℕ))
+    → Appends a b (codes "badline " ++ cause_words cause ++ detail ++ 10 ∷ [])
+    → Appends a b ((codes "badline " ++ cause_words cause ++ detail) ++ 10 ∷ [])
+said_cause cause detail a b wrote =
+    let front : List ℕ = codes "badline " in
+    subst (λ (text : List ℕ). Appends a b text) (ap (λ l. front ++ l)
+    (sym (append_assoc (cause_words cause) detail (10 ∷ []))) ∙ sym (append_assoc front (cause_words cause ++ detail)
+    (10 ∷ []))) wrote
 
 -- a line that asks for nothing
 pub line_refused : {D : Type 0} (disk : Ghosts D) (old : Whole D) (before : Notes) (line : List ℕ)
     (cause : RequestFault) (a b : Option (List ℕ)) → IsMemory cause ⊎ AsksNothing line
-    → ¬ (IsMemory cause) × ((text : List ℕ) × HasNoFeed text × Appends a b (codes "badline " ++ text ++ 10 ∷ []))
+    → IsMemory cause ⊎ IsFaultOf cause line → ¬ (IsMemory cause) × SaysCause cause a b
     → MakesStepsThat disk old before (WritesAnswerOf before line a b) old before
-line_refused disk old before line cause a b why (not, (text, plain, wrote)) =
+line_refused disk old before line cause a b nothing why (not, (detail, plain, wrote)) =
     record {
       steps = [];
       replies = [];
       makes = makes_none disk old before;
-      holds = (codes "badline " ++ text, inl (asks_nothing line cause why not, (text, plain, refl, refl, refl)), wrote);
+      holds = (
+        codes "badline " ++ cause_words cause ++ detail,
+        inl (
+          unless_memory cause (AsksNothing line) nothing not,
+          (cause, unless_memory cause (IsFaultOf cause line) why not, (detail, plain, refl, refl, refl)),
+        ),
+        said_cause cause detail a b wrote,
+      );
     }
 
 on_ok_at : {T E P : Type 0} (result : Result T E) → IsOk result → OnOk result P → P
@@ -283,10 +307,10 @@ answers_one disk old new before after line input rest a b c read it kept =
 -- one line that is too long
 answers_bad : {D : Type 0} (disk : Ghosts D) (old : Whole D) (before : Notes) (input rest a b c : Option (List ℕ))
     → ReadsLines input rest (None ∷ [])
-    → ((text : List ℕ) × HasNoFeed text × Appends a b (codes "badline " ++ text ++ 10 ∷ [])) → Keeps b c
+    → SaysCause (fault.Long 262144) a b → Keeps b c
     → MakesStepsThat disk old before (WritesAnswers before 1 input rest a c) old before
-answers_bad disk old before input rest a b c read (text, plain, wrote) kept =
-    let answer : List ℕ = codes "badline " ++ text in
+answers_bad disk old before input rest a b c read (detail, plain, wrote) kept =
+    let answer : List ℕ = codes "badline " ++ cause_words (fault.Long 262144) ++ detail in
     record {
       steps = [];
       replies = [];
@@ -296,8 +320,8 @@ answers_bad disk old before input rest a b c read (text, plain, wrote) kept =
         answer ++ 10 ∷ [],
         refl,
         read,
-        (answer, [], [], [], [], [], (text, plain, refl, refl, refl), (refl, refl, refl), refl, refl, refl),
-        Appends-kept a b c (answer ++ 10 ∷ []) wrote kept,
+        (answer, [], [], [], [], [], (detail, plain, refl, refl, refl), (refl, refl, refl), refl, refl, refl),
+        Appends-kept a b c (answer ++ 10 ∷ []) (said_cause (fault.Long 262144) detail a b wrote) kept,
       );
     }
 
@@ -319,15 +343,14 @@ line_flushed disk old new before after line input rest a b c written (Ok more) r
     subst (WritesNext disk old new before after input rest a c) (sym was)
     (answers_one disk old new before after line input rest a b c read (on_ok_at written wrote replied) kept)
 
-pub bad_flushed : {D S E F : Type 0} (disk : Ghosts D) (old : Whole D) (before : Notes) (cause : RequestFault)
+pub bad_flushed : {D S E F : Type 0} (disk : Ghosts D) (old : Whole D) (before : Notes)
     (input rest a b c : Option (List ℕ)) (written : Result S E) (flushed : Result Bool F)
     → ReadsLines input rest (None ∷ [])
-    → OnOk written
-    (¬ (IsMemory cause) × ((text : List ℕ) × HasNoFeed text × Appends a b (codes "badline " ++ text ++ 10 ∷ [])))
+    → OnOk written (¬ (IsMemory (fault.Long 262144)) × SaysCause (fault.Long 262144) a b)
     → IfOk flushed (λ more. (more ≡ true) × IsOk written × Keeps b c)
     → IfOk flushed (WritesNext disk old old before before input rest a c)
-bad_flushed disk old before cause input rest a b c written (Err fault) read replied is = tt
-bad_flushed disk old before cause input rest a b c written (Ok more) read replied (was, wrote, kept) =
+bad_flushed disk old before input rest a b c written (Err fault) read replied is = tt
+bad_flushed disk old before input rest a b c written (Ok more) read replied (was, wrote, kept) =
     subst (WritesNext disk old old before before input rest a c) (sym was)
     (answers_bad disk old before input rest a b c read (on_ok_at written wrote replied).1 kept)
 

@@ -12,7 +12,10 @@ use Rattle.session.specs.declared.ranges.Reached.{Reached}
 use Rattle.session.specs.declared.ranges.Reached.TheVariants.{All, Refused, NoMemory}
 use Rattle.session.specs.Commits.{AnswersCommit}
 use Rattle.session.specs.Lengths.{AnswersLength}
-use Rattle.session.specs.Lines.{HasNoFeed, ReadsLines}
+use Rattle.session.specs.declared.request_fault.RequestFault.{RequestFault}
+use Rattle.session.specs.declared.request_fault.RequestFault.TheVariants.{Long}
+use Rattle.session.specs.Causes.{IsFaultOf, IsBad}
+use Rattle.session.specs.Lines.{ReadsLines}
 use Rattle.session.specs.Notes.{noted_all}
 use Rattle.session.specs.Ranges.{LoadsReached, StoresReached}
 use Rattle.session.specs.Requests.{Asked, asks_steps, asks_load, asks_store, asks_commit, asks_length, request_in}
@@ -67,14 +70,15 @@ committed_text (Err reply) = reply_text reply
 abbrev pub AnswersRequest : Notes → Asked → List ℕ → List Step → List Reply → Type 0
 AnswersRequest before (asks_steps wanted) answer steps replies = (steps ≡ wanted) × (answer ≡ steps_text replies)
 AnswersRequest before (asks_load p va count) answer steps replies =
-    (bytes : List ℕ) × (reached : Reached) × LoadsReached p va count bytes reached steps replies
+    (all : ℕ) × (bytes : List ℕ) × (reached : Reached) × LoadsReached p va count bytes reached all steps replies
     × ReportsLoaded reached bytes answer
 AnswersRequest before (asks_store p va bytes) answer steps replies =
-    (reached : Reached) × StoresReached p va bytes reached steps replies × (answer ≡ stored_text reached (length bytes))
+    (all : ℕ) × (reached : Reached) × StoresReached p va bytes reached all steps replies
+    × (answer ≡ stored_text reached (length bytes))
 AnswersRequest before (asks_commit p) answer steps replies =
     (committed : Result ℕ Reply) × AnswersCommit p before committed steps replies × (answer ≡ committed_text committed)
 AnswersRequest before (asks_length p file to) answer steps replies =
-    (reply : Reply) × AnswersLength p file to reply steps replies × (answer ≡ reply_text reply)
+    (all : ℕ) × (reply : Reply) × AnswersLength p file to reply all steps replies × (answer ≡ reply_text reply)
 
 -- What was asked for was done and answered: a line was written for it.
 abbrev pub WritesAnswer : Notes → Asked → Option (List ℕ) → Option (List ℕ) → List Step → List Reply → Type 0
@@ -85,15 +89,10 @@ WritesAnswer before what old new steps replies =
 abbrev pub AsksNothing : List ℕ → Type 0
 AsksNothing line = (request_in line ≡ None) ⊎ ¬ (IsUtf8 line)
 
--- A line that asks for nothing is a bad one, and no step is made for it. The cause is text of one line.
-abbrev pub IsBad : List ℕ → List Step → List Reply → Type 0
-IsBad answer steps replies =
-    (cause : List ℕ) × HasNoFeed cause × (answer ≡ codes "badline " ++ cause) × (steps ≡ []) × (replies ≡ [])
-
--- A line was answered so, by what it asks for.
+-- A line was answered so, by what it asks for; a line that asks for nothing is a bad one.
 abbrev pub AnswersLine : Notes → List ℕ → List ℕ → List Step → List Reply → Type 0
 AnswersLine before line answer steps replies =
-    (AsksNothing line × IsBad answer steps replies)
+    (AsksNothing line × ((why : RequestFault) × IsFaultOf why line × IsBad why answer steps replies))
     ⊎ ((what : Asked) × (request_in line ≡ Some what) × AnswersRequest before what answer steps replies)
 
 -- A line was answered, and the answer was written as a line.
@@ -104,7 +103,7 @@ WritesAnswerOf before line old new steps replies =
 -- One line was answered. A line that is too long is a bad one; of what it asks for nothing is said.
 abbrev pub IsAnsweredNext : Notes → Option (List ℕ) → List ℕ → List Step → List Reply → Type 0
 IsAnsweredNext before (Some line) answer steps replies = AnswersLine before line answer steps replies
-IsAnsweredNext before None answer steps replies = IsBad answer steps replies
+IsAnsweredNext before None answer steps replies = IsBad (Long 262144) answer steps replies
 
 -- Lines were answered in order, each by the steps after those of the lines before it; the text has the answer to each,
 -- and a line feed after it.

@@ -40,10 +40,12 @@ AreFirst wanted steps replies = (count : ℕ) × (steps ≡ take count wanted)
 abbrev pub IsDoneFor : Asked → List Step → List Reply → Type 0
 IsDoneFor (asks_steps wanted) steps replies = AreFirst wanted steps replies
 IsDoneFor (asks_load p va count) steps replies =
-    (bytes : List ℕ) × (reached : Reached) × LoadsReached p va count bytes reached steps replies
-IsDoneFor (asks_store p va bytes) steps replies = (reached : Reached) × StoresReached p va bytes reached steps replies
+    (all : ℕ) × (bytes : List ℕ) × (reached : Reached) × LoadsReached p va count bytes reached all steps replies
+IsDoneFor (asks_store p va bytes) steps replies =
+    (all : ℕ) × (reached : Reached) × StoresReached p va bytes reached all steps replies
 IsDoneFor (asks_commit p) steps replies = AreOfCommit p steps replies
-IsDoneFor (asks_length p file length) steps replies = (reply : Reply) × AnswersLength p file length reply steps replies
+IsDoneFor (asks_length p file length) steps replies =
+    (all : ℕ) × (reply : Reply) × AnswersLength p file length reply all steps replies
 
 -- What was done for a line: nothing, or what it asks for.
 abbrev pub IsServedFor : List ℕ → List Step → List Reply → Type 0

@@ -6,8 +6,9 @@ use Rattle.machine.specs.declared.act.Reply.{Reply}
 use Rattle.machine.specs.declared.act.Reply.TheVariants.{Begun, Marked, Committed, Nothing, Refused}
 use Rattle.machine.specs.declared.act.Step.{Step}
 use Rattle.session.specs.declared.notes.Notes.{Notes}
-use Rattle.session.specs.Lengths.{flush_by, reports_flushed, reports_refused, AnswersChange, EndsWaiting}
+use Rattle.session.specs.Lengths.{flush_by, reports_refused, AnswersChange, EndsWaiting}
 use Rattle.session.specs.Notes.{noted_all}
+use Rattle.session.specs.Steps.{reports_flushed}
 
 -- the step by which processor p begins a commit of all stores
 abbrev pub msync_by : ℕ → Step

@@ -1,13 +1,13 @@
 -- Where a range ends before its end.
-use Rattle.std.specs.Prelude.{ℕ, ◌≡◌, ◌≢◌, ◌⊎◌, ◌+◌, ◌%◌, ◌<◌, ◌≤◌, Bool, true, false, List, [], ◌∷◌, ◌++◌}
-use Rattle.std.specs.Prelude.{length, Contains}
+use Rattle.std.specs.Prelude.{ℕ, suc, ◌≡◌, ◌≢◌, ◌⊎◌, ◌+◌, ◌%◌, ◌<◌, ◌≤◌, Bool, true, false, not, if◌then◌else◌}
+use Rattle.std.specs.Prelude.{List, [], ◌∷◌, ◌++◌, length, Contains}
 use Rattle.page_entry.specs.declared.refusal.Refusal.TheVariants.{Fault, NoFrame}
 use Rattle.machine.specs.declared.act.Act.{Act}
-use Rattle.machine.specs.declared.act.Act.TheVariants.{Load, Store, Fix, Change}
+use Rattle.machine.specs.declared.act.Act.TheVariants.{Load, Store, Fix, Reclaim, Change, Flush}
 use Rattle.machine.specs.declared.act.Reply.{Reply}
 use Rattle.machine.specs.declared.act.Reply.TheVariants.{Reclaimed, Kept, Refused}
 use Rattle.machine.specs.declared.act.Step.{Step}
-use Rattle.session.specs.Steps.{is_for_room, is_paging, Passes, AreEach, reports_fixed}
+use Rattle.session.specs.Steps.{is_for_room, is_paging, Passes, AreEach, reports_fixed, reports_flushed}
 
 -- that an access met a page fault
 abbrev pub reports_fault : Reply → Bool
@@ -46,37 +46,59 @@ is_fruitless act reply = is_for_room act reply
 abbrev pub AreFruitless : ℕ → List Step → List Reply → Type 0
 AreFruitless p = AreEach (Passes is_fruitless p)
 
--- A frame was made free by such steps, or none was.
-abbrev pub MakesRoom : ℕ → Bool → List Step → List Reply → Type 0
-MakesRoom p true steps replies = AreForRoom p steps replies × Contains replies Reclaimed
-MakesRoom p false steps replies = AreFruitless p steps replies
+-- how many pages were tried since the write-outs last made a step, after one step more
+abbrev pub tried_after : ℕ → Act → Reply → ℕ
+tried_after tried (Reclaim file page) reply = suc tried
+tried_after tried Flush reply = if reports_flushed reply then 0 else tried
+tried_after tried act reply = tried
+
+abbrev pub tried_in : ℕ → List Step → List Reply → ℕ
+tried_in tried (step ∷ steps) (reply ∷ replies) = tried_in (tried_after tried step.act reply) steps replies
+tried_in tried steps replies = tried
+
+-- whether the write-outs had no step to make when they last were asked for one, after one step more
+abbrev pub is_written_after : Bool → Act → Reply → Bool
+is_written_after before Flush reply = not (reports_flushed reply)
+is_written_after before act reply = before
+
+abbrev pub is_written_in : Bool → List Step → List Reply → Bool
+is_written_in before (step ∷ steps) (reply ∷ replies) =
+    is_written_in (is_written_after before step.act reply) steps replies
+is_written_in before steps replies = before
+
+-- A frame was made free by such steps; or none was. Then the write-outs have no step left to make, and `all` pages were
+-- tried since they made their last one. (Pages are tried in turn, so these are all pages.)
+abbrev pub MakesRoom : ℕ → Bool → ℕ → List Step → List Reply → Type 0
+MakesRoom p true all steps replies = AreForRoom p steps replies × Contains replies Reclaimed
+MakesRoom p false all steps replies = AreFruitless p steps replies
+    × (all ≤ tried_in 0 steps replies) × (is_written_in false steps replies ≡ true)
 
 -- After a frame was made free, the fault was tried once more, and this is the answer.
 pub record TriesAgain (p at : ℕ) (write : Bool) (answer : Reply) (steps : List Step) (replies : List Reply)
     : Type 0 where
   pub room : List Step
   pub made : List Reply
-  pub makes : MakesRoom p true room made
+  pub makes : MakesRoom p true 0 room made
   pub steps_are : steps ≡ room ++ fix_by p at write ∷ []
   pub replies_are : replies ≡ made ++ answer ∷ []
 
 -- A fault isn't served, and this is the answer. The first attempt is the only one, unless no frame is free for it. Then
--- either none becomes free, or one does and the second attempt isn't served.
-abbrev pub IsUnserved : ℕ → ℕ → Bool → Reply → List Step → List Reply → Type 0
-IsUnserved p at write answer (step ∷ steps) (reply ∷ replies) =
+-- either none becomes free, or one does and the second attempt isn't served. There are `all` pages.
+abbrev pub IsUnserved : ℕ → ℕ → Bool → Reply → ℕ → List Step → List Reply → Type 0
+IsUnserved p at write answer all (step ∷ steps) (reply ∷ replies) =
     (step ≡ fix_by p at write) × (reports_fixed answer ≡ false)
     × (((reply ≡ answer) × (answer ≢ Refused NoFrame) × (steps ≡ []) × (replies ≡ []))
-    ⊎ ((reply ≡ Refused NoFrame) × (answer ≡ Refused NoFrame) × MakesRoom p false steps replies)
+    ⊎ ((reply ≡ Refused NoFrame) × (answer ≡ Refused NoFrame) × MakesRoom p false all steps replies)
     ⊎ ((reply ≡ Refused NoFrame) × TriesAgain p at write answer steps replies))
-IsUnserved p at write answer steps replies = ⊥
+IsUnserved p at write answer all steps replies = ⊥
 
 -- The last access of these steps is processor p's, at this address. It isn't made, and the answer is its reply, which is
 -- no fault; or it meets a fault that isn't served, and the answer is that of the last attempt to serve it.
-abbrev pub EndsRange : ℕ → ℕ → Bool → Reply → List Step → List Reply → Type 0
-EndsRange p at write answer (step ∷ steps) (reply ∷ replies) =
-    EndsRange p at write answer steps replies
+abbrev pub EndsRange : ℕ → ℕ → Bool → Reply → ℕ → List Step → List Reply → Type 0
+EndsRange p at write answer all (step ∷ steps) (reply ∷ replies) =
+    EndsRange p at write answer all steps replies
     ⊎ ((step.p ≡ p) × IsAccessFor at write step.act × (is_paging step.act reply ≡ true) × (reply ≡ answer)
     × (reports_fault answer ≡ false) × (steps ≡ []) × (replies ≡ []))
     ⊎ ((step.p ≡ p) × IsAccessFor at write step.act × (reports_fault reply ≡ true)
-    × IsUnserved p at write answer steps replies)
-EndsRange p at write answer steps replies = ⊥
+    × IsUnserved p at write answer all steps replies)
+EndsRange p at write answer all steps replies = ⊥

@@ -4,22 +4,15 @@ use Rattle.page_entry.specs.declared.refusal.Refusal.TheVariants.{Busy, NoFrame}
 use Rattle.machine.specs.declared.act.Act.TheVariants.{SetLength, Ack, Change, Resume, Flush}
 use Rattle.machine.specs.declared.act.Reply.{Reply}
 use Rattle.machine.specs.declared.act.Reply.TheVariants.{Begun, Unmapped, Protected, Resized, Reclaimed, Kept, Marked}
-use Rattle.machine.specs.declared.act.Reply.TheVariants.{Acked, Resumed, Going, Committed, Done, Nothing, Refused}
+use Rattle.machine.specs.declared.act.Reply.TheVariants.{Acked, Resumed, Nothing, Refused}
 use Rattle.machine.specs.declared.act.Step.{Step}
-use Rattle.session.specs.Ends.{AreFruitless}
+use Rattle.session.specs.Ends.{MakesRoom}
 use Rattle.session.specs.Steps.{IsPaging}
 
 -- that a change was begun
 abbrev pub reports_begun : Reply → Bool
 reports_begun Begun = true
 reports_begun _ = false
-
--- that a step of a write-out was made
-abbrev pub reports_flushed : Reply → Bool
-reports_flushed Going = true
-reports_flushed (Committed number) = true
-reports_flushed (Done number) = true
-reports_flushed _ = false
 
 -- that a step was refused
 abbrev pub reports_refused : Reply → Bool
@@ -96,21 +89,21 @@ pub record EndsWaiting (p : ℕ) (answer : Reply) (steps : List Step) (replies :
   pub replies_are : replies ≡ reply ∷ []
 
 -- What comes after the last attempt, which was answered so, and why no other one is made: it is for good; or too few
--- frames are free, and none became free; or it is busy.
-abbrev pub IsLeft : ℕ → Reply → Reply → List Step → List Reply → Type 0
-IsLeft p answer reply steps replies =
+-- frames are free, and none became free; or it is busy. There are `all` pages.
+abbrev pub IsLeft : ℕ → Reply → Reply → ℕ → List Step → List Reply → Type 0
+IsLeft p answer reply all steps replies =
     ((reply ≡ answer) × (reports_begun answer ≡ false) × (reports_later answer ≡ false) × (steps ≡ []) × (replies ≡ []))
-    ⊎ ((reply ≡ Refused NoFrame) × (answer ≡ Refused NoFrame) × AreFruitless p steps replies)
+    ⊎ ((reply ≡ Refused NoFrame) × (answer ≡ Refused NoFrame) × MakesRoom p false all steps replies)
     ⊎ ((reply ≡ Refused Busy) × EndsWaiting p answer steps replies)
 
 -- It isn't begun, and the answer is that of the last attempt, or of the step of the write-outs that it waits for.
-abbrev pub RefusesLength : ℕ → ℕ → ℕ → Reply → List Step → List Reply → Type 0
-RefusesLength p file to answer (step ∷ steps) (reply ∷ replies) =
-    (IsTry p file to step reply × RefusesLength p file to answer steps replies)
-    ⊎ ((step ≡ set_length_by p file to) × IsLeft p answer reply steps replies)
-RefusesLength p file to answer steps replies = ⊥
+abbrev pub RefusesLength : ℕ → ℕ → ℕ → Reply → ℕ → List Step → List Reply → Type 0
+RefusesLength p file to answer all (step ∷ steps) (reply ∷ replies) =
+    (IsTry p file to step reply × RefusesLength p file to answer all steps replies)
+    ⊎ ((step ≡ set_length_by p file to) × IsLeft p answer reply all steps replies)
+RefusesLength p file to answer all steps replies = ⊥
 
 -- Processor p set the length of a file, or was refused it, and this is the answer.
-abbrev pub AnswersLength : ℕ → ℕ → ℕ → Reply → List Step → List Reply → Type 0
-AnswersLength p file to answer steps replies =
-    ChangesLength p file to answer steps replies ⊎ RefusesLength p file to answer steps replies
+abbrev pub AnswersLength : ℕ → ℕ → ℕ → Reply → ℕ → List Step → List Reply → Type 0
+AnswersLength p file to answer all steps replies =
+    ChangesLength p file to answer steps replies ⊎ RefusesLength p file to answer all steps replies

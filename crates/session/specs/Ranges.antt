@@ -15,13 +15,13 @@ abbrev pub LoadsRange : ℕ → ℕ → ℕ → List ℕ → List Step → List 
 LoadsRange p va count bytes steps replies = AreLoads p va 0 count steps replies bytes
 
 -- All bytes of a range were loaded; or fewer, and the last attempt at the next one was answered so (`EndsRange`); or so
--- many as were loaded when memory was refused.
-abbrev pub LoadsReached : ℕ → ℕ → ℕ → List ℕ → Reached → List Step → List Reply → Type 0
-LoadsReached p va count bytes All steps replies = LoadsRange p va count bytes steps replies
-LoadsReached p va count bytes (Refused reached reply) steps replies =
+-- many as were loaded when memory was refused. There are `all` pages.
+abbrev pub LoadsReached : ℕ → ℕ → ℕ → List ℕ → Reached → ℕ → List Step → List Reply → Type 0
+LoadsReached p va count bytes All all steps replies = LoadsRange p va count bytes steps replies
+LoadsReached p va count bytes (Refused reached reply) all steps replies =
     (reached < count) × LoadsRange p va reached bytes steps replies
-    × EndsRange p (behind va reached) false reply steps replies
-LoadsReached p va count bytes NoMemory steps replies =
+    × EndsRange p (behind va reached) false reply all steps replies
+LoadsReached p va count bytes NoMemory all steps replies =
     (reached : ℕ) × (some : List ℕ) × (reached ≤ count) × LoadsRange p va reached some steps replies
 
 -- these bytes were stored from an address on
@@ -30,12 +30,12 @@ StoresRange p va bytes steps replies = AreStores p va 0 steps replies bytes
 
 -- All bytes were stored from an address on; or fewer, and the last attempt at the next one was answered so
 -- (`EndsRange`). It asks for no memory.
-abbrev pub StoresReached : ℕ → ℕ → List ℕ → Reached → List Step → List Reply → Type 0
-StoresReached p va bytes All steps replies = StoresRange p va bytes steps replies
-StoresReached p va bytes (Refused reached reply) steps replies =
+abbrev pub StoresReached : ℕ → ℕ → List ℕ → Reached → ℕ → List Step → List Reply → Type 0
+StoresReached p va bytes All all steps replies = StoresRange p va bytes steps replies
+StoresReached p va bytes (Refused reached reply) all steps replies =
     (reached < length bytes) × StoresRange p va (take reached bytes) steps replies
-    × EndsRange p (behind va reached) true reply steps replies
-StoresReached p va bytes NoMemory steps replies = ⊥
+    × EndsRange p (behind va reached) true reply all steps replies
+StoresReached p va bytes NoMemory all steps replies = ⊥
 
 -- Steps were made of which this holds.
 pub record MakesStepsThat {D : Type 0} (disk : Ghosts D) (old : Whole D) (before : Notes)

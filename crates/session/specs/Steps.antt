@@ -6,6 +6,7 @@ use Rattle.machine.specs.declared.act.Act.{Act}
 use Rattle.machine.specs.declared.act.Act.TheVariants.{Load, Store, Fix, Reclaim, Msync, Ack, Change, Resume, Flush}
 use Rattle.machine.specs.declared.act.Reply.{Reply}
 use Rattle.machine.specs.declared.act.Reply.TheVariants.{Bytes, Stored, Fixed, Reclaimed, Kept, Marked, Acked, Resumed}
+use Rattle.machine.specs.declared.act.Reply.TheVariants.{Going, Committed, Done}
 use Rattle.machine.specs.declared.act.Step.{Step}
 use Rattle.machine.specs.State.{Whole}
 use Rattle.machine.specs.Runs.{StepsTaken}
@@ -17,6 +18,13 @@ pub record Makes {D : Type 0} (disk : Ghosts D) (old : Whole D) (before : Notes)
     (replies : List Reply) (new : Whole D) (after : Notes) : Type 0 where
   pub taken : StepsTaken disk old steps replies new
   pub notes : after ≡ noted_all before replies
+
+-- that a step of a write-out was made
+abbrev pub reports_flushed : Reply → Bool
+reports_flushed Going = true
+reports_flushed (Committed number) = true
+reports_flushed (Done number) = true
+reports_flushed _ = false
 
 -- that a page left memory, or was kept there
 abbrev pub reports_reclaim : Reply → Bool

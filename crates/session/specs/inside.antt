@@ -2,4 +2,6 @@
 pub mod Paging
 pub mod Changing
 pub mod Made
+pub mod Trying
 pub mod Reading
+pub mod Faults

@@ -20,8 +20,9 @@ impl<D: Device, A: Allocator + Copy> Requests<D, A> {
     /// Commits all stores. Answers the number of the mark, which is durable; or what the step was answered that stopped
     /// the commit: a refusal, or that there was nothing to do.
     pub fn commit(&mut self, p: ProcessorNumber) -> Result<u32, Reply>
-        ensures { CarriesOut D.Device self.old.machine self.old.notes (AnswersCommit p self.old.notes result)
+        ensures answers { CarriesOut D.Device self.old.machine self.old.notes (AnswersCommit p self.old.notes result)
             self.new.machine self.new.notes }
+        ensures files { self.new.files ≡ self.old.files }
     {
         let begun = self.begin_mark(p);
         if !is_begun(&begun) {
@@ -48,6 +49,7 @@ impl<D: Device, A: Allocator + Copy> Requests<D, A> {
             (BeginsMark p) p Checkpoint self.new.machine self.new.notes }
         ensures refuses { reports_begun result ≡ false → CarriesOut D.Device self.old.machine self.old.notes
             (RefusesMark p result) self.new.machine self.new.notes }
+        ensures files { self.new.files ≡ self.old.files }
     {
         let msync = Step {
             p,
@@ -77,6 +79,7 @@ impl<D: Device, A: Allocator + Copy> Requests<D, A> {
         ensures unbegun { IfSome result (λ answer. reports_begun answer ≡ false) }
         ensures waits { IfNone result (CarriesOut D.Device self.old.machine self.old.notes (Waits p)
             self.new.machine self.new.notes) }
+        ensures files { self.new.files ≡ self.old.files }
     {
         let flushed = self.flush(p);
         if is_flushed(&flushed) {
@@ -93,6 +96,7 @@ impl<D: Device, A: Allocator + Copy> Requests<D, A> {
         ensures writes { CarriesOut D.Device self.old.machine self.old.notes (WritesUntil p mark result)
             self.new.machine self.new.notes }
         ensures ends { result ≢ replied.Committed mark → reports_unmade result ≡ true }
+        ensures files { self.new.files ≡ self.old.files }
     {
         loop {
             let flushed = self.flush(p);

@@ -1,5 +1,5 @@
 // The files of a volume, as a session lists them, and the order in which their pages are taken out of memory.
-ghost use Rattle.std.specs.Prelude.{◌≡◌, ◌-◌, ◌^◌, ◌≤◌, length, min, slice_get, IfOk};
+ghost use Rattle.std.specs.Prelude.{◌≡◌, ◌-◌, ◌^◌, min, slice_get, IfOk};
 ghost use Rattle.session.specs.Files.{AreFiles, pages_in, pages_of_line, page_after};
 
 use device::Device;
@@ -53,12 +53,10 @@ impl<A: Allocator + Copy> Files<A> {
         pages
     }
 
-    /// The page after the one that was answered last; after the last page of all comes the first. (A volume has at most
-    /// 64 files.)
+    /// The page after the one that was answered last; after the last page of all comes the first.
     pub fn turn(&mut self) -> FilePage
         ensures page { result ≡ self.old.next }
-        ensures next { length self.old.lines.items ≤ 65536
-            → self.new.next ≡ page_after self.old.lines.items self.old.next }
+        ensures next { self.new.next ≡ page_after self.old.lines.items self.old.next }
         ensures lines { self.new.lines ≡ self.old.lines }
     {
         let now = self.next;
@@ -68,7 +66,7 @@ impl<A: Allocator + Copy> Files<A> {
 
     // The page after a page.
     fn after(&self, now: FilePage) -> FilePage
-        ensures { length self.now.lines.items ≤ 65536 → result ≡ page_after self.now.lines.items now }
+        ensures { result ≡ page_after self.now.lines.items now }
     {
         if now.page < self.last_page(now.file) {
             return FilePage {

@@ -7,12 +7,14 @@ ghost use Rattle.shootdown.specs.Shootdown.{state_of};
 ghost use Rattle.machine.specs.declared.act.Act.TheVariants as acts;
 ghost use Rattle.machine.specs.declared.act.Reply.TheVariants as replied;
 ghost use Rattle.session.specs.CarriedOut.{CarriesOut};
-ghost use Rattle.session.specs.Ends.{MakesRoom, AreFruitless, reports_reclaimed};
-ghost use Rattle.session.specs.Lengths.{reports_begun, reports_flushed, AnswersChange};
+ghost use Rattle.session.specs.Ends.{MakesRoom, reports_reclaimed};
+ghost use Rattle.session.specs.Lengths.{reports_begun, AnswersChange};
 ghost use Rattle.session.specs.Ranges.{MakesStepsThat};
-ghost use Rattle.session.specs.Steps.{Makes, reports_fixed};
+ghost use Rattle.session.specs.Steps.{Makes, reports_fixed, reports_flushed};
+ghost use Rattle.session.specs.Turns.{InTurn};
 ghost use Rattle.session.specs.inside.Paging.{Serves, IsUnservedPaging};
 ghost use Rattle.session.specs.inside.Changing.{AreCalm, HoldsLock, IsOver, reports_made};
+ghost use Rattle.session.specs.inside.Trying.{MakesRoomLater, Tries, TriesPage, WritesHome};
 
 use crate::requests::Requests;
 use device::Device;
@@ -28,9 +30,10 @@ impl<D: Device, A: Allocator + Copy> Requests<D, A> {
     /// served.
     pub(crate) fn fix(&mut self, p: ProcessorNumber, va: u64, write: bool) -> Reply
         ensures served { reports_fixed result ≡ true → CarriesOut D.Device self.old.machine self.old.notes
-            (Serves p va write) self.new.machine self.new.notes }
+            (InTurn self.old.files (λ _. Serves p va write) self.new.files) self.new.machine self.new.notes }
         ensures ends { reports_fixed result ≡ false → CarriesOut D.Device self.old.machine self.old.notes
-            (IsUnservedPaging p va write result) self.new.machine self.new.notes }
+            (InTurn self.old.files (IsUnservedPaging p va write result) self.new.files)
+            self.new.machine self.new.notes }
     {
         let fix = Step {
             p,
@@ -48,8 +51,8 @@ impl<D: Device, A: Allocator + Copy> Requests<D, A> {
 
     /// Makes a frame free, if that can be done. Answers whether one is.
     pub(crate) fn make_room(&mut self, p: ProcessorNumber) -> bool
-        ensures { CarriesOut D.Device self.old.machine self.old.notes (MakesRoom p result)
-            self.new.machine self.new.notes }
+        ensures { CarriesOut D.Device self.old.machine self.old.notes
+            (InTurn self.old.files (MakesRoom p result) self.new.files) self.new.machine self.new.notes }
     {
         if self.take_next_out(p) {
             return true;
@@ -59,8 +62,8 @@ impl<D: Device, A: Allocator + Copy> Requests<D, A> {
 
     // Makes a frame free, once the write-outs are done: a page that belongs to one stays in memory until then.
     fn make_room_later(&mut self, p: ProcessorNumber) -> bool
-        ensures { CarriesOut D.Device self.old.machine self.old.notes (MakesRoom p result)
-            self.new.machine self.new.notes }
+        ensures { CarriesOut D.Device self.old.machine self.old.notes
+            (InTurn self.old.files (MakesRoomLater p result) self.new.files) self.new.machine self.new.notes }
     {
         if !self.write_home(p) {
             return false;
@@ -68,14 +71,13 @@ impl<D: Device, A: Allocator + Copy> Requests<D, A> {
         self.take_next_out(p)
     }
 
-    // Takes the next page that is clean out of memory. Answers whether there was one.
+    // Takes the next page that is clean out of memory. Answers whether there was one; if not, all pages were tried.
     fn take_next_out(&mut self, p: ProcessorNumber) -> bool
-        ensures { CarriesOut D.Device self.old.machine self.old.notes (MakesRoom p result)
-            self.new.machine self.new.notes }
+        ensures { CarriesOut D.Device self.old.machine self.old.notes
+            (InTurn self.old.files (Tries p result) self.new.files) self.new.machine self.new.notes }
     {
-        for _ in 0..self.files().pages() {
-            let page = self.turn();
-            if self.take_out(p, page) {
+        for _tried in 0..self.files().pages() {
+            if self.try_next(p) {
                 return true;
             }
         }
@@ -84,33 +86,43 @@ impl<D: Device, A: Allocator + Copy> Requests<D, A> {
 
     // Makes all steps of the write-outs that are left. Answers whether there was one.
     fn write_home(&mut self, p: ProcessorNumber) -> bool
-        ensures { CarriesOut D.Device self.old.machine self.old.notes (AreFruitless p)
-            self.new.machine self.new.notes }
+        ensures { CarriesOut D.Device self.old.machine self.old.notes
+            (InTurn self.old.files (λ _. WritesHome p result) self.new.files) self.new.machine self.new.notes }
     {
         let mut has_made = false;
-        for _ in 0..u64::MAX {
+        loop {
             let flushed = self.flush(p);
             if !is_flushed(&flushed) {
                 return has_made;
             }
             has_made = true;
         }
-        has_made
     }
 
     /// Makes a step of the write-outs.
     pub(crate) fn flush(&mut self, p: ProcessorNumber) -> Reply
-        ensures { Makes D.Device self.old.machine self.old.notes (record { p = p; act = acts.Flush } ∷ []) (result ∷ [])
-            self.new.machine self.new.notes }
+        ensures makes { Makes D.Device self.old.machine self.old.notes (record { p = p; act = acts.Flush } ∷ [])
+            (result ∷ []) self.new.machine self.new.notes }
+        ensures files { self.new.files ≡ self.old.files }
     {
         let flush = Step { p, act: Act::Flush };
         self.make(&flush)
     }
 
+    // Takes the page out of memory whose turn it is, if it is there and clean. Answers whether it was.
+    fn try_next(&mut self, p: ProcessorNumber) -> bool
+        ensures { CarriesOut D.Device self.old.machine self.old.notes
+            (InTurn self.old.files (λ _. Tries p result 1) self.new.files) self.new.machine self.new.notes }
+    {
+        let page = self.turn();
+        self.take_out(p, page)
+    }
+
     // Takes a page out of memory, if it is there and clean. Answers whether it was.
     fn take_out(&mut self, p: ProcessorNumber, page: FilePage) -> bool
-        ensures { CarriesOut D.Device self.old.machine self.old.notes (MakesRoom p result)
+        ensures tries { CarriesOut D.Device self.old.machine self.old.notes (TriesPage p page result)
             self.new.machine self.new.notes }
+        ensures files { self.new.files ≡ self.old.files }
     {
         let reclaim = Step {
             p,
@@ -134,6 +146,7 @@ impl<D: Device, A: Allocator + Copy> Requests<D, A> {
         ensures answers { MakesStepsThat D.Device self.old.machine self.old.notes (AnswersChange p result)
             self.new.machine self.new.notes }
         ensures over { IsOver self.old.machine.state self.new.machine.state }
+        ensures files { self.new.files ≡ self.old.files }
         ensures made { (change : Change) → HoldsLock p change self.old.machine.state
             → reports_made change result ≡ true }
     {
@@ -147,6 +160,7 @@ impl<D: Device, A: Allocator + Copy> Requests<D, A> {
         ensures answers { MakesStepsThat D.Device self.old.machine self.old.notes (AnswersChange p result)
             self.new.machine self.new.notes }
         ensures over { IsOver self.old.machine.state self.new.machine.state }
+        ensures files { self.new.files ≡ self.old.files }
         ensures made { (change : Change) → HoldsLock p change self.old.machine.state
             → reports_made change result ≡ true }
     {
@@ -178,6 +192,7 @@ impl<D: Device, A: Allocator + Copy> Requests<D, A> {
         ensures answers { MakesStepsThat D.Device self.old.machine self.old.notes (AnswersChange p result)
             self.new.machine self.new.notes }
         ensures over { IsOver self.old.machine.state self.new.machine.state }
+        ensures files { self.new.files ≡ self.old.files }
         ensures made { (change : Change) → HoldsLock p change self.old.machine.state
             → reports_made change result ≡ true }
     {

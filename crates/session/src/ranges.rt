@@ -5,8 +5,9 @@ ghost use Rattle.machine.specs.declared.act.Act.TheVariants as acts;
 ghost use Rattle.machine.specs.declared.act.Reply.TheVariants as replied;
 ghost use Rattle.session.specs.CarriedOut.{CarriesOut};
 ghost use Rattle.session.specs.Ends.{IsAccessFor, IsPiece, reports_fault};
-ghost use Rattle.session.specs.Ranges.{MakesStepsThat, LoadsReached, StoresReached};
+ghost use Rattle.session.specs.Ranges.{LoadsReached, StoresReached};
 ghost use Rattle.session.specs.Steps.{reports_fixed};
+ghost use Rattle.session.specs.Turns.{InTurn};
 ghost use Rattle.session.specs.inside.Paging.{EndsBy, StopsAt, LoadsOn};
 
 use crate::requests::Requests;
@@ -37,7 +38,8 @@ impl<D: Device, A: Allocator + Copy> Requests<D, A> {
     ) -> Reached
         requires { bytes.old.items ≡ [] }
         ensures { CarriesOut D.Device self.old.machine self.old.notes
-            (LoadsReached p va count bytes.new.items result) self.new.machine self.new.notes }
+            (InTurn self.old.files (LoadsReached p va count bytes.new.items result) self.new.files)
+            self.new.machine self.new.notes }
     {
         let mut done = 0;
         while done < count {
@@ -58,7 +60,8 @@ impl<D: Device, A: Allocator + Copy> Requests<D, A> {
 
     /// Stores bytes from an address on.
     pub fn store(&mut self, p: ProcessorNumber, va: u64, bytes: &[u8]) -> Reached
-        ensures { CarriesOut D.Device self.old.machine self.old.notes (StoresReached p va bytes.now result)
+        ensures { CarriesOut D.Device self.old.machine self.old.notes
+            (InTurn self.old.files (StoresReached p va bytes.now result) self.new.files)
             self.new.machine self.new.notes }
     {
         let mut done = 0;
@@ -87,8 +90,9 @@ impl<D: Device, A: Allocator + Copy> Requests<D, A> {
         piece: &FewBytes,
         bytes: &mut Vec<u8, A>,
     ) -> Result<usize, AllocError>
-        ensures loads { IfOk result (λ more. MakesStepsThat D.Device self.now.machine self.now.notes
-            (LoadsOn p va done more (bytes.old.items ++ piece.now) bytes.new.items) self.now.machine self.now.notes) }
+        ensures loads { IfOk result (λ more. CarriesOut D.Device self.now.machine self.now.notes
+            (InTurn self.now.files (λ _. LoadsOn p va done more (bytes.old.items ++ piece.now) bytes.new.items)
+            self.now.files) self.now.machine self.now.notes) }
         ensures few { IfOk result (λ more. more ≤ left) }
     {
         bytes.extend_from_slice(piece.as_slice())?;
@@ -102,10 +106,10 @@ impl<D: Device, A: Allocator + Copy> Requests<D, A> {
     fn load_piece(&mut self, p: ProcessorNumber, va: u64, count: usize) -> Result<FewBytes, Reply>
         requires { IsPiece va count }
         ensures ok { IfOk result (λ bytes. CarriesOut D.Device self.old.machine self.old.notes
-            (EndsBy (record { p = p; act = acts.Load va count }) (replied.Bytes bytes))
-            self.new.machine self.new.notes) }
-        ensures err { IfErr result (λ reply. CarriesOut D.Device self.old.machine self.old.notes (StopsAt p va false reply)
-            self.new.machine self.new.notes) }
+            (InTurn self.old.files (λ _. EndsBy (record { p = p; act = acts.Load va count }) (replied.Bytes bytes))
+            self.new.files) self.new.machine self.new.notes) }
+        ensures err { IfErr result (λ reply. CarriesOut D.Device self.old.machine self.old.notes
+            (InTurn self.old.files (StopsAt p va false reply) self.new.files) self.new.machine self.new.notes) }
     {
         let load = Act::Load {
             va,
@@ -123,10 +127,10 @@ impl<D: Device, A: Allocator + Copy> Requests<D, A> {
     fn store_piece(&mut self, p: ProcessorNumber, va: u64, bytes: &[u8]) -> Result<(), Reply>
         requires { IsPiece va (length bytes.now) }
         ensures ok { IfOk result (λ _. CarriesOut D.Device self.old.machine self.old.notes
-            (EndsBy (record { p = p; act = acts.Store va bytes.now }) replied.Stored)
-            self.new.machine self.new.notes) }
-        ensures err { IfErr result (λ reply. CarriesOut D.Device self.old.machine self.old.notes (StopsAt p va true reply)
-            self.new.machine self.new.notes) }
+            (InTurn self.old.files (λ _. EndsBy (record { p = p; act = acts.Store va bytes.now }) replied.Stored)
+            self.new.files) self.new.machine self.new.notes) }
+        ensures err { IfErr result (λ reply. CarriesOut D.Device self.old.machine self.old.notes
+            (InTurn self.old.files (StopsAt p va true reply) self.new.files) self.new.machine self.new.notes) }
     {
         let bytes = part(bytes);
         let answer = self.access(p, Act::Store { va, bytes }, va, true)?;
@@ -142,10 +146,11 @@ impl<D: Device, A: Allocator + Copy> Requests<D, A> {
     fn access(&mut self, p: ProcessorNumber, act: Act, va: u64, write: bool) -> Result<Reply, Reply>
         requires { IsAccessFor va write act }
         ensures ok { IfOk result (λ reply. CarriesOut D.Device self.old.machine self.old.notes
-            (EndsBy (record { p = p; act = act }) reply) self.new.machine self.new.notes) }
-        ensures no_fault { IfOk result (λ reply. reports_fault reply ≡ false) }
-        ensures err { IfErr result (λ reply. CarriesOut D.Device self.old.machine self.old.notes (StopsAt p va write reply)
+            (InTurn self.old.files (λ _. EndsBy (record { p = p; act = act }) reply) self.new.files)
             self.new.machine self.new.notes) }
+        ensures no_fault { IfOk result (λ reply. reports_fault reply ≡ false) }
+        ensures err { IfErr result (λ reply. CarriesOut D.Device self.old.machine self.old.notes
+            (InTurn self.old.files (StopsAt p va write reply) self.new.files) self.new.machine self.new.notes) }
     {
         let step = Step { p, act };
         let reply = self.make(&step);

@@ -5,6 +5,8 @@ ghost use Rattle.serde_json.specs.Find.{as_str};
 ghost use Rattle.serde_json.specs.View.{view};
 ghost use Rattle.scripts.specs.Arguments.{byte_of};
 ghost use Rattle.session.specs.Asked.{asked, IsMemory};
+ghost use Rattle.session.specs.Causes.{IsFaultOf};
+ghost use Rattle.session.specs.inside.Faults.{IsFaultIn, IsFaultInside};
 ghost use Rattle.scripts.specs.ScriptFault.{IsMemory as IsNoMemory};
 ghost use Rattle.session.specs.Requests.{shape_in, request_in, request_of, items_request, steps_together, step_alone, named_request};
 ghost use Rattle.session.specs.Requests.{with_two, load_of, store_of, commit_of, set_length_of, bytes_in_digits, digits_of};
@@ -72,8 +74,12 @@ pub fn read_request<A: Allocator + Copy>(
 ) -> Result<Request<A>, RequestFault>
     ensures ok { IfOk result (λ request. request_in line.now ≡ Some (asked request)) }
     ensures err { IfErr result (λ fault. IsMemory fault ⊎ (request_in line.now ≡ None) ⊎ ¬ (IsUtf8 line.now)) }
+    ensures why { IfErr result (λ fault. IsMemory fault ⊎ IsFaultOf fault line.now) }
 {
-    let text = str::from_utf8(line).map_err(|_| RequestFault::NotUtf8)?;
+    let text = match str::from_utf8(line) {
+        Ok(text) => text,
+        Err(_) => return Err(RequestFault::NotUtf8),
+    };
     match parsed(global, text) {
         Ok(value) => request_of(global, alloc, &value),
         Err(ScriptFault::NotJson(cause)) => Err(RequestFault::NotJson(cause)),
@@ -89,6 +95,7 @@ fn request_of<A: Allocator + Copy>(
 ) -> Result<Request<A>, RequestFault>
     ensures ok { IfOk result (λ request. request_of (view value.now) ≡ Some (asked request)) }
     ensures err { IfErr result (λ fault. IsMemory fault ⊎ (request_of (view value.now) ≡ None)) }
+    ensures why { IfErr result (λ fault. IsFaultIn fault (view value.now)) }
 {
     match value.as_array() {
         Some(items) => items_request(global, alloc, value, items),
@@ -107,6 +114,7 @@ fn items_request<A: Allocator + Copy>(
         ≡ Some (asked request)) }
     ensures err { IfErr result (λ fault. IsMemory fault
         ⊎ (items_request (view value.now) (map view items.now) ≡ None)) }
+    ensures why { IfErr result (λ fault. IsFaultInside fault) }
 {
     match items {
         [] => Err(RequestFault::Empty),
@@ -124,6 +132,7 @@ fn steps_together<A: Allocator + Copy>(
 ) -> Result<Request<A>, RequestFault>
     ensures ok { IfOk result (λ request. steps_together (map view items.now) ≡ Some (asked request)) }
     ensures err { IfErr result (λ fault. IsMemory fault ⊎ (steps_together (map view items.now) ≡ None)) }
+    ensures why { IfErr result (λ fault. IsFaultInside fault) }
 {
     match read_steps(global, alloc, items) {
         Ok(steps) => Ok(Request::Steps(steps)),
@@ -154,12 +163,13 @@ fn named<A: Allocator + Copy>(
         (map view arguments.now) ≡ Some (asked request)) }
     ensures err { IfErr result (λ fault. IsMemory fault ⊎ (named_request (view value.now) (as_str (view name.now))
         (view p.now) (map view arguments.now) ≡ None)) }
+    ensures why { IfErr result (λ fault. IsFaultInside fault) }
 {
     match name.as_str() {
-        Some("loads") => Ok(load_of(p, arguments)?),
+        Some("loads") => load_of(p, arguments).map_err(RequestFault::Step),
         Some("stores") => store_of(alloc, p, arguments),
-        Some("commit") => Ok(commit_of(p, arguments)?),
-        Some("setlength") => Ok(set_length_of(p, arguments)?),
+        Some("commit") => commit_of(p, arguments).map_err(RequestFault::Step),
+        Some("setlength") => set_length_of(p, arguments).map_err(RequestFault::Step),
         _ => step_alone(alloc, value),
     }
 }
@@ -167,6 +177,7 @@ fn named<A: Allocator + Copy>(
 fn step_alone<A: Allocator + Copy>(alloc: A, value: &Value) -> Result<Request<A>, RequestFault>
     ensures ok { IfOk result (λ request. step_alone (view value.now) ≡ Some (asked request)) }
     ensures err { IfErr result (λ fault. IsMemory fault ⊎ (step_alone (view value.now) ≡ None)) }
+    ensures why { IfErr result (λ fault. IsFaultInside fault) }
 {
     let step = match read_step(value) {
         Ok(step) => step,
@@ -196,10 +207,11 @@ fn store_of<A: Allocator + Copy>(
 ) -> Result<Request<A>, RequestFault>
     ensures ok { IfOk result (λ request. store_of (view p.now) (map view arguments.now) ≡ Some (asked request)) }
     ensures err { IfErr result (λ fault. IsMemory fault ⊎ (store_of (view p.now) (map view arguments.now) ≡ None)) }
+    ensures why { IfErr result (λ fault. IsFaultInside fault) }
 {
     let wanted = "an address and a string of hexadecimal digits";
-    let (p, va, digits) = with_two(p, arguments, "stores", wanted)?;
-    let va = long(va, "the address")?;
+    let (p, va, digits) = with_two(p, arguments, "stores", wanted).map_err(RequestFault::Step)?;
+    let va = long(va, "the address").map_err(RequestFault::Step)?;
     let bytes = bytes_of(alloc, digits)?;
     Ok(Request::Store { p, va, bytes })
 }
@@ -259,6 +271,7 @@ fn wrong_arguments(act: &'static str, arguments: &'static str) -> StepFault {
 fn bytes_of<A: Allocator + Copy>(alloc: A, value: &Value) -> Result<Vec<u8, A>, RequestFault>
     ensures ok { IfOk result (λ bytes. bytes_in_digits (view value.now) ≡ Some bytes.items) }
     ensures err { IfErr result (λ fault. IsMemory fault ⊎ (bytes_in_digits (view value.now) ≡ None)) }
+    ensures why { IfErr result (λ fault. IsFaultInside fault) }
 {
     match value.as_str() {
         Some(digits) => bytes_of_digits(alloc, digits),
@@ -269,6 +282,7 @@ fn bytes_of<A: Allocator + Copy>(alloc: A, value: &Value) -> Result<Vec<u8, A>, 
 fn bytes_of_digits<A: Allocator + Copy>(alloc: A, digits: &str) -> Result<Vec<u8, A>, RequestFault>
     ensures ok { IfOk result (λ bytes. digits_of digits.now ≡ Some bytes.items) }
     ensures err { IfErr result (λ fault. IsMemory fault ⊎ (digits_of digits.now ≡ None)) }
+    ensures why { IfErr result (λ fault. IsFaultInside fault) }
 {
     if digits.len() as u64 > 2 * MOST_BYTES {
         return Err(RequestFault::Bytes(MOST_BYTES));

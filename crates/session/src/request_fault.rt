@@ -1,31 +1,35 @@
 // Why a line is no request.
-use scripts::{ScriptFault, StepFault};
+use scripts::StepFault;
 use std::alloc::AllocError;
 use thiserror::Error;
 
-/// Why a line is no request.
+/// Why a line is no request. A bad line is answered by words for its fault, which a contract knows (`cause_words`), and
+/// then by what is displayed of the fault.
 #[derive(Debug, Drop, Error)]
 pub enum RequestFault {
-    #[error("it has more than {0} bytes")]
+    /// It has more than so many bytes.
+    #[error("")]
     Long(u64),
-    #[error("it isn't UTF-8")]
+    #[error("")]
     NotUtf8,
-    #[error("it isn't JSON: {0}")]
+    #[error("{0}")]
     NotJson(serde_json::Error),
-    #[error("it isn't a list")]
+    #[error("")]
     NotAList,
-    #[error("the list is empty")]
+    #[error("")]
     Empty,
     #[error("{0}")]
-    Step(#[from] StepFault),
-    #[error("step {number}, {found}: {cause}")]
+    Step(StepFault),
+    /// The step of this number, counted from 1, is none.
+    #[error("{found}: {cause}")]
     Steps {
         number: u64,
         found: String,
         cause: StepFault,
     },
-    #[error("the bytes aren't two hexadecimal digits for each of at most {0} bytes")]
+    /// The bytes aren't digits, or are more than so many.
+    #[error("")]
     Bytes(u64),
-    #[error("out of memory")]
+    #[error("")]
     Memory(#[from(alloc)] AllocError),
 }

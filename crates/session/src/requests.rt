@@ -3,7 +3,7 @@ ghost use Rattle.std.specs.Prelude.{◌≡◌, ◌+◌, ◌^◌, ◌≤◌, [], 
 ghost use Rattle.shootdown.specs.Shootdown.{IsShootdown};
 ghost use Rattle.machine.specs.AtOnce.{load_steps, load_replies, store_steps, store_replies};
 ghost use Rattle.engine.specs.Engine.{HasStarted, HasNotStarted};
-ghost use Rattle.session.specs.Files.{AreFiles};
+ghost use Rattle.session.specs.Files.{AreFiles, page_after};
 ghost use Rattle.session.specs.Sessions.{IsStarted, no_notes};
 ghost use Rattle.session.specs.Steps.{Makes};
 
@@ -93,8 +93,9 @@ impl<D: Device, A: Allocator + Copy> Requests<D, A> {
 
     /// Makes a step, and notes what its reply says.
     pub fn make(&mut self, step: &Step) -> Reply
-        ensures { Makes D.Device self.old.machine self.old.notes (step.now ∷ []) (result ∷ []) self.new.machine
+        ensures makes { Makes D.Device self.old.machine self.old.notes (step.now ∷ []) (result ∷ []) self.new.machine
             self.new.notes }
+        ensures files { self.new.files ≡ self.old.files }
     {
         let reply = self.machine.enter(step);
         self.notes = self.notes.after(&reply);
@@ -117,6 +118,7 @@ impl<D: Device, A: Allocator + Copy> Requests<D, A> {
     pub(crate) fn store_run(&mut self, p: ProcessorNumber, va: u64, bytes: &[u8]) -> usize
         ensures makes { Makes D.Device self.old.machine self.old.notes (store_steps p va (take result bytes.now))
             (store_replies (take result bytes.now)) self.new.machine self.new.notes }
+        ensures files { self.new.files ≡ self.old.files }
         ensures few { result ≤ length bytes.now }
         ensures below { va + result ≤ 2 ^ 64 }
     {
@@ -139,8 +141,11 @@ impl<D: Device, A: Allocator + Copy> Requests<D, A> {
         self.notes
     }
 
-    // The page that is to be taken out of memory next.
+    /// The page whose turn it is to be taken out of memory.
     pub(crate) fn turn(&mut self) -> FilePage
+        ensures page { result ≡ self.old.files.next }
+        ensures next { self.new.files.next ≡ page_after self.old.files.lines.items self.old.files.next }
+        ensures lines { self.new.files.lines ≡ self.old.files.lines }
         ensures machine { self.new.machine ≡ self.old.machine }
         ensures notes { self.new.notes ≡ self.old.notes }
     {

@@ -5,6 +5,7 @@ ghost use Rattle.spaces.specs.declared.change.Change.TheVariants.{SetLength};
 ghost use Rattle.machine.specs.declared.act.Reply.TheVariants as replied;
 ghost use Rattle.session.specs.CarriedOut.{CarriesOut};
 ghost use Rattle.session.specs.Lengths.{reports_begun, AnswersLength, RefusesLength};
+ghost use Rattle.session.specs.Turns.{InTurn};
 ghost use Rattle.session.specs.inside.Changing.{BeginsChange};
 ghost use Rattle.session.specs.inside.Made.{BeginsLength, AttemptsLength};
 
@@ -22,7 +23,8 @@ impl<D: Device, A: Allocator + Copy> Requests<D, A> {
     /// that step was busy, and the step of the write-outs that would be made for it was refused, it answers that
     /// refusal. A new length isn't committed by that.
     pub fn set_length(&mut self, p: ProcessorNumber, file: u16, length: u64) -> Reply
-        ensures { CarriesOut D.Device self.old.machine self.old.notes (AnswersLength p file length result)
+        ensures { CarriesOut D.Device self.old.machine self.old.notes
+            (InTurn self.old.files (AnswersLength p file length result) self.new.files)
             self.new.machine self.new.notes }
     {
         let begun = self.begin_length(p, file, length);
@@ -35,9 +37,11 @@ impl<D: Device, A: Allocator + Copy> Requests<D, A> {
     // Begins to set a length. Where write-outs have to be done first, it makes steps of them.
     fn begin_length(&mut self, p: ProcessorNumber, file: u16, length: u64) -> Reply
         ensures begins { reports_begun result ≡ true → BeginsChange D.Device self.old.machine self.old.notes
-            (BeginsLength p file length) p (SetLength file length) self.new.machine self.new.notes }
+            (InTurn self.old.files (λ _. BeginsLength p file length) self.new.files) p (SetLength file length)
+            self.new.machine self.new.notes }
         ensures refuses { reports_begun result ≡ false → CarriesOut D.Device self.old.machine self.old.notes
-            (RefusesLength p file length result) self.new.machine self.new.notes }
+            (InTurn self.old.files (RefusesLength p file length result) self.new.files)
+            self.new.machine self.new.notes }
     {
         loop {
             let begun = self.begin_in_room(p, file, length);
@@ -53,15 +57,17 @@ impl<D: Device, A: Allocator + Copy> Requests<D, A> {
     // Begins to set a length. Where too few frames are free for the pages that the file gets, it makes more free.
     fn begin_in_room(&mut self, p: ProcessorNumber, file: u16, length: u64) -> Reply
         ensures begins { reports_begun result ≡ true → BeginsChange D.Device self.old.machine self.old.notes
-            (AttemptsLength p file length result) p (SetLength file length) self.new.machine self.new.notes }
+            (InTurn self.old.files (AttemptsLength p file length result) self.new.files) p (SetLength file length)
+            self.new.machine self.new.notes }
         ensures refuses { reports_begun result ≡ false → CarriesOut D.Device self.old.machine self.old.notes
-            (AttemptsLength p file length result) self.new.machine self.new.notes }
+            (InTurn self.old.files (AttemptsLength p file length result) self.new.files)
+            self.new.machine self.new.notes }
     {
         let set = Step {
             p,
             act: Act::SetLength { file, length },
         };
-        for _ in 0..u64::MAX {
+        loop {
             self.has_phases();
             let begun = self.make(&set);
             if !is_no_frame(&begun) {
@@ -71,7 +77,5 @@ impl<D: Device, A: Allocator + Copy> Requests<D, A> {
                 return begun;
             }
         }
-        self.has_phases();
-        self.make(&set)
     }
 }

@@ -1,10 +1,12 @@
 // The lines of a session, one after the other.
 ghost use Rattle.std.specs.Prelude.{◌≡◌, ◌≢◌, ◌⊎◌, List, ℕ, [], ◌∷◌, ◌++◌, Ok, true, false, if◌then◌else◌, IsOk, IfOk, OnOk, OnSome, codes};
+ghost use Rattle.std.specs.Fmt.{decimal};
 ghost use Rattle.std.specs.Io.KnownBytes.{Appends, IsAtEnd, Keeps};
 ghost use Rattle.machine.specs.declared.act.Shape.{Shape};
 ghost use Rattle.engine.specs.Engine.{HasStarted, HasRun};
 ghost use Rattle.session.specs.Answers.{AnswersInput, WritesAnswers};
 ghost use Rattle.session.specs.Asked.{IsMemory};
+ghost use Rattle.session.specs.Causes.{cause_words};
 ghost use Rattle.session.specs.Lines.{HasNoFeed};
 ghost use Rattle.session.specs.Locks.{AsksSteps, KeepsPhases};
 ghost use Rattle.session.specs.Ranges.{MakesStepsThat};
@@ -111,27 +113,28 @@ pub fn serve_line<D: Device, A: Allocator + Copy, W: io::Write>(
     }
 }
 
-// Writes why a line is no request. Where that is that memory was refused, there is no answer. The text of the cause is
-// made before any of the line is written.
+// Writes why a line is no request. If that is that memory was refused, there is no answer. The detail is made before
+// any of the line is written.
 fn write_bad<A: Allocator + Copy, W: io::Write>(
     alloc: A,
     cause: &RequestFault,
     out: &mut W,
 ) -> Result<(), SessionFault>
-    ensures { OnOk result (¬ (IsMemory cause.now) × ((text : List ℕ) × HasNoFeed text
-        × Appends (W.contents out.old) (W.contents out.new) (codes "badline " ++ text ++ 10 ∷ []))) }
+    ensures { OnOk result (¬ (IsMemory cause.now) × ((detail : List ℕ) × HasNoFeed detail
+        × Appends (W.contents out.old) (W.contents out.new)
+        (codes "badline " ++ cause_words cause.now ++ detail ++ 10 ∷ []))) }
 {
     if let RequestFault::Memory(_) = cause {
         return Err(SessionFault::Memory(AllocError));
     }
-    match cause_line(alloc, cause) {
-        Ok(text) => write_cause(&text, out).map_err(SessionFault::Output),
+    match detail_line(alloc, cause) {
+        Ok(detail) => write_cause(cause, &detail, out).map_err(SessionFault::Output),
         Err(fault) => Err(SessionFault::Memory(fault)),
     }
 }
 
-// The text of a cause, in one line.
-fn cause_line<A: Allocator + Copy>(alloc: A, cause: &RequestFault) -> Result<Vec<u8, A>, AllocError>
+// The detail of a cause, in one line.
+fn detail_line<A: Allocator + Copy>(alloc: A, cause: &RequestFault) -> Result<Vec<u8, A>, AllocError>
     ensures { IfOk result (λ line. HasNoFeed line.items) }
 {
     let text = cause.to_string(alloc)?;
@@ -155,13 +158,39 @@ fn space_for_feed(byte: u8) -> u8
     if byte == b'\n' { b' ' } else { byte }
 }
 
-fn write_cause<W: io::Write>(cause: &[u8], out: &mut W) -> io::Result<()>
+fn write_cause<W: io::Write>(cause: &RequestFault, detail: &[u8], out: &mut W) -> io::Result<()>
     ensures { OnOk result (Appends (W.contents out.old) (W.contents out.new)
-        (codes "badline " ++ cause.now ++ 10 ∷ [])) }
+        (codes "badline " ++ cause_words cause.now ++ detail.now ++ 10 ∷ [])) }
 {
     out.write_all(b"badline ")?;
-    out.write_all(cause)?;
+    write_words(cause, out)?;
+    out.write_all(detail)?;
     out.write_all(b"\n")
+}
+
+// Writes the words for a fault.
+fn write_words<W: io::Write>(cause: &RequestFault, out: &mut W) -> io::Result<()>
+    ensures { OnOk result (Appends (W.contents out.old) (W.contents out.new) (cause_words cause.now)) }
+{
+    match cause {
+        RequestFault::Long(most) => write!(out, "it has more than {most} bytes"),
+        RequestFault::NotUtf8 => out.write_all(b"it isn't UTF-8"),
+        RequestFault::NotJson(_) => out.write_all(b"it isn't JSON: "),
+        RequestFault::NotAList => out.write_all(b"it isn't a list"),
+        RequestFault::Empty => out.write_all(b"the list is empty"),
+        RequestFault::Step(_) => out.write_all(b"it isn't a request: "),
+        RequestFault::Steps { number, .. } => write!(out, "step {number}, "),
+        RequestFault::Bytes(most) => write_wanted_bytes(*most, out),
+        RequestFault::Memory(_) => out.write_all(b"out of memory"),
+    }
+}
+
+// Writes how bytes are to be given, of which there are at most so many.
+fn write_wanted_bytes<W: io::Write>(most: u64, out: &mut W) -> io::Result<()>
+    ensures { OnOk result (Appends (W.contents out.old) (W.contents out.new)
+        (codes "the bytes aren't two hexadecimal digits for each of at most " ++ decimal most ++ codes " bytes")) }
+{
+    write!(out, "the bytes aren't two hexadecimal digits for each of at most {most} bytes")
 }
 
 // Flushes the output after an answer that was written.

@@ -7,6 +7,7 @@ ghost use Rattle.session.specs.Lengths.{AnswersLength};
 ghost use Rattle.session.specs.Ranges.{LoadsReached, StoresReached};
 ghost use Rattle.session.specs.Sessions.{IsServing, IsStarted};
 ghost use Rattle.session.specs.Steps.{Makes};
+ghost use Rattle.session.specs.Turns.{InTurn};
 
 use crate::files::Files;
 use crate::notes::Notes;
@@ -64,8 +65,9 @@ pub fn start<D: Device, A: Allocator + Copy>(
 impl<D: Device, A: Allocator + Copy> Session<D, A> {
     /// Makes a step, and notes what its reply says.
     pub fn make(&mut self, step: &Step) -> Reply
-        ensures { Makes D.Device self.old.machine self.old.notes (step.now ∷ []) (result ∷ []) self.new.machine
+        ensures makes { Makes D.Device self.old.machine self.old.notes (step.now ∷ []) (result ∷ []) self.new.machine
             self.new.notes }
+        ensures files { self.new.files ≡ self.old.files }
     {
         self.requests.make(step)
     }
@@ -74,14 +76,16 @@ impl<D: Device, A: Allocator + Copy> Session<D, A> {
     pub fn load(&mut self, p: ProcessorNumber, va: u64, len: usize, out: &mut Vec<u8, A>) -> Reached
         requires { out.old.items ≡ [] }
         ensures { CarriesOut D.Device self.old.machine self.old.notes
-            (LoadsReached p va len out.new.items result) self.new.machine self.new.notes }
+            (InTurn self.old.files (LoadsReached p va len out.new.items result) self.new.files)
+            self.new.machine self.new.notes }
     {
         self.requests.load(p, va, len, out)
     }
 
     /// Stores bytes from an address on.
     pub fn store(&mut self, p: ProcessorNumber, va: u64, bytes: &[u8]) -> Reached
-        ensures { CarriesOut D.Device self.old.machine self.old.notes (StoresReached p va bytes.now result)
+        ensures { CarriesOut D.Device self.old.machine self.old.notes
+            (InTurn self.old.files (StoresReached p va bytes.now result) self.new.files)
             self.new.machine self.new.notes }
     {
         self.requests.store(p, va, bytes)
@@ -90,8 +94,9 @@ impl<D: Device, A: Allocator + Copy> Session<D, A> {
     /// Commits all stores. Answers the number of the mark, which is durable; or what the step was answered that stopped
     /// the commit: a refusal, or that there was nothing to do.
     pub fn commit(&mut self, p: ProcessorNumber) -> Result<u32, Reply>
-        ensures { CarriesOut D.Device self.old.machine self.old.notes (AnswersCommit p self.old.notes result)
+        ensures answers { CarriesOut D.Device self.old.machine self.old.notes (AnswersCommit p self.old.notes result)
             self.new.machine self.new.notes }
+        ensures files { self.new.files ≡ self.old.files }
     {
         self.requests.commit(p)
     }
@@ -101,7 +106,8 @@ impl<D: Device, A: Allocator + Copy> Session<D, A> {
     /// that step was busy, and the step of the write-outs that would be made for it was refused, it answers that
     /// refusal. A new length isn't committed by that.
     pub fn set_length(&mut self, p: ProcessorNumber, file: u16, length: u64) -> Reply
-        ensures { CarriesOut D.Device self.old.machine self.old.notes (AnswersLength p file length result)
+        ensures { CarriesOut D.Device self.old.machine self.old.notes
+            (InTurn self.old.files (AnswersLength p file length result) self.new.files)
             self.new.machine self.new.notes }
     {
         self.requests.set_length(p, file, length)

@@ -1,5 +1,5 @@
 -- That steps were made.
-use Rattle.std.specs.Prelude.{ℕ, ◌≡◌, ◌⊎◌, true, List, [], ◌∷◌}
+use Rattle.std.specs.Prelude.{ℕ, ◌≡◌, ◌≢◌, ◌⊎◌, true, false, List, [], ◌∷◌}
 use Rattle.device.specs.declared.device.Device.{Ghosts}
 use Rattle.page_entry.specs.declared.refusal.Refusal.TheVariants.{NoFrame}
 use Rattle.machine.specs.declared.act.Reply.{Reply}
@@ -7,9 +7,9 @@ use Rattle.machine.specs.declared.act.Reply.TheVariants.{Begun, Refused}
 use Rattle.machine.specs.declared.act.Step.{Step}
 use Rattle.machine.specs.State.{Whole}
 use Rattle.session.specs.declared.notes.Notes.{Notes}
-use Rattle.session.specs.Ends.{AreFruitless}
-use Rattle.session.specs.Lengths.{IsTry, flush_by, reports_flushed, set_length_by}
-use Rattle.session.specs.Steps.{Makes, AreEach}
+use Rattle.session.specs.Ends.{MakesRoom}
+use Rattle.session.specs.Lengths.{IsTry, flush_by, set_length_by}
+use Rattle.session.specs.Steps.{Makes, AreEach, reports_flushed}
 
 -- Steps were made.
 pub record HasMade {D : Type 0} (disk : Ghosts D) (old : Whole D) (before : Notes) (new : Whole D)
@@ -38,9 +38,10 @@ BeginsLength p file to steps replies = ⊥
 
 -- An attempt to begin to set a length was answered so, after others that were refused for a while; where too few frames
 -- were free, none became free after it.
-abbrev pub AttemptsLength : ℕ → ℕ → ℕ → Reply → List Step → List Reply → Type 0
-AttemptsLength p file to answer (step ∷ steps) (reply ∷ replies) =
-    (IsTry p file to step reply × AttemptsLength p file to answer steps replies)
-    ⊎ ((step ≡ set_length_by p file to) × (reply ≡ answer) × (((steps ≡ []) × (replies ≡ []))
-    ⊎ ((answer ≡ Refused NoFrame) × AreFruitless p steps replies)))
-AttemptsLength p file to answer steps replies = ⊥
+abbrev pub AttemptsLength : ℕ → ℕ → ℕ → Reply → ℕ → List Step → List Reply → Type 0
+AttemptsLength p file to answer all (step ∷ steps) (reply ∷ replies) =
+    (IsTry p file to step reply × AttemptsLength p file to answer all steps replies)
+    ⊎ ((step ≡ set_length_by p file to) × (reply ≡ answer)
+    × (((answer ≢ Refused NoFrame) × (steps ≡ []) × (replies ≡ []))
+    ⊎ ((answer ≡ Refused NoFrame) × MakesRoom p false all steps replies)))
+AttemptsLength p file to answer all steps replies = ⊥

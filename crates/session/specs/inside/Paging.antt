@@ -19,13 +19,13 @@ abbrev pub Serves : ℕ → ℕ → Bool → List Step → List Reply → Type 0
 Serves p va write steps replies = EndsBy (fix_by p va write) Fixed steps replies
 
 -- It wasn't, and the steps read and store nothing.
-abbrev pub IsUnservedPaging : ℕ → ℕ → Bool → Reply → List Step → List Reply → Type 0
-IsUnservedPaging p at write answer steps replies =
-    ArePaging p steps replies × IsUnserved p at write answer steps replies
+abbrev pub IsUnservedPaging : ℕ → ℕ → Bool → Reply → ℕ → List Step → List Reply → Type 0
+IsUnservedPaging p at write answer all steps replies =
+    ArePaging p steps replies × IsUnserved p at write answer all steps replies
 
 -- The steps read and store nothing, and they end a range at this address with this answer.
-abbrev pub StopsAt : ℕ → ℕ → Bool → Reply → List Step → List Reply → Type 0
-StopsAt p at write reply steps replies = ArePaging p steps replies × EndsRange p at write reply steps replies
+abbrev pub StopsAt : ℕ → ℕ → Bool → Reply → ℕ → List Step → List Reply → Type 0
+StopsAt p at write reply all steps replies = ArePaging p steps replies × EndsRange p at write reply all steps replies
 
 -- Of a range, so many bytes more were loaded from this one on, which come after these.
 abbrev pub LoadsOn : ℕ → ℕ → ℕ → ℕ → List ℕ → List ℕ → List Step → List Reply → Type 0

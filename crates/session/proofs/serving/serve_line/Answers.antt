@@ -27,7 +27,7 @@ returns-in-Err-clause-served g c =
     (does_nothing g.D.Device _ _ _ (inl (refl, refl)))
     (on_ok_weaker c.write_bad.result
     (line_refused g.D.Device _ _ c.args.line.now c.in-Err.cause (contents c.args.out.now)
-    (contents c.write_bad.new.out) c.in-Err.ensures.err)
+    (contents c.write_bad.new.out) c.in-Err.ensures.err c.in-Err.ensures.why)
     c.write_bad.ensures)
 
 pub returns-in-Err-clause-phases : goal.returns-in-Err-clause-phases

@@ -1,4 +1,3 @@
-use Rattle.session.specs.declared.request_fault.RequestFault.TheVariants.{Long}
 use Rattle.session.proofs.Lines.{reads_none, reads_one, reads_too_long}
 use Rattle.session.proofs.Served.{line_answers}
 use Rattle.session.proofs.Stretches.{made_does, made_none}
@@ -28,7 +27,7 @@ returns-in-Ok-Long-clause-answered g c =
     let input = g.I.Read.remaining c.args.input.now in
     let rest = g.I.Read.remaining c.read_line.new.input in
     let contents = g.W.Write.contents in
-    bad_flushed g.D.Device _ _ (Long 262144) input rest (contents c.args.out.now) (contents c.write_bad-given.new.out)
+    bad_flushed g.D.Device _ _ input rest (contents c.args.out.now) (contents c.write_bad-given.new.out)
     (contents c.flushed.new.out) c.write_bad-given.result c.flushed.result (reads_too_long input rest _
     c.read_line.new.line.items c.in-Ok-Long.field-0-is c.in-Ok-Long.ensures) c.write_bad-given.ensures
     c.flushed.ensures

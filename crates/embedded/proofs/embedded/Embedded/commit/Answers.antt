@@ -15,7 +15,7 @@ invariant_of-self g c =
     let inside = c.self.inside in
     let new = done.new.self in
     let served = serves_commits inside.committed inside.needed inside.made inside.acknowledged c.args.p done.result
-    inside.requests.machine new.machine inside.requests.notes new.notes c.self.invariant done.ensures.makes in
+    inside.requests.machine new.machine inside.requests.notes new.notes c.self.invariant done.ensures.answers.makes in
     let waits = c.waiting-waiting.ensures ∙ ap (λ (d : Deferred). d.waiting)
     (c.device.ensures ∙ ap (λ (m : Whole Deferred). m.device) c.machine.ensures) in
     let needs = c.needed_by-needed.ensures ∙ ap (λ (d : Deferred). last_needed done.result (recorded_calls d)
@@ -38,4 +38,4 @@ returns-clause-answers g c =
     let P : EmbeddedState g.row.A.Denot → Type 0 =
     λ s. CarriesOut deferred_disk s.machine s.notes (AnswersCommit c.args.p s.notes done.result)
     done.new.self.machine done.new.self.notes in
-    subst P c.self.view_is done.ensures
+    subst P c.self.view_is done.ensures.answers

@@ -7,5 +7,5 @@ invariant_of-self g c = serves_more _ _ _ _ _ _ _ _ _ c.self.invariant c.load-re
 
 pub returns-clause-reached : goal.returns-clause-reached
 returns-clause-reached g c =
-    reached_said _ _ _ _ (LoadsReached c.args.p c.args.va c.args.count c.load-reached.new.bytes.items) _ _
+    reached_said _ _ _ _ _ (LoadsReached c.args.p c.args.va c.args.count c.load-reached.new.bytes.items) _ _
     c.self.view_is c.of.ensures.reached c.load-reached.ensures

@@ -11,28 +11,28 @@ use Rattle.session.proofs.requests.Requests.commit.Goals as goal
 abbrev has_unmarked : Notes → Bool
 has_unmarked n = n.has_unmarked
 
-pub returns-then-not-is_begun : goal.returns-then-not-is_begun
-returns-then-not-is_begun g c = carries_more g.D.Device _ _ _ _ _ _ (mark_stops c.args.p _ _)
+pub returns-then-not-is_begun-clause-answers : goal.returns-then-not-is_begun-clause-answers
+returns-then-not-is_begun-clause-answers g c = carries_more g.D.Device _ _ _ _ _ _ (mark_stops c.args.p _ _)
     (c.begin_mark-begun.ensures.refuses (sym c.if-not-is_begun.ensures))
 
 pub change-changed-requires : goal.change-changed-requires
 change-changed-requires g c = (_, (c.begin_mark-begun.ensures.begins (sym c.if-not-is_begun.ensures)).begins.held)
 
-pub returns-in_default : goal.returns-in_default
-returns-in_default g c =
+pub returns-in_default-clause-answers : goal.returns-in_default-clause-answers
+returns-in_default-clause-answers g c =
     let begun = c.begin_mark-begun.ensures.begins (sym c.if-not-is_begun.ensures) in
     mark_replied _ (c.change-changed.ensures.made _ begun.begins.held) c.in_default.ensures.none
 
-pub returns-then-not-before : goal.returns-then-not-before
-returns-then-not-before g c =
+pub returns-then-not-before-clause-answers : goal.returns-then-not-before-clause-answers
+returns-then-not-before-clause-answers g c =
     let none = ap has_unmarked (sym c.notes-before.ensures) ∙ not_true _ c.if-not-before.true in
     marks_and g.D.Device _ _ _ _ _ _ _ _ c.args.p c.in-Some.mark _ (IsWritten c.args.p c.in-Some.mark)
     c.in-Some.ensures.some (c.begin_mark-begun.ensures.begins (sym c.if-not-is_begun.ensures))
     c.change-changed.ensures.answers c.change-changed.ensures.over
     (carries_nothing g.D.Device _ _ _ (inl (none, refl, refl)))
 
-pub returns-then-not-is_committed : goal.returns-then-not-is_committed
-returns-then-not-is_committed g c =
+pub returns-then-not-is_committed-clause-answers : goal.returns-then-not-is_committed-clause-answers
+returns-then-not-is_committed-clause-answers g c =
     let mark = c.in-Some.mark in
     let some = ap has_unmarked (sym c.notes-before.ensures) ∙ not_false _ c.if-not-before.false in
     let unmade = c.write_out-written.ensures.ends (λ is. false≢true (c.if-not-is_committed.ensures.1 is)) in
@@ -43,8 +43,8 @@ returns-then-not-is_committed g c =
     (carries_more g.D.Device _ _ _ _ _ _ (λ steps replies writes. (some, writes, unmade))
     c.write_out-written.ensures.writes))
 
-pub returns : goal.returns
-returns g c =
+pub returns-clause-answers : goal.returns-clause-answers
+returns-clause-answers g c =
     let mark = c.in-Some.mark in
     let some = ap has_unmarked (sym c.notes-before.ensures) ∙ not_false _ c.if-not-before.false in
     marks_and g.D.Device _ _ _ _ _ _ _ _ c.args.p mark _ (IsWritten c.args.p mark) c.in-Some.ensures.some

@@ -1,22 +1,29 @@
-use Rattle.session.specs.Ends.{is_fruitless}
-use Rattle.session.specs.Steps.{Passes}
+use Rattle.std.proofs.Common.{refl, sym}
 use Rattle.session.proofs.Carried.{carries_nothing, carries_one, carries_then}
-use Rattle.session.proofs.Each.{each_then}
-use Rattle.session.proofs.Rooms.{flush_vain}
+use Rattle.session.proofs.Left.{flushed_fewer}
+use Rattle.session.proofs.Tries.{IsOnlyFlush, writing_ends, writing_more, writing_none}
+use Rattle.session.proofs.Turns.{in_turn_none, in_turn_one, in_turn_then}
 use Rattle.session.proofs.requests.Requests.write_home.Goals as goal
 
-pub loop-init : goal.loop-init
-loop-init g c = carries_nothing g.D.Device _ _ _ tt
+pub loop-flushed-init : goal.loop-flushed-init
+loop-flushed-init g c = carries_nothing g.D.Device _ _ _ (in_turn_none _ _ (writing_none c.args.p))
 
 pub returns-then-not-is_flushed : goal.returns-then-not-is_flushed
 returns-then-not-is_flushed g c =
-    carries_then g.D.Device _ _ _ _ _ _ _ _ _ (each_then (Passes is_fruitless c.args.p)) c.loop.invariant
-    (carries_one g.D.Device _ _ _ _ _ _ _ c.flush-flushed.ensures tt (flush_vain c.args.p c.flush-flushed.result))
+    let flush = c.flush-flushed in
+    carries_then g.D.Device _ _ _ _ _ _ _ _ _ (in_turn_then _ _ _ _ _ _
+    (λ all. writing_ends c.args.p _ flush.result (sym c.if-not-is_flushed.ensures))) c.loop-flushed.invariant
+    (carries_one g.D.Device _ _ _ _ _ _ _ flush.ensures.makes tt
+    (in_turn_one _ _ (λ _. IsOnlyFlush c.args.p flush.result) _ _ flush.ensures.files tt (refl, refl)))
 
-pub loop-preserved : goal.loop-preserved
-loop-preserved g c =
-    carries_then g.D.Device _ _ _ _ _ _ _ _ _ (each_then (Passes is_fruitless c.args.p)) c.loop.invariant
-    (carries_one g.D.Device _ _ _ _ _ _ _ c.flush-flushed.ensures tt (flush_vain c.args.p c.flush-flushed.result))
+pub loop-flushed-preserved : goal.loop-flushed-preserved
+loop-flushed-preserved g c =
+    let flush = c.flush-flushed in
+    carries_then g.D.Device _ _ _ _ _ _ _ _ _ (in_turn_then _ _ _ _ _ _
+    (λ all. writing_more c.args.p _ flush.result)) c.loop-flushed.invariant
+    (carries_one g.D.Device _ _ _ _ _ _ _ flush.ensures.makes tt
+    (in_turn_one _ _ (λ _. IsOnlyFlush c.args.p flush.result) _ _ flush.ensures.files tt (refl, refl)))
 
-pub returns : goal.returns
-returns g c = c.loop.invariant
+pub loop-flushed-smaller : goal.loop-flushed-smaller
+loop-flushed-smaller g c =
+    flushed_fewer g.D.Device _ _ _ _ c.args.p _ c.flush-flushed.ensures.makes (sym c.if-not-is_flushed.ensures)

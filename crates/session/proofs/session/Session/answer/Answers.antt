@@ -17,8 +17,10 @@ returns-in-Store g c =
     answered_for g.D.Device _ _ _ _ _ (asks_store p va bytes.items) _ _
     c.write_stored.result c.map_err.result (contents c.args.out.now) (contents c.write_stored.new.out)
     (ap asked c.in-Store.is) (λ steps replies it. (
+      _,
       reached,
-      subst (λ (bytes : List ℕ). StoresReached p va bytes reached steps replies) c.deref-in-Store.ensures.value it,
+      subst (λ (bytes : List ℕ). StoresReached p va bytes reached _ steps replies) c.deref-in-Store.ensures.value
+          it.does,
       ap (stored_text reached) count,
     )) (λ kept. kept) c.map_err.ensures.variant c.write_stored.ensures c.store-reached.ensures
 
@@ -28,7 +30,7 @@ returns-in-Commit g c =
     answered_for g.D.Device _ _ _ _ _ (asks_commit c.in-Commit.p) _ _
     c.write_committed.result c.map_err-in-Commit.result (contents c.args.out.now) (contents c.write_committed.new.out)
     (ap asked c.in-Commit.is) (λ steps replies it. (c.commit-committed.result, it, refl)) (λ kept. kept)
-    c.map_err-in-Commit.ensures.variant c.write_committed.ensures c.commit-committed.ensures
+    c.map_err-in-Commit.ensures.variant c.write_committed.ensures c.commit-committed.ensures.answers
 
 pub returns-in-SetLength : goal.returns-in-SetLength
 returns-in-SetLength g c =
@@ -36,5 +38,5 @@ returns-in-SetLength g c =
     let asks = c.in-SetLength in
     answered_for g.D.Device _ _ _ _ _ (asks_length asks.p asks.file asks.length) _ _
     c.writeln.result c.map_err-in-SetLength.result (contents c.args.out.now) (contents c.writeln.new.self)
-    (ap asked asks.is) (λ steps replies it. (c.set_length-reply.result, it, refl)) (λ kept. kept)
+    (ap asked asks.is) (λ steps replies it. (_, c.set_length-reply.result, it.does, refl)) (λ kept. kept)
     c.map_err-in-SetLength.ensures.variant c.writeln.ensures.bytes c.set_length-reply.ensures

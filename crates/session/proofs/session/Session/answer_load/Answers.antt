@@ -16,7 +16,7 @@ returns-in_default g c =
         steps = [];
         replies = [];
         makes = makes_none g.D.Device _ _;
-        holds = ([], NoMemory, (0, [], omega arith, (refl, refl)));
+        holds = (0, [], NoMemory, (0, [], omega arith, (refl, refl)));
       };
       answers = tt;
       phases = keeps_none _;
@@ -32,9 +32,9 @@ returns g c =
     let P : List ℕ → Type 0 = λ bytes. OnOk c.write_loaded.result
     ((answer : List ℕ) × ReportsLoaded reached bytes answer × Appends old new (answer ++ 10 ∷ [])) in
     record {
-      does = does_more g.D.Device _ _ _ _ _ _ (λ steps replies holds. (bytes, reached, holds)) done.makes;
+      does = does_more g.D.Device _ _ _ _ _ _ (λ steps replies it. (_, bytes, reached, it.does)) done.makes;
       answers = on_ok_weaker c.write_loaded.result
-          (load_answered g.D.Device _ _ _ _ _ _ _ bytes reached old new done.makes)
+          (load_answered g.D.Device _ _ _ _ _ _ _ _ _ bytes reached old new done.makes)
           (subst P c.deref.ensures.value c.write_loaded.ensures);
       phases = done.phases;
     }

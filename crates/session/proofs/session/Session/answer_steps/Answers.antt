@@ -12,7 +12,7 @@ returns-in-Err g c =
     let below : c.loop-i.i < length c.args.steps.now = search rules in
     record {
       does = reply_lost g.D.Device _ _ _ _ _ _ c.args.steps.now c.loop-i.i c.index-steps-i.result _ _ _ below
-          c.index-steps-i.is c.loop-i.invariant c.make-reply.ensures;
+          c.index-steps-i.is c.loop-i.invariant c.make-reply.ensures.makes;
       answers = tt;
       phases = tt;
     }
@@ -21,7 +21,7 @@ pub loop-i-preserved : goal.loop-i-preserved
 loop-i-preserved g c =
     let below : c.loop-i.i < length c.args.steps.now = search rules in
     reply_more g.D.Device _ _ _ _ _ _ c.args.steps.now c.loop-i.i c.index-steps-i.result _ _ _ _ below
-    c.index-steps-i.is c.loop-i.invariant c.make-reply.ensures c.in_default.ensures
+    c.index-steps-i.is c.loop-i.invariant c.make-reply.ensures.makes c.in_default.ensures
 
 pub returns : goal.returns
 returns g c =
