@@ -13,6 +13,7 @@ pub mod Taken
 pub mod Commits
 pub mod Lengths
 pub mod Lines
+pub mod Faults
 pub mod Writing
 pub mod Served
 pub mod ListedMore

@@ -208,6 +208,12 @@ module _ (p : ℕ) where
     Contains-append_right replied replied' replies.Reclaimed later.1,
   )
 
+  pub left_then : (count some all : ℕ) (steps : List Step) (replied : List Reply) (steps' : List Step)
+      (replied' : List Reply) → TriesInVain p count steps replied → Tries p true some steps' replied'
+      → Tries p true all (steps ++ steps') (replied ++ replied')
+  left_then count some all steps replied steps' replied' first later =
+      room_then some all steps replied steps' replied' first.vain later
+
   -- ---- the write-outs
 
   pub writing_none : IsWriting p false [] []

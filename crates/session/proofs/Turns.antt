@@ -1,13 +1,17 @@
 -- Pages that are taken out in turn.
 use Rattle.std.proofs.Common.{◌≡◌, ℕ, ◌+◌, Bool, List, [], ◌∷◌, ◌++◌, append_assoc, refl, sym, ◌∙◌, ap, subst}
+use Rattle.device.specs.declared.device.Device.{Ghosts}
 use Rattle.page_entry.specs.declared.numbers.FilePage.{FilePage}
 use Rattle.machine.specs.AtOnce.{load_steps, load_replies, store_steps, store_replies}
 use Rattle.machine.specs.declared.act.Act.{Act}
 use Rattle.machine.specs.declared.act.Act.TheVariants as acts
 use Rattle.machine.specs.declared.act.Reply.{Reply}
 use Rattle.machine.specs.declared.act.Step.{Step}
+use Rattle.machine.specs.State.{Whole}
 use Rattle.session.specs.declared.files.FileLine.{FileLine}
 use Rattle.session.specs.declared.files.Files.{Files}
+use Rattle.session.specs.declared.notes.Notes.{Notes}
+use Rattle.session.specs.CarriedOut.{CarriesOut}
 use Rattle.session.specs.Ends.{IsAccessFor}
 use Rattle.session.specs.Files.{round_of}
 use Rattle.session.specs.Lengths.{AnswersChange, EndsWaiting}
@@ -16,6 +20,7 @@ use Rattle.session.specs.Turns.{BeginsByReclaim, IsInTurn, turn_after, TakesTurn
 use Rattle.session.specs.inside.Made.{Waits}
 use Rattle.session.proofs.Each.{each_of_change}
 use Rattle.session.proofs.Rooms.{change_has}
+use Rattle.session.proofs.Stretches.{does_more}
 
 -- ---- steps that take no page out
 
@@ -194,6 +199,16 @@ module _ {A : Type 0} where
                 (sym (aside_after old.lines.items old.next step.act aside)) it.turns,
           );
         }
+
+  -- what holds of the steps of a request
+  pub carries_does : {D : Type 0} (disk : Ghosts D) (old new : Whole D) (before after : Notes) (files left : Files A)
+      (what : ℕ → List Step → List Reply → Type 0) → CarriesOut disk old before (InTurn files what left) new after
+      → CarriesOut disk old before (what (round_of files.lines.items)) new after
+  carries_does disk old new before after files left what it = record {
+    makes = does_more disk old new before after (InTurn files what left) (what (round_of files.lines.items))
+        (λ steps replies turn. turn.does) it.makes;
+    phases = it.phases;
+  }
 
   -- then a change
   pub in_turn_changed : (old mid new : Files A) (what both : ℕ → List Step → List Reply → Type 0) (p : ℕ)

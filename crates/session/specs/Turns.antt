@@ -27,7 +27,7 @@ pub record BeginsByReclaim (p : ℕ) (steps : List Step) (replies : List Reply) 
 -- An attempt to take a page out is at the page whose turn it is. If it is begun, its change comes next.
 abbrev pub IsInTurn : FilePage → ℕ → Act → Reply → List Step → List Reply → Type 0
 IsInTurn turn p (Reclaim file page) reply steps replies =
-    (record { file = file; page = page } ≡ turn) × (reply ≡ Begun → BeginsByReclaim p steps replies)
+    (turn ≡ record { file = file; page = page }) × (reply ≡ Begun → BeginsByReclaim p steps replies)
 IsInTurn turn p act reply steps replies = ⊤
 
 -- whose turn it is after a step

@@ -145,7 +145,7 @@ impl<D: Device, A: Allocator + Copy> Requests<D, A> {
     pub(crate) fn turn(&mut self) -> FilePage
         ensures page { result ≡ self.old.files.next }
         ensures next { self.new.files.next ≡ page_after self.old.files.lines.items self.old.files.next }
-        ensures lines { self.new.files.lines ≡ self.old.files.lines }
+        ensures lines { self.new.files.lines.items ≡ self.old.files.lines.items }
         ensures machine { self.new.machine ≡ self.old.machine }
         ensures notes { self.new.notes ≡ self.old.notes }
     {

@@ -134,7 +134,10 @@ fn write_bad<A: Allocator + Copy, W: io::Write>(
 }
 
 // The detail of a cause, in one line.
-fn detail_line<A: Allocator + Copy>(alloc: A, cause: &RequestFault) -> Result<Vec<u8, A>, AllocError>
+fn detail_line<A: Allocator + Copy>(
+    alloc: A,
+    cause: &RequestFault,
+) -> Result<Vec<u8, A>, AllocError>
     ensures { IfOk result (λ line. HasNoFeed line.items) }
 {
     let text = cause.to_string(alloc)?;
@@ -190,7 +193,10 @@ fn write_wanted_bytes<W: io::Write>(most: u64, out: &mut W) -> io::Result<()>
     ensures { OnOk result (Appends (W.contents out.old) (W.contents out.new)
         (codes "the bytes aren't two hexadecimal digits for each of at most " ++ decimal most ++ codes " bytes")) }
 {
-    write!(out, "the bytes aren't two hexadecimal digits for each of at most {most} bytes")
+    write!(
+        out,
+        "the bytes aren't two hexadecimal digits for each of at most {most} bytes"
+    )
 }
 
 // Flushes the output after an answer that was written.

@@ -6,8 +6,7 @@ use Rattle.session.proofs.Carried.{carries_first, carries_more, carries_one, car
 use Rattle.session.proofs.Each.{ends_one}
 use Rattle.session.proofs.Rooms.{access_paging, access_quiet, access_own, answered_no_fault, ends_later}
 use Rattle.session.proofs.Rooms.{serves_paging, stops_unserved}
-use Rattle.session.proofs.Stretches.{does_more}
-use Rattle.session.proofs.Turns.{access_aside, in_turn_first, in_turn_more, in_turn_one, in_turn_then}
+use Rattle.session.proofs.Turns.{access_aside, carries_does, in_turn_first, in_turn_more, in_turn_one, in_turn_then}
 use Rattle.session.proofs.requests.Requests.access.Goals as goal
 
 pub returns-then-not-is_fault-clause-ok : goal.returns-then-not-is_fault-clause-ok
@@ -53,5 +52,4 @@ pub returns-clause-no_fault : goal.returns-clause-no_fault
 returns-clause-no_fault g c =
     let step : Step = record { p = c.args.p; act = c.args.act } in
     answered_no_fault g.D.Device _ _ _ _ _ _ c.args.va c.args.write step _ c.requires c.faults_are_served.ensures
-    (does_more g.D.Device _ _ _ _ _ _ (λ steps replies it. it.does)
-    (c.fix-fixed.ensures.served (sym c.if-not-is_fixed.ensures)).makes) c.make-last.ensures.makes
+    (carries_does g.D.Device _ _ _ _ _ _ _ (c.fix-fixed.ensures.served (sym c.if-not-is_fixed.ensures))).makes c.make-last.ensures.makes

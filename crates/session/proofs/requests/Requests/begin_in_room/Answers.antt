@@ -6,9 +6,8 @@ use Rattle.session.proofs.Carried.{carries_one, carries_then}
 use Rattle.session.proofs.Each.{each_then}
 use Rattle.session.proofs.Lengths.{attempts_first, attempts_later, attempts_one, tries_paging, tries_one}
 use Rattle.session.proofs.Rooms.{are_paging}
-use Rattle.session.proofs.Stretches.{does_more}
 use Rattle.session.proofs.Taken.{lacking_takes, room_frees_frame}
-use Rattle.session.proofs.Turns.{in_turn_first, in_turn_more, in_turn_none, in_turn_one, in_turn_then}
+use Rattle.session.proofs.Turns.{carries_does, in_turn_first, in_turn_more, in_turn_none, in_turn_one, in_turn_then}
 use Rattle.session.proofs.requests.Requests.begin_in_room.Goals as goal
 
 pub loop-set-init : goal.loop-set-init
@@ -59,5 +58,5 @@ loop-set-smaller g c = omega (
   lacking_takes g.D.Device c.args.p _ _ _ _ c.args.file c.args.length _ (c.if-not-is_no_frame.ensures.0 refl)
       c.make-begun.ensures.makes,
   room_frees_frame g.D.Device c.args.p _ _ _ _ _
-      (does_more g.D.Device _ _ _ _ _ _ (λ steps replies it. it.does) c.if-not-make_room.ensures.makes),
+      (carries_does g.D.Device _ _ _ _ _ _ _ c.if-not-make_room.ensures).makes,
 )

@@ -7,8 +7,8 @@ use Rattle.session.proofs.Each.{each_then}
 use Rattle.session.proofs.Left.{attempts_left, waited_fewer}
 use Rattle.session.proofs.Lengths.{begins_attempted, begins_later, refuses_attempted, refuses_later, refuses_waiting}
 use Rattle.session.proofs.Lengths.{tries_attempted, tries_waited}
-use Rattle.session.proofs.Stretches.{does_more}
-use Rattle.session.proofs.Turns.{ends_aside, in_turn_kept, in_turn_more, in_turn_none, in_turn_then, waits_aside}
+use Rattle.session.proofs.Turns.{carries_does, ends_aside, in_turn_kept, in_turn_more, in_turn_none}
+use Rattle.session.proofs.Turns.{in_turn_then, waits_aside}
 use Rattle.session.proofs.requests.Requests.begin_length.Goals as goal
 
 pub loop-begun-init : goal.loop-begun-init
@@ -63,7 +63,7 @@ loop-begun-smaller g c =
     omega (
       arith,
       attempts_left g.D.Device _ _ _ _ c.args.p c.args.file c.args.length _ busy _
-          (does_more g.D.Device _ _ _ _ _ _ (λ steps replies it. it.does)
-          (c.begin_in_room-begun.ensures.refuses (ap reports_begun busy)).makes),
+          (carries_does g.D.Device _ _ _ _ _ _ _
+          (c.begin_in_room-begun.ensures.refuses (ap reports_begun busy))).makes,
       waited_fewer g.D.Device _ _ _ _ c.args.p c.in_default.ensures.waits.makes,
     )

@@ -34,8 +34,7 @@ returns-in-Some-clause-refuses g c = λ vain.
 
 pub loop-msync-preserved : goal.loop-msync-preserved
 loop-msync-preserved g c =
-    let busy = c.if-not-is_busy.ensures.0 refl in
-    (
+    let busy = c.if-not-is_busy.ensures.0 refl in (
       carries_then g.D.Device _ _ _ _ _ _ _ _ _ (waits_then c.args.p) c.loop-msync.invariant.0
           (carries_first g.D.Device _ _ _ _ _ _ _ _ _ _ (waits_one c.args.p _ busy) c.make-begun.ensures.makes
           (ap reports_begun busy) c.in_default.ensures.waits),

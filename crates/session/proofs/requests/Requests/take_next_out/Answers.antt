@@ -2,7 +2,7 @@ use Rattle.std.proofs.Common.{ap, arith}
 use Rattle.session.specs.declared.files.Files.{Files}
 use Rattle.session.specs.Files.{round_of}
 use Rattle.session.proofs.Carried.{carries_more, carries_nothing, carries_then}
-use Rattle.session.proofs.Tries.{room_then, vain_enough, vain_none, vain_then}
+use Rattle.session.proofs.Tries.{left_then, vain_enough, vain_none, vain_then}
 use Rattle.session.proofs.Turns.{in_turn_none, in_turn_round, in_turn_then}
 use Rattle.session.proofs.requests.Requests.take_next_out.Goals as goal
 
@@ -11,8 +11,7 @@ loop-tried-init g c = carries_nothing g.D.Device _ _ _ (in_turn_none _ _ (vain_n
 
 pub returns-then-try_next : goal.returns-then-try_next
 returns-then-try_next g c = carries_then g.D.Device _ _ _ _ _ _ _ _ _ (in_turn_then _ _ _ _ _ _
-    (λ all steps replies steps' replies' first later.
-    room_then c.args.p 1 all steps replies steps' replies' first.vain later)) c.loop-tried.invariant c.if-try_next.ensures
+    (left_then c.args.p c.loop-tried._tried 1)) c.loop-tried.invariant c.if-try_next.ensures
 
 pub loop-tried-preserved : goal.loop-tried-preserved
 loop-tried-preserved g c = carries_then g.D.Device _ _ _ _ _ _ _ _ _ (in_turn_then _ _ _ _ _ _

@@ -26,16 +26,15 @@ returns-then-not-is_flushed-clause-ends g c =
     λ other. step_unmade g.D.Device _ _ _ _ c.args.p _ c.flush-flushed.ensures.makes (sym c.if-not-is_flushed.ensures)
 
 pub loop-flushed-preserved : goal.loop-flushed-preserved
-loop-flushed-preserved g c =
-    (
-      carries_then g.D.Device _ _ _ _ _ _ _ _ _ (others_then c.args.p c.args.mark) c.loop-flushed.invariant.0
-          (carries_one g.D.Device _ _ _ _ _ _ _ c.flush-flushed.ensures.makes tt (
-            refl,
-            (sym c.if-not-is_flushed.ensures, λ is. false≢true (c.if-is_committed.ensures.1 is)),
-            tt,
-          )),
-      c.flush-flushed.ensures.files ∙ c.loop-flushed.invariant.1,
-    )
+loop-flushed-preserved g c = (
+  carries_then g.D.Device _ _ _ _ _ _ _ _ _ (others_then c.args.p c.args.mark) c.loop-flushed.invariant.0
+      (carries_one g.D.Device _ _ _ _ _ _ _ c.flush-flushed.ensures.makes tt (
+        refl,
+        (sym c.if-not-is_flushed.ensures, λ is. false≢true (c.if-is_committed.ensures.1 is)),
+        tt,
+      )),
+  c.flush-flushed.ensures.files ∙ c.loop-flushed.invariant.1,
+)
 
 pub loop-flushed-smaller : goal.loop-flushed-smaller
 loop-flushed-smaller g c =

@@ -4,6 +4,7 @@ use Rattle.session.specs.Asked.{asked}
 use Rattle.session.specs.Ranges.{StoresReached}
 use Rattle.session.specs.Requests.{asks_store, asks_commit, asks_length}
 use Rattle.session.proofs.Served.{answered_for}
+use Rattle.session.proofs.Turns.{carries_does}
 use Rattle.session.proofs.session.Session.answer.Goals as goal
 
 pub returns-in-Store : goal.returns-in-Store
@@ -19,10 +20,10 @@ returns-in-Store g c =
     (ap asked c.in-Store.is) (λ steps replies it. (
       _,
       reached,
-      subst (λ (bytes : List ℕ). StoresReached p va bytes reached _ steps replies) c.deref-in-Store.ensures.value
-          it.does,
+      subst (λ (bytes : List ℕ). StoresReached p va bytes reached _ steps replies) c.deref-in-Store.ensures.value it,
       ap (stored_text reached) count,
-    )) (λ kept. kept) c.map_err.ensures.variant c.write_stored.ensures c.store-reached.ensures
+    )) (λ kept. kept) c.map_err.ensures.variant c.write_stored.ensures
+    (carries_does g.D.Device _ _ _ _ _ _ _ c.store-reached.ensures)
 
 pub returns-in-Commit : goal.returns-in-Commit
 returns-in-Commit g c =
@@ -38,5 +39,6 @@ returns-in-SetLength g c =
     let asks = c.in-SetLength in
     answered_for g.D.Device _ _ _ _ _ (asks_length asks.p asks.file asks.length) _ _
     c.writeln.result c.map_err-in-SetLength.result (contents c.args.out.now) (contents c.writeln.new.self)
-    (ap asked asks.is) (λ steps replies it. (_, c.set_length-reply.result, it.does, refl)) (λ kept. kept)
-    c.map_err-in-SetLength.ensures.variant c.writeln.ensures.bytes c.set_length-reply.ensures
+    (ap asked asks.is) (λ steps replies it. (_, c.set_length-reply.result, it, refl)) (λ kept. kept)
+    c.map_err-in-SetLength.ensures.variant c.writeln.ensures.bytes
+    (carries_does g.D.Device _ _ _ _ _ _ _ c.set_length-reply.ensures)

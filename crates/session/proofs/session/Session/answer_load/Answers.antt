@@ -6,6 +6,7 @@ use Rattle.session.specs.Answers.{ReportsLoaded}
 use Rattle.session.proofs.Phases.{keeps_none}
 use Rattle.session.proofs.Stretches.{does_more}
 use Rattle.session.proofs.Stretches.{makes_none}
+use Rattle.session.proofs.Turns.{carries_does}
 use Rattle.session.proofs.Writing.{load_answered}
 use Rattle.session.proofs.session.Session.answer_load.Goals as goal
 
@@ -32,7 +33,8 @@ returns g c =
     let P : List ℕ → Type 0 = λ bytes. OnOk c.write_loaded.result
     ((answer : List ℕ) × ReportsLoaded reached bytes answer × Appends old new (answer ++ 10 ∷ [])) in
     record {
-      does = does_more g.D.Device _ _ _ _ _ _ (λ steps replies it. (_, bytes, reached, it.does)) done.makes;
+      does = does_more g.D.Device _ _ _ _ _ _ (λ steps replies holds. (_, bytes, reached, holds))
+          (carries_does g.D.Device _ _ _ _ _ _ _ done).makes;
       answers = on_ok_weaker c.write_loaded.result
           (load_answered g.D.Device _ _ _ _ _ _ _ _ _ bytes reached old new done.makes)
           (subst P c.deref.ensures.value c.write_loaded.ensures);
