@@ -229,7 +229,7 @@ pub stops_answered : (step : Step) (at : ℕ) (write : Bool) (answer : Reply) �
     → IsAccessFor at write step.act → reports_fault answer ≡ false → (all : ℕ) (steps : List Step) (replied : List Reply)
     → EndsBy step answer steps replied → StopsAt step.p at write answer all steps replied
 stops_answered step at write answer paging here no-fault all steps replied it =
-    ended_by (StopsAt step.p at write answer all all) step answer steps replied it (
+    ended_by (StopsAt step.p at write answer all) step answer steps replied it (
       each_then (IsPaging step.p) it.front it.replied (step ∷ []) (answer ∷ []) it.paging (paging, tt),
       ends_after step.p at write answer all it.front it.replied (step ∷ []) (answer ∷ []) it.paging
           (inr (inl (refl, here, paging.0, refl, no-fault, refl, refl))),
@@ -244,7 +244,7 @@ no_fault : (s : State) (d : List ℕ) (p at : ℕ) (write : Bool) (act : Act) (r
 no_fault s d p at write (acts.Load va count) (replies.Refused (refusals.Fault code)) new d' is rule answered =
     absurd (answered (rule.0.1.access, ap (λ n. n / 4096) is.0))
 no_fault s d p at write (acts.Store va bytes) (replies.Refused (refusals.Fault code)) new d' is rule answered =
-    absurd (answered (rule.0.1.access, ap (λ n. n / 4096) is.0, is.1.0))
+    absurd (answered (rule.0.1.access, ap (λ n. n / 4096) is.0, is.1))
 no_fault s d p at write (acts.Load va count) (replies.Refused why) new d' is rule answered = refl
 no_fault s d p at write (acts.Store va bytes) (replies.Refused why) new d' is rule answered = refl
 no_fault s d p at write (acts.Load va count) reply new d' is rule answered = refl

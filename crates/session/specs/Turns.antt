@@ -48,5 +48,5 @@ TakesTurns lines turn steps replies last = ⊥
 pub record InTurn {A : Type 0} (old : Files A) (what : ℕ → List Step → List Reply → Type 0) (new : Files A)
     (steps : List Step) (replies : List Reply) : Type 0 where
   pub does : what (round_of old.lines.items) steps replies
-  pub lines : new.lines ≡ old.lines
+  pub lines : new.lines.items ≡ old.lines.items
   pub turns : TakesTurns old.lines.items old.next steps replies new.next

@@ -1,6 +1,6 @@
 // Ranges of addresses, loaded and stored: of each page a piece of up to eight bytes, for which its fault is served, and
 // then the rest at once, as far as that serves it.
-ghost use Rattle.std.specs.Prelude.{◌≡◌, ◌↔◌, ◌<◌, ◌≤◌, ◌++◌, length, [], false, IfOk, IfErr, IsTrue};
+ghost use Rattle.std.specs.Prelude.{◌≡◌, ◌↔◌, ◌<◌, ◌≤◌, ◌++◌, length, [], true, false, IfOk, IfErr, IsTrue};
 ghost use Rattle.machine.specs.declared.act.Act.TheVariants as acts;
 ghost use Rattle.machine.specs.declared.act.Reply.TheVariants as replied;
 ghost use Rattle.session.specs.CarriedOut.{CarriesOut};

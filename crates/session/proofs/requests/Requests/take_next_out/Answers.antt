@@ -22,4 +22,4 @@ returns g c =
     let all = ap (λ (f : Files g.row.A.Denot). round_of f.lines.items) c.files.ensures in
     carries_more g.D.Device _ _ _ _ _ _ (in_turn_round _ _ _ _
     (vain_enough c.args.p c.loop-tried._tried (round_of c.args.self.now.files.lines.items)
-    (omega (arith, c.pages.ensures, all, c.loop-tried-test.false)))) c.loop-tried.invariant
+    (omega (arith, c.pages-tried-end.ensures, all, c.loop-tried-test.false)))) c.loop-tried.invariant
