@@ -7,4 +7,6 @@ mod codec;
 #[cfg(test)]
 mod migrations;
 #[cfg(test)]
+mod pages;
+#[cfg(test)]
 mod volumes;

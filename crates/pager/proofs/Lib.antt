@@ -1,0 +1,9 @@
+pub mod Putting
+pub mod Capacities
+pub mod Rooms
+pub mod Stepping
+pub mod Beginning
+pub mod Outs
+pub mod Records
+pub mod Histories
+pub mod Files

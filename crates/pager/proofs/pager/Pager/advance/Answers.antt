@@ -1,0 +1,67 @@
+use Rattle.std.proofs.Common.{◌≡◌, ℕ, ◌≤◌, List, length, subst, sym, ◌⊎◌, arith}
+use Rattle.journal.specs.declared.flushed.Flushed.{Flushed}
+use Rattle.journal.specs.declared.flushed.Flushed.TheVariants.{Device}
+use Rattle.journal.specs.WriteOut.{WriteOut}
+use Rattle.journal.specs.WriteOuts.{WriteOutsValue, shares_syncs, next_answer, outs_after}
+use Rattle.pager.specs.Blocks.{Blocks}
+use Rattle.pager.specs.State.{PagerState}
+use Rattle.pager.specs.Calls.{after_step}
+use Rattle.pager.specs.inside.Sound.{IsSound}
+use Rattle.pager.proofs.Stepping.{tied_after, fewer_after, all_after}
+use Rattle.pager.proofs.pager.Pager.advance.Goals as goal
+
+stepped : {D : Type 0} (seen : D → List ℕ) (s : PagerState D) (answer : Flushed) (device : D)
+    → IsSound seen s → length (seen device) ≡ length (seen s.device) → IsSound seen (after_step s answer device)
+stepped seen s answer device sound same = record {
+  fits = sound.fits;
+  long = omega (arith, same, sound.long);
+  lengths = sound.lengths;
+  geometry = sound.geometry;
+  rising = sound.rising;
+  few = sound.few;
+  most = sound.most;
+  tied = tied_after (shares_syncs s.write_outs.geometry.layout) answer s.write_outs.batches s.records sound.tied;
+  few_batches = omega (
+    arith,
+    fewer_after (shares_syncs s.write_outs.geometry.layout) answer s.write_outs.batches,
+    sound.few_batches,
+  );
+  marked = all_after (λ (w : WriteOut). w.batch.mark ≤ s.marks) (λ w le. le) (shares_syncs
+      s.write_outs.geometry.layout) answer s.write_outs.batches
+      sound.marked;
+}
+
+pub invariant_of-self : goal.invariant_of-self
+invariant_of-self g c =
+    let s : PagerState g.row.D.Denot = record {
+      table = c.self.inside.table;
+      lengths = c.self.inside.lengths.items;
+      most = c.self.inside.most;
+      staged = c.self.inside.staged;
+      write_outs = c.self.inside.write_outs;
+      records = c.self.inside.records.items;
+      marks = c.self.inside.marks;
+      device = c.self.inside.device;
+    } in
+    let p = c.self.invariant in
+    let sound = stepped g.D.Device.seen s c.step-answer.result c.step-answer.new.device p.sound
+    c.step-answer.ensures.did.same_length in
+    record {
+      sound = subst (λ (o : WriteOutsValue). IsSound g.D.Device.seen (record s {
+        write_outs = o;
+        records = c.conclude.new.records.items;
+        device = c.step-answer.new.device;
+      })) (sym c.step-answer.ensures.value)
+          (subst (λ (l : List Blocks). IsSound g.D.Device.seen (record s {
+            write_outs = outs_after s.write_outs c.step-answer.result;
+            records = l;
+            device = c.step-answer.new.device;
+          })) (sym c.conclude.ensures.items) sound);
+      lists = omega (arith, c.conclude.ensures.room, p.lists);
+      homes = p.homes;
+    }
+
+pub returns-clause-answer : goal.returns-clause-answer
+returns-clause-answer g c = subst (λ (s : PagerState g.row.D.Denot).
+    (c.step-answer.result ≡ next_answer s.write_outs) ⊎ (c.step-answer.result ≡ Device))
+    c.self.view_is c.step-answer.ensures.answer

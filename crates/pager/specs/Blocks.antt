@@ -1,0 +1,28 @@
+-- Blocks that are kept in memory: home blocks with their bytes, in rising order.
+use Rattle.std.specs.Prelude.{ℕ, ◌==◌, nat_lt, if◌then◌else◌, List, [], ◌∷◌, map, Option, Some, None}
+use Rattle.std.specs.Option.{option_or}
+
+-- the number of each home block, and its bytes
+abbrev pub Blocks : Type 0
+Blocks = List (ℕ × List ℕ)
+
+-- the numbers of these home blocks
+abbrev pub homes_in : Blocks → List ℕ
+homes_in blocks = map (λ block. block.0) blocks
+
+-- the bytes of a home block, if it is one of these
+abbrev pub bytes_in : Blocks → ℕ → Option (List ℕ)
+bytes_in [] home = None
+bytes_in (block ∷ blocks) home = if home == block.0 then Some block.1 else bytes_in blocks home
+
+-- with these bytes of a home block, in the place of those that it had
+abbrev pub with_block : Blocks → ℕ → List ℕ → Blocks
+with_block [] home bytes = (home, bytes) ∷ []
+with_block (block ∷ blocks) home bytes =
+    if nat_lt home block.0 then (home, bytes) ∷ block ∷ blocks
+    else (if home == block.0 then (home, bytes) ∷ blocks else block ∷ with_block blocks home bytes)
+
+-- the bytes of a home block in the newest list that has it, where the oldest list comes first
+abbrev pub newest_in : List Blocks → ℕ → Option (List ℕ)
+newest_in [] home = None
+newest_in (blocks ∷ newer) home = option_or (newest_in newer home) (bytes_in blocks home)

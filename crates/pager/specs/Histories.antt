@@ -1,0 +1,64 @@
+-- Histories of the calls of a pager.
+use Rattle.std.specs.Prelude.{ℕ, ◌≡◌, ◌≢◌, ◌⊎◌, ◌+◌, ◌*◌, false, List, [], ◌∷◌, ◌++◌, length, None}
+use Rattle.device.specs.Did.{Did}
+use Rattle.device.specs.declared.device.Device.{Ghosts}
+use Rattle.page_entry.specs.declared.numbers.FilePage.{FilePage}
+use Rattle.volume_codec.specs.Files.{File}
+use Rattle.volume_codec.specs.Layout.{block_at}
+use Rattle.volume_codec.specs.Recovery.{files_in}
+use Rattle.journal.specs.Work.{has_done}
+use Rattle.journal.specs.LedTo.{MayBegin}
+use Rattle.journal.specs.declared.flushed.Flushed.{Flushed}
+use Rattle.journal.specs.declared.flushed.Flushed.TheVariants.{Committed, Device}
+use Rattle.journal.specs.WriteOuts.{next_work, next_answer}
+use Rattle.recovery.specs.Reading.{IsOnlyRead}
+use Rattle.recovery.specs.Volume.{VolumeState, IsAtRest}
+use Rattle.history.specs.History.{Event, Store, Mark, Acknowledge}
+use Rattle.pager.specs.Blocks.{Blocks, homes_in}
+use Rattle.pager.specs.State.{PagerState, fresh}
+use Rattle.pager.specs.Calls.{put_refusal, commit_refusal, after_put, after_commit, after_step, next_bytes}
+
+-- what a commit of these blocks adds to the history: of nothing it is durable at once
+abbrev pub marked_with : ℕ → Blocks → List Event
+marked_with number [] = Mark number ∷ Acknowledge number ∷ []
+marked_with number (block ∷ blocks) = Mark number ∷ []
+
+-- what a step adds that answers so
+abbrev pub acknowledged_by : Flushed → List Event
+acknowledged_by (Committed mark) = Acknowledge mark ∷ []
+acknowledged_by answer = []
+
+-- a page of these bytes is put: what `put` ensures
+pub record IsPut {D : Type 0} (s : PagerState D) (owner : FilePage) (bytes : List ℕ) : Type 0 where
+  pub allowed : put_refusal s owner ≡ None
+  pub a_page : length bytes ≡ 4096
+
+-- A step of a pager over an honest device, which answers so and leaves the device so: what `step` ensures.
+pub record IsStep {D : Type 0} (disk : Ghosts D) (s : PagerState D) (answer : Flushed) (after : D) : Type 0 where
+  pub whole : s.write_outs.broken ≡ false
+  pub some : s.write_outs.batches ≢ []
+  pub a_block : length (next_bytes s) ≡ 4096
+  pub answered : (answer ≡ next_answer s.write_outs) ⊎ (answer ≡ Device)
+  pub honest : disk.is_honest s.device
+  pub did : Did disk s.device (next_work s.write_outs (next_bytes s)) (has_done answer) after
+
+-- a commit of what was put: what `commit` ensures
+pub record IsCommit {D : Type 0} (s : PagerState D) : Type 0 where
+  pub allowed : commit_refusal s ≡ None
+  pub may : s.staged ≢ [] → MayBegin s.write_outs (s.marks + 1) (homes_in s.staged)
+
+-- A pager to which calls have led, from a volume at rest on, which had these files; and the history of the calls.
+pub data HasCome {D : Type 0} (disk : Ghosts D) (files : List File) : List Event → PagerState D → Type 0 where
+  WasOpened : (volume : VolumeState D) (most : ℕ) → IsAtRest disk volume
+      → files ≡ files_in volume.table (block_at (disk.seen volume.device))
+      → HasCome disk files [] (fresh volume most)
+  HasPut : (history : List Event) (s : PagerState D) (owner : FilePage) (bytes : List ℕ) → IsPut s owner bytes
+      → HasCome disk files history s
+      → HasCome disk files (history ++ Store owner.file (4096 * owner.page) bytes ∷ []) (after_put s owner bytes)
+  HasCommitted : (history : List Event) (s : PagerState D) → IsCommit s → HasCome disk files history s
+      → HasCome disk files (history ++ marked_with (s.marks + 1) s.staged) (after_commit s)
+  HasStepped : (history : List Event) (s : PagerState D) (answer : Flushed) (after : D)
+      → IsStep disk s answer after → HasCome disk files history s
+      → HasCome disk files (history ++ acknowledged_by answer) (after_step s answer after)
+  HasRead : (history : List Event) (s : PagerState D) (after : D) → IsOnlyRead disk s.device after
+      → HasCome disk files history s → HasCome disk files history (record s { device = after })

@@ -1,0 +1,5 @@
+pub mod Blocks
+pub mod State
+pub mod Calls
+pub mod Histories
+pub mod inside

@@ -1,0 +1,29 @@
+-- What holds of every pager.
+use Rattle.std.specs.Prelude.{ℕ, ◌≡◌, ◌+◌, ◌*◌, ◌≤◌, List, length, map}
+use Rattle.std.specs.List.{AllByRecursion}
+use Rattle.volume_codec.specs.Layout.{first_home, journals_of, lengths_blocks, max_frames}
+use Rattle.volume_codec.specs.Super.{Fits, block_count, geometry_of}
+use Rattle.volume_codec.specs.Lengths.{AreLengths}
+use Rattle.volume_codec.specs.Descriptor.{RiseWithin}
+use Rattle.pager.specs.Blocks.{homes_in}
+use Rattle.pager.specs.State.{PagerState, reserved}
+
+-- The device is long enough for the volume, each file has a length, what was put fits a commit, each write-out has its
+-- blocks, and no mark is above the number of marks.
+pub record IsSound {D : Type 0} (seen : D → List ℕ) (s : PagerState D) : Type 0 where
+  pub fits : Fits s.table
+  pub long : 4096 * block_count s.table ≤ length (seen s.device)
+  pub lengths : AreLengths s.table s.lengths
+  pub geometry : s.write_outs.geometry ≡ geometry_of s.table
+  pub rising : RiseWithin (first_home s.table.layout s.table.slots) (block_count s.table) (homes_in s.staged)
+  pub few : length s.staged + reserved s.table s.staged ≤ s.most + lengths_blocks s.table.layout
+  pub most : s.most ≤ max_frames s.table.layout s.table.slots
+  pub tied : map (λ w. w.batch.homes) s.write_outs.batches ≡ map homes_in s.records
+  pub few_batches : length s.write_outs.batches ≤ journals_of s.table.layout
+  pub marked : AllByRecursion (λ w. w.batch.mark ≤ s.marks) s.write_outs.batches
+
+-- and it has memory for a list of blocks for each journal, and for the numbers of a commit's blocks
+pub record IsPager {D : Type 0} (seen : D → List ℕ) (s : PagerState D) (list_room home_room : ℕ) : Type 0 where
+  pub sound : IsSound seen s
+  pub lists : journals_of s.table.layout ≤ list_room
+  pub homes : s.table.slots ≤ home_room

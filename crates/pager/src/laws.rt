@@ -1,0 +1,31 @@
+// What follows of the calls.
+ghost use Rattle.std.specs.Prelude.{◌≡◌, ℕ, false, List, None};
+ghost use Rattle.device.specs.Device.{LeavesOnly};
+ghost use Rattle.page_entry.specs.declared.numbers.FilePage.{FilePage};
+ghost use Rattle.volume_codec.specs.Files.{File};
+ghost use Rattle.journal.specs.Pages.{home_of};
+ghost use Rattle.journal.specs.declared.flushed.Flushed.{Flushed};
+ghost use Rattle.history.specs.History.{Event, memory_of, after};
+ghost use Rattle.history.specs.Reading.{ReadsBack};
+ghost use Rattle.pager.specs.State.{PagerState, current_in, cut_at_end};
+ghost use Rattle.pager.specs.Calls.{page_refusal};
+ghost use Rattle.pager.specs.Histories.{IsStep, HasCome};
+
+use device::Device;
+
+/// Whatever calls led to a pager, from a volume at rest with these files on. A crash after them leaves what recovers to
+/// the files after a durable prefix of their history. That prefix is empty or ends with a mark, and has every mark that
+/// was acknowledged (`left`). The same holds of a crash at any moment within the next step, also where a device call of
+/// it fails (`within`). While no call of a write-out failed, each page has for callers the bytes that were put last
+/// (`reads`).
+pub fn what_pagers_leave<D: Device>(device: &D)
+    ensures left { (files : List File) (history : List Event) (s : PagerState D)
+        → HasCome D.Device files history s → (c : List ℕ) → D.may_leave s.device c → ReadsBack files history c }
+    ensures within { (files : List File) (history : List Event) (s : PagerState D) (answer : Flushed) (next : D)
+        → HasCome D.Device files history s → IsStep D.Device s answer next
+        → LeavesOnly D.moment D.left_since s.device next (ReadsBack files history) }
+    ensures reads { (files : List File) (history : List Event) (s : PagerState D) (owner : FilePage)
+        → HasCome D.Device files history s → s.write_outs.broken ≡ false → page_refusal s.lengths owner ≡ None
+        → cut_at_end s.lengths owner (current_in s.staged s.records (D.seen s.device) (home_of s.table owner))
+        ≡ cut_at_end s.lengths owner (after (memory_of files) history owner.file owner.page) }
+{}

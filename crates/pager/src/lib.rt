@@ -1,0 +1,11 @@
+//! A page store over a volume: whole pages of files, committed together, found again after a crash.
+#![tactic(auto)]
+
+mod blocks;
+mod laws;
+mod opening;
+mod pager;
+mod pages;
+
+pub use laws::what_pagers_leave;
+pub use pager::Pager;
