@@ -125,18 +125,30 @@ module _ (p file to : ℕ) where
       → IsLeft p answer reply all steps replies
   left_unbusy (Refused Busy) reply replied vain other enough all steps replies none silent = absurd (other refl)
   left_unbusy (Refused NoFrame) reply replied vain other enough all steps replies none silent = absurd (enough refl)
-  left_unbusy (Refused why) reply replied vain other enough all steps replies none silent = inl (replied, refl, refl, none, silent)
+  left_unbusy (Refused why) reply replied vain other enough all steps replies none silent = inl
+      (replied, refl, refl, none, silent)
   left_unbusy Begun reply replied vain other enough all steps replies none silent = absurd (false≢true (sym vain))
-  left_unbusy answer reply replied vain other enough all steps replies none silent = inl (replied, refl, refl, none, silent)
+  left_unbusy answer reply replied vain other enough all steps replies none silent = inl
+      (replied, refl, refl, none, silent)
 
   pub refuses_attempted : (answer : Reply) → reports_begun answer ≡ false → answer ≢ Refused Busy
       → (all : ℕ) (steps : List Step) (replies : List Reply) → AttemptsLength p file to answer all steps replies
       → RefusesLength p file to answer all steps replies
   refuses_attempted answer vain other all (step ∷ steps) (reply ∷ replies) (inl (try, more)) =
       inl (try, refuses_attempted answer vain other all steps replies more)
-  refuses_attempted answer vain other all (step ∷ steps) (reply ∷ replies) (inr (is, replied, inl (enough, none, silent))) =
+  refuses_attempted answer vain other all (step ∷ steps) (reply ∷ replies) (inr (
+    is,
+    replied,
+    inl
+        (enough, none, silent),
+  )) =
       inr (is, left_unbusy answer reply replied vain other enough all steps replies none silent)
-  refuses_attempted answer vain other all (step ∷ steps) (reply ∷ replies) (inr (is, replied, inr (no-frame, fruitless))) =
+  refuses_attempted answer vain other all (step ∷ steps) (reply ∷ replies) (inr (
+    is,
+    replied,
+    inr
+        (no-frame, fruitless),
+  )) =
       inr (is, inr (inl (replied ∙ no-frame, no-frame, fruitless)))
   refuses_attempted answer vain other all [] [] it = absurd it
   refuses_attempted answer vain other all [] (reply ∷ replies) it = absurd it

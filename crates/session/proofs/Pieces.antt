@@ -114,7 +114,8 @@ stores_then p va from [] (reply ∷ replies) bytes steps' replies' bytes' first 
 stores_then p va from (step ∷ steps) [] bytes steps' replies' bytes' first later = absurd first
 
 -- what ends a range comes after its pieces
-loads_ended : (p va from to : ℕ) (steps : List Step) (replies : List Reply) (bytes : List ℕ) (at : ℕ) (write : Bool) (reply : Reply) (all : ℕ)
+loads_ended : (p va from to : ℕ) (steps : List Step) (replies : List Reply) (bytes : List ℕ) (at : ℕ)
+    (write : Bool) (reply : Reply) (all : ℕ)
     (steps' : List Step) (replies' : List Reply)
     → AreLoads p va from to steps replies bytes → EndsRange p at write reply all steps' replies'
     → EndsRange p at write reply all (steps ++ steps') (replies ++ replies')
@@ -127,7 +128,8 @@ loads_ended p va from to (step ∷ steps) (other ∷ replies) bytes at write rep
 loads_ended p va from to [] (other ∷ replies) bytes at write reply all steps' replies' first ended = absurd first
 loads_ended p va from to (step ∷ steps) [] bytes at write reply all steps' replies' first ended = absurd first
 
-stores_ended : (p va from : ℕ) (steps : List Step) (replies : List Reply) (bytes : List ℕ) (at : ℕ) (write : Bool) (reply : Reply) (all : ℕ)
+stores_ended : (p va from : ℕ) (steps : List Step) (replies : List Reply) (bytes : List ℕ) (at : ℕ) (write : Bool)
+    (reply : Reply) (all : ℕ)
     (steps' : List Step) (replies' : List Reply)
     → AreStores p va from steps replies bytes → EndsRange p at write reply all steps' replies'
     → EndsRange p at write reply all (steps ++ steps') (replies ++ replies')

@@ -208,7 +208,8 @@ access_quiet at write (acts.Store va bytes) reply is = tt
 access_quiet at write act reply is = absurd is
 
 -- what ends a range comes after other steps
-pub ends_after : (p at : ℕ) (write : Bool) (answer : Reply) (all : ℕ) (steps : List Step) (replied : List Reply) (steps' : List Step)
+pub ends_after : (p at : ℕ) (write : Bool) (answer : Reply) (all : ℕ) (steps : List Step) (replied : List Reply)
+    (steps' : List Step)
     (replied' : List Reply) → ArePaging p steps replied → EndsRange p at write answer all steps' replied'
     → EndsRange p at write answer all (steps ++ steps') (replied ++ replied')
 ends_after p at write answer all [] [] steps' replied' paging ended = ended
@@ -220,13 +221,15 @@ ends_after p at write answer all (step ∷ steps) [] steps' replied' paging ende
 -- an access that met a fault, which isn't served
 pub stops_unserved : (step : Step) (at : ℕ) (write : Bool) (fault answer : Reply) → IsPaging step.p step fault
     → IsAccessFor at write step.act → reports_fault fault ≡ true → (all : ℕ) (steps : List Step) (replied : List Reply)
-    → IsUnservedPaging step.p at write answer all steps replied → StopsAt step.p at write answer all (step ∷ steps) (fault ∷ replied)
+    → IsUnservedPaging step.p at write answer all steps replied → StopsAt step.p at write answer all (step ∷ steps)
+    (fault ∷ replied)
 stops_unserved step at write fault answer paging here met all steps replied later =
     ((paging, later.0), inr (inr (refl, here, met, later.1)))
 
 -- an access that isn't made, and meets no fault
 pub stops_answered : (step : Step) (at : ℕ) (write : Bool) (answer : Reply) → IsPaging step.p step answer
-    → IsAccessFor at write step.act → reports_fault answer ≡ false → (all : ℕ) (steps : List Step) (replied : List Reply)
+    → IsAccessFor at write step.act → reports_fault answer ≡ false → (all : ℕ) (steps : List Step)
+    (replied : List Reply)
     → EndsBy step answer steps replied → StopsAt step.p at write answer all steps replied
 stops_answered step at write answer paging here no-fault all steps replied it =
     ended_by (StopsAt step.p at write answer all) step answer steps replied it (

@@ -56,7 +56,14 @@ answered_for disk old new before after wanted what did text written result a b i
 
 answers_serve : (before : Notes) (line answer : List ℕ) (steps : List Step) (replies : List Reply)
     → AnswersLine before line answer steps replies → IsServedFor line steps replies
-answers_serve before line answer steps replies (inl (none, (cause, of, (detail, one-line, text, no-steps, no-replies)))) =
+answers_serve before line answer steps replies (inl (
+  none,
+  (
+    cause,
+    of,
+    (detail, one-line, text, no-steps, no-replies),
+  ),
+)) =
     inl (no-steps, no-replies)
 answers_serve before line answer steps replies (inr (what, is, it)) =
     inr (what, is, answers_do before what answer steps replies it)

@@ -51,7 +51,8 @@ stores_aside p at (byte ∷ bytes) = (tt, stores_aside p (at + 1) bytes)
 change_aside : (p : ℕ) (answer : Reply) (steps : List Step) (replies : List Reply)
     → AnswersChange p answer steps replies → AreAside steps replies
 change_aside p answer steps replies it = change_has AreAside p answer steps replies it
-    (each_of_change (λ step reply. IsAside step.act) p answer it.others it.differ tt (λ other not. tt) (λ other not. tt))
+    (each_of_change (λ step reply. IsAside step.act) p answer it.others it.differ tt (λ other not. tt)
+    (λ other not. tt))
 
 pub waits_aside : (p : ℕ) (steps : List Step) (replies : List Reply) → Waits p steps replies → AreAside steps replies
 waits_aside p steps replies it = subst (λ l. AreAside l replies) (sym it.steps_are)

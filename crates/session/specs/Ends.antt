@@ -92,7 +92,8 @@ IsUnserved p at write answer all (step ∷ steps) (reply ∷ replies) =
     ⊎ ((reply ≡ Refused NoFrame) × TriesAgain p at write answer steps replies))
 IsUnserved p at write answer all steps replies = ⊥
 
--- The last access of these steps is processor p's, at this address. It isn't made, and the answer is its reply, which is
+-- The last access of these steps is processor p's, at this address. It isn't made, and the answer is its reply, which
+-- is
 -- no fault; or it meets a fault that isn't served, and the answer is that of the last attempt to serve it.
 abbrev pub EndsRange : ℕ → ℕ → Bool → Reply → ℕ → List Step → List Reply → Type 0
 EndsRange p at write answer all (step ∷ steps) (reply ∷ replies) =

@@ -52,4 +52,5 @@ pub returns-clause-no_fault : goal.returns-clause-no_fault
 returns-clause-no_fault g c =
     let step : Step = record { p = c.args.p; act = c.args.act } in
     answered_no_fault g.D.Device _ _ _ _ _ _ c.args.va c.args.write step _ c.requires c.faults_are_served.ensures
-    (carries_does g.D.Device _ _ _ _ _ _ _ (c.fix-fixed.ensures.served (sym c.if-not-is_fixed.ensures))).makes c.make-last.ensures.makes
+    (carries_does g.D.Device _ _ _ _ _ _ _ (c.fix-fixed.ensures.served
+    (sym c.if-not-is_fixed.ensures))).makes c.make-last.ensures.makes

@@ -1,5 +1,6 @@
 use Rattle.std.proofs.Common.{refl, sym, ◌∙◌, ap, arith}
 use Rattle.std.proofs.lemmas.Bool.{false≢true}
+use Rattle.session.specs.Files.{round_of}
 use Rattle.session.specs.Lengths.{IsTry, reports_begun, reports_later}
 use Rattle.session.proofs.Carried.{begins_one, carries_begins, carries_first, carries_more, carries_nothing}
 use Rattle.session.proofs.Carried.{carries_one, carries_then}
@@ -57,6 +58,6 @@ loop-set-smaller g c = omega (
   arith,
   lacking_takes g.D.Device c.args.p _ _ _ _ c.args.file c.args.length _ (c.if-not-is_no_frame.ensures.0 refl)
       c.make-begun.ensures.makes,
-  room_frees_frame g.D.Device c.args.p _ _ _ _ _
+  room_frees_frame g.D.Device c.args.p _ _ _ _ (round_of c.make-begun.new.self.files.lines.items)
       (carries_does g.D.Device _ _ _ _ _ _ _ c.if-not-make_room.ensures).makes,
 )

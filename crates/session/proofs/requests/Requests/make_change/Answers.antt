@@ -5,7 +5,8 @@ use Rattle.session.proofs.requests.Requests.make_change.Goals as goal
 
 pub returns-clause-answers : goal.returns-clause-answers
 returns-clause-answers g c =
-    let is = change_is g.D.Device _ _ _ _ _ _ _ c.has_phases.ensures c.requires.held.1 c.requires.calm c.make.ensures.makes in
+    let is = change_is g.D.Device _ _ _ _ _ _ _ c.has_phases.ensures c.requires.held.1 c.requires.calm
+    c.make.ensures.makes in
     does_one g.D.Device _ _ _ _ _ _ _ (answers_alone c.args.p _ is.0) c.make.ensures.makes
 
 pub returns-clause-over : goal.returns-clause-over
@@ -14,4 +15,5 @@ returns-clause-over g c =
 
 pub returns-clause-made : goal.returns-clause-made
 returns-clause-made g c =
-    λ change held. (change_is g.D.Device _ _ _ _ _ _ change c.has_phases.ensures held c.requires.calm c.make.ensures.makes).1
+    λ change held. (change_is g.D.Device _ _ _ _ _ _ change c.has_phases.ensures held c.requires.calm
+    c.make.ensures.makes).1

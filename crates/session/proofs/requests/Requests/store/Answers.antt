@@ -15,7 +15,8 @@ pub loop-done-init : goal.loop-done-init
 loop-done-init g c = (omega arith, carries_nothing g.D.Device _ _ _ (in_turn_none _ _ refl))
 
 pub returns-in-Err : goal.returns-in-Err
-returns-in-Err g c = carries_then g.D.Device _ _ _ _ _ _ _ _ _ (in_turn_then _ _ _ _ _ _ (stores_refused c.args.p c.args.va
+returns-in-Err g c = carries_then g.D.Device _ _ _ _ _ _ _ _ _ (in_turn_then _ _ _ _ _ _
+    (stores_refused c.args.p c.args.va
     c.loop-done.done _ c.args.bytes.now c.in-Err.reply (omega (arith, c.loop-done-test.true))
     c.saturating_add-from.ensures))
     c.loop-done.invariant.1 c.in-Err.ensures.err
@@ -47,7 +48,8 @@ loop-done-preserved g c =
     let ran : length run ≡ c.store_run-more.result =
     omega (arith, length-take c.store_run-more.result (drop done bytes), length-drop done bytes, fits) in
     let first = carries_then g.D.Device _ _ _ _ _ _ _ _ _ (in_turn_then _ _ _ (λ _. StoresRange c.args.p c.args.va
-    (take c.loop-done.done bytes)) (λ _ steps replies. AreStores c.args.p c.args.va c.loop-done.done steps replies piece)
+    (take c.loop-done.done bytes)) (λ _ steps replies. AreStores c.args.p c.args.va c.loop-done.done steps replies
+    piece)
     (λ _. StoresRange c.args.p c.args.va (take done bytes)) (λ _. stores_more c.args.p c.args.va c.loop-done.done
     (take c.loop-done.done bytes) piece (take done bytes) long all)) c.loop-done.invariant.1
     (carries_more g.D.Device _ _ _ _ _ _ (in_turn_more _ _ _ _
