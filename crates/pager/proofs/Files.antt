@@ -1,14 +1,14 @@
 -- What a crash leaves, by the files that were opened and the history of the calls.
-use Rattle.std.proofs.Common.{◌≡◌, ◌≢◌, ◌⊎◌, ℕ, zero, suc, ◌+◌, ◌-◌, ◌*◌, ◌/◌, ◌%◌, ◌<◌, ◌≤◌, Bool, true, false, List}
+use Rattle.std.proofs.Common.{◌≡◌, ℕ, ◌+◌, ◌-◌, ◌*◌, ◌/◌, ◌%◌, ◌<◌, Bool, true, false, List}
 use Rattle.std.proofs.Common.{[], ◌∷◌, ◌++◌, length}
-use Rattle.std.proofs.Common.{map, take, drop, cond, get_or, Option, Some, None, refl, ap, sym, ◌∙◌, subst, arith}
+use Rattle.std.proofs.Common.{map, take, drop, get_or, Option, Some, None, refl, ap, sym, ◌∙◌, subst, arith}
 use Rattle.std.proofs.Common.{inl, inr, eqb, if◌then◌else◌}
 use Rattle.std.specs.Prelude.{unwrap_or, ◌&&◌, ◌==◌, nat_le}
 use Rattle.std.specs.Option.{option_or}
 use Rattle.std.proofs.lemmas.Bool.{cases_Bool, both_ways, cond-false, cond-true, cases_lt, cases_eq, eqb-true, eq-eqb}
-use Rattle.std.proofs.lemmas.Bool.{ne_eqb, and_parts, and_from, false_from_ne_true, leb-false}
-use Rattle.std.proofs.lemmas.List.{take-append-le, append-nil, take_all, length-append, length-take, length-drop}
-use Rattle.device.specs.Device.{Only, LeavesOnly, written}
+use Rattle.std.proofs.lemmas.Bool.{ne_eqb, and_parts, and_from, leb-false}
+use Rattle.std.proofs.lemmas.List.{append-nil, length-drop}
+use Rattle.device.specs.Device.{LeavesOnly, written}
 use Rattle.device.specs.declared.device.Device.{Ghosts}
 use Rattle.device.proofs.Public.{leaves_weaker, length-written}
 use Rattle.page_entry.specs.declared.numbers.FilePage.{FilePage}
@@ -16,24 +16,22 @@ use Rattle.volume_codec.specs.Files.{File, TableFile}
 use Rattle.volume_codec.specs.Layout.{block_at, IsHome, first_home, first_file_home, lengths_blocks}
 use Rattle.volume_codec.specs.Lengths.{AreLengths, HasLengths, lengths_in}
 use Rattle.volume_codec.specs.Super.{SuperValue, geometry_of, block_count, total_pages, pages_of}
-use Rattle.volume_codec.specs.Recovery.{Recovers, RecoversTo, IsVolume, files_in, files_from, blocks_from}
+use Rattle.volume_codec.specs.Recovery.{IsVolume, files_in, files_from, blocks_from}
 use Rattle.volume_codec.specs.Text.{padded}
 use Rattle.volume_codec.proofs.Public.{has_lengths-same, lengths_in-same, length-block_at}
 use Rattle.journal.specs.Pages.{home_of}
-use Rattle.journal.specs.WriteOuts.{current_stage, HasBlock}
 use Rattle.journal.proofs.Public.{consistent_left}
-use Rattle.recovery.specs.Volume.{VolumeState, IsAtRest}
 use Rattle.history.specs.History.{Event, Store, SetLength, Mark, Acknowledge, Memory, memory_of, after, stored}
-use Rattle.history.specs.History.{lengths_of, lengths_after, files_after, page_of, file_bytes, part}
+use Rattle.history.specs.History.{lengths_of, lengths_after, file_bytes, part}
 use Rattle.history.specs.Reading.{ReadsBack}
 use Rattle.history.specs.inside.Contents.{HasParts, AreContentsOf}
 use Rattle.history.proofs.Public.{capacity_at, total_pages-before, total_pages-within, take-padded_take, prefix_has}
 use Rattle.history.proofs.Public.{length-page_of, named_from, lengths_from, file_bytes-from, page_in_blocks}
 use Rattle.pager.specs.Blocks.{Blocks, bytes_in, newest_in}
-use Rattle.pager.specs.State.{PagerState, fresh, length_of, cut_at_end, current_in}
+use Rattle.pager.specs.State.{PagerState, cut_at_end, current_in}
 use Rattle.page_entry.specs.declared.refusal.Refusal.TheVariants as refusals
-use Rattle.pager.specs.Calls.{refuse_if, page_refusal, put_refusal, after_put, after_commit, after_step, committed_with}
-use Rattle.pager.specs.Histories.{marked_with, acknowledged_by, IsPut, IsStep, IsCommit, HasCome}
+use Rattle.pager.specs.Calls.{refuse_if, page_refusal, after_commit, committed_with}
+use Rattle.pager.specs.Histories.{marked_with, acknowledged_by, IsStep, IsCommit, HasCome}
 use Rattle.pager.specs.Histories.{WasOpened, HasPut, HasCommitted, HasStepped, HasRead}
 use Rattle.pager.specs.inside.Contents.{owner_at, with_page, contents_after, IsDurable}
 use Rattle.pager.proofs.Capacities.{length_fits}

@@ -1,46 +1,44 @@
 -- What holds of each pager that calls have led to, and what a crash leaves of it.
-use Rattle.std.proofs.Common.{◌≡◌, ◌≢◌, ◌⊎◌, ℕ, zero, suc, ◌+◌, ◌*◌, ◌<◌, ◌≤◌, Bool, true, false, List, [], ◌∷◌, ◌++◌}
+use Rattle.std.proofs.Common.{◌≡◌, ◌⊎◌, ℕ, zero, suc, ◌+◌, ◌*◌, Bool, true, false, List, [], ◌∷◌, ◌++◌}
 use Rattle.std.proofs.Common.{length}
-use Rattle.std.proofs.Common.{map, cond, Option, Some, None, refl, ap, sym, ◌∙◌, subst, arith, inl, inr, eqb}
+use Rattle.std.proofs.Common.{map, Option, Some, None, refl, ap, sym, ◌∙◌, subst, arith, inl, inr, eqb}
 use Rattle.std.proofs.Common.{append_assoc, if◌then◌else◌}
-use Rattle.std.specs.Prelude.{unwrap_or, MatchBool}
-use Rattle.std.specs.List.{AllByRecursion, Contains}
+use Rattle.std.specs.Prelude.{unwrap_or}
+use Rattle.std.specs.List.{Contains}
 use Rattle.std.specs.Option.{option_map_or, option_or}
-use Rattle.std.proofs.lemmas.Bool.{cases_Bool, both_ways, cond-false, cond-true, or_parts}
+use Rattle.std.proofs.lemmas.Bool.{cases_Bool, both_ways, cond-false}
 use Rattle.std.proofs.lemmas.List.{append-nil}
 use Rattle.std.proofs.lemmas.List.Elements.{Contains-append_left, Contains-append_right, Contains-append_cases}
-use Rattle.device.specs.Device.{Only, LeavesOnly}
-use Rattle.device.specs.Did.{Did}
 use Rattle.device.specs.declared.device.Device.{Ghosts}
-use Rattle.device.proofs.Public.{leaves_weaker, done_seen}
+use Rattle.device.proofs.Public.{done_seen}
 use Rattle.page_entry.specs.declared.numbers.FilePage.{FilePage}
-use Rattle.volume_codec.specs.Layout.{block_at, IsHome}
-use Rattle.volume_codec.specs.Super.{SuperValue, geometry_of}
+use Rattle.volume_codec.specs.Layout.{block_at}
+use Rattle.volume_codec.specs.Super.{SuperValue}
 use Rattle.volume_codec.specs.Recovery.{Recovers}
 use Rattle.volume_codec.proofs.Public.{fits_geometry}
 use Rattle.journal.specs.Pages.{home_of}
-use Rattle.journal.specs.Work.{has_done, Sync}
+use Rattle.journal.specs.Work.{has_done}
 use Rattle.journal.specs.declared.stage.Stage.{Stage}
 use Rattle.journal.specs.declared.stage.Stage.TheVariants.{Recording, Describing, SyncingRecords, Opening}
 use Rattle.journal.specs.declared.stage.Stage.TheVariants.{Committing, Applying, SyncingHomes, Closing, Finishing}
 use Rattle.journal.specs.declared.flushed.Flushed.{Flushed}
 use Rattle.journal.specs.declared.flushed.Flushed.TheVariants.{Going, Committed, Done, Device, Broken}
 use Rattle.journal.specs.Stage.{is_committed}
-use Rattle.journal.specs.Crash.{LeftBefore, LeftWithin}
+use Rattle.journal.specs.Crash.{LeftWithin}
 use Rattle.journal.specs.WriteOut.{WriteOut, begun_of, answer_of}
 use Rattle.journal.specs.Work.{TornFromWork}
 use Rattle.volume_codec.specs.Text.{zeros}
 use Rattle.journal.specs.WriteOuts.{moving, batches_after}
-use Rattle.journal.specs.WriteOuts.{WriteOutsValue, none_of, has_uncommitted, shares_syncs, current_stage, outs_after}
-use Rattle.journal.specs.WriteOuts.{outs_home, next_answer, next_work, begun, next_batch, is_busy, HasBlock}
+use Rattle.journal.specs.WriteOuts.{has_uncommitted, shares_syncs, current_stage, outs_after}
+use Rattle.journal.specs.WriteOuts.{outs_home, next_answer, next_work, begun, next_batch}
 use Rattle.journal.specs.inside.Consistent.{IsConsistent}
 use Rattle.journal.proofs.Public.{consistent_first, consistent_begun, consistent_within, consistent_after}
-use Rattle.journal.proofs.Public.{consistent_failed, consistent_left, consistent_other, stage_committed}
+use Rattle.journal.proofs.Public.{consistent_failed, stage_committed}
 use Rattle.recovery.specs.Reading.{IsOnlyRead}
 use Rattle.recovery.specs.Volume.{VolumeState, IsAtRest}
-use Rattle.pager.specs.Blocks.{Blocks, homes_in, bytes_in, with_block, newest_in}
-use Rattle.pager.specs.State.{PagerState, fresh, cut_at_end, current_in, record_for}
-use Rattle.pager.specs.Calls.{put_refusal, commit_refusal, after_put, after_commit, after_step, next_bytes}
+use Rattle.pager.specs.Blocks.{Blocks, homes_in, bytes_in, newest_in}
+use Rattle.pager.specs.State.{PagerState, fresh, cut_at_end, record_for}
+use Rattle.pager.specs.Calls.{after_put, after_commit, after_step, next_bytes}
 use Rattle.pager.specs.Calls.{records_after}
 use Rattle.pager.specs.Calls.{committed_with, first_of, refuse_if}
 use Rattle.page_entry.specs.declared.refusal.Refusal.{Refusal}
@@ -49,7 +47,7 @@ use Rattle.std.specs.Prelude.{◌||◌, ◌-◌, ◌^◌, ◌/◌, nat_eq, nat_l
 use Rattle.volume_codec.specs.Layout.{journals_of}
 use Rattle.volume_codec.specs.Descriptor.{AreHomes}
 use Rattle.journal.specs.LedTo.{MayBegin}
-use Rattle.history.specs.History.{Event, Store, SetLength, Mark, Acknowledge, IsMarked, IsDurablePrefix}
+use Rattle.history.specs.History.{Event, Store, SetLength, Mark, Acknowledge, IsMarked}
 use Rattle.history.specs.inside.Contents.{HasAcknowledged}
 use Rattle.pager.specs.inside.Contents.{owner_at, with_page, contents_after, IsDurable}
 use Rattle.pager.specs.Histories.{marked_with, acknowledged_by, IsStep, IsCommit}
@@ -57,7 +55,7 @@ use Rattle.pager.proofs.Putting.{bytes_put, newest_push}
 use Rattle.pager.proofs.Stepping.{batch_homes, tied_after, AllOf, all_after}
 use Rattle.pager.proofs.Beginning.{map_push}
 use Rattle.pager.proofs.Outs.{none_after, none_uncommitted, never_device, committing, by_mover}
-use Rattle.pager.proofs.Records.{record_found, block_found, absent, newest_rest, IsFound}
+use Rattle.pager.proofs.Records.{record_found, absent, newest_rest}
 
 -- ---- contents after histories that grow
 

@@ -7,6 +7,4 @@ mod codec;
 #[cfg(test)]
 mod migrations;
 #[cfg(test)]
-mod pages;
-#[cfg(test)]
 mod volumes;

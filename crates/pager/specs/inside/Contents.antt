@@ -1,5 +1,5 @@
 -- Home blocks after a history of puts, in a volume whose files keep these lengths.
-use Rattle.std.specs.Prelude.{ℕ, ◌≡◌, ◌/◌, ◌==◌, if◌then◌else◌, List, [], ◌∷◌, length}
+use Rattle.std.specs.Prelude.{ℕ, ◌/◌, ◌==◌, if◌then◌else◌, List, [], ◌∷◌}
 use Rattle.page_entry.specs.declared.numbers.FilePage.{FilePage}
 use Rattle.volume_codec.specs.Super.{SuperValue}
 use Rattle.volume_codec.specs.Recovery.{Recovers}
