@@ -1,6 +1,7 @@
 use Rattle.std.proofs.Common.{◌≡◌, ℕ, List, length, refl, ap, subst, arith}
 use Rattle.session.specs.Answers.{stored_text}
 use Rattle.session.specs.Asked.{asked}
+use Rattle.session.specs.Files.{round_of}
 use Rattle.session.specs.Ranges.{StoresReached}
 use Rattle.session.specs.Requests.{asks_store, asks_commit, asks_length}
 use Rattle.session.proofs.Served.{answered_for}
@@ -14,13 +15,14 @@ returns-in-Store g c =
     let va = c.in-Store.va in
     let reached = c.store-reached.result in
     let bytes = c.in-Store.bytes in
+    let all = round_of c.args.self.now.files.lines.items in
     let count : c.len.result ≡ length bytes.items = omega (arith, c.len.ensures, bytes.ok.0) in
     answered_for g.D.Device _ _ _ _ _ (asks_store p va bytes.items) _ _
     c.write_stored.result c.map_err.result (contents c.args.out.now) (contents c.write_stored.new.out)
     (ap asked c.in-Store.is) (λ steps replies it. (
-      _,
+      all,
       reached,
-      subst (λ (bytes : List ℕ). StoresReached p va bytes reached _ steps replies) c.deref-in-Store.ensures.value it,
+      subst (λ (bytes : List ℕ). StoresReached p va bytes reached all steps replies) c.deref-in-Store.ensures.value it,
       ap (stored_text reached) count,
     )) (λ kept. kept) c.map_err.ensures.variant c.write_stored.ensures
     (carries_does g.D.Device _ _ _ _ _ _ _ c.store-reached.ensures)
