@@ -1,10 +1,10 @@
 //! A session over any disk: requests are read from a line each, carried out on a machine, and answered by a line.
 #![tactic(auto)]
 
+mod acknowledging;
 mod answer;
 mod commit;
 mod files;
-mod history;
 mod line;
 mod notes;
 mod paging;
@@ -17,8 +17,8 @@ mod serving;
 mod session;
 mod session_fault;
 
+pub use acknowledging::acknowledges;
 pub use files::{FileLine, Files};
-pub use history::acknowledges;
 pub use line::{Line, read_line};
 pub use notes::Notes;
 pub use ranges::Reached;

@@ -1,5 +1,5 @@
 use Rattle.session.proofs.Marks.{acknowledged, line_mark}
-use Rattle.session.proofs.history.acknowledges.Goals as goal
+use Rattle.session.proofs.acknowledging.acknowledges.Goals as goal
 
 pub returns-clause-mark : goal.returns-clause-mark
 returns-clause-mark g c =
