@@ -196,15 +196,6 @@ abbrev SaysCause : RequestFault → Option (List ℕ) → Option (List ℕ) → 
 SaysCause cause a b =
     (detail : List ℕ) × HasNoFeed detail × Appends a b (codes "badline " ++ cause_words cause ++ detail ++ 10 ∷ [])
 
-said_cause : (cause : RequestFault) (detail : List ℕ) (a b : Option (List ℕ))
-    → Appends a b (codes "badline " ++ cause_words cause ++ detail ++ 10 ∷ [])
-    → Appends a b ((codes "badline " ++ cause_words cause ++ detail) ++ 10 ∷ [])
-said_cause cause detail a b wrote =
-    let front : List ℕ = codes "badline " in
-    subst (λ (text : List ℕ). Appends a b text) (ap (λ l. front ++ l)
-    (sym (append_assoc (cause_words cause) detail (10 ∷ []))) ∙ sym (append_assoc front (cause_words cause ++ detail)
-    (10 ∷ []))) wrote
-
 -- a line that asks for nothing
 pub line_refused : {D : Type 0} (disk : Ghosts D) (old : Whole D) (before : Notes) (line : List ℕ)
     (cause : RequestFault) (a b : Option (List ℕ)) → IsMemory cause ⊎ AsksNothing line
@@ -221,7 +212,7 @@ line_refused disk old before line cause a b nothing why (not, (detail, plain, wr
           unless_memory cause (AsksNothing line) nothing not,
           (cause, unless_memory cause (IsFaultOf cause line) why not, (detail, plain, refl, refl, refl)),
         ),
-        said_cause cause detail a b wrote,
+        wrote,
       );
     }
 
@@ -321,7 +312,7 @@ answers_bad disk old before input rest a b c read (detail, plain, wrote) kept =
         refl,
         read,
         (answer, [], [], [], [], [], (detail, plain, refl, refl, refl), (refl, refl, refl), refl, refl, refl),
-        Appends-kept a b c (answer ++ 10 ∷ []) (said_cause (fault.Long 262144) detail a b wrote) kept,
+        Appends-kept a b c (answer ++ 10 ∷ []) wrote kept,
       );
     }
 
