@@ -20,13 +20,13 @@ static int why_over(famsync *handle)
     return reported ? FAMSYNC_BROKEN : handle->ended;
 }
 
-int enter(famsync *handle)
+int enter(famsync *handle, bool has_arguments)
 {
     int cancel;
-    if (!handle)
-        return FAMSYNC_ARGUMENT;
     if (is_forked(handle))
         return FAMSYNC_FORKED;
+    if (!handle || !has_arguments)
+        return FAMSYNC_ARGUMENT;
     cancel = hold_off_cancel();
     atomic_fetch_add(&handle->callers, 1);
     pthread_mutex_lock(&handle->turn);

@@ -59,7 +59,7 @@ static void commit_for_waiters(famsync *handle)
 {
     struct waiter *waiters, *next;
     uint64_t mark = 0;
-    int code = enter(handle), error;
+    int code = enter(handle, true), error;
     pthread_mutex_lock(&handle->queue);
     waiters = handle->waiters;
     handle->waiters = NULL;

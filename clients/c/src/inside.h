@@ -157,8 +157,9 @@ static inline void allow_cancel(int before)
     pthread_setcancelstate(before, &now);
 }
 
-/* api.c: turns. `enter` answers whether this process may use the handle; if so it has its turn until `leave`. */
-int enter(famsync *handle);
+/* api.c: turns. If `enter` returns FAMSYNC_OK, the caller has the turn until `leave`. A forked process gets
+   FAMSYNC_FORKED, even if its call lacks the arguments that it needs; else such a call gets FAMSYNC_ARGUMENT. */
+int enter(famsync *handle, bool has_arguments);
 int leave(famsync *handle, int code);
 /* The number of the file with this name; that of all files where there is none. */
 unsigned number_of(const famsync *handle, const char *name);
@@ -183,9 +184,9 @@ bool has_write(famsync *handle);
 int begin_gathering(struct gathered *gathered, unsigned pieces);
 void end_gathering(struct gathered *gathered);
 
-/* supply.c: reads blocks of the volume, and supplies them to the core. Before the volume is opened, the first block; and
-   then each block that opening wants, with those behind it if it wanted the block after the last ones. `*last` begins as
-   zeros. */
+/* supply.c: reads blocks of the volume, and supplies them to the core. Before the volume is opened, the first block;
+   and then each block that opening wants, with those behind it if it wanted the block after the last ones. `*last`
+   begins as zeros. */
 int supply_head(famsync *handle);
 int supply_to_open(famsync *handle, uint32_t block, struct reading *last);
 /* Reads up to MOST_READ blocks to `read`, whole. */

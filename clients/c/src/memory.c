@@ -128,9 +128,7 @@ int famsync_memory_open(famsync *handle, const char *file, famsync_memory **open
     int code;
     if (opened)
         *opened = NULL;
-    if (!file || !opened)
-        return FAMSYNC_ARGUMENT;
-    code = enter(handle);
+    code = enter(handle, file && opened);
     return code == FAMSYNC_OK ? leave(handle, open_memory(handle, file, opened)) : code;
 }
 
@@ -216,10 +214,10 @@ static int touch(famsync_memory *memory, size_t first, size_t end)
 
 int famsync_memory_touch(famsync_memory *memory, size_t offset, size_t count)
 {
+    if (memory && is_forked(memory->handle))
+        return FAMSYNC_FORKED;
     if (!memory || offset > memory->length || count > memory->length - offset)
         return FAMSYNC_ARGUMENT;
-    if (is_forked(memory->handle))
-        return FAMSYNC_FORKED;
     if (memory->handle->volume.readonly)
         return FAMSYNC_READONLY;
     if (count == 0)

@@ -116,11 +116,8 @@ int store_range(famsync *handle, uint64_t address, const unsigned char *bytes, s
 
 int famsync_map(famsync *handle, const char *file, uint64_t offset, uint64_t length, int protection, uint64_t *address)
 {
-    int code;
+    int code = enter(handle, file && address);
     unsigned number;
-    if (!file || !address)
-        return FAMSYNC_ARGUMENT;
-    code = enter(handle);
     if (code != FAMSYNC_OK)
         return code;
     number = number_of(handle, file);
@@ -131,20 +128,15 @@ int famsync_map(famsync *handle, const char *file, uint64_t offset, uint64_t len
     return leave(handle, map_pages(handle, number, offset, length, protection, address));
 }
 
-/* Whether an access has arguments that make one, and then the turn. */
-static int enter_range(famsync *handle, uint64_t address, const void *bytes, size_t count)
+static bool is_range(uint64_t address, const void *bytes, size_t count)
 {
-    if (count > 0 && !bytes)
-        return FAMSYNC_ARGUMENT;
-    if (count > UINT64_MAX - address)
-        return is_forked(handle) ? FAMSYNC_FORKED : FAMSYNC_ARGUMENT;
-    return enter(handle);
+    return (count == 0 || bytes) && count <= UINT64_MAX - address;
 }
 
 int famsync_load(famsync *handle, uint64_t address, void *bytes, size_t count, size_t *done)
 {
     size_t counted = 0;
-    int code = enter_range(handle, address, bytes, count);
+    int code = enter(handle, is_range(address, bytes, count));
     if (code == FAMSYNC_OK)
         code = leave(handle, load_range(handle, address, bytes, count, &counted));
     if (done)
@@ -155,7 +147,7 @@ int famsync_load(famsync *handle, uint64_t address, void *bytes, size_t count, s
 int famsync_store(famsync *handle, uint64_t address, const void *bytes, size_t count, size_t *done)
 {
     size_t counted = 0;
-    int code = enter_range(handle, address, bytes, count);
+    int code = enter(handle, is_range(address, bytes, count));
     if (code == FAMSYNC_OK)
         code = leave(handle, store_range(handle, address, bytes, count, &counted));
     if (done)
@@ -220,10 +212,7 @@ static int set_length(famsync *handle, unsigned file, uint64_t length)
 int famsync_setlength(famsync *handle, const char *file, uint64_t length)
 {
     unsigned number;
-    int code;
-    if (!file)
-        return FAMSYNC_ARGUMENT;
-    code = enter(handle);
+    int code = enter(handle, file != NULL);
     if (code != FAMSYNC_OK)
         return code;
     number = number_of(handle, file);

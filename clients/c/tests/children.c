@@ -164,8 +164,44 @@ static void generations(void)
     WANT_CODE(famsync_close(first), FAMSYNC_OK);
 }
 
+/* A forked process learns that it is one, whatever its arguments are. */
+static void arguments_in_child(famsync *handle, famsync_memory *memory)
+{
+    famsync_memory *opened_memory;
+    uint64_t address;
+    unsigned char byte;
+    alarm(20);
+    WANT_CODE(famsync_map(handle, NULL, 0, 0, FAMSYNC_READ, &address), FAMSYNC_FORKED);
+    WANT_CODE(famsync_map(handle, "a", 0, 0, FAMSYNC_READ, NULL), FAMSYNC_FORKED);
+    WANT_CODE(famsync_load(handle, 65536, NULL, 1, NULL), FAMSYNC_FORKED);
+    WANT_CODE(famsync_load(handle, UINT64_MAX, &byte, 1, NULL), FAMSYNC_FORKED);
+    WANT_CODE(famsync_store(handle, 65536, NULL, 1, NULL), FAMSYNC_FORKED);
+    WANT_CODE(famsync_store(handle, UINT64_MAX, &byte, 1, NULL), FAMSYNC_FORKED);
+    WANT_CODE(famsync_setlength(handle, NULL, 0), FAMSYNC_FORKED);
+    WANT_CODE(famsync_memory_open(handle, NULL, &opened_memory), FAMSYNC_FORKED);
+    WANT_CODE(famsync_memory_open(handle, "a", NULL), FAMSYNC_FORKED);
+    WANT_CODE(famsync_memory_touch(memory, 65537, 1), FAMSYNC_FORKED);
+    WANT_CODE(famsync_msync(handle, NULL), FAMSYNC_FORKED);
+    _exit(0);
+}
+
+static void arguments(void)
+{
+    int status;
+    make_volume(16, "a=65536");
+    famsync *handle = opened();
+    famsync_memory *memory = memory_of(handle);
+    pid_t child = fork();
+    if (child == 0)
+        arguments_in_child(handle, memory);
+    WANT(waitpid(child, &status, 0) == child && status == 0);
+    WANT_CODE(famsync_memory_close(memory), FAMSYNC_OK);
+    WANT_CODE(famsync_close(handle), FAMSYNC_OK);
+}
+
 int main(void)
 {
+    arguments();
     forked_within();
     generations();
     shares(by_vfork);
