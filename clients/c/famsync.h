@@ -46,7 +46,7 @@ enum famsync_code {
 
     FAMSYNC_ARGUMENT = -1, /* an argument isn't one that this call takes */
     FAMSYNC_NOMEMORY = -2, /* this process was refused memory */
-    FAMSYNC_SYSTEM = -3,   /* a call of the system failed; errno says how */
+    FAMSYNC_SYSTEM = -3,   /* a call of the system failed; errno says how: EPROTO is a fault of the library */
     FAMSYNC_INUSE = -6,    /* the volume is open already: in another process, or in this one */
     FAMSYNC_SUSPECT = -7,  /* a sync of the volume failed once; it opens where it is trusted */
     FAMSYNC_FORKED = -11,  /* the handle is of the process from which this one was forked */

@@ -50,6 +50,9 @@ const char *famsync_strerror(int code)
 int code_of(int64_t core_code)
 {
     switch (core_code) {
+    case FAMSYNC_CORE_OK:
+    case FAMSYNC_CORE_NONE:
+        return FAMSYNC_OK;
     case FAMSYNC_CORE_NOTAVOLUME:
         return FAMSYNC_NOTAVOLUME;
     case FAMSYNC_CORE_DAMAGED:
@@ -60,20 +63,26 @@ int code_of(int64_t core_code)
         return FAMSYNC_NOMEMORY;
     case FAMSYNC_CORE_NOTRESIDENT:
         return FAMSYNC_NOFRAME;
+    /* these have the same number in famsync.h */
     case FAMSYNC_CORE_ARGUMENT:
-    case FAMSYNC_CORE_ORDER:
-    case FAMSYNC_CORE_OTHER:
-    /* None of these comes: the only processor of a session is active, and nobody changes its mappings meanwhile; what a
-       commit writes is written when it answers; files are open for writing; each mapping has addresses of its own. */
-    case FAMSYNC_CORE_STALLED:
-    case FAMSYNC_CORE_LOCKED:
-    case FAMSYNC_CORE_HELD:
-    case FAMSYNC_CORE_EACCES:
-    case FAMSYNC_CORE_OVERLAP:
-        return FAMSYNC_ARGUMENT;
+    case FAMSYNC_CORE_NOMEMORY:
+    case FAMSYNC_CORE_SEGVMAPERR:
+    case FAMSYNC_CORE_SEGVACCERR:
+    case FAMSYNC_CORE_BUSADRERR:
+    case FAMSYNC_CORE_NOFRAME:
+    case FAMSYNC_CORE_DEVICE:
+    case FAMSYNC_CORE_BROKEN:
+    case FAMSYNC_CORE_EINVAL:
+    case FAMSYNC_CORE_ENOMEM:
+    case FAMSYNC_CORE_NOFILE:
+    case FAMSYNC_CORE_BUSY:
+        return (int)core_code;
+    /* The core has others (STALLED, LOCKED, HELD, EACCES, OVERLAP, ORDER, OTHER), which this library never gets: the
+       only processor of a session is active, and nobody changes its mappings meanwhile; a commit is written when it
+       answers; files are open for writing; each mapping has addresses of its own. */
     default:
-        /* from FAMSYNC_SEGVMAPERR on they are the same */
-        return core_code >= 0 ? FAMSYNC_OK : (int)core_code;
+        errno = EPROTO;
+        return FAMSYNC_SYSTEM;
     }
 }
 

@@ -5,6 +5,7 @@
  *
  *   MOCK_LOG=PATH   each call that is recorded is written there, a line each: core W OFFSET HEX, or core S; and how
  * many are said to be made: core made COUNT
+ *   MOCK_ANSWER=N   open, map, load, store, set_length and commit answer this number, and do nothing else
  */
 #define _DEFAULT_SOURCE
 #include "famsync_core.h"
@@ -116,6 +117,15 @@ static void put_number(uint8_t *bytes, unsigned count, uint64_t number)
 {
     for (unsigned i = count; i > 0; i--, number >>= 8)
         bytes[i - 1] = (uint8_t)number;
+}
+
+/* Whether a test has set what a call answers. */
+static bool is_told(int32_t *answer)
+{
+    const char *told = getenv("MOCK_ANSWER");
+    if (told)
+        *answer = (int32_t)strtol(told, NULL, 10);
+    return told != NULL;
 }
 
 /* Calls. */
@@ -555,6 +565,8 @@ int32_t famsync_core_open(famsync_core handle, uint32_t frames, uint32_t copies,
     uint32_t most;
     int code = core->open ? FAMSYNC_CORE_ORDER : read_head(core);
     *at = handle.at;
+    if (is_told(&code))
+        return code;
     if (code == FAMSYNC_CORE_OK && core->head > core->blocks)
         code = FAMSYNC_CORE_DAMAGED;
     if (code == FAMSYNC_CORE_OK && lacks_any(core, wanted))
@@ -803,7 +815,10 @@ int32_t famsync_core_commit(famsync_core handle, uint32_t *mark, uint8_t **at)
 {
     struct core *core = core_of(handle);
     struct journal *journal = &core->journal[core->next];
+    int32_t told;
     *at = handle.at;
+    if (is_told(&told))
+        return told;
     if (!core->open || core->broken)
         return core->open ? FAMSYNC_CORE_BROKEN : FAMSYNC_CORE_ORDER;
     while (core->under_way == journals(core))
@@ -843,8 +858,11 @@ int32_t famsync_core_map(famsync_core handle, uint32_t file, uint64_t offset, ui
 {
     struct core *core = core_of(handle);
     size_t bytes = core->mappings * sizeof *core->mapping;
+    int32_t told;
     void *more;
     *at = handle.at;
+    if (is_told(&told))
+        return told;
     if (!core->open)
         return FAMSYNC_CORE_ORDER;
     if (file >= core->files)
@@ -975,7 +993,10 @@ static int page_at(struct core *core, uint64_t address, bool writes, struct page
 static int32_t access_of(struct core *core, uint64_t address, uint8_t *loaded, const uint8_t *stored, size_t count,
                          uint64_t *done, uint32_t *wanted)
 {
+    int32_t told;
     *done = 0;
+    if (is_told(&told))
+        return told;
     if (!core->open)
         return FAMSYNC_CORE_ORDER;
     while (*done < count) {
@@ -1060,6 +1081,8 @@ int32_t famsync_core_set_length(famsync_core handle, uint32_t number, uint64_t l
     int code = FAMSYNC_CORE_OK;
     (void)wanted;
     *at = handle.at;
+    if (is_told(&code))
+        return code;
     if (!core->open)
         return FAMSYNC_CORE_ORDER;
     if (number >= core->files)
