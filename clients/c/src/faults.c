@@ -3,6 +3,7 @@
 
 #include <errno.h>
 #include <linux/futex.h>
+#include <stdlib.h>
 #include <string.h>
 #include <sys/mman.h>
 #include <sys/syscall.h>
@@ -16,14 +17,20 @@
 /*
  * Where plain memory lies, for the handler: it may run in any thread at any time, and so looks at nothing that could be
  * freed. `version` is odd while an entry changes. A thread that stores to a memory isn't looking for one that changes.
+ * A part that was added to the table is never freed.
  */
-#define MOST_MEMORIES 256u
+#define ENTRIES 256u
 
-static struct {
+struct entry {
     atomic_uint version;
     _Atomic uintptr_t begin, end;
     _Atomic(famsync_memory *) memory;
-} table[MOST_MEMORIES];
+};
+
+static struct part {
+    struct entry entry[ENTRIES];
+    _Atomic(struct part *) next;
+} table;
 
 static pthread_mutex_t table_lock = PTHREAD_MUTEX_INITIALIZER;
 
@@ -49,24 +56,32 @@ void unlock_table(void)
     pthread_mutex_unlock(&table_lock);
 }
 
-static void set_entry(unsigned slot, uintptr_t begin, uintptr_t end, famsync_memory *memory)
+static void set_entry(struct entry *entry, uintptr_t begin, uintptr_t end, famsync_memory *memory)
 {
-    atomic_fetch_add(&table[slot].version, 1);
-    atomic_store(&table[slot].begin, begin);
-    atomic_store(&table[slot].end, end);
-    atomic_store(&table[slot].memory, memory);
-    atomic_fetch_add(&table[slot].version, 1);
+    atomic_fetch_add(&entry->version, 1);
+    atomic_store(&entry->begin, begin);
+    atomic_store(&entry->end, end);
+    atomic_store(&entry->memory, memory);
+    atomic_fetch_add(&entry->version, 1);
+}
+
+/* The memory of an entry, if it has this address and isn't changing. */
+static famsync_memory *memory_at(struct entry *entry, uintptr_t address)
+{
+    unsigned version = atomic_load(&entry->version);
+    bool in = address >= atomic_load(&entry->begin) && address < atomic_load(&entry->end);
+    famsync_memory *memory = atomic_load(&entry->memory);
+    return in && version % 2 == 0 && atomic_load(&entry->version) == version ? memory : NULL;
 }
 
 static famsync_memory *memory_of(uintptr_t address)
 {
-    for (unsigned slot = 0; slot < MOST_MEMORIES; slot++) {
-        unsigned version = atomic_load(&table[slot].version);
-        bool in = address >= atomic_load(&table[slot].begin) && address < atomic_load(&table[slot].end);
-        famsync_memory *memory = atomic_load(&table[slot].memory);
-        if (in && version % 2 == 0 && atomic_load(&table[slot].version) == version)
-            return memory;
-    }
+    for (struct part *part = &table; part; part = atomic_load(&part->next))
+        for (unsigned i = 0; i < ENTRIES; i++) {
+            famsync_memory *memory = memory_at(&part->entry[i], address);
+            if (memory)
+                return memory;
+        }
     return NULL;
 }
 
@@ -288,15 +303,29 @@ static int install_handler(void)
     return sigaction(SIGSEGV, &ours, NULL) == 0 ? FAMSYNC_OK : FAMSYNC_SYSTEM;
 }
 
-static int enter_free_slot(famsync_memory *memory)
+/* The first entry that no memory has, in a new part where all of them are taken; a null pointer if memory is refused.
+ */
+static struct entry *free_entry(void)
 {
-    for (unsigned slot = 0; slot < MOST_MEMORIES; slot++)
-        if (!atomic_load(&table[slot].memory)) {
-            memory->slot = slot;
-            set_entry(slot, (uintptr_t)memory->at, (uintptr_t)memory->at + memory->room, memory);
-            return FAMSYNC_OK;
-        }
-    return FAMSYNC_NOMEMORY;
+    struct part *last = &table, *added;
+    for (struct part *part = last; part; last = part, part = atomic_load(&part->next))
+        for (unsigned i = 0; i < ENTRIES; i++)
+            if (!atomic_load(&part->entry[i].memory))
+                return &part->entry[i];
+    added = calloc(1, sizeof *added);
+    if (!added)
+        return NULL;
+    atomic_store(&last->next, added);
+    return &added->entry[0];
+}
+
+static int enter_free_entry(famsync_memory *memory)
+{
+    memory->entry = free_entry();
+    if (!memory->entry)
+        return FAMSYNC_NOMEMORY;
+    set_entry(memory->entry, (uintptr_t)memory->at, (uintptr_t)memory->at + memory->room, memory);
+    return FAMSYNC_OK;
 }
 
 int enter_table(famsync_memory *memory)
@@ -305,16 +334,16 @@ int enter_table(famsync_memory *memory)
     lock_table();
     code = install_handler();
     if (code == FAMSYNC_OK)
-        code = enter_free_slot(memory);
+        code = enter_free_entry(memory);
     unlock_table();
     return code;
 }
 
 void leave_table(famsync_memory *memory)
 {
-    if (memory->slot == NO_SLOT)
+    if (!memory->entry)
         return;
     lock_table();
-    set_entry(memory->slot, 0, 0, NULL);
+    set_entry(memory->entry, 0, 0, NULL);
     unlock_table();
 }

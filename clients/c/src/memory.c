@@ -60,7 +60,6 @@ static famsync_memory *new_memory(famsync *handle, unsigned file, size_t length)
     memory->grain = system_page > (long)PAGE ? (size_t)system_page : PAGE;
     memory->pages = (length + memory->grain - 1) / memory->grain;
     memory->room = memory->pages * memory->grain;
-    memory->slot = NO_SLOT;
     memory->at = guarded_pages_of(memory->room, memory->grain);
     if (memory->at && take_room_for_notes(memory))
         return memory;

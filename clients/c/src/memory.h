@@ -19,7 +19,7 @@ struct famsync_memory {
     size_t pages;  /* of this system */
     uint64_t address;
     unsigned file;
-    unsigned slot;        /* in the handler's table; NO_SLOT where none of its faults is a store that is taken */
+    struct entry *entry;  /* in the handler's table; null where none of its faults is a store that is taken */
     bool stored;          /* the core has stores of it that no commit has; under `turn` */
     unsigned char *dirty; /* one a page, below: what became of it since the last msync; under `closing` */
     unsigned char *taken; /* one a page: the commit under way has it; under `turn` */
@@ -28,8 +28,6 @@ struct famsync_memory {
     struct span takes;    /* has all pages of which `taken` says something; under `turn` */
     size_t next, ahead;   /* the page after those that were opened last, and how many these were; under `closing` */
 };
-
-#define NO_SLOT UINT32_MAX
 
 /* A page is closed; or was opened by a store to it; or without one, so that it has to be compared with its copy. */
 enum { CLOSED, STORED, OPENED };

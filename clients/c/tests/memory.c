@@ -344,6 +344,39 @@ static void opened_again(void)
     WANT_CODE(famsync_close(handle), FAMSYNC_OK);
 }
 
+/* Five volumes with all files that one can have, and plain memory of each of them at once. */
+static void many_memories(void)
+{
+    enum { HANDLES = 5, FILES = 64 };
+    static famsync *handle[HANDLES];
+    static famsync_memory *memory[HANDLES][FILES];
+    char files[FILES * 20] = "";
+    for (int file = 0; file < FILES; file++)
+        snprintf(files + strlen(files), 20, "f%d=4096 ", file);
+    for (int i = 0; i < HANDLES; i++) {
+        char moved[120];
+        make_volume(64, files);
+        snprintf(moved, sizeof moved, "%s/%d.img", folder, i);
+        WANT(rename(volume, moved) == 0);
+        WANT_CODE(famsync_open(moved, NULL, &handle[i]), FAMSYNC_OK);
+        for (int file = 0; file < FILES; file++)
+            memory[i][file] = memory_of(handle[i], famsync_file_name(handle[i], (unsigned)file));
+    }
+    for (int round = 1; round <= 2; round++)
+        for (int i = 0; i < HANDLES; i++) {
+            for (int file = 0; file < FILES; file++) {
+                ((unsigned char *)famsync_memory_at(memory[i][file]))[0] = (unsigned char)round;
+                WANT(famsync_memory_dirty(memory[i][file]) == 1);
+            }
+            WANT_CODE(famsync_msync(handle[i], NULL), FAMSYNC_OK);
+        }
+    for (int i = 0; i < HANDLES; i++) {
+        for (int file = 0; file < FILES; file++)
+            WANT_CODE(famsync_memory_close(memory[i][file]), FAMSYNC_OK);
+        WANT_CODE(famsync_close(handle[i]), FAMSYNC_OK);
+    }
+}
+
 int main(void)
 {
     make_volume(16, "a=20000 b=5000");
@@ -359,6 +392,7 @@ int main(void)
     no_frames();
     rising_stores();
     many_handles();
+    many_memories();
     opened_again();
     printf("clients/c: memory: as it should be\n");
     return 0;
