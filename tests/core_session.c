@@ -30,7 +30,7 @@
 #define RANGE 65536
 #define LINE (2 * RANGE + 256)
 
-enum { KIND_WRITE = 1, KIND_SYNC = 2, DIED = 9 };
+enum { DIED = 9 };
 
 static famsync_core core;
 static int file;
@@ -93,10 +93,10 @@ static void make_calls(void)
     while (famsync_core_call(core, 0, &kind, &offset, &bytes, &length, &core.at) == FAMSYNC_CORE_OK) {
         if (calls + 1 == dies)
             _exit(DIED);
-        if (kind == KIND_WRITE)
+        if (kind == FAMSYNC_CORE_CALL_WRITE)
             want(pwrite(file, bytes, length, (off_t)offset) == (ssize_t)length, "a write failed");
         else
-            want(kind == KIND_SYNC && fdatasync(file) == 0, "a sync failed");
+            want(kind == FAMSYNC_CORE_CALL_SYNC && fdatasync(file) == 0, "a sync failed");
         calls++;
         want(famsync_core_carried_out(core, 1, &core.at) == FAMSYNC_CORE_OK, "a call isn't taken for made");
     }
@@ -272,7 +272,8 @@ static void map(const char *line)
     want(sscanf(line, "[0,\"map\",1,%" SCNu64 ",%" SCNu64 ",%" SCNu32 ",%" SCNu64 ",\"%2[rw]\",\"rw\"]", &address,
                 &length, &number, &offset, rights) == 5,
          "the map isn't one that the core has");
-    int32_t code = famsync_core_map(core, number, offset, length, strlen(rights) == 1 ? 1 : 3, address, &core.at);
+    uint32_t allowed = strlen(rights) == 1 ? FAMSYNC_CORE_MAP_READ : FAMSYNC_CORE_MAP_READ_WRITE;
+    int32_t code = famsync_core_map(core, number, offset, length, allowed, address, &core.at);
     make_calls();
     printf("%s\n", code == FAMSYNC_CORE_OK ? "mapped" : word_of(code));
 }

@@ -83,6 +83,10 @@ enum famsync_core_code {
     FAMSYNC_CORE_OTHER = -38 /* a reply that these calls don't get */
 };
 
+/* What a recorded call is; and what a mapping allows. */
+enum famsync_core_kind { FAMSYNC_CORE_CALL_WRITE = 1, FAMSYNC_CORE_CALL_SYNC = 2 };
+enum famsync_core_rights { FAMSYNC_CORE_MAP_READ = 1, FAMSYNC_CORE_MAP_READ_WRITE = 3 };
+
 /* Begins with a volume of this many blocks: its file's length divided by 4,096, which has to go up. Takes memory for
    all of them. OK, ARGUMENT (0 blocks), NOMEMORY. `*at` is unchanged where it isn't OK. */
 int32_t famsync_core_begin(uint32_t blocks, uint8_t **at);
@@ -102,7 +106,8 @@ int64_t famsync_core_head(famsync_core core, uint8_t **at);
 /* Opens the volume, with a machine of one processor, so many frames (0: as many pages as one commit can have) and so
    many copy frames, 0 to 64; makes a space, and makes it current. Opening records calls where a crash left a commit
    to be carried out. OK, WANTED (a block that wasn't supplied: nothing is open; supply it and call again.
-   Opening wants block 0, the gates, the lengths, and what an open journal has, one block after the other), NOTAVOLUME, DAMAGED, BADSHAPE, OUTOFMEMORY (close the handle, and begin again), ORDER. */
+   Opening wants block 0, the gates, the lengths, and what an open journal has, one block after the other), NOTAVOLUME,
+   DAMAGED, BADSHAPE, OUTOFMEMORY (close the handle, and begin again), ORDER. */
 int32_t famsync_core_open(famsync_core core, uint32_t frames, uint32_t copies, uint32_t *wanted, uint8_t **at);
 
 /* How many files the volume has, numbered from 0, and how many pages one commit can have at most. ORDER. */
@@ -118,8 +123,8 @@ int32_t famsync_core_file(famsync_core core, uint32_t file, uint64_t *length, ui
 int64_t famsync_core_file_name(famsync_core core, uint32_t file, uint8_t *name, size_t count, uint8_t **at);
 
 /* Maps `length` bytes of a file from `offset` on at an address: both multiples of 4,096, the address from 4,096 up
-   to below 2^47. `rights` are 1 to read, 3 to read and write. OK, ARGUMENT (rights, file), ORDER, EINVAL, ENOMEM,
-   OVERLAP, NOFILE and the like. */
+   to below 2^47. `rights` are FAMSYNC_CORE_MAP_READ or FAMSYNC_CORE_MAP_READ_WRITE. OK, ARGUMENT (rights, file),
+   ORDER, EINVAL, ENOMEM, OVERLAP, NOFILE and the like. */
 int32_t famsync_core_map(famsync_core core, uint32_t file, uint64_t offset, uint64_t length, uint32_t rights,
                          uint64_t address, uint8_t **at);
 
@@ -151,9 +156,9 @@ int32_t famsync_core_set_length(famsync_core core, uint32_t file, uint64_t lengt
 /* How many recorded calls wait for the host. At any time. */
 int64_t famsync_core_waiting(famsync_core core, uint8_t **at);
 
-/* A recorded call; index 0 is the oldest that waits, and they are made in this order. `*kind` is 1 for a write of
-   `*length` bytes, which stand at `*bytes`, at `*offset` of the volume's file, and 2 for a sync of it. OK, NONE (no
-   call of this index waits). At any time. */
+/* A recorded call; index 0 is the oldest that waits, and they are made in this order. `*kind` is
+   FAMSYNC_CORE_CALL_WRITE for a write of the `*length` bytes at `*bytes` to `*offset` of the volume's file, or
+   FAMSYNC_CORE_CALL_SYNC for a sync of that file. OK, NONE (no call of this index waits). At any time. */
 int32_t famsync_core_call(famsync_core core, uint32_t index, uint32_t *kind, uint64_t *offset, const uint8_t **bytes,
                           uint64_t *length, uint8_t **at);
 

@@ -12,9 +12,6 @@
 #include <string.h>
 #include <unistd.h>
 
-/* The kind of a call that is a sync; all others are writes. */
-#define KIND_SYNC 2u
-
 /* The most ranges of memory that one system call writes, as Linux has it. */
 #define MOST_RANGES 1024u
 
@@ -130,7 +127,7 @@ bool has_write(famsync *handle)
 {
     struct call call;
     for (uint32_t others = 0; look_at(handle, others, &call); others++)
-        if (call.kind != KIND_SYNC)
+        if (call.kind != FAMSYNC_CORE_CALL_SYNC)
             return true;
     return false;
 }
@@ -139,7 +136,7 @@ bool ends_with_sync(famsync *handle)
 {
     int64_t waiting = famsync_core_waiting(handle->core, &handle->core.at);
     struct call newest;
-    return waiting > 0 && look_at(handle, (uint32_t)waiting - 1, &newest) && newest.kind == KIND_SYNC;
+    return waiting > 0 && look_at(handle, (uint32_t)waiting - 1, &newest) && newest.kind == FAMSYNC_CORE_CALL_SYNC;
 }
 
 /* Gathers the oldest writes, up to a sync or to one that can't go with them. */
@@ -148,7 +145,7 @@ static void gather_oldest(famsync *handle)
     struct gathered *gathered = &handle->gathered;
     struct call call;
     gathered->pieces = 0;
-    while (look_at(handle, gathered->pieces, &call) && call.kind != KIND_SYNC && gather(gathered, &call))
+    while (look_at(handle, gathered->pieces, &call) && call.kind != FAMSYNC_CORE_CALL_SYNC && gather(gathered, &call))
         continue;
 }
 
@@ -212,6 +209,6 @@ int drain(famsync *handle)
     if (!ends_with_sync(handle))
         return FAMSYNC_OK;
     while (code == FAMSYNC_OK && look_at(handle, 0, &oldest))
-        code = oldest.kind == KIND_SYNC ? make_sync(handle) : make_writes(handle);
+        code = oldest.kind == FAMSYNC_CORE_CALL_SYNC ? make_sync(handle) : make_writes(handle);
     return code;
 }

@@ -14,7 +14,7 @@
 /* Maps so many pages in the core. */
 static int map_in_core(famsync *handle, const struct mapping *mapping, int protection)
 {
-    uint32_t rights = protection == FAMSYNC_READ ? 1 : 3;
+    uint32_t rights = protection == FAMSYNC_READ ? FAMSYNC_CORE_MAP_READ : FAMSYNC_CORE_MAP_READ_WRITE;
     int code = FAMSYNC_OK;
     for (uint64_t done = 0; done < mapping->pages && code == FAMSYNC_OK; done += MAP_PAGES) {
         uint64_t some = mapping->pages - done < MAP_PAGES ? mapping->pages - done : MAP_PAGES;

@@ -84,7 +84,7 @@ int32_t famsync_core_call(famsync_core core, uint32_t index, uint32_t *kind, uin
     *at = core.at;
     if (index >= calls - reported)
         return FAMSYNC_CORE_NONE;
-    *kind = call[reported + index].syncs ? 2 : 1;
+    *kind = call[reported + index].syncs ? FAMSYNC_CORE_CALL_SYNC : FAMSYNC_CORE_CALL_WRITE;
     *offset = call[reported + index].offset;
     *length = call[reported + index].length;
     *bytes = call[reported + index].bytes;

@@ -23,8 +23,6 @@
 #define MOST_JOURNALS 4u
 #define GATE_OPEN 0xA7
 
-enum { KIND_WRITE = 1, KIND_SYNC = 2 };
-
 struct call {
     uint32_t kind;
     uint64_t offset, length;
@@ -144,7 +142,7 @@ static void note(const struct call *call)
     char line[3 * PAGE];
     if (!getenv("MOCK_LOG"))
         return;
-    int length = snprintf(line, 64, call->kind == KIND_SYNC ? "core S" : "core W %llu ",
+    int length = snprintf(line, 64, call->kind == FAMSYNC_CORE_CALL_SYNC ? "core S" : "core W %llu ",
                           (unsigned long long)call->offset);
     for (uint64_t i = 0; i < call->length; i++) {
         line[length++] = DIGITS[call->bytes[i] / 16];
@@ -181,7 +179,7 @@ static bool record(struct core *core, struct call call)
 /* Records a write within one block, and makes it on what is known. */
 static bool put(struct core *core, uint32_t block, const uint8_t *bytes, size_t count)
 {
-    struct call call = {KIND_WRITE, (uint64_t)block * PAGE, count, NULL};
+    struct call call = {FAMSYNC_CORE_CALL_WRITE, (uint64_t)block * PAGE, count, NULL};
     if (!core->block[block] && count == PAGE)
         core->block[block] = memory(PAGE);
     if (!core->block[block] || !(call.bytes = memory(count)))
@@ -197,7 +195,7 @@ static bool put(struct core *core, uint32_t block, const uint8_t *bytes, size_t 
 
 static bool sync_disk(struct core *core)
 {
-    return record(core, (struct call){KIND_SYNC, 0, 0, NULL});
+    return record(core, (struct call){FAMSYNC_CORE_CALL_SYNC, 0, 0, NULL});
 }
 
 static int32_t broken(struct core *core)
@@ -255,7 +253,7 @@ int32_t famsync_core_forget(famsync_core handle, uint32_t block, uint8_t **at)
     if (core->open && block < core->head)
         return FAMSYNC_CORE_NONE;
     for (size_t i = core->first; i < core->calls; i++)
-        if (core->call[i].kind == KIND_WRITE && core->call[i].offset / PAGE == block)
+        if (core->call[i].kind == FAMSYNC_CORE_CALL_WRITE && core->call[i].offset / PAGE == block)
             return FAMSYNC_CORE_NONE;
     give_back(core->block[block]);
     core->block[block] = NULL;
@@ -867,7 +865,7 @@ int32_t famsync_core_map(famsync_core handle, uint32_t file, uint64_t offset, ui
         return FAMSYNC_CORE_ORDER;
     if (file >= core->files)
         return FAMSYNC_CORE_NOFILE;
-    if (rights != 1 && rights != 3)
+    if (rights != FAMSYNC_CORE_MAP_READ && rights != FAMSYNC_CORE_MAP_READ_WRITE)
         return FAMSYNC_CORE_ARGUMENT;
     if (offset % PAGE || length == 0 || length > 65536 * (uint64_t)PAGE || address % PAGE ||
         offset / PAGE + (length + PAGE - 1) / PAGE > UINT64_C(1) << 32)
@@ -979,7 +977,7 @@ static int page_at(struct core *core, uint64_t address, bool writes, struct page
         if (address < mapping->address || address - mapping->address >= mapping->pages * PAGE)
             continue;
         number = (address - mapping->address) / PAGE + mapping->first;
-        if (writes && mapping->rights == 1)
+        if (writes && mapping->rights == FAMSYNC_CORE_MAP_READ)
             return FAMSYNC_CORE_SEGVACCERR;
         if (number >= (file->length + PAGE - 1) / PAGE)
             return FAMSYNC_CORE_BUSADRERR;

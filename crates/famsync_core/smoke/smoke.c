@@ -80,12 +80,12 @@ static bool make_call(famsync_core *core)
     const uint8_t *bytes;
     if (famsync_core_call(*core, 0, &kind, &offset, &bytes, &length, &core->at) != FAMSYNC_CORE_OK)
         return false;
-    if (kind == 1) {
+    if (kind == FAMSYNC_CORE_CALL_WRITE) {
         HAVE(offset <= sizeof volume && length <= sizeof volume - offset);
         memcpy(volume + offset, bytes, length);
         writes++;
     } else {
-        HAVE(kind == 2);
+        HAVE(kind == FAMSYNC_CORE_CALL_SYNC);
         syncs++;
     }
     HAVE(famsync_core_carried_out(*core, 1, &core->at) == FAMSYNC_CORE_OK);
@@ -114,7 +114,8 @@ static famsync_core begin(void)
     HAVE(code == FAMSYNC_CORE_OK);
     HAVE(famsync_core_open(core, 0, 64, &wanted, &core.at) == FAMSYNC_CORE_ORDER);
     drain(&core);
-    HAVE(famsync_core_map(core, 0, 0, (uint64_t)PAGES * PAGE, 3, ADDRESS, &core.at) == FAMSYNC_CORE_OK);
+    HAVE(famsync_core_map(core, 0, 0, (uint64_t)PAGES * PAGE, FAMSYNC_CORE_MAP_READ_WRITE, ADDRESS, &core.at) ==
+         FAMSYNC_CORE_OK);
     return core;
 }
 
@@ -170,8 +171,8 @@ static void finds_what_was_committed(void)
     HAVE(famsync_core_file(core, 1, &length, &pages, &core.at) == FAMSYNC_CORE_ARGUMENT);
     HAVE(famsync_core_file_name(core, 0, name, sizeof name, &core.at) == 1 && name[0] == 'a');
     HAVE(famsync_core_map(core, 0, 0, PAGE, 2, ADDRESS, &core.at) == FAMSYNC_CORE_ARGUMENT);
-    HAVE(famsync_core_map(core, 0, 0, PAGE, 3, ADDRESS, &core.at) == FAMSYNC_CORE_OVERLAP);
-    HAVE(famsync_core_map(core, 1, 0, PAGE, 3, 1 << 30, &core.at) == FAMSYNC_CORE_NOFILE);
+    HAVE(famsync_core_map(core, 0, 0, PAGE, FAMSYNC_CORE_MAP_READ_WRITE, ADDRESS, &core.at) == FAMSYNC_CORE_OVERLAP);
+    HAVE(famsync_core_map(core, 1, 0, PAGE, FAMSYNC_CORE_MAP_READ_WRITE, 1 << 30, &core.at) == FAMSYNC_CORE_NOFILE);
     HAVE(famsync_core_store(core, PAGE, bytes, 1, &done, &wanted, &core.at) == FAMSYNC_CORE_SEGVMAPERR && done == 0);
     for (size_t i = 0; i < sizeof bytes; i++)
         bytes[i] = (uint8_t)(i * 7 + i / PAGE);
