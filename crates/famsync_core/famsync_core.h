@@ -6,20 +6,55 @@
  * recorded calls on the volume's file, in order, and says so. What is made how is the host's; what is written is the
  * core's, and proved.
  *
- *   famsync_core core = {0};
- *   famsync_core_begin(blocks, &core.at);                             blocks of 4,096 bytes that the volume has
- *   famsync_core_supply(core, block, bytes, 4096, &core.at);          block 0
- *   while (famsync_core_open(core, 0, 64, &wanted, &core.at) == FAMSYNC_CORE_WANTED)
- *       famsync_core_supply(core, wanted, bytes, 4096, &core.at);     each block that opening wants
- *   famsync_core_map(core, file, 0, length, 3, address, &core.at);
- *   famsync_core_store(core, address, bytes, count, &done, &wanted, &core.at);
- *   famsync_core_commit(core, &mark, &wanted, &core.at);
- *   while (famsync_core_call(core, 0, &call.kind, .., &core.at) == FAMSYNC_CORE_OK) {
- *       .. pwrite or fdatasync ..
- *       famsync_core_carried_out(core, 1, &core.at);
+ * This program stores to the first file of a volume, and commits. `tests/core_header` compiles and runs it.
+ *
+ *   static void supply(famsync_core *core, int file, uint32_t block)
+ *   {
+ *       uint8_t bytes[4096];
+ *       if (pread(file, bytes, 4096, (off_t)block * 4096) != 4096)
+ *           exit(1);
+ *       famsync_core_supply(*core, block, bytes, 4096, &core->at);
  *   }
- *   famsync_core_acknowledged(core, &core.at) == mark                 now the commit is durable
- *   famsync_core_close(core);
+ *
+ *   static void make_calls(famsync_core *core, int file)
+ *   {
+ *       uint32_t kind;
+ *       uint64_t offset, length;
+ *       const uint8_t *bytes;
+ *       while (famsync_core_call(*core, 0, &kind, &offset, &bytes, &length, &core->at) == FAMSYNC_CORE_OK) {
+ *           if (kind == FAMSYNC_CORE_CALL_WRITE && pwrite(file, bytes, length, (off_t)offset) != (ssize_t)length)
+ *               exit(1);
+ *           if (kind == FAMSYNC_CORE_CALL_SYNC && fdatasync(file) != 0)
+ *               exit(1);
+ *           famsync_core_carried_out(*core, 1, &core->at);
+ *       }
+ *   }
+ *
+ *   int main(int count, char **words)
+ *   {
+ *       int file = open(words[count - 1], O_RDWR);
+ *       uint32_t blocks = (uint32_t)(lseek(file, 0, SEEK_END) / 4096), wanted, mark;
+ *       uint64_t done;
+ *       famsync_core core = {0};
+ *       if (famsync_core_begin(blocks, &core.at) != FAMSYNC_CORE_OK)
+ *           return 1;
+ *       supply(&core, file, 0);
+ *       while (famsync_core_open(core, 0, 0, &wanted, &core.at) == FAMSYNC_CORE_WANTED)
+ *           supply(&core, file, wanted);
+ *       make_calls(&core, file); // what a crash left of commits
+ *       famsync_core_map(core, 0, 0, 4096, FAMSYNC_CORE_MAP_READ_WRITE, 65536, &core.at);
+ *       while (famsync_core_store(core, 65536, (const uint8_t *)"hello", 5, &done, &wanted, &core.at) ==
+ *              FAMSYNC_CORE_WANTED)
+ *           supply(&core, file, wanted);
+ *       if (famsync_core_commit(core, &mark, &core.at) != FAMSYNC_CORE_OK)
+ *           return 1;
+ *       make_calls(&core, file);
+ *       if (famsync_core_acknowledged(core, &core.at) != mark)
+ *           return 1;
+ *       puts("the commit is durable");
+ *       famsync_core_close(core);
+ *       return close(file);
+ *   }
  *
  * The handle goes in by value and comes back through the last argument: pass `&core.at` of the same handle. Nothing
  * checks a handle: it has to be the one that the last call gave back (never null, never one that was closed), and one
