@@ -84,6 +84,9 @@ enum famsync_protection { FAMSYNC_READ = 1, FAMSYNC_WRITE = 2 };
 typedef struct famsync famsync;
 typedef struct famsync_memory famsync_memory;
 
+/* Room for the longest message of famsync_open, which has two paths. */
+#define FAMSYNC_MESSAGE_SIZE 9000
+
 /* How a session is begun. A null pointer means the defaults, which are all zero. Set `size` to the size of this
    structure: a later version of the library adds fields at the end, and by `size` it knows which of them a program has.
    A size of 0 means the fields up to `readonly`. FAMSYNC_ARGUMENT if a program asks for what this library doesn't know:
@@ -95,7 +98,7 @@ struct famsync_options {
     unsigned copies;     /* frames for copies besides, 0 to 64; no call of this version needs one */
     int foreground;      /* not 0: no thread of the library's own (see famsync_msync) */
     char *message;       /* a line about why the volume wasn't opened is put here */
-    size_t message_size; /* and how much there is room for */
+    size_t message_size; /* and how much there is room for; a message is cut off there */
     unsigned wait_ms;    /* how long to wait for a volume that is in use, in milliseconds */
     int readonly;        /* not 0: a session that only reads */
 };

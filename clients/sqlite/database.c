@@ -385,7 +385,7 @@ static unsigned wait_of(const char *path)
 
 static int open_volume(struct database *database, int flags)
 {
-    char message[MESSAGE] = "";
+    char message[FAMSYNC_MESSAGE_SIZE] = "";
     struct famsync_options options = {.size = sizeof options, .message = message, .message_size = sizeof message};
     int code;
     options.foreground = sqlite3_uri_boolean(database->path, "foreground", 0);

@@ -13,7 +13,7 @@ static struct {
     bool known;
     pthread_t thread;
     int error; /* errno, 0 for a failure that isn't the system's */
-    char text[MESSAGE];
+    char text[FAMSYNC_MESSAGE_SIZE];
 } last;
 
 int code_for(int code, int other)
@@ -60,7 +60,7 @@ int error_of(int code)
 
 int fail(int code, int error, const char *format, ...)
 {
-    char text[MESSAGE];
+    char text[FAMSYNC_MESSAGE_SIZE];
     sqlite3_mutex *turn;
     va_list words;
     va_start(words, format);

@@ -9,8 +9,6 @@ SQLITE_EXTENSION_INIT3
 #include <stdbool.h>
 
 #define PAGE 4096
-/* Room for a line about why something failed; it has two paths at most. */
-#define MESSAGE 9000
 
 /* The default VFS, to which everything goes that isn't in a volume. */
 extern sqlite3_vfs *usual;

@@ -166,7 +166,7 @@ static void unreadable_folder(void)
 /* The file can't be synced as it is opened. */
 static void at_the_opening(void)
 {
-    char message[300] = "";
+    char message[FAMSYNC_MESSAGE_SIZE] = "";
     struct famsync_options options = {.trust = 1, .message = message, .message_size = sizeof message};
     famsync *handle;
     syncs_fail = true;
@@ -182,7 +182,7 @@ static void at_the_opening(void)
 /* A volume whose mark would have too long a name isn't opened, and isn't said to be marked. */
 static void long_names(void)
 {
-    char name[256], path[400], message[1000] = "";
+    char name[256], path[400], message[FAMSYNC_MESSAGE_SIZE] = "";
     struct famsync_options options = {.message = message, .message_size = sizeof message};
     famsync *handle;
     for (size_t length = 240; length <= 255; length++) {

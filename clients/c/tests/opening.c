@@ -49,7 +49,7 @@ static uint64_t sum_of_volume(void)
 static int code_of(const char *path)
 {
     famsync *handle = (famsync *)1;
-    char message[300] = "";
+    char message[FAMSYNC_MESSAGE_SIZE] = "";
     struct famsync_options options = {.message = message, .message_size = sizeof message};
     unsigned before = descriptors();
     uint64_t sum = sum_of_volume();

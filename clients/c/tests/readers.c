@@ -15,7 +15,7 @@ static uint64_t milliseconds(void)
 
 static int code_with(struct famsync_options options, famsync **handle)
 {
-    static char message[300];
+    static char message[FAMSYNC_MESSAGE_SIZE];
     options.size = sizeof options;
     options.message = message;
     options.message_size = sizeof message;

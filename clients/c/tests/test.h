@@ -194,7 +194,7 @@ static inline unsigned gates_left(unsigned layout, unsigned commits)
 static inline famsync *opened_with(struct famsync_options options)
 {
     famsync *handle;
-    char message[300];
+    char message[FAMSYNC_MESSAGE_SIZE];
     options.message = message;
     options.message_size = sizeof message;
     int code = famsync_open(volume, &options, &handle);

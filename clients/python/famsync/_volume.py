@@ -16,7 +16,7 @@ from ._mapping import Mapping
 from ._memory import Lent, Memory, open_memory
 from ._session import Once, Session
 
-# Room for a line about why a volume wasn't opened; it has two paths at most.
+# FAMSYNC_MESSAGE_SIZE of famsync.h.
 MESSAGE = 9000
 Path = Union[str, bytes, "os.PathLike[str]", "os.PathLike[bytes]"]
 

@@ -7,7 +7,7 @@ use std::path::Path;
 use std::ptr::{self, NonNull};
 use std::time::Duration;
 
-/// The longest line about why a volume wasn't opened; it has two paths at most.
+/// `FAMSYNC_MESSAGE_SIZE` of famsync.h.
 const MESSAGE: usize = 9000;
 
 /// How a volume is opened.
