@@ -73,8 +73,8 @@ enum famsync_code {
     FAMSYNC_NOFILE = -34,     /* the volume has no such file */
     FAMSYNC_BUSY = -35,       /* plain memory of the file is open; or the session has made 2^32 - 1 commits */
 
-    /* marks that can't be made, and sessions that only read */
-    FAMSYNC_UNMARKED = -39,     /* a sync failed, and the volume couldn't be marked as suspect */
+    /* suspect flags that can't be made, and sessions that only read */
+    FAMSYNC_UNMARKED = -39,     /* a sync failed, and the volume's suspect flag couldn't be made */
     FAMSYNC_NEEDSOPENING = -40, /* a crash or a failed sync left work for a writer: open it once for writing */
     FAMSYNC_READONLY = -41      /* the session only reads */
 };
@@ -93,7 +93,7 @@ typedef struct famsync_memory famsync_memory;
    it has a greater size, and a byte that isn't 0 beyond the fields below. */
 struct famsync_options {
     size_t size;
-    int trust;           /* not 0: a volume whose sync failed is opened all the same, and isn't marked any more */
+    int trust;           /* not 0: a volume that is flagged as suspect is opened, and its flag removed */
     unsigned frames;     /* pages in memory; 0: as many as one commit can have */
     unsigned copies;     /* frames for copies besides, 0 to 64; no call of this version needs one */
     int foreground;      /* not 0: no thread of the library's own (see famsync_msync) */
@@ -111,12 +111,12 @@ const char *famsync_version(void);
    read or written. On failure `*handle` is a null pointer.
 
    FAMSYNC_INUSE means that another session has the volume, and `wait_ms` has passed. FAMSYNC_SYSTEM with ENAMETOOLONG
-   means that the name of the volume's file is longer than 247 bytes: the name of a mark beside it would be too long.
-   FAMSYNC_UNMARKED means that a sync failed and no mark could be made; `message` says why.
+   means that the name of the volume's file is longer than 247 bytes: the name of its suspect flag would be too long.
+   FAMSYNC_UNMARKED means that a sync failed and the suspect flag couldn't be made; `message` says why.
 
    With `readonly` any number of sessions share a volume. The library opens the file for reading only, and writes
    nothing. No session that writes can begin meanwhile. FAMSYNC_NEEDSOPENING means that a crash left a commit to be
-   written to its place, or that the volume is marked as suspect, whatever `trust` says: open it once for writing, and
+   written to its place, or that the volume is flagged as suspect, whatever `trust` says: open it once for writing, and
    close it. In such a session famsync_map for writing, famsync_setlength, famsync_msync and famsync_memory_touch answer
    FAMSYNC_READONLY, and a store to plain memory raises SIGSEGV, which goes to the program. */
 int famsync_open(const char *volume, const struct famsync_options *options, famsync **handle);
@@ -167,9 +167,10 @@ int famsync_store(famsync *handle, uint64_t address, const void *bytes, size_t c
 
    FAMSYNC_DEVICE: a read, a write or a sync failed, and nothing is acknowledged. errno says how, and is ENOMEM where
    memory was refused: then the disk isn't to blame. After a read the session goes on, and the call may be made again.
-   After a write or a sync it is over: each later call answers FAMSYNC_BROKEN. Where that was a sync, the volume is
-   marked as suspect, as the program does it. FAMSYNC_UNMARKED: the same after a sync, and no mark could be made that
-   stays beside the volume's file. The next session doesn't know of the failed sync then.
+   After a write or a sync it is over: each later call answers FAMSYNC_BROKEN. If that was a sync, the library flags the
+   volume as suspect, as the program does: it makes the file VOLUME.suspect beside the volume's file. FAMSYNC_UNMARKED:
+   the same after a sync, and no suspect flag could be made that stays. The next session doesn't know of the failed sync
+   then.
 
    What a commit writes after its acknowledgement is written by a thread of the library's own while nobody calls, in
    layout 4 once no commit has come for 10 ms, or by the next commit; with `foreground` there is no such thread. */

@@ -34,7 +34,7 @@ static const struct {
     {FAMSYNC_OVERLAP, "plain memory of the file is open already"},
     {FAMSYNC_NOFILE, "the volume has no such file"},
     {FAMSYNC_BUSY, "plain memory of the file is open, or there are no numbers left for commits"},
-    {FAMSYNC_UNMARKED, "a sync of the volume failed, and the volume couldn't be marked as suspect"},
+    {FAMSYNC_UNMARKED, "a sync of the volume failed, and its suspect flag couldn't be made"},
     {FAMSYNC_NEEDSOPENING, "a crash or a failed sync left work for a writer: open the volume once for writing"},
     {FAMSYNC_READONLY, "the session only reads"},
 };

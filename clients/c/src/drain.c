@@ -66,7 +66,7 @@ static int write_ranges(famsync *handle, struct iovec *range, unsigned count, ui
     return FAMSYNC_OK;
 }
 
-/* Makes the oldest call, a sync. Where it fails, the volume is marked as suspect before any call reports that. The
+/* Makes the oldest call, a sync. Where it fails, the volume is flagged as suspect before any call reports that. The
    file had its length, and its blocks were written, when the volume was made, so its data is all there is to sync. */
 static int make_sync(famsync *handle)
 {
@@ -79,7 +79,7 @@ static int make_sync(famsync *handle)
         return FAMSYNC_OK;
     }
     error = errno;
-    code = mark_suspect(&handle->volume) == FAMSYNC_OK ? FAMSYNC_DEVICE : FAMSYNC_UNMARKED;
+    code = flag_suspect(&handle->volume) == FAMSYNC_OK ? FAMSYNC_DEVICE : FAMSYNC_UNMARKED;
     errno = error;
     return fail(handle, code);
 }

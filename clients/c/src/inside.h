@@ -34,7 +34,7 @@ struct volume {
     int file;         /* its descriptor, -1 where it isn't open */
     int folder;       /* that of its folder, the same */
     const char *name; /* its name there, within `place` */
-    char *mark;       /* and that of the mark beside it */
+    char *flag;       /* and that of the suspect flag beside it */
     char *place;      /* its path, for messages; where a link was named, that of the file to which it leads */
     bool readonly;    /* it is open for reading, and others may be reading it, too */
     uint64_t bytes;   /* its length */
@@ -172,8 +172,8 @@ void close_volume_file(struct volume *volume);
 void let_volume_go(struct volume *volume);
 /* Unlocks the file, and closes it: a process that was forked, and is about to be another program, may have it open. */
 void unlock_volume(struct volume *volume);
-/* Marks a volume as suspect, and makes the mark durable; FAMSYNC_SYSTEM where that can't be done. */
-int mark_suspect(const struct volume *volume);
+/* Flags a volume as suspect, and makes the flag durable; FAMSYNC_SYSTEM if that can't be done. */
+int flag_suspect(const struct volume *volume);
 
 /* drain.c: makes the calls that the core has recorded, unless the newest of them is a write: writes that aren't to be
    synced yet wait. An error ends the session. */

@@ -1,5 +1,5 @@
 /* The file of a volume: found by its path, opened, locked and judged by the rules of the program `famsync`, so that the
-   two keep out of each other's way; and the mark of a volume of which a sync failed. */
+   two keep out of each other's way; and the suspect flag, a file beside a volume of which a sync failed. */
 #include "inside.h"
 
 #include <errno.h>
@@ -18,7 +18,7 @@
 /* The longest pause between two tries to lock a file that is in use, in milliseconds. */
 #define LONGEST_PAUSE 16u
 
-static const char MARK_TEXT[] =
+static const char FLAG_TEXT[] =
     "A sync of the volume beside this file failed. What the system gives of it may not be on the disk.\n";
 
 /* A file under a descriptor above 2, that no program which is started gets: where a standard stream was closed, a file
@@ -56,12 +56,13 @@ static int sync_folder(const struct volume *volume)
     return synced;
 }
 
-/* Writes the text of a mark. The mark is its name: a disk that has no room for the text doesn't matter. */
+/* Writes the text of a suspect flag. Its name alone is the flag: a disk that has no room for the text doesn't matter.
+ */
 static int write_text(int file)
 {
     size_t done = 0;
-    while (done < sizeof MARK_TEXT - 1) {
-        ssize_t written = write(file, MARK_TEXT + done, sizeof MARK_TEXT - 1 - done);
+    while (done < sizeof FLAG_TEXT - 1) {
+        ssize_t written = write(file, FLAG_TEXT + done, sizeof FLAG_TEXT - 1 - done);
         if (written < 0 && errno != EINTR)
             break;
         done += written > 0 ? (size_t)written : 0;
@@ -69,12 +70,12 @@ static int write_text(int file)
     return sync_file(file);
 }
 
-/* Makes the mark, an empty one where no descriptor is left to write to it. */
-static int make_mark(const struct volume *volume)
+/* Makes the suspect flag, an empty one if no descriptor is left to write to it. */
+static int make_flag(const struct volume *volume)
 {
-    int file = open_above_streams(volume->folder, volume->mark, O_WRONLY | O_CREAT | O_TRUNC), made, error;
+    int file = open_above_streams(volume->folder, volume->flag, O_WRONLY | O_CREAT | O_TRUNC), made, error;
     if (file < 0 && (errno == EMFILE || errno == ENFILE))
-        return mknodat(volume->folder, volume->mark, S_IFREG | 0666, 0) == 0 || errno == EEXIST ? 0 : -1;
+        return mknodat(volume->folder, volume->flag, S_IFREG | 0666, 0) == 0 || errno == EEXIST ? 0 : -1;
     if (file < 0)
         return -1;
     made = write_text(file);
@@ -92,8 +93,8 @@ static bool has_its_name(const struct volume *volume, const struct stat *found)
            named.st_ino == found->st_ino;
 }
 
-/* A file that was renamed meanwhile isn't marked: the mark would be that of another file, if any. */
-int mark_suspect(const struct volume *volume)
+/* A file that was renamed meanwhile isn't flagged: the flag would be that of another file, if any. */
+int flag_suspect(const struct volume *volume)
 {
     struct stat found;
     if (fstat(volume->file, &found) != 0)
@@ -102,20 +103,20 @@ int mark_suspect(const struct volume *volume)
         errno = ENOENT;
         return FAMSYNC_SYSTEM;
     }
-    return make_mark(volume) == 0 && sync_folder(volume) == 0 ? FAMSYNC_OK : FAMSYNC_SYSTEM;
+    return make_flag(volume) == 0 && sync_folder(volume) == 0 ? FAMSYNC_OK : FAMSYNC_SYSTEM;
 }
 
-/* Whether a volume is marked; FAMSYNC_SYSTEM where that can't be seen, as where the mark's name would be too long. */
-static int look_for_mark(const struct volume *volume, bool *marked)
+/* Whether a volume has a suspect flag; FAMSYNC_SYSTEM if that can't be seen, as when the flag's name is too long. */
+static int look_for_flag(const struct volume *volume, bool *flagged)
 {
     struct stat found;
-    *marked = fstatat(volume->folder, volume->mark, &found, AT_SYMLINK_NOFOLLOW) == 0;
-    return *marked || errno == ENOENT ? FAMSYNC_OK : FAMSYNC_SYSTEM;
+    *flagged = fstatat(volume->folder, volume->flag, &found, AT_SYMLINK_NOFOLLOW) == 0;
+    return *flagged || errno == ENOENT ? FAMSYNC_OK : FAMSYNC_SYSTEM;
 }
 
-static int remove_mark(const struct volume *volume)
+static int remove_flag(const struct volume *volume)
 {
-    if (unlinkat(volume->folder, volume->mark, 0) == 0)
+    if (unlinkat(volume->folder, volume->flag, 0) == 0)
         return sync_folder(volume) == 0 ? FAMSYNC_OK : FAMSYNC_SYSTEM;
     return errno == ENOENT ? FAMSYNC_OK : FAMSYNC_SYSTEM;
 }
@@ -154,7 +155,7 @@ static int enter_folder(struct volume *volume)
     return volume->folder >= 0 ? FAMSYNC_OK : FAMSYNC_SYSTEM;
 }
 
-/* Where the file of a volume is, and the name of its mark. */
+/* Where the file of a volume is, and the name of its suspect flag. */
 static int find_places(const char *path, struct volume *volume)
 {
     struct stat found;
@@ -167,10 +168,10 @@ static int find_places(const char *path, struct volume *volume)
         return errno == ENOMEM ? FAMSYNC_NOMEMORY : FAMSYNC_SYSTEM;
     volume->name = name_at(volume->place);
     room = strlen(volume->name) + sizeof ".suspect";
-    volume->mark = malloc(room);
-    if (!volume->mark)
+    volume->flag = malloc(room);
+    if (!volume->flag)
         return FAMSYNC_NOMEMORY;
-    snprintf(volume->mark, room, "%s.suspect", volume->name);
+    snprintf(volume->flag, room, "%s.suspect", volume->name);
     return enter_folder(volume);
 }
 
@@ -279,15 +280,16 @@ static int open_within(struct volume *volume, unsigned wait_ms)
     }
 }
 
-/* Marks a volume whose file can't be synced. */
-static int mark_opened(const struct volume *volume, struct message *message)
+/* Flags a volume as suspect whose file can't be synced. */
+static int flag_opened(const struct volume *volume, struct message *message)
 {
     const char *error = strerror(errno);
-    if (mark_suspect(volume) == FAMSYNC_OK) {
-        say(message, "\"%s\" can't be synced: %s; \"%s.suspect\" marks it", volume->place, error, volume->place);
+    if (flag_suspect(volume) == FAMSYNC_OK) {
+        say(message, "\"%s\" can't be synced: %s; \"%s.suspect\" flags it as suspect", volume->place, error,
+            volume->place);
         return FAMSYNC_DEVICE;
     }
-    say(message, "\"%s\" can't be synced: %s; \"%s.suspect\", which would mark it, can't be made: %s", volume->place,
+    say(message, "\"%s\" can't be synced: %s; \"%s.suspect\", its suspect flag, can't be made: %s", volume->place,
         error, volume->place, strerror(errno));
     return FAMSYNC_UNMARKED;
 }
@@ -299,38 +301,39 @@ static int sync_opened(const struct volume *volume, struct message *message)
     if (sync_file(volume->file) == 0)
         return FAMSYNC_OK;
     error = errno;
-    code = mark_opened(volume, message);
+    code = flag_opened(volume, message);
     errno = error;
     return code;
 }
 
 /* A reader can't sync the file: the error of a write that failed would be told to it alone, and no writer would hear of
    it. It needs no sync, as all that is written home was synced before its gate was closed. */
-static int judge_mark(const struct volume *volume, bool trust, struct message *message)
+static int judge_flag(const struct volume *volume, bool trust, struct message *message)
 {
-    bool marked;
-    int code = look_for_mark(volume, &marked);
+    bool flagged;
+    int code = look_for_flag(volume, &flagged);
     if (code != FAMSYNC_OK) {
-        say(message, "whether \"%s.suspect\" marks the volume can't be seen: %s", volume->place, strerror(errno));
+        say(message, "whether the volume has the suspect flag \"%s.suspect\" can't be seen: %s", volume->place,
+            strerror(errno));
         return code;
     }
-    if (!marked || (trust && !volume->readonly))
+    if (!flagged || (trust && !volume->readonly))
         return FAMSYNC_OK;
     say(message, "\"%s.suspect\" says that a sync of the volume failed, so what is read of it may not be on the disk%s",
         volume->place, volume->readonly ? "; open it once for writing, with trust" : "");
     return volume->readonly ? FAMSYNC_NEEDSOPENING : FAMSYNC_SUSPECT;
 }
 
-/* One that is trusted isn't marked any more. */
+/* One that is trusted isn't flagged any more. */
 static int judge_opened(struct volume *volume, bool trust, struct message *message)
 {
-    int code = judge_mark(volume, trust, message);
+    int code = judge_flag(volume, trust, message);
     if (code != FAMSYNC_OK || volume->readonly)
         return code;
     code = sync_opened(volume, message);
     if (code != FAMSYNC_OK || !trust)
         return code;
-    code = remove_mark(volume);
+    code = remove_flag(volume);
     if (code != FAMSYNC_OK)
         say(message, "\"%s.suspect\" can't be removed: %s", volume->place, strerror(errno));
     return code;
@@ -361,6 +364,6 @@ void close_volume_file(struct volume *volume)
 {
     unlock_volume(volume);
     free(volume->place);
-    free(volume->mark);
-    volume->place = volume->mark = NULL;
+    free(volume->flag);
+    volume->place = volume->flag = NULL;
 }

@@ -16,13 +16,13 @@ static struct recorded {
     uint8_t bytes[PAGE];
 } call[MOST_CALLS];
 
-static unsigned calls, reported;                 /* recorded; and how many of them are reported to be made */
-static uint8_t made[MOST_CALLS * PAGE];          /* the file */
-static size_t size;                              /* how many bytes of it are looked at */
-static uint8_t synced[sizeof made];              /* as it was at its last sync */
-static uint8_t wanted[sizeof made];              /* as the calls make it that were reported */
-static unsigned writes, syncs, fails_at, marked; /* calls of the system; the one that fails, if any */
-static bool in_parts;                            /* each write does a part of what it is asked for, or nothing */
+static unsigned calls, reported;                  /* recorded; and how many of them are reported to be made */
+static uint8_t made[MOST_CALLS * PAGE];           /* the file */
+static size_t size;                               /* how many bytes of it are looked at */
+static uint8_t synced[sizeof made];               /* as it was at its last sync */
+static uint8_t wanted[sizeof made];               /* as the calls make it that were reported */
+static unsigned writes, syncs, fails_at, flagged; /* calls of the system; the one that fails, if any */
+static bool in_parts;                             /* each write does a part of what it is asked for, or nothing */
 
 static void want(bool holds, const char *what)
 {
@@ -65,10 +65,10 @@ int fdatasync(int file)
     return 0;
 }
 
-int mark_suspect(const struct volume *volume)
+int flag_suspect(const struct volume *volume)
 {
     (void)volume;
-    marked++;
+    flagged++;
     return FAMSYNC_OK;
 }
 
@@ -120,7 +120,7 @@ static void begin(unsigned pages)
     memset(made, 0, size);
     memset(synced, 0, size);
     memset(wanted, 0, size);
-    calls = reported = writes = syncs = fails_at = marked = 0;
+    calls = reported = writes = syncs = fails_at = flagged = 0;
 }
 
 static void record_write(uint64_t offset, uint64_t length)
@@ -190,7 +190,7 @@ static void failing(void)
         fails_at = at;
         want(drained(16) == FAMSYNC_DEVICE && errno == EIO, "a failure that isn't answered");
         want(reported == (at < 3 ? 0 : at == 3 ? 2 : at < 6 ? 3 : 5), "another number of calls was reported");
-        want(marked == (at % 3 == 0), "a mark where no sync failed, or none where one did");
+        want(flagged == (at % 3 == 0), "a suspect flag where no sync failed, or none where one did");
     }
 }
 

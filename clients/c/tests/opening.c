@@ -6,7 +6,7 @@
 #include <sys/resource.h>
 #include <sys/syscall.h>
 
-static char other[100], mark[100];
+static char other[100], flag[100];
 
 /* How often the volume's name is given to another file just before a file is locked: to `other`, which is made where it
    isn't there. */
@@ -191,12 +191,12 @@ static void other_names(void)
 {
     WANT(symlink("v.img", other) == 0);
     WANT_CODE(code_of(other), FAMSYNC_OK);
-    /* the mark of what a link leads to is beside that */
-    snprintf(mark, sizeof mark, "%s/v.img.suspect", folder);
-    int file = open(mark, O_WRONLY | O_CREAT | O_CLOEXEC, 0600);
+    /* the suspect flag of what a link leads to is beside that */
+    snprintf(flag, sizeof flag, "%s/v.img.suspect", folder);
+    int file = open(flag, O_WRONLY | O_CREAT | O_CLOEXEC, 0600);
     WANT(file >= 0 && close(file) == 0);
     WANT_CODE(code_of(other), FAMSYNC_SUSPECT);
-    WANT(unlink(mark) == 0 && unlink(other) == 0);
+    WANT(unlink(flag) == 0 && unlink(other) == 0);
     WANT(link(volume, other) == 0);
     WANT_CODE(code_of(volume), FAMSYNC_NAMES);
     WANT_CODE(code_of(other), FAMSYNC_NAMES);
@@ -204,15 +204,15 @@ static void other_names(void)
     WANT_CODE(code_of(volume), FAMSYNC_OK);
 }
 
-static void marked(void)
+static void flagged(void)
 {
     famsync *handle;
-    int file = open(mark, O_WRONLY | O_CREAT | O_CLOEXEC, 0600);
+    int file = open(flag, O_WRONLY | O_CREAT | O_CLOEXEC, 0600);
     WANT(file >= 0 && close(file) == 0);
     WANT_CODE(code_of(volume), FAMSYNC_SUSPECT);
-    WANT(access(mark, F_OK) == 0);
+    WANT(access(flag, F_OK) == 0);
     handle = opened_with((struct famsync_options){.trust = 1});
-    WANT(access(mark, F_OK) != 0);
+    WANT(access(flag, F_OK) != 0);
     WANT_CODE(famsync_close(handle), FAMSYNC_OK);
     WANT_CODE(code_of(volume), FAMSYNC_OK);
 }
@@ -328,7 +328,7 @@ int main(void)
     numbers_of_slots();
     other_lengths();
     other_names();
-    marked();
+    flagged();
     in_use();
     unlocked();
     replaced();

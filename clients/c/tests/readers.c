@@ -142,7 +142,7 @@ static void stores_fault(void)
     WANT(waitpid(child, &status, 0) == child && WIFSIGNALED(status) && WTERMSIG(status) == SIGKILL);
 }
 
-/* What a kill left of a commit isn't a reader's to carry out; nor is a mark one's to take away. */
+/* What a kill left of a commit isn't a reader's to carry out; nor is a suspect flag a reader's to remove. */
 static void left_by_a_crash(unsigned layout)
 {
     static unsigned char before[1 << 20], after[1 << 20];
@@ -172,16 +172,16 @@ static void left_by_a_crash(unsigned layout)
     WANT_CODE(famsync_close(handle), FAMSYNC_OK);
 }
 
-static void marked(void)
+static void flagged(void)
 {
-    char mark[100];
+    char flag[100];
     famsync *handle;
-    snprintf(mark, sizeof mark, "%s.suspect", volume);
-    int file = open(mark, O_WRONLY | O_CREAT | O_CLOEXEC, 0600);
+    snprintf(flag, sizeof flag, "%s.suspect", volume);
+    int file = open(flag, O_WRONLY | O_CREAT | O_CLOEXEC, 0600);
     WANT(file >= 0 && close(file) == 0);
     WANT_CODE(code_with((struct famsync_options){.readonly = 1}, &handle), FAMSYNC_NEEDSOPENING);
     WANT_CODE(code_with((struct famsync_options){.readonly = 1, .trust = 1}, &handle), FAMSYNC_NEEDSOPENING);
-    WANT(access(mark, F_OK) == 0);
+    WANT(access(flag, F_OK) == 0);
     WANT_CODE(famsync_close(opened_with((struct famsync_options){.trust = 1})), FAMSYNC_OK);
     WANT_CODE(famsync_close(reader()), FAMSYNC_OK);
 }
@@ -259,7 +259,7 @@ int main(void)
         left_by_a_crash(layout);
     }
     stores_fault();
-    marked();
+    flagged();
     waits();
     sizes();
     printf("clients/c: readers: as it should be\n");

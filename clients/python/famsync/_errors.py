@@ -168,7 +168,7 @@ class Busy(Error):
 
 
 class Unmarked(Error, OSError):
-    """A sync failed, and the volume couldn't be marked as suspect; `errno` says how the sync failed."""
+    """A sync failed, and the volume's suspect flag couldn't be made; `errno` says how the sync failed."""
 
     code = -39
 

@@ -85,7 +85,7 @@ codes! {
     NoFile = -34,
     /// Memory of the file is open; or the session has made 2^32 - 1 commits.
     Busy = -35,
-    /// A sync failed, and the volume couldn't be marked as suspect; [`Error::system`] says how the sync failed.
+    /// A sync failed, and the volume's suspect flag couldn't be made; [`Error::system`] says how the sync failed.
     Unmarked = -39,
     /// A crash or a failed sync left work for a writer: open the volume once for writing.
     NeedsOpening = -40,

@@ -39,7 +39,7 @@ impl Options {
         Options::default()
     }
 
-    /// Whether a volume of which a sync failed is opened all the same; it isn't marked any more then.
+    /// Whether a volume that is flagged as suspect is opened; its flag is removed then.
     pub fn trust(&mut self, trust: bool) -> &mut Options {
         self.trust = trust;
         self

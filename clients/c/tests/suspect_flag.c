@@ -1,15 +1,15 @@
-/* The mark of a failed sync lies beside the volume's file, whatever became of the folder's name and of the process's
-   current folder, and where no descriptor is left; where no mark can be made, the caller learns it. */
+/* The suspect flag of a failed sync lies beside the volume's file, whatever became of the folder's name and of the
+   process's current folder, and where no descriptor is left; where none can be made, the caller learns it. */
 #include "test.h"
 
 #include <limits.h>
 #include <sys/resource.h>
 #include <sys/syscall.h>
 
-/* Syncs of files that fail, and of folders; folders that can't be read; and why a mark can't be made, where it can't.
+/* Syncs of files that fail, and of folders; folders that can't be read; and why a flag can't be made, where it can't.
  */
 static bool syncs_fail, folder_syncs_fail, folders_unreadable;
-static int marks_fail;
+static int flags_fail;
 
 int fdatasync(int file)
 {
@@ -34,8 +34,8 @@ int fsync(int file)
 int openat(int at, const char *path, int flags, ...)
 {
     bool reads_folder = flags & O_DIRECTORY && !(flags & O_PATH);
-    if ((flags & O_CREAT && marks_fail) || (reads_folder && folders_unreadable)) {
-        errno = reads_folder ? EACCES : marks_fail;
+    if ((flags & O_CREAT && flags_fail) || (reads_folder && folders_unreadable)) {
+        errno = reads_folder ? EACCES : flags_fail;
         return -1;
     }
     return (int)syscall(SYS_openat, at, path, flags, 0666);
@@ -70,7 +70,7 @@ static void sync_fails(famsync *handle, int code)
     WANT_CODE(famsync_close(handle), code);
     WANT(errno == EIO);
     syncs_fail = folder_syncs_fail = false;
-    marks_fail = 0;
+    flags_fail = 0;
 }
 
 static void opens_suspect(const char *path)
@@ -107,11 +107,11 @@ static void renamed_folder(void)
     WANT(rename(after, volume) == 0);
 }
 
-/* A file that has another name by now isn't marked: its old name may be that of another volume. */
+/* A file that has another name by now isn't flagged: its old name may be that of another volume. */
 static void renamed_file(void)
 {
     char moved[100];
-    famsync *handle = stored_to(volume); /* which takes a mark away */
+    famsync *handle = stored_to(volume); /* which removes the flag */
     snprintf(moved, sizeof moved, "%s/w.img", folder);
     WANT(rename(volume, moved) == 0);
     sync_fails(handle, FAMSYNC_UNMARKED);
@@ -132,12 +132,12 @@ static void no_descriptors(void)
     opens_suspect(volume);
 }
 
-static void no_mark(void)
+static void no_flag(void)
 {
     static const int errors[] = {EACCES, EROFS, ENOSPC};
     for (unsigned i = 0; i < sizeof errors / sizeof *errors; i++) {
         famsync *handle = stored_to(volume);
-        marks_fail = errors[i];
+        flags_fail = errors[i];
         sync_fails(handle, FAMSYNC_UNMARKED);
         WANT(!is_there(folder, "v.img.suspect"));
     }
@@ -146,7 +146,7 @@ static void no_mark(void)
     sync_fails(handle, FAMSYNC_UNMARKED);
 }
 
-/* In a folder that may be searched and not read a mark can be made, and nothing says that it stays. */
+/* In a folder that may be searched and not read a flag can be made, and nothing says that it stays. */
 static void unreadable_folder(void)
 {
     famsync *handle;
@@ -171,15 +171,15 @@ static void at_the_opening(void)
     famsync *handle;
     syncs_fail = true;
     WANT_CODE(famsync_open(volume, &options, &handle), FAMSYNC_DEVICE);
-    WANT(errno == EIO && strstr(message, "marks it") != NULL);
-    marks_fail = EROFS;
+    WANT(errno == EIO && strstr(message, "flags it as suspect") != NULL);
+    flags_fail = EROFS;
     WANT_CODE(famsync_open(volume, &options, &handle), FAMSYNC_UNMARKED);
     WANT(errno == EIO && strstr(message, "can't be made: Read-only file system") != NULL);
     syncs_fail = false;
-    marks_fail = 0;
+    flags_fail = 0;
 }
 
-/* A volume whose mark would have too long a name isn't opened, and isn't said to be marked. */
+/* A volume whose flag would have too long a name isn't opened, and isn't said to be flagged. */
 static void long_names(void)
 {
     char name[256], path[400], message[FAMSYNC_MESSAGE_SIZE] = "";
@@ -208,11 +208,11 @@ int main(void)
     renamed_folder();
     renamed_file();
     no_descriptors();
-    no_mark();
+    no_flag();
     unreadable_folder();
     at_the_opening();
     WANT_CODE(famsync_close(stored_to(volume)), FAMSYNC_OK);
     long_names();
-    printf("clients/c: marks: as it should be\n");
+    printf("clients/c: suspect_flag: as it should be\n");
     return 0;
 }
