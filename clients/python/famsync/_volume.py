@@ -73,7 +73,7 @@ class Volume:
 
     - `trust`: a volume whose sync failed once is opened all the same.
     - `frames`: pages in memory, and the most that one commit can have; 0 is as many as the volume allows.
-    - `copies`: frames for copies besides, up to 64; no call of this version needs one.
+    - `copies`: frames for copies, up to 64. No call needs one; leave it 0.
     - `foreground`: no thread of the library's own, which writes what is left of a commit while nobody calls.
     - `wait_ms`: how many milliseconds to wait for a volume that is in use.
     - `readonly`: a session that only reads. Any number of them share a volume.

@@ -2,6 +2,7 @@
 
 import copy
 import gc
+import inspect
 import os
 import pathlib
 import pickle
@@ -40,6 +41,13 @@ class Begins(InAFolder):
                 famsync.open("v.img", **options)
         with self.assertRaises(TypeError):
             famsync.open("v.img", frames="3")
+
+    def test_defaults_are_those_of_c(self):
+        """In C a null pointer means the defaults, which are all zero."""
+        for opens in (famsync.open, famsync.Volume):
+            options = list(inspect.signature(opens).parameters.values())[1:]
+            self.assertEqual({option.name: option.default for option in options if option.default}, {})
+            self.assertIn("copies", [option.name for option in options])
 
     def test_foreground_has_no_thread(self):
         for foreground, threads in ((True, 0), (False, 1)):

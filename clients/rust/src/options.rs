@@ -17,7 +17,7 @@ const MESSAGE: usize = 9000;
 /// # fn main() -> Result<(), famsync::Error> {
 /// # let made = make_volume(1, 16, "bank=8192");
 /// # let path = &made.path();
-/// let volume = famsync::Options::new().frames(8).copies(4).foreground(true).open(path)?;
+/// let volume = famsync::Options::new().frames(8).foreground(true).open(path)?;
 /// assert_eq!(volume.frames(), 8);
 /// # Ok(())
 /// # }
@@ -51,7 +51,7 @@ impl Options {
         self
     }
 
-    /// How many frames there are for copies besides, 0 to 64; no call of this version needs one.
+    /// How many frames there are for copies, 0 to 64. No call needs one.
     pub fn copies(&mut self, copies: u32) -> &mut Options {
         self.copies = copies;
         self
