@@ -17,7 +17,7 @@ ssize_t pread(int file, void *bytes, size_t count, off_t offset)
 /* How much of this process is in memory, in bytes. */
 static uint64_t resident(void)
 {
-    unsigned long long all, here;
+    unsigned long long all = 0, here = 0;
     FILE *file = fopen("/proc/self/statm", "r");
     WANT(file && fscanf(file, "%llu %llu", &all, &here) == 2 && fclose(file) == 0);
     return here * 4096;
