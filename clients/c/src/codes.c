@@ -79,7 +79,8 @@ int code_of(int64_t core_code)
         return (int)core_code;
     /* The core has others (STALLED, LOCKED, HELD, EACCES, OVERLAP, ORDER, OTHER), which this library never gets: the
        only processor of a session is active, and nobody changes its mappings meanwhile; a commit is written when it
-       answers; files are open for writing; each mapping has addresses of its own. */
+       answers; files are open for writing; each mapping has addresses of its own. A caller that may get WANTED looks
+       for it before. */
     default:
         errno = EPROTO;
         return FAMSYNC_SYSTEM;
