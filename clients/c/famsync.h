@@ -95,7 +95,7 @@ struct famsync_options {
     size_t size;
     int trust;           /* not 0: a volume that is flagged as suspect is opened, and its flag removed */
     unsigned frames;     /* pages in memory; 0: as many as one commit can have */
-    unsigned copies;     /* 0 to 64. No call needs one: the field stays, as it is part of the structure's layout */
+    unsigned copies;     /* frames for copies, 0 to 64. No call needs one; the field keeps the structure's layout */
     int foreground;      /* not 0: no thread of the library's own (see famsync_msync) */
     char *message;       /* a line about why the volume wasn't opened is put here */
     size_t message_size; /* and how much there is room for; a message is cut off there */

@@ -179,6 +179,27 @@ static void at_the_opening(void)
     flags_fail = 0;
 }
 
+/* The longest message, of a path as long as the system takes one, goes into FAMSYNC_MESSAGE_SIZE. */
+static void longest_message(void)
+{
+    char path[PATH_MAX], message[FAMSYNC_MESSAGE_SIZE];
+    struct famsync_options options = {.trust = 1, .message = message, .message_size = sizeof message};
+    const char *why = strerror(EROFS);
+    size_t length = strlen(folder);
+    famsync *handle;
+    strcpy(path, folder);
+    while (length < sizeof path - sizeof "/v.img")
+        path[length++] = '/';
+    strcpy(path + length, "/v.img");
+    syncs_fail = true;
+    flags_fail = EROFS;
+    WANT_CODE(famsync_open(path, &options, &handle), FAMSYNC_UNMARKED);
+    syncs_fail = false;
+    flags_fail = 0;
+    WANT(strlen(path) == PATH_MAX - 1 && strlen(message) > 2 * strlen(path));
+    WANT(strcmp(message + strlen(message) - strlen(why), why) == 0);
+}
+
 /* A volume whose flag would have too long a name isn't opened, and isn't said to be flagged. */
 static void long_names(void)
 {
@@ -211,6 +232,7 @@ int main(void)
     no_flag();
     unreadable_folder();
     at_the_opening();
+    longest_message();
     WANT_CODE(famsync_close(stored_to(volume)), FAMSYNC_OK);
     long_names();
     printf("clients/c: suspect_flag: as it should be\n");
