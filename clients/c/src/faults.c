@@ -293,8 +293,10 @@ static int install_handler(void)
     if (is_ours(&now))
         return FAMSYNC_OK;
     if (!is_newest(&now)) {
-        if (count == MOST_HANDLERS)
-            return FAMSYNC_NOMEMORY;
+        if (count == MOST_HANDLERS) {
+            errno = ENOSPC;
+            return FAMSYNC_SYSTEM;
+        }
         earlier[count] = now;
         atomic_store(&handlers, count + 1);
     }

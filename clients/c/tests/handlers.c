@@ -126,6 +126,22 @@ static void selfish_handler(void)
     fault_elsewhere(0, 0);
 }
 
+/* Handlers that take each other's place again and again, until the library has no room for one more: the memory isn't
+   opened, and no memory was refused. */
+static void too_many_handlers(void)
+{
+    struct sigaction before;
+    famsync *handle = opened();
+    famsync_memory *memory;
+    for (int times = 0; times < 16; times++) {
+        install(times % 2 == 0 ? on_first : on_second, &before);
+        WANT_CODE(famsync_memory_close(memory_of(handle, "a")), FAMSYNC_OK);
+    }
+    install(on_first, &before);
+    WANT_CODE(famsync_memory_open(handle, "a", &memory), FAMSYNC_SYSTEM);
+    WANT(errno == ENOSPC && memory == NULL);
+}
+
 /* A jump into memory ends in the program's handler, whether the page was stored to or not. */
 static void jumps(void)
 {
@@ -199,6 +215,7 @@ int main(void)
     make_volume(16, "a=81919 b=65536 c=4096");
     in_child(later_handlers);
     in_child(selfish_handler);
+    in_child(too_many_handlers);
     in_child(jumps);
     in_child(touched);
     ranges_to_touch();
