@@ -45,7 +45,9 @@ static void opens_by_few_reads(void)
     reads = 0;
     handle = opened_with((struct famsync_options){.foreground = 1, .frames = 64});
     printf("clients/c: wanted: %u reads and %.1f MB to open\n", reads, (double)(resident() - before) / MB);
-    WANT(reads <= 20 && resident() < before + 16 * MB);
+    WANT(reads <= 20);
+    /* the tools under which this is set take memory of their own */
+    WANT(getenv("WITHOUT_SIGNALS") || resident() < before + 16 * MB);
     WANT_CODE(famsync_close(handle), FAMSYNC_OK);
 }
 
