@@ -118,12 +118,19 @@ static void forget_blocks(void)
         want(famsync_core_forget(core, block, &core.at) >= 0, "a block isn't judged");
 }
 
-/* Opens the volume, and supplies the blocks that this wants. */
+/* Supplies the blocks before the files, and opens the volume: an opening that wants a block begins again, and records
+   its writes again. */
 static int64_t open_volume(uint32_t frames, uint32_t copies)
 {
     uint32_t wanted;
-    int64_t code;
+    int64_t head, code;
     supply(0);
+    head = famsync_core_head(core, &core.at);
+    if (head < 0)
+        return head;
+    for (uint32_t block = 1; block < head && block < blocks; block++)
+        if (famsync_core_is_known(core, block, &core.at) == 0)
+            supply(block);
     while ((code = famsync_core_open(core, frames, copies, &wanted, &core.at)) == FAMSYNC_CORE_WANTED)
         supply(wanted);
     make_calls();
