@@ -49,10 +49,12 @@ int supply_head(famsync *handle)
 }
 
 /* The core opens the volume from the beginning after each block that it lacked. So where it wants the block behind
-   those that it wanted last, as it does for the records of an open journal, twice as many are read. */
+   those that it wanted last, as it does for the records of an open journal, MORE times as many are read. */
+enum { MORE = 32 };
+
 int supply_to_open(famsync *handle, uint32_t block, struct reading *last)
 {
-    uint64_t count = last->count > 0 && block == last->first + last->count ? 2 * (uint64_t)last->count : 1;
+    uint64_t count = last->count > 0 && block == last->first + last->count ? MORE * (uint64_t)last->count : 1;
     uint32_t end = block < handle->head && handle->head < handle->blocks ? handle->head : handle->blocks;
     int code = FAMSYNC_OK;
     /* what is known isn't wanted: it would be asked for again and again */
