@@ -185,14 +185,14 @@ def threads_that_fail():
 
 
 def little_memory():
-    """A dump that has not enough memory for what opening writes says so; else it is whole."""
+    """A dump that has not enough memory says so; else it is whole. It takes little: a few steps of 8 KiB are refused."""
     clear()
     pages = 1020
     row = " 2a" * 16
     write_image("v.img", pages * 4096, slots=pages, gate=0xA7)
     whole = f"c {pages * 4096}\n" + "".join(f"{at:012x}{row}\n" for at in range(0, pages * 4096, 16))
-    found = set()
-    for limit in range(2 << 20, 24 << 20, 1 << 19):
+    found = []
+    for limit in range(2 << 20, 24 << 20, 1 << 13):
         process = start(["dump", "v.img"], memory=limit)
         over = ended(process)
         if over.status == 0:
@@ -201,5 +201,7 @@ def little_memory():
             complains(over, "out of memory")
         else:
             want(not over.out and over.status in (127, -signal.SIGSEGV, -signal.SIGKILL), "it doesn't begin", limit, over)
-        found.add(over.status)
-    want({0, 3} <= found, "memory was refused, and sufficed", found)
+        found.append(over.status)
+        if found.count(0) == 8:
+            break
+    want({0, 3} <= set(found), "memory was refused, and sufficed", set(found))
