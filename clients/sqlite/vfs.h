@@ -19,18 +19,18 @@ sqlite3_mutex *take_turn(void);
 /* A file that SQLite has open: a database in a volume. */
 struct database {
     sqlite3_file base;
-    const char *path;      /* of the volume, as SQLite passed it to xOpen */
-    struct database *next; /* in the list of those that are open */
+    const char *path;      /* the volume's path, as SQLite passed it to xOpen */
+    struct database *next; /* the next open database */
     famsync *volume;
-    uint64_t address;      /* of the file's first page; the database begins with its second */
+    uint64_t address;      /* where the file is mapped; the database begins a page later */
     sqlite3_int64 room;    /* the most bytes that the database can have */
-    sqlite3_int64 size;    /* how many bytes it has now */
-    sqlite3_int64 kept;    /* how many it had at the last commit */
-    unsigned char **waits; /* one per page: its new bytes, in `pages`, or a null pointer */
-    unsigned char *pages;  /* these bytes, in the order in which they came, and room for one more page */
-    size_t *order;         /* the numbers of these pages */
-    unsigned waiting;      /* how many pages wait for a commit */
-    unsigned limit;        /* the most pages that may wait */
+    sqlite3_int64 size;    /* bytes of the database now */
+    sqlite3_int64 kept;    /* bytes at the last commit */
+    unsigned char **waits; /* for each page its uncommitted bytes in `pages`, or a null pointer */
+    unsigned char *pages;  /* the uncommitted pages in the order of their first writes, and room for one more */
+    size_t *order;         /* the numbers of the uncommitted pages, in the same order */
+    unsigned waiting;      /* how many pages are uncommitted */
+    unsigned limit;        /* the most pages that may be uncommitted */
     bool torn;             /* a commit failed: this connection can't be used any more */
     int error;             /* errno of that failure */
 };

@@ -31,13 +31,13 @@ __attribute__((format(printf, 2, 3))) void say(struct message *message, const ch
 
 /* The file of a volume, open and locked. */
 struct volume {
-    int file;         /* its descriptor, -1 where it isn't open */
-    int folder;       /* that of its folder, the same */
-    const char *name; /* its name there, within `place` */
-    char *flag;       /* and that of the suspect flag beside it */
-    char *place;      /* its path, for messages; where a link was named, that of the file to which it leads */
-    bool readonly;    /* it is open for reading, and others may be reading it, too */
-    uint64_t bytes;   /* its length */
+    int file;         /* the file's descriptor; -1 if it isn't open */
+    int folder;       /* the descriptor of its folder; -1 if that isn't open */
+    const char *name; /* the file's name in the folder: the end of `place` */
+    char *flag;       /* the suspect flag's name in the folder */
+    char *place;      /* the file's path, for messages; a link is followed to its file */
+    bool readonly;    /* it is open for reading, and others may read it, too */
+    uint64_t bytes;   /* the file's length */
 };
 
 struct file {

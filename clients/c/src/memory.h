@@ -9,27 +9,29 @@ struct span {
     size_t begin, end;
 };
 
+/* A file's bytes as plain memory. "Page" means a page of the system, which may hold several pages of the volume. A field
+   is guarded by the lock that its comment names. */
 struct famsync_memory {
     famsync *handle;
-    famsync_memory *next_one; /* of this handle */
-    unsigned char *at;
-    size_t length; /* of the file */
-    size_t room;   /* of the memory, whole pages */
-    size_t grain;  /* a page of this system, which may have several of the volume's */
-    size_t pages;  /* of this system */
-    uint64_t address;
-    unsigned file;
-    struct entry *entry;  /* in the handler's table; null where none of its faults is a store that is taken */
-    bool stored;          /* the core has stores of it that no commit has; under `turn` */
-    unsigned char *dirty; /* one a page, below: what became of it since the last msync; under `closing` */
-    unsigned char *taken; /* one a page: the commit under way has it; under `turn` */
-    unsigned char *copy;  /* all pages as they were when the last commit took them; under `turn` */
-    struct span open;     /* has all pages of which `dirty` says something; under `closing` */
-    struct span takes;    /* has all pages of which `taken` says something; under `turn` */
-    size_t next, ahead;   /* the page after those that were opened last, and how many these were; under `closing` */
+    famsync_memory *next_one; /* the handle's next memory */
+    unsigned char *at;        /* where the memory begins */
+    size_t length;            /* the file's length in bytes */
+    size_t room;              /* bytes of the memory: whole pages */
+    size_t grain;             /* bytes of a page */
+    size_t pages;             /* how many pages there are */
+    uint64_t address;         /* where the core has the file mapped */
+    unsigned file;            /* the file's number */
+    struct entry *entry;      /* in the handler's table; null if the handler doesn't serve this memory */
+    bool stored;              /* the core has stores of it that aren't committed; `turn` */
+    unsigned char *dirty;     /* for each page CLOSED, STORED or OPENED; `closing` */
+    unsigned char *taken;     /* for each page, whether the current commit has taken it; `turn` */
+    unsigned char *copy;      /* all pages as the last commit took them; `turn` */
+    struct span open;         /* all pages that aren't CLOSED lie in it; `closing` */
+    struct span takes;        /* all taken pages lie in it; `turn` */
+    size_t next, ahead;       /* the page after those opened last, and how many those were; `closing` */
 };
 
-/* A page is closed; or was opened by a store to it; or without one, so that it has to be compared with its copy. */
+/* A page is closed, opened by a store to it, or opened without one. The last has to be compared with its copy. */
 enum { CLOSED, STORED, OPENED };
 
 /* Makes a span have these pages, too. */
