@@ -4,7 +4,7 @@ use Rattle.std.proofs.Common.{drop, refl, sym, ap, ◌∙◌, arith, if◌then�
 use Rattle.std.specs.Prelude.{slice_index, nat_lt}
 use Rattle.std.proofs.lemmas.List.{get_or-take}
 use Rattle.xxh64.specs.Xxh64.{word_at, half_at, with_word, with_half, with_byte, words_after, half_after, bytes_after}
-use Rattle.xxh64.specs.Xxh64.{rest_after, begun, mixed, xxh64, HasTaken, lanes_after}
+use Rattle.xxh64.specs.Xxh64.{rest_after, before_rest, mixed, xxh64, HasTaken, lanes_after}
 
 -- the bytes below a number are those of the list's first ones
 byte_of : (n : ℕ) (rest : List ℕ) (i : ℕ) → i < n → slice_index (take n rest) i ≡ slice_index rest i
@@ -60,13 +60,13 @@ rest_of n acc rest =
 
 -- the digest by what a hasher has taken
 pub digest_of : (seed : ℕ) (lanes buffer m : List ℕ) → HasTaken seed lanes buffer m
-    → mixed (rest_after (begun seed lanes (length m)) buffer (length m % 32)) ≡ xxh64 seed m
+    → mixed (rest_after (before_rest seed lanes (length m)) buffer (length m % 32)) ≡ xxh64 seed m
 unfolding xxh64
 digest_of seed lanes buffer m has =
     let n = length m % 32 in
-    let left : rest_after (begun seed lanes (length m)) buffer n
-    ≡ rest_after (begun seed lanes (length m)) (drop (length m / 32 * 32) m) n =
-    sym (rest_of n (begun seed lanes (length m)) buffer)
-    ∙ ap (λ (l : List ℕ). rest_after (begun seed lanes (length m)) l n) has.left in
+    let left : rest_after (before_rest seed lanes (length m)) buffer n
+    ≡ rest_after (before_rest seed lanes (length m)) (drop (length m / 32 * 32) m) n =
+    sym (rest_of n (before_rest seed lanes (length m)) buffer)
+    ∙ ap (λ (l : List ℕ). rest_after (before_rest seed lanes (length m)) l n) has.left in
     ap mixed (left
-    ∙ ap (λ (l : List ℕ). rest_after (begun seed l (length m)) (drop (length m / 32 * 32) m) n) has.stripes)
+    ∙ ap (λ (l : List ℕ). rest_after (before_rest seed l (length m)) (drop (length m / 32 * 32) m) n) has.stripes)

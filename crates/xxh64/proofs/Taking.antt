@@ -5,7 +5,7 @@ use Rattle.std.proofs.Common.{subst}
 use Rattle.std.proofs.lemmas.List.{take-append-le, drop-append-le, take_all, drop_all, append_assoc, append-nil}
 use Rattle.std.proofs.lemmas.List.{drop-take, take-take, take-append-drop, length-take-le, take_at}
 use Rattle.std.proofs.lemmas.Slice.{take-put_mid}
-use Rattle.xxh64.specs.Xxh64.{lanes_after, striped, HasTaken, Holds}
+use Rattle.xxh64.specs.Xxh64.{lanes_after, striped, HasTaken, HasMessage}
 use Rattle.xxh64.specs.declared.Xxh64.{Xxh64}
 use borrow.Rule.Slice.PartMut.{put_mid, post_of}
 
@@ -121,14 +121,14 @@ pub total_more : (total new : ℕ) (m bytes : List ℕ) → total ≡ length m %
 total_more total new m bytes was is = omega (arith, length-append m bytes)
 
 -- where the bytes don't fill the buffer
-pub holds_short : (old new : Xxh64) (seed : ℕ) (m bytes copied : List ℕ) (k j : ℕ) → Holds old seed m
+pub holds_short : (old new : Xxh64) (seed : ℕ) (m bytes copied : List ℕ) (k j : ℕ) → HasMessage old seed m
     → length old.buffer ≡ 32 → k ≡ old.total % 32 → k + length bytes < 32 → copied ≡ bytes
     → new ≡ record {
       seed = old.seed;
       lanes = old.lanes;
       buffer = put_mid k j old.buffer copied;
       total = (old.total + length bytes) % 2 ^ 64;
-    } → Holds new seed (m ++ bytes)
+    } → HasMessage new seed (m ++ bytes)
 holds_short old new seed m bytes copied k j has size at short same is =
     let used : k ≡ length m % 32 = let t = has.total in omega arith in
     let placed : take (length m % 32 + length bytes) (put_mid k j old.buffer copied)
@@ -142,7 +142,7 @@ holds_short old new seed m bytes copied k j has size at short same is =
     })
 
 -- before the first whole stripe: this many bytes filled the buffer, which the lanes took
-pub begun_full : (old : Xxh64) (seed : ℕ) (m bytes copied buffer lanes : List ℕ) (k j start : ℕ) → Holds old seed m
+pub begun_full : (old : Xxh64) (seed : ℕ) (m bytes copied buffer lanes : List ℕ) (k j start : ℕ) → HasMessage old seed m
     → length old.buffer ≡ 32 → k ≡ old.total % 32 → start ≡ 32 - k → start ≤ length bytes → j ≡ start
     → copied ≡ take start bytes → buffer ≡ put_mid k j old.buffer copied → lanes ≡ striped old.lanes buffer
     → HasTaken seed lanes buffer (m ++ take (start + 0) bytes) × ((length m + start) % 32 ≡ 0)
@@ -157,7 +157,7 @@ begun_full old seed m bytes copied buffer lanes k j start has size at room fits 
     )
 
 -- or the buffer held nothing
-pub begun_empty : (old : Xxh64) (seed : ℕ) (m bytes buffer lanes : List ℕ) (start : ℕ) → Holds old seed m
+pub begun_empty : (old : Xxh64) (seed : ℕ) (m bytes buffer lanes : List ℕ) (start : ℕ) → HasMessage old seed m
     → old.total % 32 ≤ 0 → start ≡ 0 → buffer ≡ old.buffer → lanes ≡ old.lanes
     → HasTaken seed lanes buffer (m ++ take (start + 0) bytes) × ((length m + start) % 32 ≡ 0)
 begun_empty old seed m bytes buffer lanes start has empty none same is =
