@@ -1,5 +1,5 @@
 -- What a run, and a crash after it, leave on its device.
-use Rattle.std.proofs.Common.{◌≡◌, inl, inr, ℕ, ◌≤◌, false, List, [], length}
+use Rattle.std.proofs.Common.{◌≡◌, inl, inr, ℕ, ◌≤◌, Bool, true, false, not, List, [], length}
 use Rattle.std.proofs.Common.{take, Result, IfOk, refl, sym, ap, subst, arith}
 use Rattle.std.proofs.lemmas.List.{length-take}
 use Rattle.std.proofs.lemmas.Result.{IfOk-weaker}
@@ -27,6 +27,11 @@ use Rattle.crash_table.proofs.Marks.{IsOneReading, ReadsBackLater}
 use Rattle.engine.proofs.Public.{taken_length}
 use Rattle.crash_table.proofs.Marks.{is_reached, observed_is}
 use Rattle.crash_table.proofs.Newest.{at_mark}
+
+-- a listing that was handed out was refused no memory
+pub all_listed : (refused : Bool) → true ≡ not refused → refused ≡ false
+all_listed true complete = complete
+all_listed false complete = refl
 
 -- as many steps were made as there are replies
 pub few_replies : {D : Type 0} (disk : Ghosts D) (before : D) (shape : Shape) (steps : List Step) (replies : List Reply)

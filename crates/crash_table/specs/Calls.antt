@@ -19,6 +19,7 @@ listing_memory = record {
   left_since = λ disk. left_since_of disk.inner;
   calls_made = λ disk. disk.made;
   faults_met = λ disk. disk.faults;
+  carried = λ disk. 0;
   is_honest = λ disk. ⊤;
 }
 

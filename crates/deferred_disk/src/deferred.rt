@@ -232,7 +232,7 @@ impl<A: Allocator + Copy> DeferredDisk<A> {
 
 impl<A: Allocator + Copy> Device for DeferredDisk<A> {
     ghost use Rattle.device.specs.Memory.{seen_of, may_leave_of, moment_of, left_since_of};
-    ghost use Rattle.deferred_disk.specs.Deferred.{as_recorded, IsSuppliedWell};
+    ghost use Rattle.deferred_disk.specs.Deferred.{as_recorded, carried_moment, IsSuppliedWell};
     ghost use Rattle.device.specs.inside.Laws.{seen_is_left_of, now_is_since_of, since_now_of};
 
     ghost seen = { λ disk. seen_of (as_recorded disk) };
@@ -246,6 +246,8 @@ impl<A: Allocator + Copy> Device for DeferredDisk<A> {
     ghost calls_made = { λ disk. disk.calls };
 
     ghost faults_met = { λ disk. disk.faults };
+
+    ghost carried = { carried_moment };
 
     ghost is_honest = { IsSuppliedWell };
 

@@ -20,6 +20,7 @@ did_nothing disk device now = record {
   time = leaves_at_start now;
   honest = (λ h. h, λ h. h);
   same_length = refl;
+  carried = refl;
   calls = λ few. omega (Rattle.std.proofs.Common.arith);
   faults = refl;
 }

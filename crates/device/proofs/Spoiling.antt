@@ -11,10 +11,10 @@ use Rattle.device.proofs.Ranges.{drop-written, torn_none, torn_twice, torn_wider
 
 -- one more write, of a part of the range
 pub wrote_more : {D : Type 0} {seen : D → List ℕ} {may_leave : D → List ℕ → Type 0} {moment : D → ℕ}
-    {left_since : D → ℕ → List ℕ → Type 0} {is_honest : D → Type 0} {at len : ℕ} {old mid new : D}
-    → WroteWithin seen may_leave moment left_since is_honest at len old mid → (from n : ℕ) → at ≤ from
-    → from + n ≤ at + len → WroteWithin seen may_leave moment left_since is_honest from n mid new
-    → WroteWithin seen may_leave moment left_since is_honest at len old new
+    {left_since : D → ℕ → List ℕ → Type 0} {is_honest : D → Type 0} {carried : D → ℕ} {at len : ℕ} {old mid new : D}
+    → WroteWithin seen may_leave moment left_since is_honest carried at len old mid → (from n : ℕ) → at ≤ from
+    → from + n ≤ at + len → WroteWithin seen may_leave moment left_since is_honest carried from n mid new
+    → WroteWithin seen may_leave moment left_since is_honest carried at len old new
 wrote_more {may_leave = may_leave} {at = at} {len = len} {old = old} {mid = mid} so_far from n le end more =
     let wider : (c : List ℕ) → TornFrom from n (may_leave mid) c → TornFrom at len (may_leave old) c =
     λ c torn. let was = so_far.left torn.0 torn.1 in
@@ -26,13 +26,14 @@ wrote_more {may_leave = may_leave} {at = at} {len = len} {old = old} {mid = mid}
       time = leaves_then so_far.time (leaves_weaker more.time wider);
       honest = (λ h. so_far.honest.0 (more.honest.0 h), λ h. more.honest.1 (so_far.honest.1 h));
       same_length = more.same_length ∙ so_far.same_length;
+      same_carried = more.same_carried ∙ so_far.same_carried;
     }
 
 -- before any write
 pub wrote_none : {D : Type 0} {seen : D → List ℕ} {may_leave : D → List ℕ → Type 0} {moment : D → ℕ}
-    {left_since : D → ℕ → List ℕ → Type 0} {is_honest : D → Type 0} (at len : ℕ) (device : D)
+    {left_since : D → ℕ → List ℕ → Type 0} {is_honest : D → Type 0} {carried : D → ℕ} (at len : ℕ) (device : D)
     → ((c : List ℕ) → left_since device (moment device) c → may_leave device c)
-    → WroteWithin seen may_leave moment left_since is_honest at len device device
+    → WroteWithin seen may_leave moment left_since is_honest carried at len device device
 wrote_none {seen = seen} at len device since_now = record {
   torn = λ honest. torn_none at len (seen device);
   keeps = λ honest c may. may;
@@ -40,6 +41,7 @@ wrote_none {seen = seen} at len device since_now = record {
   time = leaves_weaker (leaves_at_start since_now) (λ c left. torn_from_none at len left);
   honest = (λ h. h, λ h. h);
   same_length = refl;
+  same_carried = refl;
 }
 
 pub length-spoilt : (n : ℕ) → length (spoilt n) ≡ n

@@ -23,6 +23,7 @@ pub record Did {D : Type 0} (disk : Ghosts D) (old : D) (work : Work) (done : Bo
   pub time : LeavesOnly disk.moment disk.left_since old new (TornFromWork work (disk.may_leave old))
   pub honest : disk.is_honest new ↔ disk.is_honest old
   pub same_length : length (disk.seen new) ≡ length (disk.seen old)
+  pub carried : disk.carried new ≡ disk.carried old
   -- how many calls were made and how many failed
   pub calls : disk.calls_made old + calls_of work < 2 ^ 64
       → MatchBool done (disk.calls_made new ≡ disk.calls_made old + calls_of work)

@@ -15,6 +15,8 @@ impl<D: Device> Device for &mut D {
 
     ghost faults_met = { λ device. D.faults_met device.now };
 
+    ghost carried = { λ device. D.carried device.now };
+
     ghost is_honest = { λ device. D.is_honest device.now };
 
     ghost seen_is_left = { λ device. D.seen_is_left device.now };

@@ -28,6 +28,9 @@ pub trait Device {
     /// How many of these calls failed.
     ghost faults_met: { Self → ℕ };
 
+    /// How many of its calls somebody else has made, where the device only records them. No call of it changes that.
+    ghost carried: { Self → ℕ };
+
     /// The device keeps the clauses on content.
     ghost is_honest: { Self → Type 0 };
 
@@ -48,6 +51,7 @@ pub trait Device {
 
         ensures honest { is_honest self.new ↔ is_honest self.old }
         ensures len { length (seen self.new) ≡ length (seen self.old) }
+        ensures carried { carried self.new ≡ carried self.old }
         ensures calls { calls_made self.old < 2 ^ 64 - 1 → calls_made self.new ≡ calls_made self.old + 1 }
         ensures calls_stay { 2 ^ 64 - 1 ≤ calls_made self.old → calls_made self.new ≡ calls_made self.old }
         ensures failed { IsErr result
@@ -70,6 +74,7 @@ pub trait Device {
 
         ensures honest { is_honest self.new ↔ is_honest self.old }
         ensures len { length (seen self.new) ≡ length (seen self.old) }
+        ensures carried { carried self.new ≡ carried self.old }
         ensures calls { calls_made self.old < 2 ^ 64 - 1 → calls_made self.new ≡ calls_made self.old + 1 }
         ensures calls_stay { 2 ^ 64 - 1 ≤ calls_made self.old → calls_made self.new ≡ calls_made self.old }
         ensures failed { IsErr result
@@ -87,6 +92,7 @@ pub trait Device {
 
         ensures honest { is_honest self.new ↔ is_honest self.old }
         ensures len { length (seen self.new) ≡ length (seen self.old) }
+        ensures carried { carried self.new ≡ carried self.old }
         ensures calls { calls_made self.old < 2 ^ 64 - 1 → calls_made self.new ≡ calls_made self.old + 1 }
         ensures calls_stay { 2 ^ 64 - 1 ≤ calls_made self.old → calls_made self.new ≡ calls_made self.old }
         ensures failed { IsErr result

@@ -92,6 +92,8 @@ impl<D: Device> Device for FailingDisk<D> {
 
     ghost faults_met = { λ disk. disk.faults };
 
+    ghost carried = { λ disk. D.carried disk.inner };
+
     ghost is_honest = { λ disk. D.is_honest disk.inner };
 
     ghost seen_is_left = { λ disk. D.seen_is_left disk.inner };
@@ -118,6 +120,7 @@ impl<D: Device> Device for FailingDisk<D> {
         ensures time { LeavesOnly D.moment D.left_since self.old.inner self.new.inner (D.may_leave self.old.inner) }
         ensures honest { D.is_honest self.new.inner ↔ D.is_honest self.old.inner }
         ensures len { length (D.seen self.new.inner) ≡ length (D.seen self.old.inner) }
+        ensures carried { D.carried self.new.inner ≡ D.carried self.old.inner }
 
         ensures counted { self.new ≡ after_call self.old self.new.inner (is_ok result) }
 
@@ -153,6 +156,7 @@ impl<D: Device> Device for FailingDisk<D> {
             (TornFrom at (length bytes.now) (D.may_leave self.old.inner)) }
         ensures honest { D.is_honest self.new.inner ↔ D.is_honest self.old.inner }
         ensures len { length (D.seen self.new.inner) ≡ length (D.seen self.old.inner) }
+        ensures carried { D.carried self.new.inner ≡ D.carried self.old.inner }
 
         ensures counted { self.new ≡ after_call self.old self.new.inner (is_ok result) }
 
@@ -184,6 +188,7 @@ impl<D: Device> Device for FailingDisk<D> {
         ensures time { LeavesOnly D.moment D.left_since self.old.inner self.new.inner (D.may_leave self.old.inner) }
         ensures honest { D.is_honest self.new.inner ↔ D.is_honest self.old.inner }
         ensures len { length (D.seen self.new.inner) ≡ length (D.seen self.old.inner) }
+        ensures carried { D.carried self.new.inner ≡ D.carried self.old.inner }
 
         ensures counted { self.new ≡ after_call self.old self.new.inner (is_ok result) }
 
@@ -216,7 +221,8 @@ impl<D: Device> Device for FailingDisk<D> {
 fn spoil<D: Device>(device: &mut D, at: u64, len: u64)
     requires { at + len ≤ length (D.seen device.old) }
 
-    ensures wrote { WroteWithin D.seen D.may_leave D.moment D.left_since D.is_honest at len device.old device.new }
+    ensures wrote { WroteWithin D.seen D.may_leave D.moment D.left_since D.is_honest D.carried at len
+        device.old device.new }
     ensures spoilt { D.is_honest device.old → D.faults_met device.old < 2 ^ 64 - 1
         → D.faults_met device.new ≡ D.faults_met device.old
         → D.seen device.new ≡ written (D.seen device.old) at (spoilt len) }
@@ -237,7 +243,8 @@ fn spoil_piece<D: Device>(device: &mut D, at: u64, len: u64) -> Result<(), Devic
     requires piece { len ≤ 4096 }
     requires room { at + len ≤ length (D.seen device.old) }
 
-    ensures wrote { WroteWithin D.seen D.may_leave D.moment D.left_since D.is_honest at len device.old device.new }
+    ensures wrote { WroteWithin D.seen D.may_leave D.moment D.left_since D.is_honest D.carried at len
+        device.old device.new }
     ensures spoilt { D.is_honest device.old
         → OnOk result (D.seen device.new ≡ written (D.seen device.old) at (spoilt len)) }
     ensures failed { IsErr result

@@ -111,6 +111,8 @@ impl<F: BlockFile> Device for FileDisk<F> {
 
     ghost faults_met = { λ disk. disk.faults };
 
+    ghost carried = { λ disk. 0 };
+
     ghost is_honest = { IsOverHonest F.is_honest F.seen };
 
     ghost seen_is_left = { λ disk honest. fitted_is_left (F.may_leave disk.file) disk.size (F.seen disk.file) honest.1

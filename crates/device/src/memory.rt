@@ -151,6 +151,8 @@ impl<A: Allocator + Copy> Device for MemDisk<A> {
 
     ghost faults_met = { λ disk. disk.faults };
 
+    ghost carried = { λ disk. 0 };
+
     ghost is_honest = { λ disk. ⊤ };
 
     ghost seen_is_left = { λ disk honest. seen_is_left_of disk };

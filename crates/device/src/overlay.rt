@@ -112,6 +112,8 @@ impl<D: Device, A: Allocator + Copy> Device for OverlayDisk<D, A> {
 
     ghost faults_met = { λ disk. disk.faults };
 
+    ghost carried = { λ disk. 0 };
+
     ghost is_honest = { λ disk. D.is_honest disk.inner };
 
     ghost seen_is_left = { λ disk honest. seen_is_left_of (as_recorded D.seen disk) };

@@ -26,6 +26,7 @@ pub fn read<D: Device>(device: &mut D, at: u64, buffer: &mut [u8]) -> Result<(),
         → OnOk result (buffer.new ≡ slice_range (D.seen device.old) at (at + length buffer.old)) }
     ensures read { IsOnlyRead D.Device device.old device.new }
     ensures kept { IsAccounted D.Device device.old result device.new }
+    ensures carried { D.carried device.new ≡ D.carried device.old }
     ensures fault { IfErr result (λ refusal. refusal ≡ Refusal.Device) }
     ensures calls { Rises 1 (D.calls_made device.old) (D.calls_made device.new) }
     ensures size { length buffer.new ≡ length buffer.old }

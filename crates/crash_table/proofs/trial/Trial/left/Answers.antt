@@ -6,7 +6,7 @@ use Rattle.crash_states.specs.Calls.{ListedDisk, device_calls_of, calls_until, l
 use Rattle.crash_table.specs.Calls.{listing_memory}
 use Rattle.crash_table.specs.Crashes.{HasEnded, IsUpTo}
 use Rattle.crash_table.specs.Trials.{TrialValue, Leaves}
-use Rattle.crash_table.proofs.Left.{only_first, leaves_newest}
+use Rattle.crash_table.proofs.Left.{all_listed, only_first, leaves_newest}
 use Rattle.crash_table.proofs.trial.Trial.left.Goals as goal
 
 pub returns : goal.returns
@@ -53,7 +53,7 @@ returns g c =
     (subst E disk_is c.in_ok-after.ensures.ended)
     (λ files recovered left may. c.in_ok-after.ensures.back tt (subst Q (sym disk_is) (only_first image)) files
     (subst (λ (d : ListedDisk). RecoversTo (seen_of d.inner) files) (sym disk_is) recovered) left may)
-    c.in_ok-inner.ensures.complete c.in_ok-inner.ensures.listed up
+    (all_listed after.refused c.in_ok-inner.ensures.complete) c.in_ok-inner.ensures.listed up
     c.stop.new.self (c.stop.ensures.stopped ∙ ap (λ (d : Recorded). after_stop d choice) inner_is)
     (subst L inner_is c.stop.ensures.left)
     (map (λ v. v.items) c.in_ok-found.found.items) (c.in_ok-found.ensures tt) c.newest.result
