@@ -139,7 +139,7 @@ impl<A: Allocator + Copy> Listing<A> {
 
     /// The disk in memory, as the calls left it, and the calls in order, unless memory was refused for one.
     pub fn into_parts(self) -> Result<(MemDisk<A>, Vec<Call<A>, A>), AllocError>
-        ensures complete { IfOk result (λ parts. self.refused ≡ false) }
+        ensures complete { is_ok result ≡ not self.refused }
         ensures inner { IfOk result (λ parts. parts.0 ≡ self.inner) }
         ensures calls { IfOk result (λ parts. device_calls_of parts.1.items ≡ self.calls) }
         ensures listed { IfOk result (λ parts. ListsItsCalls self) }
@@ -283,6 +283,8 @@ impl<A: Allocator + Copy> Device for Listing<A> {
     ghost calls_made = { λ disk. disk.made };
 
     ghost faults_met = { λ disk. disk.faults };
+
+    ghost carried = { λ disk. 0 };
 
     ghost is_honest = { λ disk. ⊤ };
 
