@@ -68,6 +68,7 @@ begun_sound seen s sound free =
       lengths = sound.lengths;
       geometry = sound.geometry;
       rising = tt;
+      ends = λ file home past next. refl;
       few = omega arith;
       most = sound.most;
       tied = map_push (λ (x : WriteOut). x.batch.homes) s.write_outs.batches w

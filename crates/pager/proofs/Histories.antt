@@ -1,8 +1,8 @@
 -- What holds of each pager that calls have led to, and what a crash leaves of it.
-use Rattle.std.proofs.Common.{◌≡◌, ◌⊎◌, ℕ, zero, suc, ◌+◌, ◌*◌, Bool, true, false, List, [], ◌∷◌, ◌++◌}
+use Rattle.std.proofs.Common.{◌≡◌, ◌⊎◌, ℕ, zero, suc, ◌+◌, Bool, true, false, List, [], ◌∷◌, ◌++◌}
 use Rattle.std.proofs.Common.{length}
-use Rattle.std.proofs.Common.{map, Option, Some, None, refl, ap, sym, ◌∙◌, subst, arith, inl, inr, eqb}
-use Rattle.std.proofs.Common.{append_assoc, if◌then◌else◌}
+use Rattle.std.proofs.Common.{map, Option, Some, None, refl, ap, sym, ◌∙◌, subst, arith, inl, inr}
+use Rattle.std.proofs.Common.{append_assoc}
 use Rattle.std.specs.Prelude.{unwrap_or}
 use Rattle.std.specs.List.{Contains}
 use Rattle.std.specs.Option.{option_map_or, option_or}
@@ -11,12 +11,8 @@ use Rattle.std.proofs.lemmas.List.{append-nil}
 use Rattle.std.proofs.lemmas.List.Elements.{Contains-append_left, Contains-append_right, Contains-append_cases}
 use Rattle.device.specs.declared.device.Device.{Ghosts}
 use Rattle.device.proofs.Public.{done_seen}
-use Rattle.page_entry.specs.declared.numbers.FilePage.{FilePage}
-use Rattle.volume_codec.specs.Layout.{block_at}
 use Rattle.volume_codec.specs.Super.{SuperValue}
 use Rattle.volume_codec.specs.Recovery.{Recovers}
-use Rattle.volume_codec.proofs.Public.{fits_geometry}
-use Rattle.journal.specs.Pages.{home_of}
 use Rattle.journal.specs.Work.{has_done}
 use Rattle.journal.specs.declared.stage.Stage.{Stage}
 use Rattle.journal.specs.declared.stage.Stage.TheVariants.{Recording, Describing, SyncingRecords, Opening}
@@ -32,152 +28,100 @@ use Rattle.journal.specs.WriteOuts.{moving, batches_after}
 use Rattle.journal.specs.WriteOuts.{has_uncommitted, shares_syncs, current_stage, outs_after}
 use Rattle.journal.specs.WriteOuts.{outs_home, next_answer, next_work, begun, next_batch}
 use Rattle.journal.specs.inside.Consistent.{IsConsistent}
-use Rattle.journal.proofs.Public.{consistent_first, consistent_begun, consistent_within, consistent_after}
+use Rattle.journal.proofs.Public.{consistent_begun, consistent_within, consistent_after}
 use Rattle.journal.proofs.Public.{consistent_failed, stage_committed}
 use Rattle.recovery.specs.Reading.{IsOnlyRead}
-use Rattle.recovery.specs.Volume.{VolumeState, IsAtRest}
 use Rattle.pager.specs.Blocks.{Blocks, homes_in, bytes_in, newest_in}
-use Rattle.pager.specs.State.{PagerState, fresh, cut_at_end, record_for}
-use Rattle.pager.specs.Calls.{after_put, after_commit, after_step, next_bytes}
+use Rattle.pager.specs.State.{PagerState, record_for}
+use Rattle.pager.specs.Calls.{after_commit, after_step, next_bytes}
 use Rattle.pager.specs.Calls.{records_after}
-use Rattle.pager.specs.Calls.{committed_with, first_of, refuse_if}
+use Rattle.pager.specs.Calls.{committed_with, first_reason, reason_if}
 use Rattle.page_entry.specs.declared.refusal.Refusal.{Refusal}
 use Rattle.page_entry.specs.declared.refusal.Refusal.TheVariants as Refused
-use Rattle.std.specs.Prelude.{◌||◌, ◌-◌, ◌^◌, ◌/◌, nat_eq, nat_le}
+use Rattle.std.specs.Prelude.{◌||◌, ◌-◌, ◌^◌, nat_eq, nat_le}
 use Rattle.volume_codec.specs.Layout.{journals_of}
 use Rattle.volume_codec.specs.Descriptor.{AreHomes}
 use Rattle.journal.specs.LedTo.{MayBegin}
-use Rattle.history.specs.History.{Event, Store, SetLength, Mark, Acknowledge, IsMarked}
-use Rattle.history.specs.inside.Contents.{HasAcknowledged}
-use Rattle.pager.specs.inside.Contents.{owner_at, with_page, contents_after, IsDurable}
-use Rattle.pager.specs.Histories.{marked_with, acknowledged_by, IsStep, IsCommit}
-use Rattle.pager.proofs.Putting.{bytes_put, newest_push}
+use Rattle.history.specs.History.{Event, Mark, Acknowledge, IsMarked, IsDurablePrefix, Memory}
+use Rattle.history.specs.History.{memory_of, after, lengths_of, lengths_after, with_length}
+use Rattle.history.specs.inside.Contents.{HasAcknowledged, HasParts}
+use Rattle.history.proofs.Public.{after-append, begins_more, in_history, acknowledged_more, only_one, in_table}
+use Rattle.std.proofs.lemmas.List.Sums.{fold-append}
+use Rattle.volume_codec.specs.Files.{File}
+use Rattle.volume_codec.specs.Super.{Fits}
+use Rattle.pager.specs.inside.Contents.{written_over, HaveFiles}
+use Rattle.pager.specs.Histories.{marked_with, acknowledged_by, IsStep, IsBegunCommit}
+use Rattle.pager.proofs.Putting.{newest_push}
 use Rattle.pager.proofs.Stepping.{batch_homes, tied_after, AllOf, all_after}
 use Rattle.pager.proofs.Beginning.{map_push}
 use Rattle.pager.proofs.Outs.{none_after, none_uncommitted, never_device, committing, by_mover}
 use Rattle.pager.proofs.Records.{record_found, absent, newest_rest}
 
--- ---- contents after histories that grow
-
-module _ (v : SuperValue) (lengths : List ℕ) where
-  pub contents-append : (contents : ℕ → List ℕ) (first more : List Event)
-      → contents_after v lengths contents (first ++ more)
-      ≡ contents_after v lengths (contents_after v lengths contents first) more
-  contents-append contents [] more = refl
-  contents-append contents (Store file offset bytes ∷ first) more =
-      contents-append (with_page v lengths contents file offset bytes) first more
-  contents-append contents (SetLength file from to ∷ first) more = contents-append contents first more
-  contents-append contents (Mark number ∷ first) more = contents-append contents first more
-  contents-append contents (Acknowledge number ∷ first) more = contents-append contents first more
-
 -- what is kept of the calls
-pub record Keeps {D : Type 0} (disk : Ghosts D) (start : ℕ → List ℕ) (history : List Event) (s : PagerState D)
+pub record Keeps {D : Type 0} (disk : Ghosts D) (files : List File) (history : List Event) (s : PagerState D)
     : Type 0 where
-  pub old : List Event
-  pub new : List Event
+  pub old : ℕ → List ℕ
+  pub new : ℕ → List ℕ
+  pub earlier : List Event
+  pub later : List Event
   pub old_rest : List Event
   pub new_rest : List Event
-  pub old_begins : old ++ old_rest ≡ history
-  pub new_begins : new ++ new_rest ≡ history
-  pub old_marked : IsMarked old
-  pub new_marked : IsMarked new
-  pub consistent : IsConsistent s.table s.write_outs (contents_after s.table s.lengths start old) (contents_after
-      s.table s.lengths start new)
-      (disk.seen s.device) (disk.may_leave s.device)
-  pub old_acknowledged : has_uncommitted s.write_outs.batches ≡ true → HasAcknowledged old history
-  pub new_acknowledged : HasAcknowledged new history
-  pub marks : AllOf (λ w. Contains new (Mark w.batch.mark)) s.write_outs.batches
-  pub records : (b : ℕ) (x : List ℕ) → newest_in s.records b ≡ Some x → x ≡ contents_after s.table s.lengths start new b
-  pub current : (b : ℕ) → contents_after s.table s.lengths start history b ≡ unwrap_or (bytes_in s.staged b)
-      (contents_after s.table s.lengths start new b)
+  pub old_begins : earlier ++ old_rest ≡ history
+  pub new_begins : later ++ new_rest ≡ history
+  pub old_marked : IsMarked earlier
+  pub new_marked : IsMarked later
+  pub old_has : HaveFiles files s.table old earlier
+  pub new_has : HaveFiles files s.table new later
+  pub current : HaveFiles files s.table (written_over s.staged new) history
+  pub lengths : lengths_after (lengths_of files) history ≡ s.lengths
+  pub named : map in_table files ≡ s.table.files
+  pub table : Fits s.table
+  pub consistent : IsConsistent s.table s.write_outs old new (disk.seen s.device) (disk.may_leave s.device)
+  pub old_acknowledged : has_uncommitted s.write_outs.batches ≡ true → HasAcknowledged earlier history
+  pub new_acknowledged : HasAcknowledged later history
+  pub marks : AllOf (λ w. Contains later (Mark w.batch.mark)) s.write_outs.batches
+  pub records : (b : ℕ) (x : List ℕ) → newest_in s.records b ≡ Some x → x ≡ new b
   pub tied : batch_homes s.write_outs.batches ≡ map homes_in s.records
 
--- ---- at the opening
+-- ---- histories that grow
 
-pub keeps_opened : {D : Type 0} (disk : Ghosts D) (volume : VolumeState D) (most : ℕ) → IsAtRest disk volume
-    → Keeps disk (block_at (disk.seen volume.device)) [] (fresh volume most)
-keeps_opened disk volume most rest = record {
-  old = [];
-  new = [];
-  old_rest = [];
-  new_rest = [];
-  old_begins = refl;
-  new_begins = refl;
-  old_marked = inl refl;
-  new_marked = inl refl;
-  consistent = consistent_first volume.table (disk.seen volume.device) (disk.may_leave volume.device)
-      (fits_geometry volume.table rest.holds.super_block.fits) rest.holds rest.synced;
-  old_acknowledged = λ has number there. absurd (omega (arith, there.1));
-  new_acknowledged = λ number there. absurd (omega (arith, there.1));
-  marks = tt;
-  records = λ b x e. absurd (cc);
-  current = λ b. refl;
-  tied = refl;
-}
+-- events that change no file
+pub record IsQuiet (events : List Event) : Type 0 where
+  pub memory : (m : Memory) → after m events ≡ m
+  pub lengths : (l : List ℕ) → lengths_after l events ≡ l
 
--- ---- a page is put
+pub have_more : (files : List File) (table : SuperValue) (contents : ℕ → List ℕ) (history events : List Event)
+    → IsQuiet events → HaveFiles files table contents history → HaveFiles files table contents (history ++ events)
+have_more files table contents history events quiet has =
+    let memory : after (memory_of files) (history ++ events) ≡ after (memory_of files) history =
+    after-append (memory_of files) history events ∙ quiet.memory (after (memory_of files) history) in
+    let lengths : lengths_after (lengths_of files) (history ++ events) ≡ lengths_after (lengths_of files) history =
+    fold-append with_length (lengths_of files) history events
+    ∙ quiet.lengths (lengths_after (lengths_of files) history) in
+    record {
+      whole = λ file page. ap (λ (m : Memory). length (m file page)) memory ∙ has.whole file page;
+      blocks = has.blocks;
+      fits = has.fits;
+      same_lengths = has.same_lengths ∙ sym lengths;
+      parts = subst (λ (m : Memory). HasParts table (lengths_after (lengths_of files) (history ++ events)) contents m)
+          (sym memory)
+          (subst (λ (l : List ℕ). HasParts table l contents (after (memory_of files) history)) (sym lengths)
+          has.parts);
+    }
+
+pub lengths_more : (files : List File) (history events : List Event) → IsQuiet events
+    → lengths_after (lengths_of files) (history ++ events) ≡ lengths_after (lengths_of files) history
+lengths_more files history events quiet = fold-append with_length (lengths_of files) history events
+    ∙ quiet.lengths (lengths_after (lengths_of files) history)
 
 -- an event that acknowledges nothing
-not_acknowledged : (prefix history : List Event) (event : Event)
+pub not_acknowledged : (prefix history : List Event) (event : Event)
     → ((number : ℕ) → Acknowledge number ≡ event → ⊥) → HasAcknowledged prefix history
     → HasAcknowledged prefix (history ++ event ∷ [])
-not_acknowledged prefix history event other has number there =
-    elim (Contains-append_cases history (event ∷ []) (Acknowledge number) there) [
-      | inl before ↦ has number before
-      | inr now ↦ absurd (other number (sym (only event now)))
-    ]
-  where
-    only : (e : Event) → Contains (e ∷ []) (Acknowledge number) → e ≡ Acknowledge number
-    only e (zero, lt, is) = is
-    only e (suc k, lt, is) = absurd (omega (arith, lt))
-
-pub keeps_put : {D : Type 0} (disk : Ghosts D) (start : ℕ → List ℕ) (history : List Event) (s : PagerState D)
-    (owner : FilePage) (bytes : List ℕ) → Keeps disk start history s
-    → Keeps disk start (history ++ Store owner.file (4096 * owner.page) bytes ∷ []) (after_put s owner bytes)
-keeps_put disk start history s owner bytes k =
-    let event = Store owner.file (4096 * owner.page) bytes in
-    let page : 4096 * owner.page / 4096 ≡ owner.page = omega arith in
-    let same : owner_at owner.file (4096 * owner.page) ≡ owner =
-    (λ i. record { file = owner.file; page = page i }) in
-    record {
-      old = k.old;
-      new = k.new;
-      old_rest = k.old_rest ++ event ∷ [];
-      new_rest = k.new_rest ++ event ∷ [];
-      old_begins = sym (append_assoc k.old k.old_rest (event ∷ []))
-          ∙ ap (λ (l : List Event). l ++ event ∷ []) k.old_begins;
-      new_begins = sym (append_assoc k.new k.new_rest (event ∷ []))
-          ∙ ap (λ (l : List Event). l ++ event ∷ []) k.new_begins;
-      old_marked = k.old_marked;
-      new_marked = k.new_marked;
-      consistent = k.consistent;
-      old_acknowledged = λ has. not_acknowledged k.old history event (λ n e. cc) (k.old_acknowledged has);
-      new_acknowledged = not_acknowledged k.new history event (λ n e. cc) k.new_acknowledged;
-      marks = k.marks;
-      records = k.records;
-      current = λ b. ap (λ (f : ℕ → List ℕ). f b) (contents-append s.table s.lengths start history (event ∷ []))
-          ∙ ap (λ (o : FilePage). if eqb b (home_of s.table o) then cut_at_end s.lengths o bytes
-          else contents_after s.table s.lengths start history b) same
-          ∙ put_at (cut_at_end s.lengths owner bytes) (contents_after s.table s.lengths start history b)
-          (contents_after s.table s.lengths start k.new b) (eqb b (home_of s.table owner)) (bytes_in s.staged b)
-          (k.current b)
-          ∙ ap (λ o. unwrap_or o (contents_after s.table s.lengths start k.new b))
-          (sym (bytes_put s.staged (home_of s.table owner) (cut_at_end s.lengths owner bytes) b));
-      tied = k.tied;
-    }
-  where
-    put_at : (v x d : List ℕ) (here : Bool) (o : Option (List ℕ)) → x ≡ unwrap_or o d
-        → (if here then v else x) ≡ unwrap_or (if here then Some v else o) d
-    put_at v x d true o e = refl
-    put_at v x d false o e = e
+not_acknowledged prefix history event other has = acknowledged_more prefix history (event ∷ [])
+    (λ number there. absurd (other number (sym (only_one event (Acknowledge number) there)))) has
 
 -- ---- a commit
-
--- every mark of a prefix is in the history
-in_history : (prefix rest history : List Event) (event : Event) → prefix ++ rest ≡ history
-    → Contains prefix event → Contains history event
-in_history prefix rest history event begins there =
-    subst (λ (l : List Event). Contains l event) begins (Contains-append_left prefix rest event there)
 
 all_weaken : (P Q : WriteOut → Type 0) (batches : List WriteOut) → ((w : WriteOut) → P w → Q w) → AllOf P batches
     → AllOf Q batches
@@ -197,62 +141,58 @@ pushed_record (Some y) p x d e is older same = some_same y x is ∙ sym same
     some_same : (y x : List ℕ) → Some y ≡ Some x → x ≡ y
     some_same y x e = cc
 
-module _ {D : Type 0} (disk : Ghosts D) (start : ℕ → List ℕ) (history : List Event) (s : PagerState D)
-    (k : Keeps disk start history s) where
+module _ {D : Type 0} (disk : Ghosts D) (files : List File) (history : List Event) (s : PagerState D)
+    (k : Keeps disk files history s) where
   abbrev number : ℕ
   number = s.marks + 1
 
-  -- what the home blocks are after the mark
-  at_mark : (b : ℕ) → contents_after s.table s.lengths start (history ++ Mark number ∷ []) b
-      ≡ unwrap_or (bytes_in s.staged b) (contents_after s.table s.lengths start k.new b)
-  at_mark b = ap (λ (f : ℕ → List ℕ). f b) (contents-append s.table s.lengths start history (Mark number ∷ []))
-      ∙ k.current b
+  quiet_mark : IsQuiet (Mark number ∷ [])
+  quiet_mark = record { memory = λ m. refl; lengths = λ l. refl }
 
-  later_mark : (other : ℕ) → Contains k.new (Mark other) → Contains (history ++ Mark number ∷ []) (Mark other)
+  quiet_both : IsQuiet (Mark number ∷ Acknowledge number ∷ [])
+  quiet_both = record { memory = λ m. refl; lengths = λ l. refl }
+
+  later_mark : (other : ℕ) → Contains k.later (Mark other) → Contains (history ++ Mark number ∷ []) (Mark other)
   later_mark other there = Contains-append_left history (Mark number ∷ []) (Mark other)
-      (in_history k.new k.new_rest history (Mark other) k.new_begins there)
+      (in_history k.later k.new_rest history (Mark other) k.new_begins there)
 
   own_mark : Contains (history ++ Mark number ∷ []) (Mark number)
   own_mark = Contains-append_right history (Mark number ∷ []) (Mark number) (0, omega arith, refl)
 
   keeps_empty : has_uncommitted s.write_outs.batches ≡ false → s.staged ≡ []
-      → Keeps disk start (history ++ Mark number ∷ Acknowledge number ∷ []) (record s { marks = number })
-  keeps_empty free none =
-      let same : contents_after s.table s.lengths start (history ++ Mark number ∷ []) ≡ contents_after s.table
-      s.lengths start k.new =
-      (λ i b. (at_mark b ∙ ap (λ (m : Blocks). unwrap_or (bytes_in m b) (contents_after s.table s.lengths start
-      k.new b)) none) i) in
-      record {
-        old = k.old;
-        new = history ++ Mark number ∷ [];
-        old_rest = k.old_rest ++ Mark number ∷ Acknowledge number ∷ [];
-        new_rest = Acknowledge number ∷ [];
-        old_begins = sym (append_assoc k.old k.old_rest (Mark number ∷ Acknowledge number ∷ []))
-            ∙ ap (λ (l : List Event). l ++ Mark number ∷ Acknowledge number ∷ []) k.old_begins;
-        new_begins = append_assoc history (Mark number ∷ []) (Acknowledge number ∷ []);
-        old_marked = k.old_marked;
-        new_marked = inr (history, number, refl);
-        consistent = subst (λ (f : ℕ → List ℕ). IsConsistent s.table s.write_outs (contents_after s.table s.lengths
-            start k.old) f
-            (disk.seen s.device) (disk.may_leave s.device)) (sym same) k.consistent;
-        old_acknowledged = λ has. absurd (both_ways (has_uncommitted s.write_outs.batches) free has);
-        new_acknowledged = λ other there. elim (Contains-append_cases history (Mark number ∷ Acknowledge number ∷ [])
-            (Acknowledge other) there) [
-              | inl before ↦ later_mark other (k.new_acknowledged other before)
-              | inr now ↦ subst (λ n. Contains (history ++ Mark number ∷ []) (Mark n)) (own other now) own_mark
-            ];
-        marks = all_weaken (λ w. Contains k.new (Mark w.batch.mark))
-            (λ w. Contains (history ++ Mark number ∷ []) (Mark w.batch.mark)) s.write_outs.batches
-            (λ w there. later_mark w.batch.mark there) k.marks;
-        records = λ b x e. k.records b x e ∙ ap (λ (f : ℕ → List ℕ). f b) (sym same);
-        current = λ b. ap (λ (f : ℕ → List ℕ). f b)
-            (contents-append s.table s.lengths start history (Mark number ∷ Acknowledge number ∷ [])
-            ∙ sym (contents-append s.table s.lengths start history (Mark number ∷ [])))
-            ∙ sym (ap (λ (m : Blocks). unwrap_or (bytes_in m b) (contents_after s.table s.lengths start (history ++
-            Mark number ∷ []) b))
-            none);
-        tied = k.tied;
-      }
+      → Keeps disk files (history ++ Mark number ∷ Acknowledge number ∷ []) (record s { marks = number })
+  keeps_empty free none = record {
+    old = k.old;
+    new = k.new;
+    earlier = k.earlier;
+    later = history ++ Mark number ∷ [];
+    old_rest = k.old_rest ++ Mark number ∷ Acknowledge number ∷ [];
+    new_rest = Acknowledge number ∷ [];
+    old_begins = begins_more k.earlier k.old_rest history (Mark number ∷ Acknowledge number ∷ []) k.old_begins;
+    new_begins = append_assoc history (Mark number ∷ []) (Acknowledge number ∷ []);
+    old_marked = k.old_marked;
+    new_marked = inr (history, number, refl);
+    old_has = k.old_has;
+    new_has = have_more files s.table k.new history (Mark number ∷ []) quiet_mark
+        (subst (λ (m : Blocks). HaveFiles files s.table (written_over m k.new) history) none k.current);
+    current = have_more files s.table (written_over s.staged k.new) history (Mark number ∷ Acknowledge number ∷ [])
+        quiet_both k.current;
+    lengths = lengths_more files history (Mark number ∷ Acknowledge number ∷ []) quiet_both ∙ k.lengths;
+    named = k.named;
+    table = k.table;
+    consistent = k.consistent;
+    old_acknowledged = λ has. absurd (both_ways (has_uncommitted s.write_outs.batches) free has);
+    new_acknowledged = λ other there. elim (Contains-append_cases history (Mark number ∷ Acknowledge number ∷ [])
+        (Acknowledge other) there) [
+          | inl before ↦ later_mark other (k.new_acknowledged other before)
+          | inr now ↦ subst (λ n. Contains (history ++ Mark number ∷ []) (Mark n)) (own other now) own_mark
+        ];
+    marks = all_weaken (λ w. Contains k.later (Mark w.batch.mark))
+        (λ w. Contains (history ++ Mark number ∷ []) (Mark w.batch.mark)) s.write_outs.batches
+        (λ w there. later_mark w.batch.mark there) k.marks;
+    records = k.records;
+    tied = k.tied;
+  }
     where
       own : (other : ℕ) → Contains (Mark number ∷ Acknowledge number ∷ []) (Acknowledge other) → number ≡ other
       own other (zero, lt, is) = absurd (cc)
@@ -260,7 +200,7 @@ module _ {D : Type 0} (disk : Ghosts D) (start : ℕ → List ℕ) (history : Li
       own other (suc (suc n), lt, is) = absurd (omega (arith, lt))
 
   keeps_some : (blocks : Blocks) → s.staged ≡ blocks → MayBegin s.write_outs number (homes_in s.staged)
-      → Keeps disk start (history ++ Mark number ∷ []) (record s {
+      → Keeps disk files (history ++ Mark number ∷ []) (record s {
         staged = [];
         write_outs = begun s.write_outs number (homes_in blocks);
         records = s.records ++ blocks ∷ [];
@@ -268,103 +208,113 @@ module _ {D : Type 0} (disk : Ghosts D) (start : ℕ → List ℕ) (history : Li
       })
   keeps_some blocks is may =
       let w = begun_of s.write_outs.geometry.slots (next_batch s.write_outs number (homes_in blocks)) in
-      let here : (b : ℕ) → contents_after s.table s.lengths start (history ++ Mark number ∷ []) b
-      ≡ unwrap_or (bytes_in blocks b) (contents_after s.table s.lengths start k.new b) = λ b. at_mark b
-      ∙ ap (λ (m : Blocks). unwrap_or (bytes_in m b) (contents_after s.table s.lengths start k.new b)) is in
+      let next = written_over blocks k.new in
+      let has = have_more files s.table next history (Mark number ∷ []) quiet_mark
+      (subst (λ (m : Blocks). HaveFiles files s.table (written_over m k.new) history) is k.current) in
       let are = subst (λ (m : Blocks). AreHomes s.write_outs.geometry (homes_in m)) is may.are_homes in
       record {
         old = k.new;
-        new = history ++ Mark number ∷ [];
+        new = next;
+        earlier = k.later;
+        later = history ++ Mark number ∷ [];
         old_rest = k.new_rest ++ Mark number ∷ [];
         new_rest = [];
-        old_begins = sym (append_assoc k.new k.new_rest (Mark number ∷ []))
-            ∙ ap (λ (l : List Event). l ++ Mark number ∷ []) k.new_begins;
+        old_begins = begins_more k.later k.new_rest history (Mark number ∷ []) k.new_begins;
         new_begins = append-nil (history ++ Mark number ∷ []);
         old_marked = k.new_marked;
         new_marked = inr (history, number, refl);
-        consistent = consistent_begun s.table s.write_outs (contents_after s.table s.lengths start k.old)
-            (contents_after s.table s.lengths start k.new)
-            (contents_after s.table s.lengths start (history ++ Mark number ∷ [])) number (homes_in blocks)
-            (disk.seen s.device)
-            (disk.may_leave s.device) may.whole may.free may.some_mark may.small_mark are may.newest
-            (λ b none. here b ∙ ap (λ o. unwrap_or o (contents_after s.table s.lengths start k.new b)) (absent
-            blocks b none))
-            k.consistent;
-        old_acknowledged = λ has. not_acknowledged k.new history (Mark number) (λ n e. cc) k.new_acknowledged;
+        old_has = k.new_has;
+        new_has = has;
+        current = has;
+        lengths = lengths_more files history (Mark number ∷ []) quiet_mark ∙ k.lengths;
+        named = k.named;
+        table = k.table;
+        consistent = consistent_begun s.table s.write_outs k.old k.new next number (homes_in blocks)
+            (disk.seen s.device) (disk.may_leave s.device) may.whole may.free may.some_mark may.small_mark are
+            may.newest (λ b none. ap (λ o. unwrap_or o (k.new b)) (absent blocks b none)) k.consistent;
+        old_acknowledged = λ has. not_acknowledged k.later history (Mark number) (λ n e. cc) k.new_acknowledged;
         new_acknowledged = λ other there. later_mark other
-            (not_acknowledged k.new history (Mark number) (λ n e. cc) k.new_acknowledged other there);
+            (not_acknowledged k.later history (Mark number) (λ n e. cc) k.new_acknowledged other there);
         marks = all_push (λ x. Contains (history ++ Mark number ∷ []) (Mark x.batch.mark)) s.write_outs.batches w
-            (all_weaken (λ x. Contains k.new (Mark x.batch.mark))
+            (all_weaken (λ x. Contains k.later (Mark x.batch.mark))
             (λ x. Contains (history ++ Mark number ∷ []) (Mark x.batch.mark)) s.write_outs.batches
             (λ x there. later_mark x.batch.mark there) k.marks) own_mark;
-        records = λ b x e. pushed_record (bytes_in blocks b) (newest_in s.records b) x (contents_after s.table
-            s.lengths start k.new b)
-            (contents_after s.table s.lengths start (history ++ Mark number ∷ []) b) (sym (newest_push s.records
-            blocks b) ∙ e)
-            (k.records b x) (here b);
-        current = λ b. refl;
+        records = λ b x e. pushed_record (bytes_in blocks b) (newest_in s.records b) x (k.new b) (next b)
+            (sym (newest_push s.records blocks b) ∙ e) (k.records b x) refl;
         tied = map_push (λ (x : WriteOut). x.batch.homes) s.write_outs.batches w
             ∙ ap (λ (l : List (List ℕ)). l ++ homes_in blocks ∷ []) k.tied ∙ sym (map_push homes_in s.records blocks);
       }
 
-free_of : (a b c d : Bool) (x y : Refusal) → first_of (refuse_if a x ∷ refuse_if ((b || c) || d) y ∷ []) ≡ None
+free_of : (a b c d : Bool) (x y : Refusal) → first_reason (reason_if a x ∷ reason_if ((b || c) || d) y ∷ []) ≡ None
     → b ≡ false
 free_of true b c d x y e = absurd (cc)
 free_of false true c d x y e = absurd (cc)
 free_of false false c d x y e = refl
 
-pub keeps_committed : {D : Type 0} (disk : Ghosts D) (start : ℕ → List ℕ) (history : List Event)
-    (s : PagerState D) → IsCommit s → Keeps disk start history s
-    → Keeps disk start (history ++ marked_with (s.marks + 1) s.staged) (after_commit s)
-keeps_committed disk start history s commit k = by s.staged refl
+pub keeps_committed : {D : Type 0} (disk : Ghosts D) (files : List File) (history : List Event)
+    (s : PagerState D) → IsBegunCommit s → Keeps disk files history s
+    → Keeps disk files (history ++ marked_with (s.marks + 1) s.staged) (after_commit s)
+keeps_committed disk files history s commit k = by s.staged refl
   where
     no_block : (block : ℕ × List ℕ) (blocks : Blocks) → block ∷ blocks ≡ [] → ⊥
     no_block block blocks e = cc
 
     by : (blocks : Blocks) → s.staged ≡ blocks
-        → Keeps disk start (history ++ marked_with (s.marks + 1) blocks) (committed_with s blocks)
-    by [] is = keeps_empty disk start history s k
+        → Keeps disk files (history ++ marked_with (s.marks + 1) blocks) (committed_with s blocks)
+    by [] is = keeps_empty disk files history s k
         (free_of s.write_outs.broken (has_uncommitted s.write_outs.batches)
         (nat_eq (length s.write_outs.batches) (journals_of s.write_outs.geometry.layout))
         (nat_le (2 ^ 32 - 1) s.marks) Refused.Broken Refused.Busy commit.allowed) is
-    by (block ∷ blocks) is = keeps_some disk start history s k (block ∷ blocks) is
+    by (block ∷ blocks) is = keeps_some disk files history s k (block ∷ blocks) is
         (commit.may (λ e. no_block block blocks (sym is ∙ e)))
 
 -- ---- a read
 
-pub keeps_read : {D : Type 0} (disk : Ghosts D) (start : ℕ → List ℕ) (history : List Event) (s : PagerState D)
-    (after : D) → IsOnlyRead disk s.device after → Keeps disk start history s
-    → Keeps disk start history (record s { device = after })
-keeps_read disk start history s after read k = record {
+pub only_read : {D : Type 0} (disk : Ghosts D) (files : List File) (history : List Event) (s : PagerState D)
+    (after : D) → IsOnlyRead disk s.device after → (k : Keeps disk files history s)
+    → IsConsistent s.table s.write_outs k.old k.new (disk.seen after) (disk.may_leave after)
+only_read disk files history s after read k =
+    subst (λ (l : List ℕ). IsConsistent s.table s.write_outs k.old k.new l (disk.may_leave after)) (sym read.same)
+    (record {
+      geometry = k.consistent.geometry;
+      left = λ c may. k.consistent.left c (read.left c may);
+      reads = k.consistent.reads;
+      rests = λ whole none. (
+        (k.consistent.rests whole none).0,
+        λ c may. (k.consistent.rests whole none).1 c (read.left c may),
+      );
+      sound = k.consistent.sound;
+      tied = λ whole. record {
+        seen_is = (k.consistent.tied whole).seen_is;
+        left_are = λ c may. (k.consistent.tied whole).left_are c (read.left c may);
+      };
+    })
+
+pub keeps_read : {D : Type 0} (disk : Ghosts D) (files : List File) (history : List Event) (s : PagerState D)
+    (after : D) → IsOnlyRead disk s.device after → Keeps disk files history s
+    → Keeps disk files history (record s { device = after })
+keeps_read disk files history s after read k = record {
   old = k.old;
   new = k.new;
+  earlier = k.earlier;
+  later = k.later;
   old_rest = k.old_rest;
   new_rest = k.new_rest;
   old_begins = k.old_begins;
   new_begins = k.new_begins;
   old_marked = k.old_marked;
   new_marked = k.new_marked;
-  consistent = subst (λ (l : List ℕ). IsConsistent s.table s.write_outs (contents_after s.table s.lengths start k.old)
-      (contents_after s.table s.lengths start k.new) l (disk.may_leave after)) (sym read.same)
-      (record {
-        geometry = k.consistent.geometry;
-        left = λ c may. k.consistent.left c (read.left c may);
-        reads = k.consistent.reads;
-        rests = λ whole none. (
-          (k.consistent.rests whole none).0,
-          λ c may. (k.consistent.rests whole none).1 c (read.left c may),
-        );
-        sound = k.consistent.sound;
-        tied = λ whole. record {
-          seen_is = (k.consistent.tied whole).seen_is;
-          left_are = λ c may. (k.consistent.tied whole).left_are c (read.left c may);
-        };
-      });
+  old_has = k.old_has;
+  new_has = k.new_has;
+  current = k.current;
+  lengths = k.lengths;
+  named = k.named;
+  table = k.table;
+  consistent = only_read disk files history s after read k;
   old_acknowledged = k.old_acknowledged;
   new_acknowledged = k.new_acknowledged;
   marks = k.marks;
   records = k.records;
-  current = k.current;
   tied = k.tied;
 }
 
@@ -394,16 +344,15 @@ module _ (answer : Flushed) where
         | inr own ↦ now number (acknowledged_now number own)
       ]
 
-  acknowledges_nothing : (v : SuperValue) (lengths : List ℕ) (contents : ℕ → List ℕ)
-      → contents_after v lengths contents (acknowledged_by answer) ≡ contents
-  acknowledges_nothing v lengths contents = by answer
+  quiet_answer : IsQuiet (acknowledged_by answer)
+  quiet_answer = by answer
     where
-      by : (a : Flushed) → contents_after v lengths contents (acknowledged_by a) ≡ contents
-      by Going = refl
-      by (Committed mark) = refl
-      by (Done mark) = refl
-      by Device = refl
-      by Broken = refl
+      by : (a : Flushed) → IsQuiet (acknowledged_by a)
+      by Going = record { memory = λ m. refl; lengths = λ l. refl }
+      by (Committed mark) = record { memory = λ m. refl; lengths = λ l. refl }
+      by (Done mark) = record { memory = λ m. refl; lengths = λ l. refl }
+      by Device = record { memory = λ m. refl; lengths = λ l. refl }
+      by Broken = record { memory = λ m. refl; lengths = λ l. refl }
 
   found_before : (records : List Blocks) (b : ℕ) (x : List ℕ) → newest_in (records_after answer records) b ≡ Some x
       → newest_in records b ≡ Some x
@@ -423,13 +372,13 @@ done_unless (Done mark) other = refl
 done_unless Device other = absurd (other refl)
 done_unless Broken other = refl
 
-module _ {D : Type 0} (disk : Ghosts D) (start : ℕ → List ℕ) (history : List Event) (s : PagerState D)
-    (answer : Flushed) (after : D) (step : IsStep disk s answer after) (k : Keeps disk start history s) where
+module _ {D : Type 0} (disk : Ghosts D) (files : List File) (history : List Event) (s : PagerState D)
+    (answer : Flushed) (after : D) (step : IsStep disk s answer after) (k : Keeps disk files history s) where
   abbrev old : ℕ → List ℕ
-  old = contents_after s.table s.lengths start k.old
+  old = k.old
 
   abbrev new : ℕ → List ℕ
-  new = contents_after s.table s.lengths start k.new
+  new = k.new
 
   abbrev shares : Bool
   shares = shares_syncs s.write_outs.geometry.layout
@@ -480,15 +429,15 @@ module _ {D : Type 0} (disk : Ghosts D) (start : ℕ → List ℕ) (history : Li
       not_both : (n : ℕ) → Committed n ≡ Device → ⊥
       not_both n e = cc
 
-  mark_there : (number : ℕ) → answer ≡ Committed number → Contains k.new (Mark number)
+  mark_there : (number : ℕ) → answer ≡ Committed number → Contains k.later (Mark number)
   mark_there number is = by (moving shares s.write_outs.batches) refl (answered_by number is)
     where
       by : (o : Option WriteOut) → moving shares s.write_outs.batches ≡ o
-          → option_map_or answer_of o Broken ≡ Committed number → Contains k.new (Mark number)
+          → option_map_or answer_of o Broken ≡ Committed number → Contains k.later (Mark number)
       by None at e = absurd (cc)
       by (Some w) at e =
-          let there = by_mover (λ x. Contains k.new (Mark x.batch.mark)) shares s.write_outs.batches k.marks w at in
-          subst (λ n. Contains k.new (Mark n)) (committing w number e).mark_is there
+          let there = by_mover (λ x. Contains k.later (Mark x.batch.mark)) shares s.write_outs.batches k.marks w at in
+          subst (λ n. Contains k.later (Mark n)) (committing w number e).mark_is there
 
   none_now : (number : ℕ) → answer ≡ Committed number
       → has_uncommitted (batches_after shares answer s.write_outs.batches) ≡ false
@@ -496,34 +445,38 @@ module _ {D : Type 0} (disk : Ghosts D) (start : ℕ → List ℕ) (history : Li
       ap (λ (a : Flushed). has_uncommitted (batches_after shares a s.write_outs.batches)) is
       ∙ none_uncommitted shares s.write_outs.batches number k.consistent.sound.ordered (answered_by number is)
 
-  pub keeps_stepped : Keeps disk start (history ++ acknowledged_by answer) (after_step s answer after)
+  pub keeps_stepped : Keeps disk files (history ++ acknowledged_by answer) (after_step s answer after)
   keeps_stepped = record {
     old = k.old;
     new = k.new;
+    earlier = k.earlier;
+    later = k.later;
     old_rest = k.old_rest ++ acknowledged_by answer;
     new_rest = k.new_rest ++ acknowledged_by answer;
-    old_begins = sym (append_assoc k.old k.old_rest (acknowledged_by answer))
-        ∙ ap (λ (l : List Event). l ++ acknowledged_by answer) k.old_begins;
-    new_begins = sym (append_assoc k.new k.new_rest (acknowledged_by answer))
-        ∙ ap (λ (l : List Event). l ++ acknowledged_by answer) k.new_begins;
+    old_begins = begins_more k.earlier k.old_rest history (acknowledged_by answer) k.old_begins;
+    new_begins = begins_more k.later k.new_rest history (acknowledged_by answer) k.new_begins;
     old_marked = k.old_marked;
     new_marked = k.new_marked;
+    old_has = k.old_has;
+    new_has = k.new_has;
+    current = have_more files s.table (written_over s.staged k.new) history (acknowledged_by answer)
+        (quiet_answer answer) k.current;
+    lengths = lengths_more files history (acknowledged_by answer) (quiet_answer answer) ∙ k.lengths;
+    named = k.named;
+    table = k.table;
     consistent = stepped;
     old_acknowledged = λ has.
         elim (cases_Bool (has_uncommitted s.write_outs.batches)) [
-          | inl was ↦ acked answer k.old history (k.old_acknowledged was)
+          | inl was ↦ acked answer k.earlier history (k.old_acknowledged was)
               (λ number is. absurd (both_ways (has_uncommitted (batches_after shares answer s.write_outs.batches))
               (none_now number is) has))
           | inr none ↦ absurd (both_ways (has_uncommitted (batches_after shares answer s.write_outs.batches))
               (none_after shares answer s.write_outs.batches none) has)
         ];
-    new_acknowledged = acked answer k.new history k.new_acknowledged mark_there;
-    marks = all_after (λ (w : WriteOut). Contains k.new (Mark w.batch.mark)) (λ w there. there) shares answer
+    new_acknowledged = acked answer k.later history k.new_acknowledged mark_there;
+    marks = all_after (λ (w : WriteOut). Contains k.later (Mark w.batch.mark)) (λ w there. there) shares answer
         s.write_outs.batches k.marks;
     records = λ b x e. k.records b x (found_before answer s.records b x e);
-    current = λ b. ap (λ (f : ℕ → List ℕ). f b) (contents-append s.table s.lengths start history (acknowledged_by
-        answer)
-        ∙ acknowledges_nothing answer s.table s.lengths (contents_after s.table s.lengths start history)) ∙ k.current b;
     tied = tied_after shares answer s.write_outs.batches s.records k.tied;
   }
 
@@ -544,33 +497,41 @@ old_or_new v old new (Some SyncingHomes) c left = inr left
 old_or_new v old new (Some Closing) c left = inr left
 old_or_new v old new (Some Finishing) c left = inr left
 
-pub durable_left : {D : Type 0} (disk : Ghosts D) (start : ℕ → List ℕ) (history : List Event) (s : PagerState D)
-    (k : Keeps disk start history s) (c : List ℕ)
-    → LeftWithin s.table (contents_after s.table s.lengths start k.old) (contents_after s.table s.lengths start
-    k.new) (current_stage s.write_outs) c
-    → IsDurable s.table s.lengths start history c
-durable_left disk start history s k c left =
-    elim (old_or_new s.table (contents_after s.table s.lengths start k.old) (contents_after s.table s.lengths start
-    k.new) (current_stage s.write_outs) c
-    left) [
+-- these bytes recover to contents that have the files after a durable prefix of the history
+pub record IsDurable (files : List File) (v : SuperValue) (history : List Event) (c : List ℕ) : Type 0 where
+  pub prefix : List Event
+  pub contents : ℕ → List ℕ
+  pub durable : IsDurablePrefix prefix history
+  pub has : HaveFiles files v contents prefix
+  pub recovers : Recovers v contents c
+
+pub durable_left : {D : Type 0} (disk : Ghosts D) (files : List File) (history : List Event) (s : PagerState D)
+    (k : Keeps disk files history s) (c : List ℕ) → LeftWithin s.table k.old k.new (current_stage s.write_outs) c
+    → IsDurable files s.table history c
+durable_left disk files history s k c left =
+    elim (old_or_new s.table k.old k.new (current_stage s.write_outs) c left) [
       | inl was ↦ record {
-        prefix = k.old;
+        prefix = k.earlier;
+        contents = k.old;
         durable = record {
           rest = k.old_rest;
           begins = k.old_begins;
           marked = k.old_marked;
           acknowledged = k.old_acknowledged (early was.1);
         };
+        has = k.old_has;
         recovers = was.0;
       }
       | inr is ↦ record {
-        prefix = k.new;
+        prefix = k.later;
+        contents = k.new;
         durable = record {
           rest = k.new_rest;
           begins = k.new_begins;
           marked = k.new_marked;
           acknowledged = k.new_acknowledged;
         };
+        has = k.new_has;
         recovers = is;
       }
     ]

@@ -1,4 +1,5 @@
 pub mod Putting
+pub mod Changing
 pub mod Capacities
 pub mod Rooms
 pub mod Stepping
@@ -7,3 +8,10 @@ pub mod Outs
 pub mod Records
 pub mod Histories
 pub mod Files
+pub mod Runs
+pub mod Inside
+pub mod Resizing
+pub mod Setting
+pub mod Resized
+pub mod Crashes
+pub mod Public

@@ -1,7 +1,8 @@
 -- What becomes of blocks by one that is put.
 use Rattle.std.proofs.Common.{◌≡◌, ℕ, ◌+◌, ◌<◌, ◌≤◌, Bool, true, false, List, [], ◌∷◌, ◌++◌, length, map, eqb, ltb}
 use Rattle.std.proofs.Common.{Option, Some, None, refl, ap, sym, ◌∙◌, subst, arith, if◌then◌else◌, inl, inr}
-use Rattle.std.specs.Prelude.{is_some}
+use Rattle.std.specs.Prelude.{is_some, filter, nat_lt, nat_le, ◌||◌, cond}
+use Rattle.std.specs.Map.Calls.{RetainsPairs}
 use Rattle.std.specs.Option.{option_or, option_map}
 use Rattle.std.specs.Ordering.{nat_cmp, match_ordering}
 use Rattle.std.specs.declared.cmp.Ordering.TheVariants.{Less, Equal, Greater}
@@ -10,7 +11,7 @@ use Rattle.std.specs.Map.{lookup}
 use Rattle.std.proofs.lemmas.Bool.{eqb-true, eq-eqb, ne_eqb, cases_eq, cases_lt, cases_Bool}
 use Rattle.std.proofs.lemmas.Bool.Decides.{nat_tests}
 use Rattle.volume_codec.specs.Descriptor.{RiseWithin}
-use Rattle.pager.specs.Blocks.{Blocks, homes_in, bytes_in, with_block, newest_in}
+use Rattle.pager.specs.Blocks.{Blocks, homes_in, bytes_in, with_block, newest_in, without, cut_in, cut_to}
 
 -- ---- the tree that keeps them
 
@@ -49,6 +50,27 @@ module _ {X : Type 0} (f : X → List ℕ) where
           | inr more ↦ rw (more, is) (seen_get es k)
         ])
   ]
+
+  -- to filter entries by their keys is to filter blocks
+  pub seen_without : (low high : ℕ) (es : List (ℕ × X))
+      → seen_as f (filter (λ e. nat_lt e.0 low || nat_le high e.0) es) ≡ without (seen_as f es) low high
+  seen_without low high [] = refl
+  seen_without low high (e ∷ es) = elim (cases_Bool (nat_lt e.0 low || nat_le high e.0)) [
+    | inl kept ↦ rw kept (ap (λ (l : Blocks). (e.0, f e.1) ∷ l) (seen_without low high es))
+    | inr gone ↦ rw gone (seen_without low high es)
+  ]
+
+  -- a closure that cuts the value of one key
+  pub seen_cut : {F : Type 0} (T : F → ℕ → X → Bool → X → F → Type 0) (home n : ℕ) (g : F)
+      → ((k : ℕ) (v : X) (b : Bool) (w : X) (g' : F) → T g k v b w g'
+      → (b ≡ true) × (f w ≡ (if eqb k home then cut_to n (f v) else f v)) × (g' ≡ g))
+      → (es kept : List (ℕ × X)) → RetainsPairs T g es kept → seen_as f kept ≡ cut_in (seen_as f es) home n
+  seen_cut T home n g each [] kept r = ap (seen_as f) r
+  seen_cut T home n g each (e ∷ es) kept r =
+      let a = each e.0 e.1 r.0 r.1 r.2 r.4 in
+      let rest = seen_cut T home n g each es r.3 (subst (λ u. RetainsPairs T u es r.3) a.2 r.5) in
+      ap (seen_as f) (r.6 ∙ ap (λ b. cond b ((e.0, r.1) ∷ r.3) r.3) a.0)
+      ∙ (λ i. (e.0, a.1 i) ∷ rest i)
 
 -- ---- what is found
 

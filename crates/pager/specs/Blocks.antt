@@ -1,6 +1,8 @@
 -- Blocks that are kept in memory: home blocks with their bytes, in rising order.
-use Rattle.std.specs.Prelude.{ℕ, ◌==◌, nat_lt, if◌then◌else◌, List, [], ◌∷◌, map, Option, Some, None}
+use Rattle.std.specs.Prelude.{ℕ, zero, suc, ◌+◌, ◌==◌, ◌||◌, nat_lt, nat_le, if◌then◌else◌, List, [], ◌∷◌, map}
+use Rattle.std.specs.Prelude.{Option, Some, None, filter, take}
 use Rattle.std.specs.Option.{option_or}
+use Rattle.volume_codec.specs.Text.{padded, zeros}
 
 -- the number of each home block, and its bytes
 abbrev pub Blocks : Type 0
@@ -26,3 +28,20 @@ with_block (block ∷ blocks) home bytes =
 abbrev pub newest_in : List Blocks → ℕ → Option (List ℕ)
 newest_in [] home = None
 newest_in (blocks ∷ newer) home = option_or (newest_in newer home) (bytes_in blocks home)
+
+-- a page's first n bytes, then zeros
+abbrev pub cut_to : ℕ → List ℕ → List ℕ
+cut_to n bytes = padded 4096 (take n bytes)
+
+-- with zeros in n home blocks from this one on
+abbrev pub with_zeros : Blocks → ℕ → ℕ → Blocks
+with_zeros blocks home zero = blocks
+with_zeros blocks home (suc n) = with_block (with_zeros blocks home n) (home + n) (zeros 4096)
+
+-- without the home blocks from low on that come before high
+abbrev pub without : Blocks → ℕ → ℕ → Blocks
+without blocks low high = filter (λ block. nat_lt block.0 low || nat_le high block.0) blocks
+
+-- with zeros after the first n bytes of a home block, if it is one of these
+abbrev pub cut_in : Blocks → ℕ → ℕ → Blocks
+cut_in blocks home n = map (λ block. (block.0, if block.0 == home then cut_to n block.1 else block.1)) blocks

@@ -13,10 +13,11 @@ use Rattle.journal.specs.declared.flushed.Flushed.TheVariants.{Committed, Device
 use Rattle.journal.specs.WriteOuts.{next_work, next_answer}
 use Rattle.recovery.specs.Reading.{IsOnlyRead}
 use Rattle.recovery.specs.Volume.{VolumeState, IsAtRest}
-use Rattle.history.specs.History.{Event, Store, Mark, Acknowledge}
+use Rattle.history.specs.History.{Event, Store, SetLength, Mark, Acknowledge}
 use Rattle.pager.specs.Blocks.{Blocks, homes_in}
-use Rattle.pager.specs.State.{PagerState, fresh}
+use Rattle.pager.specs.State.{PagerState, newly_opened, file_length}
 use Rattle.pager.specs.Calls.{put_refusal, commit_refusal, after_put, after_commit, after_step, next_bytes}
+use Rattle.pager.specs.Calls.{set_length_refusal, last_page, after_length}
 
 -- what a commit of these blocks adds to the history: of nothing it is durable at once
 abbrev pub marked_with : ℕ → Blocks → List Event
@@ -43,22 +44,39 @@ pub record IsStep {D : Type 0} (disk : Ghosts D) (s : PagerState D) (answer : Fl
   pub did : Did disk s.device (next_work s.write_outs (next_bytes s)) (has_done answer) after
 
 -- a commit of what was put: what `commit` ensures
-pub record IsCommit {D : Type 0} (s : PagerState D) : Type 0 where
+pub record IsBegunCommit {D : Type 0} (s : PagerState D) : Type 0 where
   pub allowed : commit_refusal s ≡ None
   pub may : s.staged ≢ [] → MayBegin s.write_outs (s.marks + 1) (homes_in s.staged)
 
+-- a file's length becomes another, over an honest device that this leaves so: what `set_length` ensures
+pub record IsResize {D : Type 0} (disk : Ghosts D) (s : PagerState D) (file to : ℕ) (after : D) : Type 0 where
+  pub allowed : set_length_refusal s file to ≡ None
+  pub other : to ≢ file_length s.lengths file
+  pub read : IsOnlyRead disk s.device after
+
+-- Calls led from this state of a pager to another one, and added these events to the history.
+pub data HasGone {D : Type 0} (disk : Ghosts D) (start : PagerState D) : List Event → PagerState D → Type 0 where
+  Stays : HasGone disk start [] start
+  ThenPut : (events : List Event) (s : PagerState D) (owner : FilePage) (bytes : List ℕ) → IsPut s owner bytes
+      → HasGone disk start events s
+      → HasGone disk start (events ++ Store owner.file (4096 * owner.page) bytes ∷ []) (after_put s owner bytes)
+  ThenCommitted : (events : List Event) (s : PagerState D) → IsBegunCommit s → HasGone disk start events s
+      → HasGone disk start (events ++ marked_with (s.marks + 1) s.staged) (after_commit s)
+  ThenStepped : (events : List Event) (s : PagerState D) (answer : Flushed) (after : D) → IsStep disk s answer after
+      → HasGone disk start events s
+      → HasGone disk start (events ++ acknowledged_by answer) (after_step s answer after)
+  ThenRead : (events : List Event) (s : PagerState D) (after : D) → IsOnlyRead disk s.device after
+      → HasGone disk start events s → HasGone disk start events (record s { device = after })
+  ThenResized : (events : List Event) (s : PagerState D) (file to : ℕ) (after : D) → IsResize disk s file to after
+      → HasGone disk start events s
+      → HasGone disk start (events ++ SetLength file (file_length s.lengths file) to ∷ [])
+      (after_length s file to (last_page s (disk.seen s.device) file) after)
+
 -- A pager to which calls have led, from a volume at rest on, which had these files; and the history of the calls.
-pub data HasCome {D : Type 0} (disk : Ghosts D) (files : List File) : List Event → PagerState D → Type 0 where
-  WasOpened : (volume : VolumeState D) (most : ℕ) → IsAtRest disk volume
-      → files ≡ files_in volume.table (block_at (disk.seen volume.device))
-      → HasCome disk files [] (fresh volume most)
-  HasPut : (history : List Event) (s : PagerState D) (owner : FilePage) (bytes : List ℕ) → IsPut s owner bytes
-      → HasCome disk files history s
-      → HasCome disk files (history ++ Store owner.file (4096 * owner.page) bytes ∷ []) (after_put s owner bytes)
-  HasCommitted : (history : List Event) (s : PagerState D) → IsCommit s → HasCome disk files history s
-      → HasCome disk files (history ++ marked_with (s.marks + 1) s.staged) (after_commit s)
-  HasStepped : (history : List Event) (s : PagerState D) (answer : Flushed) (after : D)
-      → IsStep disk s answer after → HasCome disk files history s
-      → HasCome disk files (history ++ acknowledged_by answer) (after_step s answer after)
-  HasRead : (history : List Event) (s : PagerState D) (after : D) → IsOnlyRead disk s.device after
-      → HasCome disk files history s → HasCome disk files history (record s { device = after })
+pub record HasCome {D : Type 0} (disk : Ghosts D) (files : List File) (history : List Event) (s : PagerState D)
+    : Type 0 where
+  pub volume : VolumeState D
+  pub most : ℕ
+  pub rest : IsAtRest disk volume
+  pub files_are : files ≡ files_in volume.table (block_at (disk.seen volume.device))
+  pub gone : HasGone disk (newly_opened volume most) history s

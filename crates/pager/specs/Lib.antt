@@ -2,4 +2,5 @@ pub mod Blocks
 pub mod State
 pub mod Calls
 pub mod Histories
+pub mod Runs
 pub mod inside

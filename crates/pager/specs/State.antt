@@ -24,8 +24,8 @@ pub record PagerState (D : Type 0) : Type 0 where
   pub device : D
 
 -- as it is over a volume that was just opened
-abbrev pub fresh : {D : Type 0} → VolumeState D → ℕ → PagerState D
-fresh volume most = record {
+abbrev pub newly_opened : {D : Type 0} → VolumeState D → ℕ → PagerState D
+newly_opened volume most = record {
   table = volume.table;
   lengths = volume.lengths;
   most = most;
@@ -41,12 +41,12 @@ abbrev pub volume_in : {D : Type 0} → PagerState D → VolumeState D
 volume_in s = record { table = s.table; lengths = s.lengths; device = s.device }
 
 -- the length of a file in bytes
-abbrev pub length_of : List ℕ → ℕ → ℕ
-length_of lengths file = slice_index_or lengths file 0
+abbrev pub file_length : List ℕ → ℕ → ℕ
+file_length lengths file = slice_index_or lengths file 0
 
 -- a page up to its file's end, then zeros, of files of these lengths
-abbrev pub cut_at_end : List ℕ → FilePage → List ℕ → List ℕ
-cut_at_end lengths owner bytes = padded 4096 (take (length_of lengths owner.file - 4096 * owner.page) bytes)
+abbrev pub up_to_end : List ℕ → FilePage → List ℕ → List ℕ
+up_to_end lengths owner bytes = padded 4096 (take (file_length lengths owner.file - 4096 * owner.page) bytes)
 
 -- the bytes of a home block that are kept in memory: the latest that were put, else those of the newest commit that has
 -- it and isn't done

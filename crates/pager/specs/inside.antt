@@ -1,3 +1,4 @@
 pub mod Sound
 pub mod Opening
 pub mod Contents
+pub mod Resizing

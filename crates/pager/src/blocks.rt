@@ -1,9 +1,11 @@
 // Blocks that are kept in memory.
-ghost use Rattle.std.specs.Prelude.{◌≡◌, ◌↔◌, ◌≤◌, ◌==◌, [], length, IsTrue, OnOk, OnErr};
+ghost use Rattle.std.specs.Prelude.{◌≡◌, ◌↔◌, ◌+◌, ◌-◌, ◌<◌, ◌≤◌, ◌==◌, ℕ, [], length, None, IsTrue, OnOk, OnErr};
 ghost use Rattle.std.specs.Option.{option_copied};
 ghost use Rattle.std.specs.Vec.{vec_capacity};
-ghost use Rattle.pager.specs.Blocks.{homes_in, bytes_in, with_block};
+ghost use Rattle.volume_codec.specs.Descriptor.{RiseWithin};
+ghost use Rattle.pager.specs.Blocks.{homes_in, bytes_in, with_block, with_zeros, without, cut_in};
 
+use crate::pages::cut_off;
 use std::alloc::{AllocError, Allocator};
 use std::collections::BTreeMap;
 use std::marker::Model;
@@ -61,8 +63,122 @@ impl<A: Allocator + Copy> Blocks<A> {
     pub(crate) fn put(&mut self, home: u32, bytes: Box<[u8; 4096], A>) -> Result<(), AllocError>
         ensures ok { OnOk result (self.new ≡ with_block self.old home bytes.value) }
         ensures err { OnErr result (self.new ≡ self.old) }
+        ensures absent { OnErr result (bytes_in self.old home ≡ None) }
     {
         self.tree.insert(home, bytes)?;
+        Ok(())
+    }
+
+    /// The home blocks from `low` on that come before `high` go.
+    pub(crate) fn remove(&mut self, low: u32, high: u32)
+        ensures { self.new ≡ without self.old low high }
+    {
+        self.tree.retain(|home, _| *home < low || high <= *home);
+    }
+
+    /// The bytes of a home block after the first `left` become zeros, if it is one of these.
+    pub(crate) fn cut(&mut self, home: u32, left: u64)
+        ensures { self.new ≡ cut_in self.old home left }
+    {
+        self.tree.retain(|key, bytes| {
+            if *key == home {
+                cut_off(bytes, left);
+            }
+            true
+        });
+    }
+
+    // Puts zeros in the home blocks from `low` on that come before `high`; after an `Err`, in some of them.
+    fn put_zeros(&mut self, alloc: A, low: u32, high: u32) -> Result<(), AllocError>
+        requires { low ≤ high }
+        ensures ok { OnOk result (self.new ≡ with_zeros self.old low (high - low)) }
+        ensures err { OnErr result (without self.new low high ≡ without self.old low high) }
+    {
+        for home in low..high {
+            let block = Box::new(alloc, [0; 4096])?;
+            self.put(home, block)?;
+        }
+        Ok(())
+    }
+
+    // Puts zeros in these home blocks, and a text in another one. An `Err` changes only these.
+    fn fill(
+        &mut self,
+        alloc: A,
+        low: u32,
+        high: u32,
+        first: u32,
+        text: &[u8; 4096],
+    ) -> Result<(), AllocError>
+        requires { low ≤ high }
+        ensures ok { OnOk result
+            (self.new ≡ with_block (with_zeros self.old low (high - low)) first text.now) }
+        ensures err { OnErr result (without self.new low high ≡ without self.old low high) }
+    {
+        self.put_zeros(alloc, low, high)?;
+        let block = Box::new(alloc, *text)?;
+        self.put(first, block)
+    }
+
+    /// Puts the last page of a file that grows, zeros in the home blocks after it that come before `high`, and the text
+    /// of the lengths in the first home block. An `Err` changes nothing.
+    pub(crate) fn grow(
+        &mut self,
+        alloc: A,
+        home: u32,
+        high: u32,
+        last: &[u8; 4096],
+        first: u32,
+        text: &[u8; 4096],
+    ) -> Result<(), AllocError>
+        requires order { (first < home) × (home < high) }
+        requires rising { (end : ℕ) × (high ≤ end) × RiseWithin first end (homes_in self.old) }
+        requires none { (q : ℕ) → home < q → q < high → bytes_in self.old q ≡ None }
+        ensures ok { OnOk result (self.new ≡ with_block
+            (with_block (with_zeros self.old (home + 1) (high - (home + 1))) home last.now) first text.now) }
+        ensures err { OnErr result (self.new ≡ self.old) }
+    {
+        let block = Box::new(alloc, *last)?;
+        let low = if self.get(home).is_some() {
+            home + 1
+        } else {
+            home
+        };
+        match self.fill(alloc, low, high, first, text) {
+            Ok(()) => {
+                // It has one already.
+                let _ = self.put(home, block);
+                Ok(())
+            }
+            Err(error) => {
+                self.remove(low, high);
+                Err(error)
+            }
+        }
+    }
+
+    /// Takes the home blocks from `low` on that come before `high` away, cuts the last page of a file that shrinks, and
+    /// puts the text of the lengths in the first home block. An `Err` changes nothing.
+    pub(crate) fn shrink(
+        &mut self,
+        alloc: A,
+        low: u32,
+        high: u32,
+        home: u32,
+        left: u64,
+        first: u32,
+        text: &[u8; 4096],
+    ) -> Result<(), AllocError>
+        requires order { (first < low) × (first < home) }
+        requires rising { (end : ℕ) × RiseWithin first end (homes_in self.old) }
+        ensures ok { OnOk result
+            (self.new ≡ with_block (cut_in (without self.old low high) home left) first text.now) }
+        ensures err { OnErr result (self.new ≡ self.old) }
+    {
+        let block = Box::new(alloc, *text)?;
+        self.put(first, block)?;
+        self.remove(low, high);
+        self.cut(home, left);
         Ok(())
     }
 

@@ -1,5 +1,5 @@
 // What follows of the calls.
-ghost use Rattle.std.specs.Prelude.{◌≡◌, ℕ, false, List, None};
+ghost use Rattle.std.specs.Prelude.{◌≡◌, ℕ, false, List, ◌++◌, None};
 ghost use Rattle.device.specs.Device.{LeavesOnly};
 ghost use Rattle.page_entry.specs.declared.numbers.FilePage.{FilePage};
 ghost use Rattle.volume_codec.specs.Files.{File};
@@ -7,9 +7,10 @@ ghost use Rattle.journal.specs.Pages.{home_of};
 ghost use Rattle.journal.specs.declared.flushed.Flushed.{Flushed};
 ghost use Rattle.history.specs.History.{Event, memory_of, after};
 ghost use Rattle.history.specs.Reading.{ReadsBack};
-ghost use Rattle.pager.specs.State.{PagerState, current_in, cut_at_end};
+ghost use Rattle.pager.specs.State.{PagerState, current_in, up_to_end};
 ghost use Rattle.pager.specs.Calls.{page_refusal};
-ghost use Rattle.pager.specs.Histories.{IsStep, HasCome};
+ghost use Rattle.pager.specs.Histories.{IsStep, HasCome, HasGone};
+ghost use Rattle.pager.specs.Runs.{ReadsBackAmong};
 
 use device::Device;
 
@@ -26,6 +27,25 @@ pub fn what_pagers_leave<D: Device>(device: &D)
         → LeavesOnly D.moment D.left_since s.device next (ReadsBack files history) }
     ensures reads { (files : List File) (history : List Event) (s : PagerState D) (owner : FilePage)
         → HasCome D.Device files history s → s.write_outs.broken ≡ false → page_refusal s.lengths owner ≡ None
-        → cut_at_end s.lengths owner (current_in s.staged s.records (D.seen s.device) (home_of s.table owner))
-        ≡ cut_at_end s.lengths owner (after (memory_of files) history owner.file owner.page) }
+        → up_to_end s.lengths owner (current_in s.staged s.records (D.seen s.device) (home_of s.table owner))
+        ≡ up_to_end s.lengths owner (after (memory_of files) history owner.file owner.page) }
+{}
+
+/// Runs lead from one state of a pager to another. One that follows the calls that led to its first state adds its
+/// events to their history (`come`), and two runs, one after the other, are one (`on`). A crash between a run's first
+/// state and its last one leaves what recovers to the files after a durable prefix of the history and of some of the
+/// run's events (`since`). The same holds up to any moment within the step that follows, also where a device call of it
+/// fails (`within`).
+pub fn what_runs_leave<D: Device>(device: &D)
+    ensures come { (files : List File) (history events : List Event) (s t : PagerState D)
+        → HasCome D.Device files history s → HasGone D.Device s events t
+        → HasCome D.Device files (history ++ events) t }
+    ensures on { (a b c : PagerState D) (events more : List Event)
+        → HasGone D.Device a events b → HasGone D.Device b more c → HasGone D.Device a (events ++ more) c }
+    ensures since { (files : List File) (history events : List Event) (s t : PagerState D)
+        → HasCome D.Device files history s → HasGone D.Device s events t
+        → LeavesOnly D.moment D.left_since s.device t.device (ReadsBackAmong files history events) }
+    ensures within { (files : List File) (history events : List Event) (s t : PagerState D) (answer : Flushed)
+        (next : D) → HasCome D.Device files history s → HasGone D.Device s events t → IsStep D.Device t answer next
+        → LeavesOnly D.moment D.left_since s.device next (ReadsBackAmong files history events) }
 {}

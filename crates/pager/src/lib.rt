@@ -6,6 +6,8 @@ mod laws;
 mod opening;
 mod pager;
 mod pages;
+mod tending;
 
-pub use laws::what_pagers_leave;
+pub use laws::{what_pagers_leave, what_runs_leave};
 pub use pager::Pager;
+pub use tending::Tender;

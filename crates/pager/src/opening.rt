@@ -3,7 +3,7 @@ ghost use Rattle.std.specs.Prelude.{◌≡◌, ◌⊎◌, min, IfOk, IfErr, Ok, 
 ghost use Rattle.volume_codec.specs.Layout.{max_frames};
 ghost use Rattle.recovery.specs.Opening.{Opens};
 ghost use Rattle.recovery.specs.Volume.{IsWellFormed};
-ghost use Rattle.pager.specs.State.{fresh, volume_in};
+ghost use Rattle.pager.specs.State.{newly_opened, volume_in};
 ghost use Rattle.pager.specs.Calls.{RefusesOpening};
 ghost use Rattle.pager.specs.inside.Opening.{IsRoom};
 
@@ -55,7 +55,7 @@ impl<D: Device, A: Allocator + Copy> Pager<D, A> {
     /// for the lists that it keeps. A refusal hands the device back.
     pub fn open(alloc: A, device: D, most: u32) -> Result<Self, (Refusal, D)>
         ensures opens { IfOk result (λ pager. Opens D.Device device (Ok pager.table) pager.device) }
-        ensures fresh { IfOk result (λ pager. pager ≡ fresh (volume_in pager)
+        ensures fresh { IfOk result (λ pager. pager ≡ newly_opened (volume_in pager)
             (min most (max_frames pager.table.layout pager.table.slots))) }
         ensures well_formed { IfOk result (λ pager. IsWellFormed D.Device (volume_in pager)) }
         ensures refused { IfErr result (λ e. RefusesOpening D.Device device e.0 e.1) }

@@ -1,27 +1,32 @@
 // The pager.
-ghost use Rattle.std.specs.Prelude.{min, ◌≡◌, ◌≢◌, ◌↔◌, ◌⊎◌, ℕ, List, ◌+◌, ◌-◌, ◌^◌, ◌*◌, ◌<◌, ◌≤◌, false, true, not, is_some, is_none, if◌then◌else◌, [], length, IsTrue, Some, None, IfOk, IfErr, IfSome, IfNone, OnSome, OnOk, OnErr, IsErr, MatchResult};
+ghost use Rattle.std.specs.Prelude.{min, ◌≡◌, ◌≢◌, ◌↔◌, ◌⊎◌, ℕ, List, ◌+◌, ◌-◌, ◌^◌, ◌*◌, ◌%◌, ◌==◌, ◌&&◌, ◌∷◌, ◌<◌, ◌≤◌, false, true, not, is_some, is_none, if◌then◌else◌, [], length, slice_index_or, IsTrue, Some, None, IfOk, IfErr, IfSome, IfNone, OnSome, OnOk, OnErr, IsErr, MatchResult};
 ghost use Rattle.std.specs.Option.{option_copied};
-ghost use Rattle.std.specs.List.{AllByRecursion};
+ghost use Rattle.std.specs.List.{AllByRecursion, sum_by};
 ghost use Rattle.std.specs.Vec.{vec_len, vec_capacity};
 ghost use Rattle.device.specs.Did.{Did};
-ghost use Rattle.volume_codec.specs.Layout.{first_home, max_frames, block_at};
-ghost use Rattle.volume_codec.specs.Super.{block_count};
+ghost use Rattle.volume_codec.specs.Layout.{first_home, max_frames, block_at, lengths_blocks};
+ghost use Rattle.volume_codec.specs.Super.{block_count, capacities_in};
 ghost use Rattle.journal.specs.Pages.{home_of};
 ghost use Rattle.journal.specs.Work.{has_done};
 ghost use Rattle.journal.specs.WriteOuts.{is_busy, next_work, next_answer, outs_home};
 ghost use Rattle.recovery.specs.Counts.{Rises, IsAccounted};
 ghost use Rattle.recovery.specs.Reading.{IsOnlyRead};
 ghost use Rattle.journal.specs.LedTo.{MayBegin};
-ghost use Rattle.pager.specs.Blocks.{homes_in, with_block, newest_in};
-ghost use Rattle.pager.specs.State.{fresh, kept_in, current_in, cut_at_end, length_of, is_full, record_for};
+ghost use Rattle.pager.specs.Blocks.{homes_in, with_block, newest_in, cut_to, bytes_in};
+ghost use Rattle.pager.specs.State.{newly_opened, kept_in, current_in, up_to_end, file_length, is_full, reserved, record_for};
 ghost use Rattle.pager.specs.Calls.{page_refusal, put_refusal, RefusesPut, after_put, commit_refusal, after_commit, read_calls, next_bytes, records_after, after_step};
+ghost use Rattle.pager.specs.Calls.{first_reason, reason_if, end_page, resized, is_overfull, new_length_refusal, set_length_refusal, reads_last, RefusesSetLength, length_calls, last_page, resized_to, after_length};
 ghost use Rattle.recovery.specs.Volume.{IsWellFormed};
-ghost use Rattle.pager.specs.inside.Sound.{IsSound};
+ghost use Rattle.pager.specs.inside.Sound.{IsSound, IsBeforeEnd};
 ghost use Rattle.pager.specs.inside.Opening.{IsRoom};
+ghost use Rattle.pager.specs.inside.Resizing.{MayHaveLength};
+ghost use Rattle.page_entry.specs.declared.refusal.Refusal.TheVariants.{NoFrame};
 
 use crate::blocks::Blocks;
 use crate::opening::{Room, most_pages};
-use crate::pages::{cut_off, home_block, length_at};
+use crate::pages::{
+    block_after, capacity_at, cut_off, home_block, last_block, length_at, text_with,
+};
 use device::Device;
 use journal::{Flushed, WriteOuts};
 use page_entry::{FileNumber, FilePage, PAGE, PageIndex, Refusal};
@@ -50,7 +55,7 @@ pub struct Pager<D: Device, A: Allocator + Copy> {
     homes: Vec<u32, A>,
     // How many commits began since the opening.
     marks: u32,
-    device: D,
+    pub(crate) device: D,
 }
 
 impl<D: Device, A: Allocator + Copy> Model for Pager<D, A> {
@@ -121,7 +126,7 @@ impl<D: Device, A: Allocator + Copy> Pager<D, A> {
     // A pager over a volume, in its room.
     pub(crate) fn over(alloc: A, volume: Volume<D, A>, room: Room<A>, most: u32) -> Self
         requires { IsRoom volume.table volume.lengths room }
-        ensures fresh { result ≡ fresh volume (min most (max_frames volume.table.layout volume.table.slots)) }
+        ensures fresh { result ≡ newly_opened volume (min most (max_frames volume.table.layout volume.table.slots)) }
         ensures well_formed { IsWellFormed D.Device volume }
     {
         let Room {
@@ -152,6 +157,7 @@ impl<D: Device, A: Allocator + Copy> Pager<D, A> {
         ensures home { IfOk result (λ home. home ≡ home_of self.now.table page) }
         ensures low { IfOk result (λ home. first_home self.now.table.layout self.now.table.slots ≤ home) }
         ensures within { IfOk result (λ home. home < block_count self.now.table) }
+        ensures before { IfOk result (IsBeforeEnd self.now.table self.now.lengths) }
         ensures file { OnOk result (page.file < length self.now.lengths) }
         ensures err { IfErr result (λ why. page_refusal self.now.lengths page ≡ Some why) }
     {
@@ -167,9 +173,33 @@ impl<D: Device, A: Allocator + Copy> Pager<D, A> {
     // How many bytes the file has from the page's begin on.
     fn left(&self, page: FilePage) -> u64
         requires { page.file < length self.now.lengths }
-        ensures { result ≡ length_of self.now.lengths page.file - 4096 * page.page }
+        ensures { result ≡ file_length self.now.lengths page.file - 4096 * page.page }
     {
         length_at(&self.lengths, page.file).saturating_sub(PAGE * u64::from(page.page))
+    }
+
+    // How many home blocks hold the lengths.
+    fn lengths_blocks(&self) -> usize
+        ensures value { result ≡ lengths_blocks self.now.table.layout }
+        ensures few { result ≤ 1 }
+    {
+        self.table.layout().lengths_blocks() as usize
+    }
+
+    // How many blocks of the next commit are reserved for the lengths.
+    fn reserved(&self) -> usize
+        ensures value { result ≡ reserved self.now.table self.now.staged }
+        ensures few { result ≤ 1 }
+    {
+        if self
+            .staged
+            .get(self.table.geometry().first_home())
+            .is_some()
+        {
+            0
+        } else {
+            self.lengths_blocks()
+        }
     }
 
     // Whether the next commit has no room for this home block.
@@ -179,20 +209,14 @@ impl<D: Device, A: Allocator + Copy> Pager<D, A> {
         if self.staged.get(home).is_some() {
             return false;
         }
-        let geometry = self.table.geometry();
-        let lengths = geometry.layout().lengths_blocks() as usize;
-        let reserved = if self.staged.get(geometry.first_home()).is_some() {
-            0
-        } else {
-            lengths
-        };
-        self.staged.len() + reserved >= self.most as usize + lengths
+        self.staged.len() + self.reserved() >= self.most as usize + self.lengths_blocks()
     }
 
     // The bytes of a home block are kept for the next commit.
     fn stage(&mut self, home: u32, bytes: [u8; 4096]) -> Result<(), Refusal>
         requires low { first_home self.old.table.layout self.old.table.slots ≤ home }
         requires within { home < block_count self.old.table }
+        requires before { IsBeforeEnd self.old.table self.old.lengths home }
         requires room { is_full self.old.table self.old.most self.old.staged home ≡ false }
         ensures ok { OnOk result (self.new ≡ record self.old { staged = with_block self.old.staged home bytes }) }
         ensures err { OnErr result (self.new ≡ self.old) }
@@ -353,6 +377,7 @@ impl<D: Device, A: Allocator + Copy> Pager<D, A> {
         ensures state { self.new ≡ record self.old { device = self.new.device } }
         ensures read { IsOnlyRead D.Device self.old.device self.new.device }
         ensures kept { IsAccounted D.Device self.old.device result self.new.device }
+        ensures carried { D.carried self.new.device ≡ D.carried self.old.device }
         ensures fault { IfErr result (λ refusal. refusal ≡ Refusal.Device) }
         ensures calls { Rises 1 (D.calls_made self.old.device) (D.calls_made self.new.device) }
     {
@@ -365,12 +390,13 @@ impl<D: Device, A: Allocator + Copy> Pager<D, A> {
     /// `NoFile` and `Einval` for a page that isn't there, `Device` where the call failed.
     pub fn read(&mut self, page: FilePage, buffer: &mut [u8; 4096]) -> Result<(), Refusal>
         ensures there { OnOk result (page_refusal self.old.lengths page ≡ None) }
-        ensures bytes { D.is_honest self.old.device → OnOk result (buffer.new ≡ cut_at_end self.old.lengths page
+        ensures bytes { D.is_honest self.old.device → OnOk result (buffer.new ≡ up_to_end self.old.lengths page
             (current_in self.old.staged self.old.records (D.seen self.old.device) (home_of self.old.table page))) }
         ensures refused { IfErr result (λ why. (page_refusal self.old.lengths page ≡ Some why)
             ⊎ ((why ≡ Refusal.Device) × (page_refusal self.old.lengths page ≡ None))) }
         ensures state { self.new ≡ record self.old { device = self.new.device } }
         ensures read { IsOnlyRead D.Device self.old.device self.new.device }
+        ensures carried { D.carried self.new.device ≡ D.carried self.old.device }
         ensures calls { Rises (read_calls self.old page)
             (D.calls_made self.old.device) (D.calls_made self.new.device) }
     {
@@ -381,6 +407,200 @@ impl<D: Device, A: Allocator + Copy> Pager<D, A> {
         }
         cut_off(buffer, left);
         Ok(())
+    }
+
+    // Whether a file may have this length.
+    fn admit_length(&self, file: FileNumber, to: u64) -> Result<(), Refusal>
+        ensures may { OnOk result (MayHaveLength self.now.table file to) }
+        ensures ok { OnOk result (set_length_refusal self.now file to
+            ≡ first_reason ((if to == file_length self.now.lengths file then None
+            else new_length_refusal self.now file to)
+            ∷ [])) }
+        ensures err { IfErr result (λ why. set_length_refusal self.now file to ≡ Some why) }
+        ensures refused { IfErr result (RefusesSetLength self.now file to) }
+    {
+        if self.lengths_blocks() == 0 {
+            return Err(Refusal::Einval);
+        }
+        if file as usize >= self.lengths.len() {
+            return Err(Refusal::NoFile);
+        }
+        if capacity_at(&self.table, file) < to {
+            return Err(Refusal::Einval);
+        }
+        Ok(())
+    }
+
+    // Whether the next commit has no room for the pages that a growth puts.
+    fn is_overfull(&self, file: FileNumber, from: u64, to: u64) -> bool
+        requires may { MayHaveLength self.now.table file to }
+        requires from { from ≡ file_length self.now.lengths file }
+        requires more { from < to }
+        ensures { result ≡ is_overfull self.now.table self.now.most
+            (resized self.now.table self.now.lengths file to [] self.now.staged) }
+    {
+        let home = last_block(&self.table, file, from);
+        let pages = (block_after(&self.table, file, to) - home) as usize;
+        let more = if self.staged.get(home).is_some() {
+            pages - 1
+        } else {
+            pages
+        };
+        self.staged.len() + more + self.reserved() > self.most as usize + self.lengths_blocks()
+    }
+
+    // The bytes of the page in which a file ends; zeros where it ends with a page.
+    fn read_last(&mut self, file: FileNumber, from: u64) -> Result<[u8; 4096], Refusal>
+        requires file { file < length self.old.table.files }
+        requires from { from ≡ file_length self.old.lengths file }
+        requires fits { from < slice_index_or (capacities_in self.old.table) file 0 }
+        ensures bytes { D.is_honest self.old.device → IfOk result (λ last.
+            cut_to (from % 4096) last ≡ cut_to (from % 4096) (last_page self.old (D.seen self.old.device) file)) }
+        ensures state { self.new ≡ record self.old { device = self.new.device } }
+        ensures read { IsOnlyRead D.Device self.old.device self.new.device }
+        ensures carried { D.carried self.new.device ≡ D.carried self.old.device }
+        ensures fault { IfErr result (λ why. (why ≡ Refusal.Device) × ((not (from % 4096 == 0)
+            && is_none (kept_in self.old.staged self.old.records (home_of self.old.table (end_page file from))))
+            ≡ true)) }
+        ensures calls { Rises (if not (from % 4096 == 0)
+            && is_none (kept_in self.old.staged self.old.records (home_of self.old.table (end_page file from)))
+            then 1 else 0) (D.calls_made self.old.device) (D.calls_made self.new.device) }
+    {
+        let mut last = [0; 4096];
+        if from % PAGE != 0 {
+            let home = last_block(&self.table, file, from);
+            if !self.copy_kept(home, &mut last) {
+                self.read_home(home, &mut last)?;
+            }
+        }
+        Ok(last)
+    }
+
+    // A file grows, where the page in which it ended has these bytes.
+    fn put_growth(
+        &mut self,
+        file: FileNumber,
+        from: u64,
+        to: u64,
+        last: &[u8; 4096],
+    ) -> Result<(), Refusal>
+        requires may { MayHaveLength self.old.table file to }
+        requires from { from ≡ file_length self.old.lengths file }
+        requires more { from < to }
+        requires room { is_overfull self.old.table self.old.most
+            (resized self.old.table self.old.lengths file to [] self.old.staged) ≡ false }
+        ensures ok { OnOk result (self.new ≡ resized_to self.old file to last.now self.old.device) }
+        ensures err { OnErr result (self.new ≡ self.old) }
+        ensures memory { IfErr result (λ why. why ≡ Refusal.OutOfMemory) }
+    {
+        let home = last_block(&self.table, file, from);
+        let high = block_after(&self.table, file, to);
+        let first = self.table.geometry().first_home();
+        let text = text_with(&mut self.lengths, file, to);
+        let mut block = *last;
+        cut_off(&mut block, from % PAGE);
+        match self
+            .staged
+            .grow(self.alloc, home, high, &block, first, &text)
+        {
+            Ok(()) => {
+                self.lengths[file as usize] = to;
+                Ok(())
+            }
+            Err(_) => Err(Refusal::OutOfMemory),
+        }
+    }
+
+    // A file grows.
+    fn grow(&mut self, file: FileNumber, from: u64, to: u64) -> Result<(), Refusal>
+        requires may { MayHaveLength self.old.table file to }
+        requires from { from ≡ file_length self.old.lengths file }
+        requires more { from < to }
+        requires reason { set_length_refusal self.old file to ≡ first_reason (reason_if (is_overfull self.old.table
+            self.old.most (resized self.old.table self.old.lengths file to [] self.old.staged)) NoFrame ∷ []) }
+        ensures ok { OnOk result (set_length_refusal self.old file to ≡ None) }
+        ensures set { D.is_honest self.old.device → OnOk result (self.new ≡ resized_to self.old file to
+            (last_page self.old (D.seen self.old.device) file) self.new.device) }
+        ensures some { OnOk result ((last : List ℕ) × (self.new ≡ resized_to self.old file to last self.new.device)) }
+        ensures refused { IfErr result (RefusesSetLength self.old file to) }
+        ensures unchanged { OnErr result (self.new ≡ record self.old { device = self.new.device }) }
+        ensures read { IsOnlyRead D.Device self.old.device self.new.device }
+        ensures carried { D.carried self.new.device ≡ D.carried self.old.device }
+        ensures calls { Rises (length_calls self.old file to)
+            (D.calls_made self.old.device) (D.calls_made self.new.device) }
+    {
+        if self.is_overfull(file, from, to) {
+            return Err(Refusal::NoFrame);
+        }
+        let last = self.read_last(file, from)?;
+        self.put_growth(file, from, to, &last)
+    }
+
+    // A file shrinks.
+    fn shrink(&mut self, file: FileNumber, from: u64, to: u64) -> Result<(), Refusal>
+        requires may { MayHaveLength self.old.table file to }
+        requires from { from ≡ file_length self.old.lengths file }
+        requires less { to < from }
+        ensures room { is_overfull self.old.table self.old.most
+            (resized self.old.table self.old.lengths file to [] self.old.staged) ≡ false }
+        ensures ok { (last : List ℕ) → OnOk result (self.new ≡ resized_to self.old file to last self.old.device) }
+        ensures device { self.new.device ≡ self.old.device }
+        ensures err { OnErr result (self.new ≡ self.old) }
+        ensures memory { IfErr result (λ why. why ≡ Refusal.OutOfMemory) }
+    {
+        let low = block_after(&self.table, file, to);
+        let high = block_after(&self.table, file, from);
+        let home = last_block(&self.table, file, to);
+        let first = self.table.geometry().first_home();
+        let text = text_with(&mut self.lengths, file, to);
+        match self
+            .staged
+            .shrink(self.alloc, low, high, home, to % PAGE, first, &text)
+        {
+            Ok(()) => {
+                self.lengths[file as usize] = to;
+                Ok(())
+            }
+            Err(_) => Err(Refusal::OutOfMemory),
+        }
+    }
+
+    /// Sets the length of a file in bytes, from 0 to its capacity (POSIX.1-2024, `ftruncate`). The next commit takes
+    /// the change. A file that grows has zeros from its old end on: each page that it gets, and the one in which it
+    /// ended, is put, and counts among the pages of the next commit. When a file shrinks, its pages past the new end
+    /// are no longer put. The page in which it ends then has zeros from there on, if it is put. To grow from inside a
+    /// page that isn't kept in memory takes one device call. Nothing else takes one. If the file has this length
+    /// already, nothing changes.
+    ///
+    /// `Einval` where the volume's layout has no block for lengths (1 and 2), `NoFile`, `Einval` past the file's
+    /// capacity, `Broken` after a device call of a commit failed, `NoFrame` where the next commit doesn't take so many
+    /// pages, `Device` where the device call failed, `OutOfMemory`. A refusal changes nothing.
+    pub fn set_length(&mut self, file: FileNumber, length: u64) -> Result<(), Refusal>
+        ensures ok { OnOk result (set_length_refusal self.old file length ≡ None) }
+        ensures set { D.is_honest self.old.device → OnOk result (self.new ≡ after_length self.old file length
+            (last_page self.old (D.seen self.old.device) file) self.new.device) }
+        ensures some { OnOk result
+            ((last : List ℕ) × (self.new ≡ after_length self.old file length last self.new.device)) }
+        ensures refused { IfErr result (RefusesSetLength self.old file length) }
+        ensures unchanged { OnErr result (self.new ≡ record self.old { device = self.new.device }) }
+        ensures read { IsOnlyRead D.Device self.old.device self.new.device }
+        ensures carried { D.carried self.new.device ≡ D.carried self.old.device }
+        ensures calls { Rises (length_calls self.old file length)
+            (D.calls_made self.old.device) (D.calls_made self.new.device) }
+    {
+        self.admit_length(file, length)?;
+        let from = length_at(&self.lengths, file);
+        if length == from {
+            return Ok(());
+        }
+        if self.write_outs.is_broken() {
+            return Err(Refusal::Broken);
+        }
+        if length < from {
+            self.shrink(file, from, length)
+        } else {
+            self.grow(file, from, length)
+        }
     }
 
     /// The table of the files.
@@ -402,6 +622,15 @@ impl<D: Device, A: Allocator + Copy> Pager<D, A> {
         ensures { result ≡ length self.now.staged }
     {
         self.staged.len()
+    }
+
+    /// The number of pages of files that the next commit takes: the blocks that were put, but for that of the lengths.
+    pub fn staged_pages(&self) -> usize
+        ensures { result ≡ length self.now.staged
+            - (lengths_blocks self.now.table.layout - reserved self.now.table self.now.staged) }
+    {
+        let lengths = self.lengths_blocks().saturating_sub(self.reserved());
+        self.staged.len().saturating_sub(lengths)
     }
 
     /// Whether each commit is done.
@@ -435,4 +664,61 @@ impl<D: Device, A: Allocator + Copy> Pager<D, A> {
         drop(homes);
         device
     }
+
+    /// The most pages of files that a commit takes.
+    pub fn most(&self) -> u32
+        ensures { result ≡ self.now.most }
+    {
+        self.most
+    }
+
+    /// How many commits began since the opening.
+    pub fn marks(&self) -> u32
+        ensures { result ≡ self.now.marks }
+    {
+        self.marks
+    }
+
+    /// Whether a device call of a commit failed. Then no page is put and no commit begins any more.
+    pub fn is_broken(&self) -> bool
+        ensures { result ≡ self.now.write_outs.broken }
+    {
+        self.write_outs.is_broken()
+    }
+
+    /// Whether the last commit isn't acknowledged, or no journal is free. Then no further commit begins.
+    pub fn is_busy(&self) -> bool
+        ensures { result ≡ is_busy self.now.write_outs }
+    {
+        self.write_outs.is_busy()
+    }
+
+    /// Whether a page that is there was put since the last commit began.
+    pub fn is_staged(&self, page: FilePage) -> bool
+        ensures { result ≡ (is_none (page_refusal self.now.lengths page)
+            && is_some (bytes_in self.now.staged (home_of self.now.table page))) }
+    {
+        match self.admit_page(page) {
+            Ok(home) => self.staged.get(home).is_some(),
+            Err(_) => false,
+        }
+    }
+
+    /// The number of blocks in the commits that aren't done, or 2^64 - 1 if there are more.
+    pub fn unwritten(&self) -> usize
+        ensures { result ≡ min (2 ^ 64 - 1) (sum_by (λ blocks. length blocks) self.now.records) }
+    {
+        count_blocks(&self.records)
+    }
+}
+
+// The number of blocks in these lists, or 2^64 - 1 if there are more.
+fn count_blocks<A: Allocator + Copy>(records: &[Blocks<A>]) -> usize
+    ensures { result ≡ min (2 ^ 64 - 1) (sum_by (λ blocks. length blocks) records.now) }
+{
+    let mut count: usize = 0;
+    for blocks in records {
+        count = count.saturating_add(blocks.len());
+    }
+    count
 }

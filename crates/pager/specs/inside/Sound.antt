@@ -1,21 +1,33 @@
 -- What holds of every pager.
-use Rattle.std.specs.Prelude.{ℕ, ◌≡◌, ◌+◌, ◌*◌, ◌≤◌, List, length, map}
+use Rattle.std.specs.Prelude.{ℕ, ◌≡◌, ◌+◌, ◌*◌, ◌<◌, ◌≤◌, List, length, map, None}
 use Rattle.std.specs.List.{AllByRecursion}
 use Rattle.volume_codec.specs.Layout.{first_home, journals_of, lengths_blocks, max_frames}
-use Rattle.volume_codec.specs.Super.{Fits, block_count, geometry_of}
+use Rattle.volume_codec.specs.Super.{SuperValue, Fits, block_count, geometry_of, first_home_of, pages_of}
 use Rattle.volume_codec.specs.Lengths.{AreLengths}
 use Rattle.volume_codec.specs.Descriptor.{RiseWithin}
-use Rattle.pager.specs.Blocks.{homes_in}
-use Rattle.pager.specs.State.{PagerState, reserved}
+use Rattle.pager.specs.Blocks.{Blocks, homes_in, bytes_in}
+use Rattle.pager.specs.State.{PagerState, file_length, reserved}
 
--- The device is long enough for the volume, each file has a length, what was put fits a commit, each write-out has its
--- blocks, and no mark is above the number of marks.
+-- the home block is of no page past its file's end, of files of these lengths
+abbrev pub IsBeforeEnd : SuperValue → List ℕ → ℕ → Type 0
+IsBeforeEnd table lengths home = (file : ℕ)
+    → first_home_of table file + pages_of (file_length lengths file) ≤ home → home < first_home_of table (file + 1) → ⊥
+
+-- no page past its file's end is put
+abbrev pub EndsWithin : SuperValue → List ℕ → Blocks → Type 0
+EndsWithin table lengths staged = (file home : ℕ)
+    → first_home_of table file + pages_of (file_length lengths file) ≤ home → home < first_home_of table (file + 1)
+    → bytes_in staged home ≡ None
+
+-- The device is long enough for the volume, each file has a length, what was put lies before its file's end and fits a
+-- commit, each write-out has its blocks, and no mark is above the number of marks.
 pub record IsSound {D : Type 0} (seen : D → List ℕ) (s : PagerState D) : Type 0 where
   pub fits : Fits s.table
   pub long : 4096 * block_count s.table ≤ length (seen s.device)
   pub lengths : AreLengths s.table s.lengths
   pub geometry : s.write_outs.geometry ≡ geometry_of s.table
   pub rising : RiseWithin (first_home s.table.layout s.table.slots) (block_count s.table) (homes_in s.staged)
+  pub ends : EndsWithin s.table s.lengths s.staged
   pub few : length s.staged + reserved s.table s.staged ≤ s.most + lengths_blocks s.table.layout
   pub most : s.most ≤ max_frames s.table.layout s.table.slots
   pub tied : map (λ w. w.batch.homes) s.write_outs.batches ≡ map homes_in s.records

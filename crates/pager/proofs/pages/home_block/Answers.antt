@@ -1,6 +1,8 @@
 use Rattle.std.proofs.Common.{◌+◌, ◌<◌, arith}
 use Rattle.volume_codec.specs.Super.{block_count}
-use Rattle.pager.proofs.Capacities.{home_within}
+use Rattle.pager.proofs.Capacities.{home_within, before_end}
+use Rattle.pager.specs.inside.Sound.{IsBeforeEnd}
+use Rattle.std.proofs.Common.{subst, sym}
 use Rattle.pager.proofs.pages.home_block.Goals.{After-first_home}
 use Rattle.pager.proofs.pages.home_block.Goals as goal
 
@@ -23,3 +25,10 @@ overflow_add-result g c =
 
 pub returns-clause-within : goal.returns-clause-within
 returns-clause-within g c = within g (goal.at.returns-clause-within g c).After-first_home
+
+pub returns-clause-before : goal.returns-clause-before
+returns-clause-before g c =
+    let a = (goal.at.returns-clause-before g c).After-first_home in
+    subst (λ n. IsBeforeEnd a.args.table.now a.args.lengths.now (n + a.args.page.page)) (sym a.first_home.ensures)
+    (before_end a.args.table.now a.args.lengths.now a.requires.lengths a.args.page.file a.args.page.page a.requires.file
+    a.requires.page)

@@ -18,6 +18,7 @@ stepped seen s answer device sound same = record {
   lengths = sound.lengths;
   geometry = sound.geometry;
   rising = sound.rising;
+  ends = sound.ends;
   few = sound.few;
   most = sound.most;
   tied = tied_after (shares_syncs s.write_outs.geometry.layout) answer s.write_outs.batches s.records sound.tied;

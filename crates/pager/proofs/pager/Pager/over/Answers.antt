@@ -4,19 +4,20 @@ use Rattle.volume_codec.specs.Layout.{max_frames}
 use Rattle.volume_codec.specs.Super.{SuperValue, Fits, block_count}
 use Rattle.volume_codec.specs.Lengths.{AreLengths}
 use Rattle.recovery.specs.Volume.{VolumeState}
-use Rattle.pager.specs.State.{PagerState, fresh}
+use Rattle.pager.specs.State.{PagerState, newly_opened}
 use Rattle.pager.specs.inside.Sound.{IsSound, IsPager}
 use Rattle.pager.proofs.pager.Pager.over.Goals as goal
 
 fresh_sound : {D : Type 0} (seen : D → List ℕ) (v : VolumeState D) (most : ℕ) → Fits v.table
     → 4096 * block_count v.table ≤ length (seen v.device) → AreLengths v.table v.lengths
-    → most ≤ max_frames v.table.layout v.table.slots → IsSound seen (fresh v most)
+    → most ≤ max_frames v.table.layout v.table.slots → IsSound seen (newly_opened v most)
 fresh_sound seen v most fits long lengths few = record {
   fits = fits;
   long = long;
   lengths = lengths;
   geometry = refl;
   rising = tt;
+  ends = λ file home past next. refl;
   few = omega arith;
   most = few;
   tied = refl;
@@ -34,7 +35,7 @@ invariant_of-result g c =
     let few : most ≤ max_frames v.table.layout v.table.slots =
     subst (λ (t : SuperValue). most ≤ max_frames t.layout t.slots) table
     (omega (arith, c.most_pages-most.ensures)) in
-    let s : PagerState g.row.D.Denot = fresh v most in
+    let s : PagerState g.row.D.Denot = newly_opened v most in
     let p : IsPager g.D.Device.seen s (vec_capacity c.args.room.records) (vec_capacity c.args.room.homes) = record {
       sound = fresh_sound g.D.Device.seen v most well.fits well.long well.lengths few;
       lists = c.requires.list_room;
