@@ -5,7 +5,7 @@
  *
  * Plain memory is read-only until a page is stored to; where stores come to one page after the other, more are opened
  * at a time, and compared with their copies. A page is copied three times: from memory, to what is kept of the file,
- * and to its record. Pages that are stored by a call are copied twice.
+ * and to its record. Pages that are written by a call are copied twice.
  */
 #include "peers.h"
 
@@ -36,7 +36,7 @@ struct volume {
     int count;
 };
 
-static struct volume plain = {.path = "hand.vol"}, called = {.path = "hand_store.vol"};
+static struct volume plain = {.path = "hand.vol"}, called = {.path = "hand_write.vol"};
 /* The descriptor of a commit, and its records. */
 static unsigned char journal[(1 + SLOTS) * PAGE];
 
@@ -225,6 +225,6 @@ static void end_called(void)
 
 const struct way ways_by_hand[] = {
     {"hand", "hand.vol", begin_plain, commit_plain, finish_plain, end_plain},
-    {"hand-store", "hand_store.vol", begin_called, commit_called, finish_called, end_called},
+    {"hand-write", "hand_write.vol", begin_called, commit_called, finish_called, end_called},
     {0},
 };

@@ -3,7 +3,7 @@
  *
  *   famsync        a word in each page of plain memory
  *   foreground     the same without a thread of the library's own: each commit writes home the pages of the one before
- *   store          each page by a call of famsync_store
+ *   write          each page by a call of famsync_write
  *   msync          a shared mapping of a plain file, and msync(2): not atomic
  *   sqlite-wal, sqlite-delete     rows of a page each, updated in one transaction, synchronous=FULL
  *   lmdb           values of a page each, put in one transaction
@@ -29,11 +29,10 @@ struct session {
     const char *path;
     famsync *handle;
     famsync_memory *memory;
-    uint64_t address;
 };
 
 static struct session plain = {.path = "famsync.vol"}, alone = {.path = "foreground.vol"},
-                      called = {.path = "store.vol"};
+                      called = {.path = "write.vol"};
 
 static void begin(struct session *session)
 {
@@ -103,9 +102,7 @@ static void end_alone(void)
 
 static void begin_called(void)
 {
-    int rights = FAMSYNC_READ | FAMSYNC_WRITE;
     begin(&called);
-    must(famsync_map(called.handle, "a", 0, 0, rights, &called.address) == FAMSYNC_OK, "famsync_map");
 }
 
 static void commit_called(int number)
@@ -113,8 +110,8 @@ static void commit_called(int number)
     static unsigned char page[PAGE];
     memcpy(page, &number, sizeof number);
     for (int i = 0; i < pages.count; i++) {
-        uint64_t at = called.address + (uint64_t)i * (unsigned)pages.apart * PAGE;
-        must(famsync_store(called.handle, at, page, PAGE, NULL) == FAMSYNC_OK, "famsync_store");
+        uint64_t at = (uint64_t)i * (unsigned)pages.apart * PAGE;
+        must(famsync_write(called.handle, 0, at, page, PAGE, NULL) == FAMSYNC_OK, "famsync_write");
     }
     must(famsync_msync(called.handle, NULL) == FAMSYNC_OK, "famsync_msync");
 }
@@ -264,7 +261,7 @@ static void end_lmdb(void)
 const struct way ways[] = {
     {"famsync", "famsync.vol", begin_plain, commit_plain, finish_plain, end_plain},
     {"foreground", "foreground.vol", begin_alone, commit_alone, NULL, end_alone},
-    {"store", "store.vol", begin_called, commit_called, finish_called, end_called},
+    {"write", "write.vol", begin_called, commit_called, finish_called, end_called},
     {"msync", NULL, begin_msync, commit_msync, NULL, end_msync},
 #ifdef HAVE_SQLITE
     {"sqlite-wal", NULL, begin_wal, commit_wal, NULL, end_wal},

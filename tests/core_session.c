@@ -7,11 +7,15 @@
  *   forget    after each request the core forgets each block that it can, so that it wants it again
  *   dies:N    the process ends with status 9 in the place of its Nth call
  *
- * The lines are those for which the core has a call: the shape, where 0 frames are as many as there can be; `map` into
- * space 1, `loads`, `stores`, `commit`, `setlength`, and `flush` or a list of it. The core's open makes space 1 and
- * enters it. Replies are those of `serve`, but where the core says less: `set` of a length, `made` and `nothing` of
- * steps of write-outs. One line more is taken, `calls`, and answered with the number of calls that were made. A volume
- * that isn't opened is answered `refused CAUSE`.
+ * The core has pages of files, and `serve` addresses: this program keeps where each file is mapped. A page that it
+ * stores a part of is read before. The lines are those for which the core has calls: the shape, of which `frames` are
+ * the most pages of a commit; `map` into space 1, of a file from its begin; `loads`; `stores`, of no byte behind the
+ * file's end in its last page; `commit`; `setlength`; and `flush` or a list of it. Replies are those of `serve`, but
+ * where the core says less: `set` of a length, `written` of steps of write-outs.
+ *
+ * Three lines more are taken: `calls` is answered with the number of calls that were made, `frames` with the most pages
+ * of a commit, and `staged` with the number of pages that the next commit has. A volume that isn't opened is answered
+ * `refused CAUSE`.
  */
 #define _DEFAULT_SOURCE
 #include "famsync_core.h"
@@ -29,6 +33,9 @@
 /* The most bytes of a range, and the most characters of a line. */
 #define RANGE 65536
 #define LINE (2 * RANGE + 256)
+/* The first address that there isn't. */
+#define LAST (UINT64_C(1) << 47)
+#define MOST_FILES 64
 
 enum { DIED = 9 };
 
@@ -37,6 +44,8 @@ static int file;
 static uint32_t blocks;
 static bool forgets;
 static long calls, dies;
+/* Where each file is mapped, and how many bytes from there on. */
+static uint64_t address_of[MOST_FILES], mapped[MOST_FILES];
 
 static void want(bool holds, const char *what)
 {
@@ -53,30 +62,10 @@ static const char *word_of(int64_t code)
         int64_t code;
         const char *word;
     } WORDS[] = {
-        {FAMSYNC_CORE_ARGUMENT, "argument"},
-        {FAMSYNC_CORE_NOMEMORY, "nomemory"},
-        {FAMSYNC_CORE_ORDER, "order"},
-        {FAMSYNC_CORE_NOTAVOLUME, "notavolume"},
-        {FAMSYNC_CORE_DAMAGED, "damaged"},
-        {FAMSYNC_CORE_BADSHAPE, "badshape"},
-        {FAMSYNC_CORE_STALLED, "stalled"},
-        {FAMSYNC_CORE_LOCKED, "locked"},
-        {FAMSYNC_CORE_SEGVMAPERR, "segvmaperr"},
-        {FAMSYNC_CORE_SEGVACCERR, "segvaccerr"},
-        {FAMSYNC_CORE_BUSADRERR, "busadrerr"},
-        {FAMSYNC_CORE_HELD, "held"},
-        {FAMSYNC_CORE_NOFRAME, "noframe"},
-        {FAMSYNC_CORE_DEVICE, "device"},
-        {FAMSYNC_CORE_BROKEN, "broken"},
-        {FAMSYNC_CORE_EINVAL, "einval"},
-        {FAMSYNC_CORE_ENOMEM, "enomem"},
-        {FAMSYNC_CORE_EACCES, "eacces"},
-        {FAMSYNC_CORE_OVERLAP, "overlap"},
-        {FAMSYNC_CORE_NOFILE, "nofile"},
-        {FAMSYNC_CORE_BUSY, "busy"},
-        {FAMSYNC_CORE_OUTOFMEMORY, "outofmemory"},
-        {FAMSYNC_CORE_NOTRESIDENT, "notresident"},
-        {FAMSYNC_CORE_OTHER, "other"},
+        {FAMSYNC_CORE_ARGUMENT, "argument"},     {FAMSYNC_CORE_NOMEMORY, "nomemory"}, {FAMSYNC_CORE_ORDER, "order"},
+        {FAMSYNC_CORE_NOTAVOLUME, "notavolume"}, {FAMSYNC_CORE_DAMAGED, "damaged"},   {FAMSYNC_CORE_NOFRAME, "noframe"},
+        {FAMSYNC_CORE_DEVICE, "device"},         {FAMSYNC_CORE_BROKEN, "broken"},     {FAMSYNC_CORE_EINVAL, "einval"},
+        {FAMSYNC_CORE_NOFILE, "nofile"},         {FAMSYNC_CORE_BUSY, "busy"},         {FAMSYNC_CORE_OTHER, "other"},
     };
     for (size_t i = 0; i < sizeof WORDS / sizeof WORDS[0]; i++)
         if (WORDS[i].code == code)
@@ -118,30 +107,26 @@ static void forget_blocks(void)
         want(famsync_core_forget(core, block, &core.at) >= 0, "a block isn't judged");
 }
 
-/* Supplies the blocks before the files, and opens the volume: an opening that wants a block begins again, and records
-   its writes again. */
-static int64_t open_volume(uint32_t frames, uint32_t copies)
+/* Opens the volume. An opening that wants a block begins again, and records its calls again; so all blocks are supplied
+   before. Those of files are forgotten then, so that they are wanted where they are read. */
+static int64_t open_volume(uint32_t pages)
 {
     uint32_t wanted;
-    int64_t head, code;
-    supply(0);
-    head = famsync_core_head(core, &core.at);
-    if (head < 0)
-        return head;
-    for (uint32_t block = 1; block < head && block < blocks; block++)
-        if (famsync_core_is_known(core, block, &core.at) == 0)
-            supply(block);
-    while ((code = famsync_core_open(core, frames, copies, &wanted, &core.at)) == FAMSYNC_CORE_WANTED)
-        supply(wanted);
+    int64_t code;
+    for (uint32_t block = 0; block < blocks; block++)
+        supply(block);
+    code = famsync_core_open(core, pages, &wanted, &core.at);
+    want(code != FAMSYNC_CORE_WANTED, "a block that is known is wanted");
     make_calls();
+    for (int64_t block = famsync_core_head(core, &core.at); block >= 0 && block < blocks; block++)
+        want(famsync_core_forget(core, (uint32_t)block, &core.at) >= 0, "a block isn't judged");
     return code;
 }
 
 /* Prints the files, as `serve` does at the start. */
-static void greet(uint32_t frames)
+static void greet(void)
 {
     int64_t files = famsync_core_files(core, &core.at);
-    want(frames == 0 || famsync_core_frames(core, &core.at) == frames, "it has other frames than were asked for");
     printf("ready %" PRId64 "\n", files);
     for (uint32_t i = 0; i < files; i++) {
         uint8_t name[32];
@@ -155,19 +140,18 @@ static void greet(uint32_t frames)
 static void begin(const char *path)
 {
     char line[LINE];
-    uint32_t frames = 0, copies = 0;
+    uint32_t frames = 0;
     struct stat found;
     file = open(path, O_RDWR | O_CLOEXEC);
     want(file >= 0 && fstat(file, &found) == 0 && found.st_size % PAGE == 0, "the volume isn't there");
     blocks = (uint32_t)(found.st_size / PAGE);
     want(fgets(line, sizeof line, stdin) &&
-             sscanf(line, "{\"cpus\":1,\"tlb\":64,\"frames\":%" SCNu32 ",\"copies\":%" SCNu32 "}", &frames, &copies) ==
-                 2,
+             sscanf(line, "{\"cpus\":1,\"tlb\":64,\"frames\":%" SCNu32 ",\"copies\":0}", &frames) == 1,
          "the first line isn't a shape");
     want(famsync_core_begin(blocks, &core.at) == FAMSYNC_CORE_OK, "it doesn't begin");
-    int64_t code = open_volume(frames, copies);
+    int64_t code = open_volume(frames);
     if (code == FAMSYNC_CORE_OK) {
-        greet(frames);
+        greet();
         return;
     }
     printf("refused %s\n", word_of(code));
@@ -186,25 +170,83 @@ static void print_hexadecimal(const uint8_t *bytes, uint64_t count)
     }
 }
 
-/* A block that a range wants is supplied, and the rest asked for. */
+/* The bytes of a range that lie in one page of a file; or why there are none. */
+struct part {
+    uint32_t number;
+    uint64_t page;
+    size_t begin, count;
+    const char *refused;
+};
+
+static struct part part_at(uint64_t address, uint64_t count)
+{
+    struct part part = {.refused = "segvmaperr"};
+    uint64_t at;
+    if (address >= LAST)
+        part.refused = "einval";
+    for (uint32_t number = 0; number < MOST_FILES; number++) {
+        if (address < address_of[number] || address - address_of[number] >= mapped[number])
+            continue;
+        at = address - address_of[number];
+        part = (struct part){.number = number, .page = at / PAGE, .begin = at % PAGE};
+        part.count = count < PAGE - part.begin ? count : PAGE - part.begin;
+    }
+    return part;
+}
+
+/* A page that begins at the file's end or behind it. */
+static const char *word_of_page(int32_t code)
+{
+    return code == FAMSYNC_CORE_OK ? NULL : code == FAMSYNC_CORE_EINVAL ? "busadrerr" : word_of(code);
+}
+
+/* A block that a page wants is supplied. */
+static const char *read_page(struct part part, uint8_t page[PAGE])
+{
+    uint32_t wanted;
+    int32_t code;
+    while ((code = famsync_core_read(core, part.number, part.page, page, PAGE, &wanted, &core.at)) ==
+           FAMSYNC_CORE_WANTED)
+        supply(wanted);
+    return word_of_page(code);
+}
+
+/* Whether the page is wanted doesn't matter where all of it is written. */
+static const char *write_part(struct part part, const uint8_t *bytes)
+{
+    uint8_t page[PAGE];
+    const char *refused = part.count == PAGE ? NULL : read_page(part, page);
+    if (refused)
+        return refused;
+    memcpy(page + part.begin, bytes, part.count);
+    return word_of_page(famsync_core_write(core, part.number, part.page, page, PAGE, &core.at));
+}
+
+static const char *read_part(struct part part, uint8_t *bytes)
+{
+    uint8_t page[PAGE];
+    const char *refused = read_page(part, page);
+    if (!refused)
+        memcpy(bytes, page + part.begin, part.count);
+    return refused;
+}
+
 static void load(uint64_t address, uint64_t count)
 {
     static uint8_t bytes[RANGE];
-    uint64_t done = 0, some;
-    int32_t code = FAMSYNC_CORE_WANTED;
+    uint64_t done = 0;
+    const char *refused = NULL;
     want(count <= RANGE, "the range is too long");
-    while (code == FAMSYNC_CORE_WANTED) {
-        uint32_t wanted;
-        code = famsync_core_load(core, address + done, bytes + done, count - done, &some, &wanted, &core.at);
-        done += some;
-        if (code == FAMSYNC_CORE_WANTED)
-            supply(wanted);
+    while (done < count && !refused) {
+        struct part part = part_at(address + done, count - done);
+        refused = part.refused ? part.refused : read_part(part, bytes + done);
+        done += refused ? 0 : part.count;
     }
-    make_calls();
-    if (code == FAMSYNC_CORE_OK)
-        printf("loaded");
+    want(famsync_core_waiting(core, &core.at) == 0, "a read records a call");
+    if (refused)
+        printf("%s after %" PRIu64, refused, done);
     else
-        printf("%s after %" PRIu64, word_of(code), done);
+        printf("loaded");
     print_hexadecimal(bytes, done);
     putchar('\n');
 }
@@ -226,23 +268,32 @@ static uint64_t bytes_of(const char *text, uint8_t *bytes)
     return count;
 }
 
+/* Of the last page `serve` keeps what is stored behind the file's end as long as it is in memory, and the core doesn't.
+ */
+static void want_within_file(struct part part)
+{
+    uint64_t length, pages, end = part.page * PAGE + part.begin + part.count;
+    want(famsync_core_file(core, part.number, &length, &pages, &core.at) == FAMSYNC_CORE_OK, "it lacks a file");
+    want(end <= length || part.page * PAGE >= length, "bytes behind the file's end are stored");
+}
+
 static void store(uint64_t address, const char *text)
 {
     static uint8_t bytes[RANGE];
-    uint64_t done = 0, some, count = bytes_of(text, bytes);
-    int32_t code = FAMSYNC_CORE_WANTED;
-    while (code == FAMSYNC_CORE_WANTED) {
-        uint32_t wanted;
-        code = famsync_core_store(core, address + done, bytes + done, count - done, &some, &wanted, &core.at);
-        done += some;
-        if (code == FAMSYNC_CORE_WANTED)
-            supply(wanted);
+    uint64_t done = 0, count = bytes_of(text, bytes);
+    const char *refused = NULL;
+    while (done < count && !refused) {
+        struct part part = part_at(address + done, count - done);
+        if (!part.refused)
+            want_within_file(part);
+        refused = part.refused ? part.refused : write_part(part, bytes + done);
+        done += refused ? 0 : part.count;
     }
-    make_calls();
-    if (code == FAMSYNC_CORE_OK)
-        printf("stored %" PRIu64 "\n", done);
+    want(famsync_core_waiting(core, &core.at) == 0, "a write records a call");
+    if (refused)
+        printf("%s after %" PRIu64 "\n", refused, done);
     else
-        printf("%s after %" PRIu64 "\n", word_of(code), done);
+        printf("stored %" PRIu64 "\n", done);
 }
 
 /* Rule: deferred acknowledgement */
@@ -267,22 +318,36 @@ static void set_length(uint32_t number, uint64_t length)
     int32_t code;
     while ((code = famsync_core_set_length(core, number, length, &wanted, &core.at)) == FAMSYNC_CORE_WANTED)
         supply(wanted);
-    make_calls();
+    want(famsync_core_waiting(core, &core.at) == 0, "a length records a call");
     printf("%s\n", code == FAMSYNC_CORE_OK ? "set" : word_of(code));
 }
 
+/* Each file is mapped once, from its begin and from a page on. */
 static void map(const char *line)
 {
-    uint64_t address, length, offset;
+    uint64_t address, length;
     uint32_t number;
-    char rights[3];
-    want(sscanf(line, "[0,\"map\",1,%" SCNu64 ",%" SCNu64 ",%" SCNu32 ",%" SCNu64 ",\"%2[rw]\",\"rw\"]", &address,
-                &length, &number, &offset, rights) == 5,
-         "the map isn't one that the core has");
-    uint32_t allowed = strlen(rights) == 1 ? FAMSYNC_CORE_MAP_READ : FAMSYNC_CORE_MAP_READ_WRITE;
-    int32_t code = famsync_core_map(core, number, offset, length, allowed, address, &core.at);
-    make_calls();
-    printf("%s\n", code == FAMSYNC_CORE_OK ? "mapped" : word_of(code));
+    want(sscanf(line, "[0,\"map\",1,%" SCNu64 ",%" SCNu64 ",%" SCNu32 ",0,\"rw\",\"rw\"]", &address, &length,
+                &number) == 3 &&
+             number < MOST_FILES && mapped[number] == 0 && address % PAGE == 0,
+         "the map isn't one that is kept here");
+    address_of[number] = address;
+    mapped[number] = (length + PAGE - 1) / PAGE * PAGE;
+    printf("mapped\n");
+}
+
+/* Which pages are staged, one by one, are as many as there are. */
+static void print_staged(void)
+{
+    int64_t staged = famsync_core_staged(core, &core.at), found = 0;
+    for (uint32_t number = 0; number < famsync_core_files(core, &core.at); number++) {
+        uint64_t length, pages = 0;
+        want(famsync_core_file(core, number, &length, &pages, &core.at) == FAMSYNC_CORE_OK, "it lacks a file");
+        for (uint64_t page = 0; page < pages; page++)
+            found += famsync_core_is_staged(core, number, page, &core.at);
+    }
+    want(found == staged, "other pages are staged than it says");
+    printf("staged %" PRId64 "\n", staged);
 }
 
 /* As many steps of write-outs as the line has. */
@@ -293,7 +358,10 @@ static void write_out(const char *line)
         most++;
     int32_t code = famsync_core_write_out(core, most, &core.at);
     make_calls();
-    printf("%s\n", code == FAMSYNC_CORE_OK ? "made" : code == FAMSYNC_CORE_NONE ? "nothing" : word_of(code));
+    bool written = code == FAMSYNC_CORE_OK || code == FAMSYNC_CORE_NONE;
+    if (written)
+        want((code == FAMSYNC_CORE_OK) == (famsync_core_unwritten(core, &core.at) > 0), "it tells wrongly what is left");
+    printf("%s\n", written ? "written" : word_of(code));
 }
 
 static void answer(const char *line)
@@ -313,6 +381,10 @@ static void answer(const char *line)
         write_out(line);
     else if (strcmp(line, "calls\n") == 0)
         printf("calls %ld\n", calls);
+    else if (strcmp(line, "frames\n") == 0)
+        printf("frames %" PRId64 "\n", famsync_core_frames(core, &core.at));
+    else if (strcmp(line, "staged\n") == 0)
+        print_staged();
     else
         map(line);
 }

@@ -1,13 +1,13 @@
 /*
- * libfamsync: files whose stores become durable together, in this process.
+ * libfamsync: files whose changes become durable together, in this process.
  *
  * A handle is a session with one volume, which `famsync format` made. The library opens and locks the volume's file
  * itself. A volume has one session that writes, or any number that only read, of this library or of the program
  * `famsync`.
  *
- * There are two ways to the bytes of a file, and both may be used in one session:
+ * There are two ways to the bytes of a file, and both may be used in one session, also for the same file:
  *
- *   load and store   famsync_map, famsync_load, famsync_store, famsync_msync: any address, any count
+ *   read and write   famsync_read, famsync_write, famsync_msync: any offset, any count, as with pread and pwrite
  *   plain memory     famsync_memory_open, famsync_memory_at, famsync_msync: a pointer to store through
  *
  * Whatever ends this process or the system, the next session finds the files as they were at some msync, all of it and
@@ -32,9 +32,9 @@
 #include <stdint.h>
 
 /* The version of the library that this header came with. */
-#define FAMSYNC_VERSION "0.2.0"
+#define FAMSYNC_VERSION "0.3.0"
 #define FAMSYNC_VERSION_MAJOR 0
-#define FAMSYNC_VERSION_MINOR 2
+#define FAMSYNC_VERSION_MINOR 3
 #define FAMSYNC_VERSION_PATCH 0
 
 #ifdef __cplusplus
@@ -58,28 +58,23 @@ enum famsync_code {
     FAMSYNC_REPLACED = -15,   /* whenever its file was locked, the path named another one */
     FAMSYNC_NOTAVOLUME = -16, /* the file doesn't begin as a volume */
     FAMSYNC_DAMAGED = -17,    /* the file begins as a volume, and its bytes or its length break the format */
-    FAMSYNC_SHAPE = -18,      /* the volume doesn't serve so many frames or copies */
+    FAMSYNC_SHAPE = -18,      /* `frames` is more than a commit of this volume can have */
 
     /* why an access or a commit is refused */
-    FAMSYNC_SEGVMAPERR = -23, /* the address isn't mapped */
-    FAMSYNC_SEGVACCERR = -24, /* the mapping doesn't allow this access */
-    FAMSYNC_BUSADRERR = -25,  /* the page is past the file's end */
-    FAMSYNC_NOFRAME = -27,    /* more pages were stored to, or added to a file, than one commit can have */
-    FAMSYNC_DEVICE = -28,     /* a read, a write or a sync of the volume failed, or had no memory; errno says how */
-    FAMSYNC_BROKEN = -29,     /* a write or a sync failed earlier, and the session is over */
-    FAMSYNC_EINVAL = -30,     /* a number is outside the range that the volume or its addresses have */
-    FAMSYNC_ENOMEM = -31,     /* there are no addresses left */
-    FAMSYNC_OVERLAP = -33,    /* plain memory of the file is open already */
-    FAMSYNC_NOFILE = -34,     /* the volume has no such file */
-    FAMSYNC_BUSY = -35,       /* plain memory of the file is open; or the session has made 2^32 - 1 commits */
+    FAMSYNC_NOFRAME = -27, /* more pages were written, or added to a file, than one commit can have */
+    FAMSYNC_DEVICE = -28,  /* a read, a write or a sync of the volume failed, or had no memory; errno says how */
+    FAMSYNC_BROKEN = -29,  /* a write or a sync failed earlier, and the session is over */
+    FAMSYNC_EINVAL = -30,  /* the bytes or the length are outside the range that the file has */
+    FAMSYNC_OVERLAP = -33, /* plain memory of the file is open already */
+    FAMSYNC_NOFILE = -34,  /* the volume has no such file */
+    FAMSYNC_BUSY = -35,    /* plain memory of the file is open; a backup is being made; the session has made 2^32 - 1
+                              commits */
 
     /* suspect flags that can't be made, and sessions that only read */
     FAMSYNC_UNMARKED = -39,     /* a sync failed, and the volume's suspect flag couldn't be made */
     FAMSYNC_NEEDSOPENING = -40, /* a crash or a failed sync left work for a writer: open it once for writing */
     FAMSYNC_READONLY = -41      /* the session only reads */
 };
-
-enum famsync_protection { FAMSYNC_READ = 1, FAMSYNC_WRITE = 2 };
 
 typedef struct famsync famsync;
 typedef struct famsync_memory famsync_memory;
@@ -94,8 +89,8 @@ typedef struct famsync_memory famsync_memory;
 struct famsync_options {
     size_t size;
     int trust;           /* not 0: a volume that is flagged as suspect is opened, and its flag removed */
-    unsigned frames;     /* pages in memory; 0: as many as one commit can have */
-    unsigned copies;     /* frames for copies, 0 to 64. No call needs one; the field keeps the structure's layout */
+    unsigned frames;     /* the most pages of one commit; 0: as many as the volume takes */
+    unsigned copies;     /* ignored; the field keeps the structure's layout */
     int foreground;      /* not 0: no thread of the library's own (see famsync_msync) */
     char *message;       /* a line about why the volume wasn't opened is put here */
     size_t message_size; /* and how much there is room for; a message is cut off there */
@@ -107,8 +102,8 @@ struct famsync_options {
 const char *famsync_version(void);
 
 /* Begins a session with a volume, a regular file with one name; where the path is a link, the file that it leads to is
-   meant. The file is locked until the session ends. It takes memory for its frames, and for the blocks that it has
-   read or written. On failure `*handle` is a null pointer.
+   meant. The file is locked until the session ends. It takes memory for the pages of its commits. On failure `*handle`
+   is a null pointer.
 
    FAMSYNC_INUSE means that another session has the volume, and `wait_ms` has passed. FAMSYNC_SYSTEM with ENAMETOOLONG
    means that the name of the volume's file is longer than 247 bytes: the name of its suspect flag would be too long.
@@ -117,13 +112,13 @@ const char *famsync_version(void);
    With `readonly` any number of sessions share a volume. The library opens the file for reading only, and writes
    nothing. No session that writes can begin meanwhile. FAMSYNC_NEEDSOPENING means that a crash left a commit to be
    written to its place, or that the volume is flagged as suspect, whatever `trust` says: open it once for writing, and
-   close it. In such a session famsync_map for writing, famsync_setlength, famsync_msync and famsync_memory_touch answer
+   close it. In such a session famsync_write, famsync_setlength, famsync_msync and famsync_memory_touch answer
    FAMSYNC_READONLY, and a store to plain memory raises SIGSEGV, which goes to the program. */
 int famsync_open(const char *volume, const struct famsync_options *options, famsync **handle);
 
-/* Ends a session and frees the handle; stores since the last msync are gone. Plain memory of this handle has to be
-   closed before (FAMSYNC_ARGUMENT), and no other call with it may be under way. What was committed is written to its
-   place in the volume before. FAMSYNC_DEVICE or FAMSYNC_UNMARKED where a write or a sync failed, in this call or
+/* Ends a session and frees the handle; what was written since the last msync is gone. Plain memory of this handle has
+   to be closed before (FAMSYNC_ARGUMENT), and no other call with it may be under way. What was committed is written to
+   its place in the volume before. FAMSYNC_DEVICE or FAMSYNC_UNMARKED where a write or a sync failed, in this call or
    earlier: what was acknowledged is kept. */
 int famsync_close(famsync *handle);
 
@@ -136,34 +131,42 @@ uint64_t famsync_file_length(const famsync *handle, unsigned file);
 unsigned famsync_frames(const famsync *handle);
 
 /* Sets the length of a file, as ftruncate does: up to its capacity, in a volume of layout 3 or 4; else FAMSYNC_EINVAL.
-   Bytes past a new end are gone, and what a file grows by is zeros. Like a store it is durable after the next
-   famsync_msync that is acknowledged, and else gone with the session. What was committed is written to its place in the
-   volume before. The pages that a file grows by count as stored to, and so does the one in which it ended:
-   FAMSYNC_NOFRAME where they and those that were stored to don't go into one commit; then grow it less at a time, with
-   an msync in between. Nothing is changed where it is refused.
+   Bytes past a new end are gone, and what a file grows by is zeros. Like a write it is durable after the next
+   famsync_msync that is acknowledged, and else gone with the session. The pages that a file grows by count as written,
+   and so does the one in which it ended: FAMSYNC_NOFRAME where they and those that were written don't go into one
+   commit; then grow it less at a time, with an msync in between. Nothing is changed where it is refused.
 
    Plain memory has the length with which it was opened, and so FAMSYNC_BUSY is answered as long as plain memory of this
-   file is open. A mapping stays as it is: its pages past the file's end answer FAMSYNC_BUSADRERR, and can be used once
-   the file is long enough. */
+   file is open. */
 int famsync_setlength(famsync *handle, const char *file, uint64_t length);
 
-/* Maps the pages of a file from `offset` on, a multiple of 4,096, for `length` bytes, at an address that the library
-   chooses: an address for famsync_load and famsync_store, and no pointer. A length of 0 is up to the file's end. */
-int famsync_map(famsync *handle, const char *file, uint64_t offset, uint64_t length, int protection, uint64_t *address);
+/* Reads `count` bytes of a file, which is named by its number, from `offset` on. `*done`, which may be a null pointer,
+   is how many were read. A read that reaches past the file's end is short: it reads the bytes up to the end, or none,
+   and answers FAMSYNC_OK. Where a read of the volume fails, `*done` bytes were read before.
 
-/* Loads or stores `count` bytes. Where it is refused on its way, the bytes before are loaded or stored, and `*done`,
-   which may be a null pointer, is how many. */
-int famsync_load(famsync *handle, uint64_t address, void *bytes, size_t count, size_t *done);
-int famsync_store(famsync *handle, uint64_t address, const void *bytes, size_t count, size_t *done);
+   It reads what was written last, by this session, whether or not it was committed. */
+int famsync_read(famsync *handle, unsigned file, uint64_t offset, void *bytes, size_t count, size_t *done);
 
-/* Makes all stores of this session durable, all of them or none, those to plain memory, too; it returns when they are.
-   `*mark`, which may be a null pointer, is the commit's number, counted from 1 in each session. Threads that call it
-   while a commit is being written share the next one. Where it is refused, all stores still wait for a commit, and the
-   next call takes them again.
+/* Writes `count` bytes to a file, from `offset` on. `*done`, which may be a null pointer, is how many were written.
+   Writes wait in memory for famsync_msync, and are gone with the session without it.
 
-   FAMSYNC_NOFRAME: the pages that were stored to, by famsync_store and in plain memory together, are more than one
-   commit can have; no later call can commit them either. Nothing is stored then: close the plain memory, and what
-   famsync_store wrote can be committed.
+   FAMSYNC_EINVAL: a byte of them lies past the file's end. famsync_setlength makes a file longer. FAMSYNC_NOFRAME: the
+   pages, and those that wait for a commit, are more than one commit can have. Nothing is written in both cases. A page
+   of which a part alone is written is read before. FAMSYNC_DEVICE where that fails, and FAMSYNC_NOMEMORY: `*done` bytes
+   were written before.
+
+   If plain memory of the file is open, both calls use that memory: what is written is a store to it, and pages are
+   opened as famsync_memory_touch does. */
+int famsync_write(famsync *handle, unsigned file, uint64_t offset, const void *bytes, size_t count, size_t *done);
+
+/* Makes all changes of this session durable, all of them or none: writes, stores to plain memory and lengths. It
+   returns when they are durable. `*mark`, which may be a null pointer, is the commit's number, counted from 1 in each
+   session. Threads that call it while a commit is being written share the next one. Where it is refused, all changes
+   still wait for a commit, and the next call takes them again.
+
+   FAMSYNC_NOFRAME: the pages that were changed, by famsync_write and in plain memory together, are more than one commit
+   can have; no later call can commit them either. Nothing is committed then: close the plain memory, and what
+   famsync_write wrote to other files can be committed.
 
    FAMSYNC_DEVICE: a read, a write or a sync failed, and nothing is acknowledged. errno says how, and is ENOMEM where
    memory was refused: then the disk isn't to blame. After a read the session goes on, and the call may be made again.
@@ -182,6 +185,37 @@ uint64_t famsync_acknowledged(famsync *handle);
 /* A code in words. */
 const char *famsync_strerror(int code);
 
+/* Numbers of a session. Set `size` to the size of this structure: a later version of the library adds fields at the
+   end. Fields that this library doesn't know become 0. FAMSYNC_ARGUMENT if `size` is less than that of the fields
+   below. Calls of the system count from the opening on, those that failed or were interrupted, too. */
+struct famsync_stat {
+    size_t size;
+    uint64_t commits;       /* the number of the last commit that was acknowledged */
+    uint64_t frames;        /* the most pages of one commit */
+    uint64_t staged;        /* pages that wait for a commit, those of plain memory, too */
+    uint64_t unwritten;     /* pages of commits that wait to be written to their places */
+    uint64_t reads;         /* reads of the volume's file */
+    uint64_t writes;        /* writes to it */
+    uint64_t syncs;         /* syncs of it */
+    uint64_t bytes_written; /* bytes that were written to it */
+    uint64_t memory;        /* bytes of memory that the sessions of this process take for pages and commits */
+};
+
+int famsync_stat(famsync *handle, struct famsync_stat *stat);
+
+/* Writes a clean volume with the files of the last acknowledged commit to a file: a backup that can be opened as it is.
+   `descriptor` is a regular file, other than the volume's, that is open for reading and writing, and not for appending
+   (FAMSYNC_ARGUMENT). It is emptied first. What is zeros becomes holes. The backup is synced when the call succeeds.
+   Sync the file's folder as well if its name is new.
+
+   Other threads may call with the handle meanwhile, also famsync_msync. One backup is made at a time (FAMSYNC_BUSY).
+   The file is locked as a volume is until the call returns; FAMSYNC_INUSE if somebody else has it locked.
+
+   FAMSYNC_SYSTEM: the file couldn't be written; errno says how. FAMSYNC_DEVICE: the volume couldn't be read, and the
+   session goes on, or it couldn't be written, and the session is over. The file is no volume then. Commits that are
+   made meanwhile don't fail because of the backup. */
+int famsync_backup(famsync *handle, int descriptor);
+
 /*
  * Plain memory: a whole file of the volume as memory of this process. It is filled at the open and kept read-only; the
  * first store to a page raises SIGSEGV, whose handler notes the page and opens it for writing. Faults elsewhere go to
@@ -198,9 +232,8 @@ const char *famsync_strerror(int code);
  * famsync_memory_open installs the library's handler again where another one took its place, and passes to that one
  * what isn't the library's.
  *
- * Bytes past the file's end, in its last page, are memory that isn't kept. What famsync_store writes to this file
- * doesn't come into memory that is open, and goes back where its page is stored to: use one of the two ways for each
- * file. An empty file has no memory (FAMSYNC_ARGUMENT).
+ * Bytes past the file's end, in its last page, are memory that isn't kept. famsync_read and famsync_write use the
+ * memory of a file as long as it is open. An empty file has no memory (FAMSYNC_ARGUMENT).
  */
 int famsync_memory_open(famsync *handle, const char *file, famsync_memory **memory);
 

@@ -110,7 +110,7 @@ static int read_part(const struct database *database, char *bytes, size_t count,
 {
     const unsigned char *waiting = database->waits[place / PAGE];
     if (!waiting)
-        return famsync_load(database->volume, database->address + place, bytes, count, NULL);
+        return famsync_read(database->volume, database->number, place, bytes, count, NULL);
     memcpy(bytes, waiting + place % PAGE, count);
     return FAMSYNC_OK;
 }
@@ -151,7 +151,7 @@ static int write_part(struct database *database, const char *bytes, size_t count
     size_t page = place / PAGE, within = place % PAGE;
     if (!database->waits[page]) {
         unsigned char *copy = database->pages + (size_t)database->waiting * PAGE;
-        int code = famsync_load(database->volume, database->address + place - within, copy, PAGE, NULL);
+        int code = famsync_read(database->volume, database->number, place - within, copy, PAGE, NULL);
         if (code != FAMSYNC_OK)
             return code_for(code, SQLITE_IOERR_WRITE);
         if (memcmp(copy + within, bytes, count) == 0)
@@ -220,7 +220,7 @@ static int store_size(struct database *database)
     unsigned char head[24] = MAGIC;
     for (int i = 0; i < 8; i++)
         head[16 + i] = (unsigned char)((uint64_t)database->size >> (56 - 8 * i));
-    return famsync_store(database->volume, database->address, head, sizeof head, NULL);
+    return famsync_write(database->volume, database->number, 0, head, sizeof head, NULL);
 }
 
 static int store_waiting(struct database *database)
@@ -228,7 +228,7 @@ static int store_waiting(struct database *database)
     int code = FAMSYNC_OK;
     for (unsigned i = 0; i < database->waiting && code == FAMSYNC_OK; i++) {
         size_t page = database->order[i];
-        code = famsync_store(database->volume, database->address + page * PAGE, database->waits[page], PAGE, NULL);
+        code = famsync_write(database->volume, database->number, page * PAGE, database->waits[page], PAGE, NULL);
     }
     return code == FAMSYNC_OK && database->size != database->kept ? store_size(database) : code;
 }
@@ -356,7 +356,7 @@ static int read_size(struct database *database)
     static const unsigned char nothing[24];
     unsigned char head[24];
     uint64_t size = 0;
-    int code = famsync_load(database->volume, database->address, head, sizeof head, NULL);
+    int code = famsync_read(database->volume, database->number, 0, head, sizeof head, NULL);
     if (code != FAMSYNC_OK)
         return fail(code_for(code, SQLITE_IOERR_READ), 0, "\"%s\": %s", database->path, famsync_strerror(code));
     if (memcmp(head, nothing, sizeof head) == 0)
@@ -398,25 +398,26 @@ static int open_volume(struct database *database, int flags)
     return fail(code_for_open(code), error_of(code), "%s", message[0] ? message : famsync_strerror(code));
 }
 
-/* The length of the volume's file with this name, 0 for none. */
-static uint64_t length_of(famsync *volume, const char *name)
+/* The number of the volume's file with this name, or with none the first; that of all files where there is none. */
+static unsigned number_of(famsync *volume, const char *name)
 {
-    for (unsigned i = 0; i < famsync_files(volume); i++)
-        if (strcmp(name, famsync_file_name(volume, i)) == 0)
-            return famsync_file_length(volume, i);
-    return 0;
+    unsigned number = 0;
+    while (name && number < famsync_files(volume) && strcmp(name, famsync_file_name(volume, number)) != 0)
+        number++;
+    return number;
 }
 
-/* Maps the file of the database, and finds how much there is room for. One page of the file has the size, and so one of
-   a commit is left for it. */
-static int map_database(struct database *database, const char *name, int flags)
+/* Finds the file of the database, and how much there is room for. One page of the file has the size, and so one of a
+   commit is left for it. */
+static int find_database(struct database *database, const char *name)
 {
-    uint64_t length = length_of(database->volume, name);
-    int protection = flags & SQLITE_OPEN_READONLY ? FAMSYNC_READ : FAMSYNC_READ | FAMSYNC_WRITE;
-    int code = famsync_map(database->volume, name, 0, 0, protection, &database->address);
-    if (code != FAMSYNC_OK)
-        return fail(code_for(code, SQLITE_CANTOPEN), 0, "\"%s\", file \"%s\": %s", database->path, name,
-                    famsync_strerror(code));
+    uint64_t length;
+    database->number = number_of(database->volume, name);
+    if (database->number == famsync_files(database->volume))
+        return fail(SQLITE_CANTOPEN, 0, "\"%s\", file \"%s\": %s", database->path, name,
+                    famsync_strerror(FAMSYNC_NOFILE));
+    name = famsync_file_name(database->volume, database->number);
+    length = famsync_file_length(database->volume, database->number);
     if (length / PAGE < 2 || famsync_frames(database->volume) < 2)
         return fail(SQLITE_CANTOPEN, 0, "\"%s\", file \"%s\": a database needs two pages, and a commit two",
                     database->path, name);
@@ -441,7 +442,7 @@ int open_database(const char *path, sqlite3_file *file, int flags, int *found)
     if (code != SQLITE_OK)
         return code;
     enlist(database);
-    code = map_database(database, name ? name : famsync_file_name(database->volume, 0), flags);
+    code = find_database(database, name);
     if (code != SQLITE_OK) {
         close_database(file);
         return code;

@@ -22,7 +22,7 @@ struct database {
     const char *path;      /* the volume's path, as SQLite passed it to xOpen */
     struct database *next; /* the next open database */
     famsync *volume;
-    uint64_t address;      /* where the file is mapped; the database begins a page later */
+    unsigned number;       /* the number of the file in it; the database begins in its second page */
     sqlite3_int64 room;    /* the most bytes that the database can have */
     sqlite3_int64 size;    /* bytes of the database now */
     sqlite3_int64 kept;    /* bytes at the last commit */

@@ -1,12 +1,12 @@
 /*
  * famsync_core: a session with one volume, as a library that makes no system call.
  *
- * The core keeps blocks of the volume in memory, makes the steps of a session on them, and records the writes and syncs
- * that a disk would get. Its host, a program in C or the like, reads blocks of the volume and supplies them, makes the
- * recorded calls on the volume's file, in order, and says so. What is made how is the host's; what is written is the
- * core's, and proved.
+ * The core keeps the pages that wait for a commit, and records the writes and syncs that make the commit durable. Its
+ * host, a program in C or the like, reads blocks of the volume and supplies them, makes the recorded calls on the
+ * volume's file, in order, and reports them to the core. The host decides how a call is made. The core decides what is
+ * written, and that is proved.
  *
- * This program stores to the first file of a volume, and commits. `tests/core_header` compiles and runs it.
+ * This program writes the first page of the first file, and commits. `tests/core_header` compiles and runs it.
  *
  *   static void supply(famsync_core *core, int file, uint32_t block)
  *   {
@@ -34,18 +34,18 @@
  *   {
  *       int file = open(words[count - 1], O_RDWR);
  *       uint32_t blocks = (uint32_t)(lseek(file, 0, SEEK_END) / 4096), wanted, mark;
- *       uint64_t done;
+ *       uint8_t page[4096];
  *       famsync_core core = {0};
  *       if (famsync_core_begin(blocks, &core.at) != FAMSYNC_CORE_OK)
  *           return 1;
- *       supply(&core, file, 0);
- *       while (famsync_core_open(core, 0, 0, &wanted, &core.at) == FAMSYNC_CORE_WANTED)
+ *       while (famsync_core_open(core, 0, &wanted, &core.at) == FAMSYNC_CORE_WANTED)
  *           supply(&core, file, wanted);
  *       make_calls(&core, file); // what a crash left of commits
- *       famsync_core_map(core, 0, 0, 4096, FAMSYNC_CORE_MAP_READ_WRITE, 65536, &core.at);
- *       while (famsync_core_store(core, 65536, (const uint8_t *)"hello", 5, &done, &wanted, &core.at) ==
- *              FAMSYNC_CORE_WANTED)
+ *       while (famsync_core_read(core, 0, 0, page, 4096, &wanted, &core.at) == FAMSYNC_CORE_WANTED)
  *           supply(&core, file, wanted);
+ *       memcpy(page, "hello", 5);
+ *       if (famsync_core_write(core, 0, 0, page, 4096, &core.at) != FAMSYNC_CORE_OK)
+ *           return 1;
  *       if (famsync_core_commit(core, &mark, &core.at) != FAMSYNC_CORE_OK)
  *           return 1;
  *       make_calls(&core, file);
@@ -95,35 +95,22 @@ enum famsync_core_code {
     /* why a volume isn't opened */
     FAMSYNC_CORE_NOTAVOLUME = -11, /* the blocks are no volume of any layout */
     FAMSYNC_CORE_DAMAGED = -12,    /* they break the grammar of one */
-    FAMSYNC_CORE_BADSHAPE = -13,   /* `frames` or `copies` is outside its limits */
 
-    /* what a step was refused by; the same numbers as in famsync.h */
-    FAMSYNC_CORE_STALLED = -21,
-    FAMSYNC_CORE_LOCKED = -22,
-    FAMSYNC_CORE_SEGVMAPERR = -23, /* the address isn't mapped */
-    FAMSYNC_CORE_SEGVACCERR = -24, /* the mapping doesn't allow this access */
-    FAMSYNC_CORE_BUSADRERR = -25,  /* the page is past the file's end */
-    FAMSYNC_CORE_HELD = -26,
-    FAMSYNC_CORE_NOFRAME = -27, /* more pages were stored to, or added to a file, than one commit can have */
-    FAMSYNC_CORE_DEVICE = -28,  /* a write couldn't be recorded, for want of memory */
+    /* why a request is refused; the same numbers as in famsync.h */
+    FAMSYNC_CORE_NOFRAME = -27, /* more pages were written, or added to a file, than one commit can have */
+    FAMSYNC_CORE_DEVICE = -28,  /* a call couldn't be recorded, for want of memory */
     FAMSYNC_CORE_BROKEN = -29,  /* that happened earlier, and nothing can be committed any more: close, open again */
-    FAMSYNC_CORE_EINVAL = -30,
-    FAMSYNC_CORE_ENOMEM = -31,
-    FAMSYNC_CORE_EACCES = -32,
-    FAMSYNC_CORE_OVERLAP = -33, /* a page of the range is mapped already */
-    FAMSYNC_CORE_NOFILE = -34,
-    FAMSYNC_CORE_BUSY = -35,
-    FAMSYNC_CORE_OUTOFMEMORY = -36,
-    FAMSYNC_CORE_NOTRESIDENT = -37,
-    FAMSYNC_CORE_OTHER = -38 /* a reply that these calls don't get */
+    FAMSYNC_CORE_EINVAL = -30,  /* the page begins past the file's end, or the length is past its capacity */
+    FAMSYNC_CORE_NOFILE = -34,  /* the volume has no such file */
+    FAMSYNC_CORE_BUSY = -35,    /* the session has made 2^32 - 1 commits */
+    FAMSYNC_CORE_OTHER = -38    /* a refusal that these calls don't get */
 };
 
-/* What a recorded call is; and what a mapping allows. */
+/* What a recorded call is. */
 enum famsync_core_kind { FAMSYNC_CORE_CALL_WRITE = 1, FAMSYNC_CORE_CALL_SYNC = 2 };
-enum famsync_core_rights { FAMSYNC_CORE_MAP_READ = 1, FAMSYNC_CORE_MAP_READ_WRITE = 3 };
 
-/* Begins with a volume of this many blocks: its file's length divided by 4,096, which has to go up. Takes memory for
-   all of them. OK, ARGUMENT (0 blocks), NOMEMORY. `*at` is unchanged where it isn't OK. */
+/* Begins with a volume of this many blocks: its file's length divided by 4,096, which has to go up. OK, ARGUMENT
+   (0 blocks), NOMEMORY. `*at` is unchanged where it isn't OK. */
 int32_t famsync_core_begin(uint32_t blocks, uint8_t **at);
 
 /* The host has read a block, of which `bytes` are the 4,096 bytes: so as they are in the volume's file after the
@@ -134,46 +121,49 @@ int32_t famsync_core_supply(famsync_core core, uint32_t block, const uint8_t *by
 /* Whether a block is known: 1 or 0. At any time. */
 int32_t famsync_core_is_known(famsync_core core, uint32_t block, uint8_t **at);
 
-/* How many blocks lie before those of the first file, as block 0 says. ARGUMENT (block 0 isn't known), NOTAVOLUME,
-   DAMAGED, OUTOFMEMORY, ORDER. */
-int64_t famsync_core_head(famsync_core core, uint8_t **at);
+/* Opens the volume. A commit takes at most `pages` pages; 0, or a number above what the volume's journals take, means
+   as many as they take. Opening records calls where a crash left a commit to be carried out. OK, WANTED (a block that
+   wasn't supplied: nothing is open; supply it and call again. Opening wants block 0, the gates, the lengths, and what
+   an open journal has, one block after the other), NOTAVOLUME, DAMAGED, NOMEMORY (close the handle, and begin again),
+   ORDER. */
+int32_t famsync_core_open(famsync_core core, uint32_t pages, uint32_t *wanted, uint8_t **at);
 
-/* Opens the volume, with a machine of one processor, so many frames (0: as many pages as one commit can have) and so
-   many copy frames, 0 to 64; makes a space, and makes it current. Opening records calls where a crash left a commit
-   to be carried out. OK, WANTED (a block that wasn't supplied: nothing is open; supply it and call again.
-   Opening wants block 0, the gates, the lengths, and what an open journal has, one block after the other), NOTAVOLUME,
-   DAMAGED, BADSHAPE, OUTOFMEMORY (close the handle, and begin again), ORDER. */
-int32_t famsync_core_open(famsync_core core, uint32_t frames, uint32_t copies, uint32_t *wanted, uint8_t **at);
-
-/* How many files the volume has, numbered from 0, and how many pages one commit can have at most. ORDER. */
+/* The number of files of the volume, which are numbered from 0; the most pages of one commit; the number of blocks
+   before those of the first file. ORDER. */
 int64_t famsync_core_files(famsync_core core, uint8_t **at);
 int64_t famsync_core_frames(famsync_core core, uint8_t **at);
+int64_t famsync_core_head(famsync_core core, uint8_t **at);
 
-/* The length in bytes of a file as the volume was opened, and how many pages it can have. OK, ARGUMENT (no such
-   file), ORDER. */
+/* Whether commits share their syncs, as in a volume of layout 4: 1 or 0. ORDER. */
+int32_t famsync_core_shares_syncs(famsync_core core, uint8_t **at);
+
+/* The length of a file in bytes, as it was set last, and the most pages that it can have. OK, ARGUMENT (no such file),
+   ORDER. */
 int32_t famsync_core_file(famsync_core core, uint32_t file, uint64_t *length, uint64_t *pages, uint8_t **at);
 
 /* Copies the name of a file to `name`, which has room for `count` bytes, without a null byte at its end: at most 32
    bytes from '!' to '~'. Answers its length; ARGUMENT (no such file, or not enough room), ORDER. */
 int64_t famsync_core_file_name(famsync_core core, uint32_t file, uint8_t *name, size_t count, uint8_t **at);
 
-/* Maps `length` bytes of a file from `offset` on at an address: both multiples of 4,096, the address from 4,096 up
-   to below 2^47. `rights` are FAMSYNC_CORE_MAP_READ or FAMSYNC_CORE_MAP_READ_WRITE. OK, ARGUMENT (rights, file),
-   ORDER, EINVAL, ENOMEM, OVERLAP, NOFILE and the like. */
-int32_t famsync_core_map(famsync_core core, uint32_t file, uint64_t offset, uint64_t length, uint32_t rights,
-                         uint64_t address, uint8_t **at);
-
-/* Loads `count` bytes from an address on to `bytes`, or stores them there. `*done` is how many bytes were, whatever
-   the answer. WANTED: a page isn't in memory and its block isn't known; supply it, and call again for the rest. OK,
-   WANTED, NOMEMORY, ORDER, or what the step behind the bytes that were done was refused by. */
-int32_t famsync_core_load(famsync_core core, uint64_t address, uint8_t *bytes, size_t count, uint64_t *done,
+/* Reads a page of a file, numbered from 0: 4,096 bytes, with zeros past the file's end. OK, WANTED (supply the block,
+   and call again), ARGUMENT (another count, or a page of 2^32 or more), NOFILE, EINVAL, ORDER. */
+int32_t famsync_core_read(famsync_core core, uint32_t file, uint64_t page, uint8_t *bytes, size_t count,
                           uint32_t *wanted, uint8_t **at);
-int32_t famsync_core_store(famsync_core core, uint64_t address, const uint8_t *bytes, size_t count, uint64_t *done,
-                           uint32_t *wanted, uint8_t **at);
 
-/* Makes a commit of all stores and lengths, and records its calls as far as its acknowledgement wants them. `*mark`
-   is its number, counted from 1 in each session; where nothing was stored since the last one, it records none. It is
-   durable once famsync_core_acknowledged answers it. OK, ORDER, or what a step was refused by. */
+/* Writes a whole page of a file. It is kept in memory, and the next commit takes it; bytes past the file's end become
+   zeros. OK, ARGUMENT (another count, or a page of 2^32 or more), NOFILE, EINVAL, BROKEN, NOFRAME, NOMEMORY, ORDER. A
+   refusal changes nothing. */
+int32_t famsync_core_write(famsync_core core, uint32_t file, uint64_t page, const uint8_t *bytes, size_t count,
+                           uint8_t **at);
+
+/* The number of pages that the next commit takes; and whether this page is one of them: 1 or 0. ORDER. */
+int64_t famsync_core_staged(famsync_core core, uint8_t **at);
+int32_t famsync_core_is_staged(famsync_core core, uint32_t file, uint64_t page, uint8_t **at);
+
+/* Makes a commit of all pages and lengths that were written and set, and records its calls as far as its
+   acknowledgement wants them. `*mark` is its number, counted from 1 in each session; where nothing was written since
+   the last one, it records none. It is durable once famsync_core_acknowledged answers it. OK, BROKEN, DEVICE, BUSY,
+   ORDER. */
 int32_t famsync_core_commit(famsync_core core, uint32_t *mark, uint8_t **at);
 
 /* The number of the last commit that is durable, 0 where there is none: the calls that waited when it was made were
@@ -181,11 +171,15 @@ int32_t famsync_core_commit(famsync_core core, uint32_t *mark, uint8_t **at);
 int64_t famsync_core_acknowledged(famsync_core core, uint8_t **at);
 
 /* Makes up to `most` further steps of commits that were made, to write their pages home, and records their calls. OK
-   where more are left, NONE where nothing is left, ORDER, or what a step was refused by. */
+   where more are left, NONE where nothing is left, BROKEN, DEVICE, ORDER. */
 int32_t famsync_core_write_out(famsync_core core, uint32_t most, uint8_t **at);
 
-/* Gives a file another length, up to its capacity; durable with the next commit. OK, WANTED, ARGUMENT (file), ORDER,
-   or what a step was refused by. */
+/* The number of pages that commits have to write home still. ORDER. */
+int64_t famsync_core_unwritten(famsync_core core, uint8_t **at);
+
+/* Sets the length of a file, up to its capacity; durable with the next commit. The pages that it grows by count as
+   written, and so does the one in which it ended. OK, WANTED (the last page isn't in memory: supply the block, and call
+   again), NOFILE, EINVAL (or a volume without lengths), BROKEN, NOFRAME, NOMEMORY, ORDER. A refusal changes nothing. */
 int32_t famsync_core_set_length(famsync_core core, uint32_t file, uint64_t length, uint32_t *wanted, uint8_t **at);
 
 /* How many recorded calls wait for the host. At any time. */

@@ -2,13 +2,14 @@
  * A session whose system calls `tests/power_cut` records, and one that says what a volume contains.
  *
  *   session VOLUME make LAYOUT SLOTS FILES    makes a volume
- *   session VOLUME work SEED COMMITS MOST     commits at random: each commit stores to at most MOST pages, and in
- *                                             layouts 3 and 4 some set a length
+ *   session VOLUME work SEED COMMITS MOST     commits at random: each commit stores to at most MOST pages, in plain
+ *                                             memory or by famsync_write, and in layouts 3 and 4 some set a length
  *   session VOLUME find                       reads paths of volumes, a line each, and prints what each one contains
  *
- * What a volume contains is printed as a digest of the lengths and the bytes of all files. `work` computes it from a copy
- * of its own, which it keeps beside the library. It appends to the file that LOG names `C NUMBER DIGEST` before a commit
- * and `A NUMBER` after its acknowledgement. The preloaded library `record.c` appends the calls of the system there.
+ * What a volume contains is printed as a digest of the lengths and the bytes of all files. `work` computes it from a
+ * copy of its own, which it keeps beside the library. It appends to the file that LOG names `C NUMBER DIGEST` before a
+ * commit and `A NUMBER` after its acknowledgement. The preloaded library `record.c` appends the calls of the system
+ * there.
  */
 #include "test.h"
 
@@ -88,8 +89,8 @@ static void begin_file(famsync *handle, struct model *model, unsigned file, uint
     WANT_CODE(famsync_memory_close(memory), FAMSYNC_OK);
 }
 
-/* Stores some bytes to one page of a file, in the memory and in the model. */
-static void store_once(struct model *model, unsigned file, unsigned char *memory, uint64_t page)
+/* Stores some bytes to one page of a file, in the model, and in the memory, or by a call where there is none. */
+static void store_once(famsync *handle, struct model *model, unsigned file, unsigned char *memory, uint64_t page)
 {
     uint64_t first = page * 4096, end = first + 4096;
     if (end > model->length[file])
@@ -99,15 +100,27 @@ static void store_once(struct model *model, unsigned file, unsigned char *memory
         count = end - first;
     uint64_t at = first + below(end - first - count + 1), word = below(UINT64_MAX);
     for (uint64_t i = 0; i < count; i++)
-        memory[at + i] = model->bytes[file][at + i] = (unsigned char)(word >> (8 * (i % 8)));
+        model->bytes[file][at + i] = (unsigned char)(word >> (8 * (i % 8)));
+    if (memory)
+        memcpy(memory + at, model->bytes[file] + at, count);
+    else
+        WANT_CODE(famsync_write(handle, file, at, model->bytes[file] + at, count, NULL), FAMSYNC_OK);
+}
+
+/* Whether the next commit has room for another page. */
+static bool has_room(famsync *handle)
+{
+    struct famsync_stat stat = {.size = sizeof stat};
+    WANT_CODE(famsync_stat(handle, &stat), FAMSYNC_OK);
+    return stat.staged < stat.frames;
 }
 
 static void store_to_file(famsync *handle, struct model *model, unsigned file, famsync_memory *memory, uint64_t most)
 {
     uint64_t pages = (model->length[file] + 4095) / 4096, count = 1 + below(most < pages ? most : pages);
     uint64_t first = below(pages), step = below(3) ? 1 : 1 + below(pages);
-    for (uint64_t i = 0; i < count && famsync_memory_dirty(memory) + 1 < famsync_frames(handle); i++)
-        store_once(model, file, famsync_memory_at(memory), (first + i * step) % pages);
+    for (uint64_t i = 0; i < count && has_room(handle); i++)
+        store_once(handle, model, file, famsync_memory_at(memory), (first + i * step) % pages);
 }
 
 /* Sets a length at random. Where it adds more pages than a commit takes, nothing changes. */
@@ -147,8 +160,8 @@ static void work(uint64_t commits, uint64_t most, const uint64_t *capacities, bo
         unsigned file = (unsigned)below(model.count);
         if (resizes && below(3) == 0)
             set_length(handle, &model, (unsigned)below(model.count));
-        famsync_memory *memory = model.length[file] ? memory_of(handle, file) : NULL;
-        if (memory)
+        famsync_memory *memory = model.length[file] && below(2) ? memory_of(handle, file) : NULL;
+        if (model.length[file])
             store_to_file(handle, &model, file, memory, most);
         commit(handle, &model, number);
         if (memory)

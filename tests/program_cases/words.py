@@ -47,7 +47,7 @@ HELP = [
     ("format|--help", "Usage: famsync format [OPTIONS] <DISK> <SLOTS> <FILE>..."),
     ("migrate|--help", "Usage: famsync migrate [OPTIONS] <OLD> <NEW> <SLOTS>"),
     ("dump|-h", "Usage: famsync dump [OPTIONS] <DISK>"),
-    ("--version", "famsync 0.2.0\n"),
+    ("--version", "famsync 0.3.0\n"),
 ]
 
 # Command lines, and what is said of each.

@@ -5,9 +5,6 @@
 #include <stdlib.h>
 #include <string.h>
 
-/* Where the first mapping lies. */
-#define FIRST_ADDRESS 65536u
-
 /* How large the options were when they got a size. */
 #define FIRST_SIZE (offsetof(struct famsync_options, readonly) + sizeof(int))
 
@@ -56,40 +53,51 @@ unsigned number_of(const famsync *handle, const char *name)
     return file;
 }
 
-/* What the super block says: how many blocks the core is to know of, which are no more than the file has; and of its
-   layout, whether commits share their syncs. A file that doesn't begin as a volume is judged by its first block. */
+/* What the super block says: how many blocks the core is to know of, which are no more than the file has. A file that
+   doesn't begin as a volume is judged by its first block. */
 static int read_super(famsync *handle)
 {
     uint64_t blocks = handle->volume.bytes / PAGE, said;
     const unsigned char *head = handle->read;
-    int code = blocks == 0 ? FAMSYNC_NOTAVOLUME : read_blocks(handle, 0, 1);
+    int code = blocks == 0 ? FAMSYNC_NOTAVOLUME : read_blocks(handle, 0, 1, handle->read);
     if (code != FAMSYNC_OK)
         return code;
     said = (uint64_t)head[16] << 24 | (uint64_t)head[17] << 16 | (uint64_t)head[18] << 8 | head[19];
     if (memcmp(head, "FAMSYNC", 7) != 0 || said == 0)
         said = 1;
-    handle->shares_syncs = head[7] == '4';
     handle->blocks = (uint32_t)(said < blocks ? said : blocks);
     return FAMSYNC_OK;
 }
 
 static int read_files(famsync *handle)
 {
-    int64_t files = famsync_core_files(handle->core, &handle->core.at);
-    int64_t frames = famsync_core_frames(handle->core, &handle->core.at);
-    if (files < 0 || frames < 0 || files > MOST_FILES)
-        return FAMSYNC_DAMAGED;
-    handle->files = (unsigned)files;
-    handle->frames = (unsigned)frames;
     for (unsigned i = 0; i < handle->files; i++) {
         struct file *file = &handle->file[i];
-        uint64_t length;
+        uint64_t length, pages;
         int64_t name = famsync_core_file_name(handle->core, i, (uint8_t *)file->name, MOST_NAME, &handle->core.at);
-        if (name < 0 || famsync_core_file(handle->core, i, &length, &file->pages, &handle->core.at) != FAMSYNC_CORE_OK)
+        if (name < 0 || famsync_core_file(handle->core, i, &length, &pages, &handle->core.at) != FAMSYNC_CORE_OK)
             return FAMSYNC_DAMAGED;
         atomic_store(&file->length, length);
     }
     return FAMSYNC_OK;
+}
+
+/* What the core says of a volume that it has opened. It takes a number of pages that a commit can't have for the most
+   that it can have. */
+static int read_volume(famsync *handle, unsigned wanted)
+{
+    int64_t files = famsync_core_files(handle->core, &handle->core.at);
+    int64_t frames = famsync_core_frames(handle->core, &handle->core.at);
+    int64_t head = famsync_core_head(handle->core, &handle->core.at);
+    if (files < 0 || files > MOST_FILES || frames < 0 || head < 1 || head > handle->blocks)
+        return FAMSYNC_DAMAGED;
+    if (wanted > frames)
+        return FAMSYNC_SHAPE;
+    handle->files = (unsigned)files;
+    handle->frames = (unsigned)frames;
+    handle->head = (uint32_t)head;
+    handle->shares_syncs = famsync_core_shares_syncs(handle->core, &handle->core.at) == 1;
+    return read_files(handle);
 }
 
 /* What opening recorded, in a session that only reads: where it is a write, a crash left a commit, which this session
@@ -102,36 +110,35 @@ static int judge_recovery(famsync *handle)
     return code_of(famsync_core_carried_out(handle->core, (uint32_t)waiting, &handle->core.at));
 }
 
-/* Room for what a session notes: between two syncs no more is written than two journals have, or one where there aren't
-   four, before the files. */
-static int take_room(famsync *handle)
+/* Has the core open the volume, with the blocks that it wants. */
+static int open_with_blocks(famsync *handle, unsigned frames)
 {
-    int code = begin_gathering(&handle->gathered, handle->head);
-    return code == FAMSYNC_OK ? begin_stored(&handle->stored, handle->frames) : code;
+    struct opening opening = {0};
+    for (;;) {
+        uint32_t wanted = 0;
+        int32_t answer = famsync_core_open(handle->core, frames, &wanted, &handle->core.at);
+        int code = answer == FAMSYNC_CORE_WANTED ? supply_to_open(handle, wanted, &opening) : code_of(answer);
+        if (answer == FAMSYNC_CORE_WANTED && code == FAMSYNC_OK)
+            continue;
+        if (answer == FAMSYNC_CORE_DEVICE) /* there was no memory for a call that it would record */
+            code = FAMSYNC_NOMEMORY;
+        if (code == FAMSYNC_OK)
+            code = read_volume(handle, frames);
+        if (code == FAMSYNC_OK)
+            forget_supplied(handle, &opening);
+        return code;
+    }
 }
 
-/* Opens the volume in the core, and makes what that records: what a crash left of a commit is carried out. */
+/* Opens the volume in the core, and makes what that records: what a crash left of a commit is carried out. Between two
+   syncs no more is written than two journals have, or one where there aren't four, before the files. */
 static int open_core(famsync *handle, const struct famsync_options *options)
 {
     int code = code_of(famsync_core_begin(handle->blocks, &handle->core.at));
-    int32_t answer = FAMSYNC_CORE_WANTED;
-    struct reading last = {0, 0};
     if (code == FAMSYNC_OK)
-        code = supply_head(handle);
-    while (code == FAMSYNC_OK && answer == FAMSYNC_CORE_WANTED) {
-        uint32_t wanted = 0;
-        answer = famsync_core_open(handle->core, options->frames, options->copies, &wanted, &handle->core.at);
-        if (answer == FAMSYNC_CORE_WANTED)
-            code = supply_to_open(handle, wanted, &last);
-        else if (answer == FAMSYNC_CORE_DEVICE) /* there was no memory for a call that it would record */
-            code = FAMSYNC_NOMEMORY;
-        else
-            code = code_of(answer);
-    }
+        code = open_with_blocks(handle, options->frames);
     if (code == FAMSYNC_OK)
-        code = read_files(handle);
-    if (code == FAMSYNC_OK)
-        code = take_room(handle);
+        code = begin_gathering(&handle->gathered, handle->head);
     if (code != FAMSYNC_OK)
         return code;
     return handle->volume.readonly ? judge_recovery(handle) : drain(handle);
@@ -157,15 +164,9 @@ static int open_session(famsync *handle, const char *path, const struct famsync_
 /* Frees what a handle has that isn't among those of this process. */
 static void free_handle(famsync *handle)
 {
-    while (handle->mappings) {
-        struct mapping *mapping = handle->mappings;
-        handle->mappings = mapping->next;
-        free(mapping);
-    }
     if (handle->core.at)
         famsync_core_close(handle->core);
     end_gathering(&handle->gathered);
-    end_stored(&handle->stored);
     free(handle->read);
     pthread_cond_destroy(&handle->work);
     pthread_cond_destroy(&handle->answered);
@@ -204,7 +205,6 @@ static famsync *new_handle(void)
     begin_condition(&handle->answered);
     begin_condition(&handle->work);
     handle->volume.file = handle->volume.folder = -1;
-    handle->next_address = FIRST_ADDRESS;
     if (enter_handle(handle) == FAMSYNC_OK)
         return handle;
     free_handle(handle);
@@ -262,16 +262,8 @@ int famsync_open(const char *volume, const struct famsync_options *given, famsyn
     return code;
 }
 
-/* Writes what is left of commits, so that the next session has nothing to carry out. */
-static int finish(famsync *handle)
-{
-    int code = FAMSYNC_OK;
-    while (handle->left && code == FAMSYNC_OK)
-        code = write_out(handle, false);
-    return code;
-}
-
-/* Ends a session, unless plain memory is open. */
+/* Ends a session, unless plain memory is open. What is left of commits is written, so that the next session has nothing
+   to carry out. */
 static int end_session(famsync *handle)
 {
     bool in_use;
@@ -282,7 +274,7 @@ static int end_session(famsync *handle)
     if (in_use)
         return FAMSYNC_ARGUMENT;
     end_background(handle);
-    code = handle->ended == FAMSYNC_OK ? finish(handle) : handle->ended;
+    code = handle->ended == FAMSYNC_OK ? write_all_out(handle) : handle->ended;
     if (handle->ended != FAMSYNC_OK)
         errno = handle->error;
     drop(handle);

@@ -24,6 +24,14 @@ int write_out(famsync *handle, bool gives_way)
     return code != FAMSYNC_OK ? code : answer_of(handle, answer);
 }
 
+int write_all_out(famsync *handle)
+{
+    int code = FAMSYNC_OK;
+    while (handle->left && code == FAMSYNC_OK)
+        code = write_out(handle, false);
+    return code;
+}
+
 static bool has_work(const famsync *handle)
 {
     return handle->left && handle->ended == FAMSYNC_OK && atomic_load(&handle->callers) == 0;

@@ -20,8 +20,6 @@ static int commit(famsync *handle, uint64_t *mark)
     if (code != FAMSYNC_OK)
         return code;
     code = answer_of(handle, famsync_core_commit(handle->core, &number, &handle->core.at));
-    if (code == FAMSYNC_OK)
-        forget_stored(&handle->stored);
     drained = drain(handle);
     if (drained != FAMSYNC_OK)
         return drained;

@@ -48,6 +48,7 @@ static int write_ranges(famsync *handle, struct iovec *range, unsigned count, ui
 {
     while (count > 0) {
         ssize_t written = pwritev(handle->volume.file, range, (int)count, (off_t)offset);
+        handle->counts.writes++;
         if (written < 0 && errno == EINTR)
             continue;
         if (written <= 0) {
@@ -55,6 +56,7 @@ static int write_ranges(famsync *handle, struct iovec *range, unsigned count, ui
                 errno = ENOSPC;
             return fail(handle, FAMSYNC_DEVICE);
         }
+        handle->counts.bytes_written += (uint64_t)written;
         offset += (uint64_t)written;
         for (; count > 0 && (size_t)written >= range->iov_len; range++, count--)
             written -= (ssize_t)range->iov_len;
@@ -74,6 +76,7 @@ static int make_sync(famsync *handle)
     do
         synced = fdatasync(handle->volume.file);
     while (synced < 0 && errno == EINTR);
+    handle->counts.syncs++;
     if (synced == 0) {
         famsync_core_carried_out(handle->core, 1, &handle->core.at);
         return FAMSYNC_OK;
@@ -194,6 +197,7 @@ static int make_writes(famsync *handle)
 {
     int code;
     gather_oldest(handle);
+    save_for_backup(handle);
     code = write_gathered(handle);
     if (code == FAMSYNC_OK) {
         famsync_core_carried_out(handle->core, handle->gathered.pieces, &handle->core.at);

@@ -43,16 +43,6 @@ struct volume {
 struct file {
     char name[MOST_NAME + 1];
     _Atomic uint64_t length; /* in bytes; set under `turn`, read by any thread */
-    uint64_t pages;          /* how many it can have */
-    uint64_t whole;          /* the address of the library's own mapping of all of them; 0 where there is none */
-};
-
-/* A mapping: pages of a file at an address. */
-struct mapping {
-    struct mapping *next;
-    uint64_t address;
-    uint64_t first, pages; /* the file's pages, counted from 0 */
-    unsigned file;
 };
 
 /* Writes that are made together, in rising order of their offsets; none overlaps another. Their bytes are where the
@@ -69,24 +59,25 @@ struct gathered {
     struct iovec *range; /* room for what one system call writes */
 };
 
-/* A page of a file that the core has stores of which no commit has, and its place in the table. */
-struct stored_page {
-    uint64_t key;
-    uint32_t place;
-};
-
-/* All of them, in any order, and a table by which one is found: the number of each, counted from 1. */
-struct stored {
-    struct stored_page *page;
-    unsigned pages, most;
-    uint32_t *table;
-    uint32_t places; /* a power of two */
-};
-
 /* Blocks that were supplied at once. */
 struct reading {
     uint32_t first, count;
 };
+
+/* What was supplied to open a volume: at last, and up to before which block. */
+struct opening {
+    struct reading last;
+    uint32_t end;
+};
+
+/* The calls of the system that were made on the volume's file since the session began, and the bytes that they wrote.
+ */
+struct counts {
+    uint64_t reads, writes, syncs, bytes_written;
+};
+
+/* A backup that is being made: backup.c. */
+struct backup;
 
 /* A thread that waits for a commit; it is on that thread's stack. */
 struct waiter {
@@ -111,14 +102,13 @@ struct famsync {
     unsigned files;
     struct file file[MOST_FILES];
     unsigned frames;
-    uint32_t blocks;       /* of the volume */
-    uint32_t head;         /* the first of them that is a file's */
-    bool shares_syncs;     /* it has four journals: the syncs of a commit serve those before, too */
-    uint64_t next_address; /* the first that no mapping has */
-    struct mapping *mappings;
+    uint32_t blocks;   /* of the volume */
+    uint32_t head;     /* the first of them that is a file's; 0 until the core has opened the volume */
+    bool shares_syncs; /* it has four journals: the syncs of a commit serve those before, too */
     struct gathered gathered;
-    struct stored stored;
-    unsigned char *read; /* room for MOST_READ blocks */
+    struct counts counts;
+    struct backup *backup; /* a null pointer where none is being made */
+    unsigned char *read;   /* room for MOST_READ blocks */
     struct reading reading[READS_KEPT];
     unsigned readings; /* how many were made */
     _Atomic uint64_t acknowledged;
@@ -184,45 +174,49 @@ bool has_write(famsync *handle);
 int begin_gathering(struct gathered *gathered, unsigned pieces);
 void end_gathering(struct gathered *gathered);
 
-/* supply.c: reads blocks of the volume, and supplies them to the core. Before the volume is opened, the first block;
-   and then each block that opening wants, with those behind it if it wanted the block after the last ones. `*last`
-   begins as zeros. */
-int supply_head(famsync *handle);
-int supply_to_open(famsync *handle, uint32_t block, struct reading *last);
-/* Reads up to MOST_READ blocks to `read`, whole. */
-int read_blocks(famsync *handle, uint32_t block, uint32_t count);
-/* The block that the core wants, and up to as many behind it as `bytes` take. */
-int supply(famsync *handle, uint32_t block, size_t bytes);
+/* supply.c: reads blocks of the volume, and supplies them to the core. To open the volume, each block that the core
+   wants, with those behind it if it wanted the block after the last ones. `*opening` begins as zeros. Once the volume
+   is open, those of them that are the files' are forgotten. */
+int supply_to_open(famsync *handle, uint32_t block, struct opening *opening);
+void forget_supplied(famsync *handle, const struct opening *opening);
+/* Reads blocks of the volume to `bytes`, whole. */
+int read_blocks(famsync *handle, uint32_t block, uint32_t count, unsigned char *bytes);
+/* The block that the core wants, and those behind it: so many in all, or MOST_READ where these are more. */
+int supply(famsync *handle, uint32_t block, uint64_t pages);
 
-/* stored.c: the pages that the core has stores of which no commit has. Each of them takes a frame, so there are no more
-   than frames. */
-int begin_stored(struct stored *stored, unsigned most);
-void end_stored(struct stored *stored);
-void add_stored(struct stored *stored, unsigned file, uint64_t page);
-/* How many of some pages of a file are among them. */
-size_t stored_among(const struct stored *stored, unsigned file, uint64_t first, size_t count);
-/* Forgets those of a file from a page on; and all. */
-void cut_stored(struct stored *stored, unsigned file, uint64_t first);
-void forget_stored(struct stored *stored);
-
-/* ranges.c: loads and stores, and what maps a file; the caller has its turn. */
-/* The address of a mapping of all pages that a file can have, which is made once. */
-int map_whole(famsync *handle, unsigned file, uint64_t *address);
-int load_range(famsync *handle, uint64_t address, unsigned char *bytes, size_t count, size_t *done);
-int store_range(famsync *handle, uint64_t address, const unsigned char *bytes, size_t count, size_t *done);
+/* ranges.c: ranges of bytes of a file, in the core's pages; the caller has its turn, and the range is within the file.
+   `*done` is how many bytes were read or written, whatever the code. */
+int read_range(famsync *handle, unsigned file, uint64_t offset, unsigned char *bytes, size_t count, size_t *done);
+int write_range(famsync *handle, unsigned file, uint64_t offset, const unsigned char *bytes, size_t count,
+                size_t *done);
+/* How many of some pages of a file the next commit has already. */
+uint64_t staged_among(famsync *handle, unsigned file, uint64_t first, uint64_t count);
 
 /* memory.c: the stores to plain memory, for a commit; the caller has its turn. */
 int take_stores(famsync *handle);
 void put_stores_back(famsync *handle);
 void stores_are_committed(famsync *handle);
-/* Whether plain memory of a file is open. */
-bool has_memory(const famsync *handle, unsigned file);
+/* How many pages of plain memory were stored to that the core doesn't have for the next commit. */
+uint64_t stored_pages(famsync *handle);
+/* The plain memory of a file that is open; a null pointer where none is. */
+famsync_memory *memory_of_file(const famsync *handle, unsigned file);
+/* Reads and writes a range of a file by its plain memory; the same as with the core's pages. */
+void read_memory(const famsync_memory *memory, uint64_t offset, unsigned char *bytes, size_t count);
+int write_memory(famsync_memory *memory, uint64_t offset, const unsigned char *bytes, size_t count);
+
+/* backup.c: copies the blocks that are about to be overwritten to the backup that is being made, if any. */
+void save_for_backup(famsync *handle);
+
+/* heap.c: the bytes that the cores of all sessions of this process have of its memory. */
+uint64_t memory_in_use(void);
 
 /* background.c: the thread that writes what is left of a commit. */
 void begin_background(famsync *handle);
 void end_background(famsync *handle);
 /* Makes what is left of a commit, up to its next sync, or until another call comes; the caller has its turn. */
 int write_out(famsync *handle, bool gives_way);
+/* Makes all that is left of commits. */
+int write_all_out(famsync *handle);
 
 /* forks.c: the handles of this process, so that a forked one lets their volumes go. */
 int enter_handle(famsync *handle);

@@ -67,12 +67,12 @@ static famsync_memory *new_memory(famsync *handle, unsigned file, size_t length)
     return NULL;
 }
 
-bool has_memory(const famsync *handle, unsigned file)
+famsync_memory *memory_of_file(const famsync *handle, unsigned file)
 {
     for (famsync_memory *memory = handle->memories; memory; memory = memory->next_one)
         if (memory->file == file)
-            return true;
-    return false;
+            return memory;
+    return NULL;
 }
 
 /* Makes memory that was filled ready for stores; or for none, in a session that only reads. */
@@ -89,9 +89,7 @@ static int make_ready(famsync_memory *memory)
 static int fill(famsync *handle, famsync_memory *memory)
 {
     size_t done;
-    int code = map_whole(handle, memory->file, &memory->address);
-    if (code == FAMSYNC_OK)
-        code = load_range(handle, memory->address, memory->at, memory->length, &done);
+    int code = read_range(handle, memory->file, 0, memory->at, memory->length, &done);
     return code == FAMSYNC_OK ? make_ready(memory) : code;
 }
 
@@ -106,7 +104,7 @@ static int open_memory(famsync *handle, const char *file, famsync_memory **opene
     length = handle->file[number].length;
     if (length == 0)
         return FAMSYNC_ARGUMENT;
-    if (has_memory(handle, number))
+    if (memory_of_file(handle, number))
         return FAMSYNC_OVERLAP;
     memory = length > SIZE_MAX / 2 ? NULL : new_memory(handle, number, (size_t)length);
     if (!memory)
@@ -185,6 +183,27 @@ static size_t dirty_in(const famsync_memory *memory)
     return count;
 }
 
+/* Of those pages, how many the core has for the next commit already. */
+static uint64_t staged_in(const famsync_memory *memory)
+{
+    uint64_t count = 0;
+    for (size_t page = memory->open.begin; page < memory->open.end; page++)
+        if (is_stored(memory, page))
+            count += staged_among(memory->handle, memory->file, page * (memory->grain / PAGE), pages_in(memory, page));
+    return count;
+}
+
+uint64_t stored_pages(famsync *handle)
+{
+    uint64_t count = 0;
+    sigset_t blocked;
+    lock_pages(handle, &blocked);
+    for (const famsync_memory *memory = handle->memories; memory; memory = memory->next_one)
+        count += dirty_in(memory) - staged_in(memory);
+    unlock_pages(handle, &blocked);
+    return count;
+}
+
 size_t famsync_memory_dirty(const famsync_memory *memory)
 {
     sigset_t blocked;
@@ -222,6 +241,21 @@ int famsync_memory_touch(famsync_memory *memory, size_t offset, size_t count)
     if (count == 0)
         return FAMSYNC_OK;
     return touch(memory, offset / memory->grain, (offset + count - 1) / memory->grain + 1);
+}
+
+void read_memory(const famsync_memory *memory, uint64_t offset, unsigned char *bytes, size_t count)
+{
+    memmove(bytes, memory->at + offset, count);
+}
+
+/* The pages stay open meanwhile, as they are closed by a commit alone, and the caller has its turn. The lock of the
+   handler isn't held while bytes are copied, since these may be in plain memory, too, or anywhere else. */
+int write_memory(famsync_memory *memory, uint64_t offset, const unsigned char *bytes, size_t count)
+{
+    int code = touch(memory, (size_t)offset / memory->grain, ((size_t)offset + count - 1) / memory->grain + 1);
+    if (code == FAMSYNC_OK)
+        memmove(memory->at + offset, bytes, count);
+    return code;
 }
 
 /* Calls `each` for each run of pages of a span that were stored to by these flags, up to one that answers other than
@@ -285,20 +319,16 @@ static int store_run(famsync_memory *memory, size_t first, size_t end)
 {
     size_t begin = first * memory->grain, stop = (end - 1) * memory->grain + bytes_in(memory, end - 1), done;
     memory->stored = true;
-    return store_range(memory->handle, memory->address + begin, memory->copy + begin, stop - begin, &done);
+    return write_range(memory->handle, memory->file, begin, memory->copy + begin, stop - begin, &done);
 }
 
-/* How many of the volume's pages were stored to here, and in the core since the last commit weren't. */
-static size_t added_by(const famsync_memory *memory)
+/* Whether the next commit has room for these pages of plain memory, which are closed, and for those of the core. */
+static bool has_room(famsync *handle, uint64_t pages)
 {
-    size_t count = 0;
-    for (size_t page = memory->open.begin; page < memory->open.end; page++) {
-        uint64_t first = page * (memory->grain / PAGE);
-        if (memory->dirty[page] == STORED)
-            count += pages_in(memory, page) -
-                     stored_among(&memory->handle->stored, memory->file, first, pages_in(memory, page));
-    }
-    return count;
+    uint64_t count = pages + (uint64_t)famsync_core_staged(handle->core, &handle->core.at);
+    for (famsync_memory *memory = handle->memories; memory && count > handle->frames; memory = memory->next_one)
+        count -= staged_in(memory);
+    return count <= handle->frames;
 }
 
 /* Closes all pages, and copies then those that were stored to; in between no page of this handle can be opened. Whether
@@ -307,14 +337,14 @@ static int take_pages(famsync *handle)
 {
     famsync_memory *memory;
     sigset_t blocked;
-    size_t count = handle->stored.pages;
+    uint64_t count = 0;
     int code = FAMSYNC_OK;
     lock_pages(handle, &blocked);
     for (memory = handle->memories; memory && code == FAMSYNC_OK; memory = memory->next_one) {
         code = close_pages(memory);
-        count += code == FAMSYNC_OK ? added_by(memory) : 0;
+        count += code == FAMSYNC_OK ? dirty_in(memory) : 0;
     }
-    if (code == FAMSYNC_OK && count > handle->frames)
+    if (code == FAMSYNC_OK && !has_room(handle, count))
         code = FAMSYNC_NOFRAME;
     for (memory = handle->memories; memory && code == FAMSYNC_OK; memory = memory->next_one) {
         for_runs(memory, memory->dirty, memory->open, copy_run);

@@ -9,8 +9,8 @@ struct span {
     size_t begin, end;
 };
 
-/* A file's bytes as plain memory. "Page" means a page of the system, which may hold several pages of the volume. A field
-   is guarded by the lock that its comment names. */
+/* A file's bytes as plain memory. "Page" means a page of the system, which may hold several pages of the volume. A
+   field is guarded by the lock that its comment names. */
 struct famsync_memory {
     famsync *handle;
     famsync_memory *next_one; /* the handle's next memory */
@@ -19,7 +19,6 @@ struct famsync_memory {
     size_t room;              /* bytes of the memory: whole pages */
     size_t grain;             /* bytes of a page */
     size_t pages;             /* how many pages there are */
-    uint64_t address;         /* where the core has the file mapped */
     unsigned file;            /* the file's number */
     struct entry *entry;      /* in the handler's table; null if the handler doesn't serve this memory */
     bool stored;              /* the core has stores of it that aren't committed; `turn` */

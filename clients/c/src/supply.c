@@ -7,12 +7,12 @@
 #include <unistd.h>
 
 /* A file that ends before was cut off by somebody who didn't ask for the lock. */
-int read_blocks(famsync *handle, uint32_t block, uint32_t count)
+int read_blocks(famsync *handle, uint32_t block, uint32_t count, unsigned char *bytes)
 {
-    size_t bytes = (size_t)count * PAGE, have = 0;
-    while (have < bytes) {
-        ssize_t got = pread(handle->volume.file, handle->read + have, bytes - have,
-                            (off_t)((uint64_t)block * PAGE + have));
+    size_t size = (size_t)count * PAGE, have = 0;
+    while (have < size) {
+        ssize_t got = pread(handle->volume.file, bytes + have, size - have, (off_t)((uint64_t)block * PAGE + have));
+        handle->counts.reads++;
         if (got < 0 && errno == EINTR)
             continue;
         if (got == 0)
@@ -27,7 +27,7 @@ int read_blocks(famsync *handle, uint32_t block, uint32_t count)
 /* Reads blocks and supplies those of them that the core doesn't know: of the others it has later bytes. */
 static int read_and_supply(famsync *handle, uint32_t block, uint32_t count)
 {
-    int code = read_blocks(handle, block, count);
+    int code = read_blocks(handle, block, count, handle->read);
     for (uint32_t i = 0; i < count && code == FAMSYNC_OK; i++)
         if (famsync_core_is_known(handle->core, block + i, &handle->core.at) == 0)
             code = code_of(
@@ -35,40 +35,37 @@ static int read_and_supply(famsync *handle, uint32_t block, uint32_t count)
     return code;
 }
 
-int supply_head(famsync *handle)
-{
-    int64_t head;
-    int code = read_and_supply(handle, 0, 1);
-    if (code != FAMSYNC_OK)
-        return code;
-    head = famsync_core_head(handle->core, &handle->core.at);
-    if (head < 0)
-        return code_of(head);
-    handle->head = (uint32_t)head;
-    return FAMSYNC_OK;
-}
-
 /* The core opens the volume from the beginning after each block that it lacked. So where it wants the block behind
-   those that it wanted last, as it does for the records of an open journal, MORE times as many are read. */
-enum { MORE = 32 };
+   those that it wanted last, as it does for the records of an open journal, MORE times as many are read, up to MOST. */
+enum { MORE = 32, MOST = 1024 };
 
-int supply_to_open(famsync *handle, uint32_t block, struct reading *last)
+int supply_to_open(famsync *handle, uint32_t block, struct opening *opening)
 {
-    uint64_t count = last->count > 0 && block == last->first + last->count ? MORE * (uint64_t)last->count : 1;
-    uint32_t end = block < handle->head && handle->head < handle->blocks ? handle->head : handle->blocks;
+    const struct reading *last = &opening->last;
+    uint32_t count = last->count > 0 && block == last->first + last->count ? MORE * last->count : 1, end;
     int code = FAMSYNC_OK;
     /* what is known isn't wanted: it would be asked for again and again */
-    if (block >= end || famsync_core_is_known(handle->core, block, &handle->core.at) != 0)
+    if (block >= handle->blocks || famsync_core_is_known(handle->core, block, &handle->core.at) != 0)
         return FAMSYNC_DEVICE;
-    if (count > end - block)
-        count = end - block;
-    *last = (struct reading){block, (uint32_t)count};
-    for (end = block + (uint32_t)count; block < end && code == FAMSYNC_OK; block += MOST_READ)
+    if (count > MOST)
+        count = MOST;
+    if (count > handle->blocks - block)
+        count = handle->blocks - block;
+    opening->last = (struct reading){block, count};
+    end = block + count;
+    opening->end = end > opening->end ? end : opening->end;
+    for (; block < end && code == FAMSYNC_OK; block += MOST_READ)
         code = read_and_supply(handle, block, end - block < MOST_READ ? end - block : MOST_READ);
     return code;
 }
 
-/* Makes room for another read: what was read for the oldest is in the core's frames by now, or is read again. */
+void forget_supplied(famsync *handle, const struct opening *opening)
+{
+    for (uint32_t block = handle->head; block < opening->end; block++)
+        famsync_core_forget(handle->core, block, &handle->core.at);
+}
+
+/* Makes room for another read: what was read for the oldest is read again where it is wanted. */
 static void forget_oldest(famsync *handle, struct reading *reading)
 {
     for (uint32_t i = 0; i < reading->count; i++)
@@ -76,21 +73,19 @@ static void forget_oldest(famsync *handle, struct reading *reading)
     reading->count = 0;
 }
 
-int supply(famsync *handle, uint32_t block, size_t bytes)
+int supply(famsync *handle, uint32_t block, uint64_t pages)
 {
-    uint64_t count = bytes / PAGE + 1;
+    uint32_t count = pages < MOST_READ ? (uint32_t)pages : MOST_READ;
     struct reading *reading = &handle->reading[handle->readings % READS_KEPT];
     /* what is known isn't wanted: it would be asked for again and again */
     if (block >= handle->blocks || famsync_core_is_known(handle->core, block, &handle->core.at) != 0)
         return FAMSYNC_DEVICE;
-    if (count > MOST_READ)
-        count = MOST_READ;
     if (count > handle->blocks - block)
         count = handle->blocks - block;
     forget_oldest(handle, reading);
     if (block >= handle->head) {
-        *reading = (struct reading){block, (uint32_t)count};
+        *reading = (struct reading){block, count};
         handle->readings++;
     }
-    return read_and_supply(handle, block, (uint32_t)count);
+    return read_and_supply(handle, block, count);
 }

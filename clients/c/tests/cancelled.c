@@ -29,7 +29,6 @@ ssize_t pread(int file, void *bytes, size_t count, off_t offset)
 }
 
 static famsync *handle, *second;
-static uint64_t address;
 static unsigned char byte;
 static char other[100];
 static int code;
@@ -45,7 +44,7 @@ static void *commit(void *argument)
 static void *load(void *argument)
 {
     (void)argument;
-    code = famsync_load(handle, address + 8 * 4096, &byte, 1, NULL);
+    code = famsync_read(handle, 0, 8 * 4096, &byte, 1, NULL);
     pthread_testcancel();
     return NULL;
 }
@@ -86,29 +85,26 @@ static void cancelled(void *(*call)(void *))
 
 static void store(famsync *to, uint64_t at)
 {
-    WANT_CODE(famsync_store(to, at, "x", 1, NULL), FAMSYNC_OK);
+    WANT_CODE(famsync_write(to, 0, at, "x", 1, NULL), FAMSYNC_OK);
 }
 
 int main(void)
 {
-    uint64_t there;
     alarm(120);
     make_volume(16, "a=65536");
     snprintf(other, sizeof other, "%s/other.img", folder);
     WANT(rename(volume, other) == 0);
     make_volume(16, "a=65536");
     handle = opened_with((struct famsync_options){.foreground = 1});
-    WANT_CODE(famsync_map(handle, "a", 0, 0, FAMSYNC_READ | FAMSYNC_WRITE, &address), FAMSYNC_OK);
-    store(handle, address);
+    store(handle, 0);
     cancelled(commit);
     WANT(famsync_acknowledged(handle) == 1);
     cancelled(load);
     cancelled(begin);
-    WANT_CODE(famsync_map(second, "a", 0, 0, FAMSYNC_READ | FAMSYNC_WRITE, &there), FAMSYNC_OK);
-    store(second, there);
+    store(second, 0);
     WANT_CODE(famsync_msync(second, NULL), FAMSYNC_OK);
     cancelled(end);
-    store(handle, address + 4096);
+    store(handle, 4096);
     WANT_CODE(famsync_msync(handle, NULL), FAMSYNC_OK);
     WANT_CODE(famsync_close(handle), FAMSYNC_OK);
     printf("clients/c: cancelled: as it should be\n");

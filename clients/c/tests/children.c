@@ -168,15 +168,14 @@ static void generations(void)
 static void arguments_in_child(famsync *handle, famsync_memory *memory)
 {
     famsync_memory *opened_memory;
-    uint64_t address;
     unsigned char byte;
     alarm(20);
-    WANT_CODE(famsync_map(handle, NULL, 0, 0, FAMSYNC_READ, &address), FAMSYNC_FORKED);
-    WANT_CODE(famsync_map(handle, "a", 0, 0, FAMSYNC_READ, NULL), FAMSYNC_FORKED);
-    WANT_CODE(famsync_load(handle, 65536, NULL, 1, NULL), FAMSYNC_FORKED);
-    WANT_CODE(famsync_load(handle, UINT64_MAX, &byte, 1, NULL), FAMSYNC_FORKED);
-    WANT_CODE(famsync_store(handle, 65536, NULL, 1, NULL), FAMSYNC_FORKED);
-    WANT_CODE(famsync_store(handle, UINT64_MAX, &byte, 1, NULL), FAMSYNC_FORKED);
+    WANT_CODE(famsync_read(handle, 0, 0, NULL, 1, NULL), FAMSYNC_FORKED);
+    WANT_CODE(famsync_read(handle, 7, UINT64_MAX, &byte, 1, NULL), FAMSYNC_FORKED);
+    WANT_CODE(famsync_write(handle, 0, 0, NULL, 1, NULL), FAMSYNC_FORKED);
+    WANT_CODE(famsync_write(handle, 7, UINT64_MAX, &byte, 1, NULL), FAMSYNC_FORKED);
+    WANT_CODE(famsync_stat(handle, NULL), FAMSYNC_FORKED);
+    WANT_CODE(famsync_backup(handle, -1), FAMSYNC_FORKED);
     WANT_CODE(famsync_setlength(handle, NULL, 0), FAMSYNC_FORKED);
     WANT_CODE(famsync_memory_open(handle, NULL, &opened_memory), FAMSYNC_FORKED);
     WANT_CODE(famsync_memory_open(handle, "a", NULL), FAMSYNC_FORKED);

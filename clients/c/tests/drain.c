@@ -114,6 +114,11 @@ int32_t famsync_core_forget(famsync_core core, uint32_t block, uint8_t **at)
     return FAMSYNC_CORE_OK;
 }
 
+void save_for_backup(famsync *handle)
+{
+    want(handle->backup == NULL, "a backup is being made");
+}
+
 static void begin(unsigned pages)
 {
     size = (size_t)pages * PAGE;

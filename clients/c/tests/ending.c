@@ -4,22 +4,15 @@
 
 #include <stdatomic.h>
 
-static uint64_t mapped(famsync *handle, const char *file)
-{
-    uint64_t address;
-    WANT_CODE(famsync_map(handle, file, 0, 0, FAMSYNC_READ | FAMSYNC_WRITE, &address), FAMSYNC_OK);
-    return address;
-}
-
 static void in_the_background(void)
 {
     for (unsigned layout = 1; layout <= LAYOUTS; layout++) {
         make_volume_of(layout, 16, "a=65536");
         famsync *handle = opened();
-        uint64_t address = mapped(handle, "a"), mark;
+        uint64_t mark;
         for (uint64_t round = 1; round <= 20; round++) {
             unsigned waited = 0;
-            WANT_CODE(famsync_store(handle, address + round * 512, &round, 8, NULL), FAMSYNC_OK);
+            WANT_CODE(famsync_write(handle, 0, round * 512, &round, 8, NULL), FAMSYNC_OK);
             WANT_CODE(famsync_msync(handle, &mark), FAMSYNC_OK);
             WANT(mark == round);
             for (; open_gates(layout, 16) > 0; waited++) {
@@ -36,9 +29,8 @@ static void in_the_foreground(unsigned layout)
     uint64_t value = 0;
     make_volume_of(layout, 16, "a=65536");
     famsync *handle = opened_with((struct famsync_options){.foreground = 1});
-    uint64_t address = mapped(handle, "a");
     for (uint64_t round = 1; round <= 5; round++) {
-        WANT_CODE(famsync_store(handle, address + round * 4096, &round, 8, NULL), FAMSYNC_OK);
+        WANT_CODE(famsync_write(handle, 0, round * 4096, &round, 8, NULL), FAMSYNC_OK);
         WANT_CODE(famsync_msync(handle, NULL), FAMSYNC_OK);
         usleep(2000);
         WANT(open_gates(layout, 16) == gates_left(layout, (unsigned)round));
@@ -46,9 +38,8 @@ static void in_the_foreground(unsigned layout)
     WANT_CODE(famsync_close(handle), FAMSYNC_OK);
     WANT(open_gates(layout, 16) == 0);
     handle = opened();
-    address = mapped(handle, "a");
     for (uint64_t round = 1; round <= 5; round++) {
-        WANT_CODE(famsync_load(handle, address + round * 4096, &value, 8, NULL), FAMSYNC_OK);
+        WANT_CODE(famsync_read(handle, 0, round * 4096, &value, 8, NULL), FAMSYNC_OK);
         WANT(value == round);
     }
     WANT_CODE(famsync_close(handle), FAMSYNC_OK);
@@ -65,10 +56,9 @@ static void cut_off(void)
             pid_t child = fork();
             if (child == 0) {
                 famsync *handle = opened_with((struct famsync_options){.foreground = 1});
-                uint64_t address = mapped(handle, "a");
                 for (uint64_t round = 1; round <= rounds; round++) {
-                    WANT_CODE(famsync_store(handle, address + round * 4096, &round, 8, NULL), FAMSYNC_OK);
-                    WANT_CODE(famsync_store(handle, address, &round, 8, NULL), FAMSYNC_OK);
+                    WANT_CODE(famsync_write(handle, 0, round * 4096, &round, 8, NULL), FAMSYNC_OK);
+                    WANT_CODE(famsync_write(handle, 0, 0, &round, 8, NULL), FAMSYNC_OK);
                     WANT_CODE(famsync_msync(handle, NULL), FAMSYNC_OK);
                 }
                 kill(getpid(), SIGKILL);
@@ -77,9 +67,9 @@ static void cut_off(void)
             WANT(open_gates(layout, 16) == gates_left(layout, (unsigned)rounds));
             famsync *handle = opened();
             WANT(open_gates(layout, 16) == 0);
-            uint64_t address = mapped(handle, "a"), value;
+            uint64_t value;
             for (uint64_t round = 0; round <= rounds; round++) {
-                WANT_CODE(famsync_load(handle, address + round * 4096, &value, 8, NULL), FAMSYNC_OK);
+                WANT_CODE(famsync_read(handle, 0, round * 4096, &value, 8, NULL), FAMSYNC_OK);
                 WANT(value == (round == 0 ? rounds : round));
             }
             WANT_CODE(famsync_close(handle), FAMSYNC_OK);
@@ -90,11 +80,11 @@ static void cut_off(void)
    commit. Three of them were acknowledged when the session is cut off, and the next session has them. */
 #define LARGE 1500u
 
-static void store_large(famsync *handle, uint64_t address, uint64_t round)
+static void store_large(famsync *handle, uint64_t round)
 {
     for (uint64_t page = 0; page < LARGE; page++) {
         uint64_t words[2] = {page, round};
-        WANT_CODE(famsync_store(handle, address + page * 4096 + 8 * (page % 500), words, 16, NULL), FAMSYNC_OK);
+        WANT_CODE(famsync_write(handle, 0, page * 4096 + 8 * (page % 500), words, 16, NULL), FAMSYNC_OK);
     }
 }
 
@@ -106,10 +96,9 @@ static void large_commits(void)
     pid_t child = fork();
     if (child == 0) {
         famsync *handle = opened_with((struct famsync_options){.foreground = 1});
-        uint64_t address = mapped(handle, "a");
         for (uint64_t round = 1; round <= 3; round++) {
-            store_large(handle, address, round);
-            if (round == 1) /* later it would wait until the commits before are done */
+            store_large(handle, round);
+            if (round == 2)
                 WANT_CODE(famsync_setlength(handle, "b", 4997), FAMSYNC_OK);
             WANT_CODE(famsync_msync(handle, NULL), FAMSYNC_OK);
         }
@@ -120,15 +109,15 @@ static void large_commits(void)
     famsync *handle = opened();
     WANT(open_gates(4, LARGE + 1) == 0);
     WANT(famsync_frames(handle) == LARGE && famsync_file_length(handle, 1) == 4997);
-    uint64_t address = mapped(handle, "a"), words[2];
+    uint64_t words[2];
     for (uint64_t page = 0; page < LARGE; page++) {
-        WANT_CODE(famsync_load(handle, address + page * 4096 + 8 * (page % 500), words, 16, NULL), FAMSYNC_OK);
+        WANT_CODE(famsync_read(handle, 0, page * 4096 + 8 * (page % 500), words, 16, NULL), FAMSYNC_OK);
         WANT(words[0] == page && words[1] == 3);
     }
-    store_large(handle, address, 4);
-    WANT_CODE(famsync_store(handle, address + LARGE * 4096, &byte, 1, NULL), FAMSYNC_NOFRAME);
+    store_large(handle, 4);
+    WANT_CODE(famsync_write(handle, 0, LARGE * 4096, &byte, 1, NULL), FAMSYNC_NOFRAME);
     WANT_CODE(famsync_msync(handle, NULL), FAMSYNC_OK);
-    WANT_CODE(famsync_store(handle, address + LARGE * 4096, &byte, 1, NULL), FAMSYNC_OK);
+    WANT_CODE(famsync_write(handle, 0, LARGE * 4096, &byte, 1, NULL), FAMSYNC_OK);
     WANT_CODE(famsync_close(handle), FAMSYNC_OK);
     WANT(open_gates(4, LARGE + 1) == 0);
 }
@@ -136,14 +125,12 @@ static void large_commits(void)
 static void in_child(famsync *handle, famsync_memory *memory)
 {
     int *at = famsync_memory_at(memory);
-    uint64_t address = 0;
     unsigned char byte = 0;
     at[0] = 77;
     at[1500] = 78;
     bool right = at[0] == 77 && famsync_msync(handle, NULL) == FAMSYNC_FORKED;
-    right &= famsync_map(handle, "a", 0, 0, FAMSYNC_READ, &address) == FAMSYNC_FORKED;
-    right &= famsync_load(handle, 65536, &byte, 1, NULL) == FAMSYNC_FORKED;
-    right &= famsync_store(handle, 65536, &byte, 1, NULL) == FAMSYNC_FORKED;
+    right &= famsync_read(handle, 0, 0, &byte, 1, NULL) == FAMSYNC_FORKED;
+    right &= famsync_write(handle, 0, 0, &byte, 1, NULL) == FAMSYNC_FORKED;
     right &= famsync_memory_dirty(memory) == 0;
     right &= famsync_memory_close(memory) == FAMSYNC_OK && famsync_close(handle) == FAMSYNC_OK;
     _exit(right ? 0 : 1);
@@ -187,9 +174,8 @@ static void forked(void)
 static void *commits(void *argument)
 {
     famsync *handle = argument;
-    uint64_t address = mapped(handle, "a");
     for (uint64_t round = 1; round <= 300; round++) {
-        WANT_CODE(famsync_store(handle, address + round * 8, &round, 8, NULL), FAMSYNC_OK);
+        WANT_CODE(famsync_write(handle, 0, round * 8, &round, 8, NULL), FAMSYNC_OK);
         WANT_CODE(famsync_msync(handle, NULL), FAMSYNC_OK);
     }
     return NULL;
@@ -225,9 +211,9 @@ static void *shares(void *argument)
 {
     famsync *handle = argument;
     static atomic_uint number;
-    uint64_t address = mapped(handle, "a") + 4096 * (uint64_t)atomic_fetch_add(&number, 1), last = 0, mark;
+    uint64_t at = 4096 * (uint64_t)atomic_fetch_add(&number, 1), last = 0, mark;
     for (uint64_t round = 1; round <= 100; round++) {
-        WANT_CODE(famsync_store(handle, address, &round, 8, NULL), FAMSYNC_OK);
+        WANT_CODE(famsync_write(handle, 0, at, &round, 8, NULL), FAMSYNC_OK);
         WANT_CODE(famsync_msync(handle, &mark), FAMSYNC_OK);
         WANT(mark > last && famsync_acknowledged(handle) >= mark);
         last = mark;
@@ -259,10 +245,9 @@ static void two_volumes(void)
     make_volume_of(3, 16, "b=5000/9000");
     first = opened();
     WANT_CODE(famsync_open(moved, NULL, &second), FAMSYNC_OK);
-    uint64_t b = mapped(first, "b"), a = mapped(second, "a");
     for (unsigned char i = 1; i < 20; i++) {
-        WANT_CODE(famsync_store(first, b + i, &i, 1, NULL), FAMSYNC_OK);
-        WANT_CODE(famsync_store(second, a + i * 3000u, &i, 1, NULL), FAMSYNC_OK);
+        WANT_CODE(famsync_write(first, 0, i, &i, 1, NULL), FAMSYNC_OK);
+        WANT_CODE(famsync_write(second, 0, i * 3000u, &i, 1, NULL), FAMSYNC_OK);
         WANT_CODE(famsync_msync(i % 2 ? first : second, NULL), FAMSYNC_OK);
     }
     WANT(famsync_acknowledged(first) == 10 && famsync_acknowledged(second) == 9);

@@ -1,5 +1,5 @@
-/* A read that fails is answered by FAMSYNC_DEVICE, and the session goes on: the call may be made again. What a commit
-   had stored of plain memory by then isn't committed without the rest. */
+/* A read that fails is answered by FAMSYNC_DEVICE, with how many bytes came before, and the session goes on: the call
+   may be made again. A commit reads nothing. */
 #include "test.h"
 
 #include <sys/syscall.h>
@@ -17,31 +17,28 @@ ssize_t pread(int file, void *bytes, size_t count, off_t offset)
 }
 
 static famsync *handle;
-static uint64_t address;
 
-/* So few frames that a page which memory was filled from isn't in one any more. */
 static void begin(void)
 {
     make_volume(4, "a=2097152"); /* more than what the library keeps of its reads */
-    handle = opened_with((struct famsync_options){.foreground = 1, .frames = 4});
-    WANT_CODE(famsync_map(handle, "a", 0, 0, FAMSYNC_READ | FAMSYNC_WRITE, &address), FAMSYNC_OK);
+    handle = opened_with((struct famsync_options){.foreground = 1});
 }
 
-static void loads_and_stores(void)
+static void reads_and_writes(void)
 {
     unsigned char byte = 1;
     begin();
     fails_from = 1;
     for (int i = 0; i < 2; i++) {
         errno = 0;
-        WANT_CODE(famsync_load(handle, address, &byte, 1, NULL), FAMSYNC_DEVICE);
+        WANT_CODE(famsync_read(handle, 0, 0, &byte, 1, NULL), FAMSYNC_DEVICE);
         WANT(errno == EIO);
-        WANT_CODE(famsync_store(handle, address, &byte, 1, NULL), FAMSYNC_DEVICE);
+        WANT_CODE(famsync_write(handle, 0, 0, &byte, 1, NULL), FAMSYNC_DEVICE);
     }
     fails_from = 0;
-    WANT_CODE(famsync_load(handle, address, &byte, 1, NULL), FAMSYNC_OK);
+    WANT_CODE(famsync_read(handle, 0, 0, &byte, 1, NULL), FAMSYNC_OK);
     WANT(byte == 0);
-    WANT_CODE(famsync_store(handle, address, "x", 1, NULL), FAMSYNC_OK);
+    WANT_CODE(famsync_write(handle, 0, 0, "x", 1, NULL), FAMSYNC_OK);
     WANT_CODE(famsync_msync(handle, NULL), FAMSYNC_OK);
     WANT_CODE(famsync_close(handle), FAMSYNC_OK);
 }
@@ -52,52 +49,90 @@ static off_t place_of(unsigned page)
     return (off_t)(first_home(1, 4) + page) * 4096;
 }
 
-/* A commit whose last page can't be read: whether one was met by that, which is the core's to say. */
-static bool refused(famsync_memory **memory)
+/* Some pages at the begin of a range can be read, and those behind them can't. What is read ahead in one call fails as
+   a whole, so the reads are of one page here, but for the last one. */
+static void in_the_middle(void)
 {
-    unsigned char *at;
-    int code;
+    static unsigned char bytes[20 * 4096];
+    size_t done;
     begin();
-    WANT_CODE(famsync_memory_open(handle, "a", memory), FAMSYNC_OK);
-    at = famsync_memory_at(*memory);
-    for (size_t page = 508; page < 512; page++) { /* so that others are in the frames */
-        unsigned char byte;
-        WANT_CODE(famsync_load(handle, address + page * 4096, &byte, 1, NULL), FAMSYNC_OK);
-    }
-    at[0] = at[5 * 4096] = 1;
-    fails_from = place_of(5);
-    errno = 0;
-    code = famsync_msync(handle, NULL);
+    for (unsigned page = 0; page < 3; page++)
+        WANT_CODE(famsync_read(handle, 0, page * 4096, bytes, 1, NULL), FAMSYNC_OK);
+    fails_from = place_of(3);
+    memset(bytes, 1, sizeof bytes);
+    WANT_CODE(famsync_read(handle, 0, 100, bytes, sizeof bytes, &done), FAMSYNC_DEVICE);
+    WANT(done == 3 * 4096 - 100 && errno == EIO && bytes[done - 1] == 0 && bytes[done] == 1);
+    WANT_CODE(famsync_read(handle, 0, 100, bytes, done, &done), FAMSYNC_OK);
+    WANT(done == 3 * 4096 - 100);
+    /* of these pages the last one alone is read before it is written, as the others are written whole */
+    WANT_CODE(famsync_write(handle, 0, 4096, bytes, 2 * 4096 + 1, &done), FAMSYNC_DEVICE);
+    WANT(done == 2 * 4096 && errno == EIO);
     fails_from = 0;
-    WANT(code == FAMSYNC_OK || (code == FAMSYNC_DEVICE && errno == EIO && famsync_memory_dirty(*memory) == 2));
-    return code == FAMSYNC_DEVICE;
+    WANT_CODE(famsync_write(handle, 0, 4096, bytes, 2 * 4096 + 1, &done), FAMSYNC_OK);
+    WANT(done == 2 * 4096 + 1);
+    WANT_CODE(famsync_msync(handle, NULL), FAMSYNC_OK);
+    WANT_CODE(famsync_close(handle), FAMSYNC_OK);
+}
+
+/* Whole pages are written without a read, and so is the end of the file. */
+static void whole_pages(void)
+{
+    static unsigned char bytes[3 * 4096];
+    make_volume(8, "a=10000");
+    handle = opened_with((struct famsync_options){.foreground = 1});
+    memset(bytes, 5, sizeof bytes);
+    fails_from = 1;
+    WANT_CODE(famsync_write(handle, 0, 0, bytes, 10000, NULL), FAMSYNC_OK);
+    WANT_CODE(famsync_read(handle, 0, 0, bytes, 10000, NULL), FAMSYNC_OK);
+    WANT_CODE(famsync_msync(handle, NULL), FAMSYNC_OK);
+    fails_from = 0;
+    WANT_CODE(famsync_close(handle), FAMSYNC_OK);
 }
 
 static void commits(void)
 {
     famsync_memory *memory;
     unsigned char *at;
-    bool met = refused(&memory);
-    WANT_CODE(famsync_msync(handle, NULL), FAMSYNC_OK);
-    WANT(famsync_acknowledged(handle) == (met ? 1 : 2));
+    begin();
+    WANT_CODE(famsync_memory_open(handle, "a", &memory), FAMSYNC_OK);
+    at = famsync_memory_at(memory);
+    for (unsigned round = 1; round < 6; round++) {
+        at[0] = at[5 * 4096] = (unsigned char)round;
+        fails_from = 1;
+        WANT_CODE(famsync_msync(handle, NULL), FAMSYNC_OK);
+        fails_from = 0;
+    }
     WANT_CODE(famsync_memory_close(memory), FAMSYNC_OK);
     WANT_CODE(famsync_memory_open(handle, "a", &memory), FAMSYNC_OK);
     at = famsync_memory_at(memory);
-    WANT(at[0] == 1 && at[5 * 4096] == 1);
+    WANT(at[0] == 5 && at[5 * 4096] == 5);
     WANT_CODE(famsync_memory_close(memory), FAMSYNC_OK);
     WANT_CODE(famsync_close(handle), FAMSYNC_OK);
-    /* closed in between, the first page was stored, and the other wasn't */
-    met = refused(&memory);
-    WANT_CODE(famsync_memory_close(memory), FAMSYNC_OK);
-    WANT_CODE(famsync_msync(handle, NULL), met ? FAMSYNC_TORN : FAMSYNC_OK);
+}
+
+/* Plain memory isn't opened where its file can't be read, nor is a file grown whose last page can't be. */
+static void others(void)
+{
+    famsync_memory *memory;
+    make_volume_of(4, 8, "a=5000/9000");
+    handle = opened_with((struct famsync_options){.foreground = 1});
+    fails_from = 1;
+    WANT_CODE(famsync_memory_open(handle, "a", &memory), FAMSYNC_DEVICE);
+    WANT(memory == NULL && errno == EIO);
+    WANT_CODE(famsync_setlength(handle, "a", 9000), FAMSYNC_DEVICE);
+    WANT(famsync_file_length(handle, 0) == 5000);
+    fails_from = 0;
+    WANT_CODE(famsync_setlength(handle, "a", 9000), FAMSYNC_OK);
     WANT_CODE(famsync_close(handle), FAMSYNC_OK);
-    printf("clients/c: failed_reads: a commit was%s refused by a read\n", met ? "" : "n't");
 }
 
 int main(void)
 {
-    loads_and_stores();
+    reads_and_writes();
+    in_the_middle();
+    whole_pages();
     commits();
+    others();
     printf("clients/c: failed_reads: as it should be\n");
     return 0;
 }

@@ -26,7 +26,6 @@ ssize_t pwritev(int file, const struct iovec *range, int count, off_t offset)
 }
 
 static famsync *handle;
-static uint64_t address;
 
 static void begin(void)
 {
@@ -36,15 +35,14 @@ static void begin(void)
     atomic_store(&waiting, 0);
     make_volume(16, "a=65536");
     handle = opened();
-    WANT_CODE(famsync_map(handle, "a", 0, 0, FAMSYNC_READ | FAMSYNC_WRITE, &address), FAMSYNC_OK);
-    WANT_CODE(famsync_store(handle, address, &number, sizeof number, NULL), FAMSYNC_OK);
+    WANT_CODE(famsync_write(handle, 0, 0, &number, sizeof number, NULL), FAMSYNC_OK);
 }
 
 /* The session is over, and the close answers once more why. */
 static void end(int error)
 {
     unsigned char byte;
-    WANT_CODE(famsync_load(handle, address, &byte, 1, NULL), FAMSYNC_BROKEN);
+    WANT_CODE(famsync_read(handle, 0, 0, &byte, 1, NULL), FAMSYNC_BROKEN);
     errno = 0;
     WANT_CODE(famsync_close(handle), FAMSYNC_DEVICE);
     WANT(errno == error);
@@ -60,7 +58,7 @@ static void in_the_background(void)
     while (atomic_load(&failed) == 0)
         usleep(1000);
     errno = 0;
-    WANT_CODE(famsync_load(handle, address, &byte, 1, NULL), FAMSYNC_DEVICE);
+    WANT_CODE(famsync_read(handle, 0, 0, &byte, 1, NULL), FAMSYNC_DEVICE);
     WANT(errno == ENOSPC);
     end(ENOSPC);
 }

@@ -6,39 +6,29 @@
 /* That of the volumes that are made. */
 static unsigned layout;
 
-static uint64_t mapped(famsync *handle, const char *file, uint64_t length)
-{
-    uint64_t address;
-    WANT_CODE(famsync_map(handle, file, 0, length, FAMSYNC_READ | FAMSYNC_WRITE, &address), FAMSYNC_OK);
-    return address;
-}
-
 static unsigned char bytes[CAPACITY], found[CAPACITY], none[CAPACITY];
 
 static void grows(void)
 {
-    uint64_t address;
     make_volume_of(layout, 12, "a=5000/40000 b=0/4096");
     famsync *handle = opened();
     WANT(famsync_frames(handle) == 11 && famsync_file_length(handle, 0) == 5000 && famsync_file_length(handle, 1) == 0);
     memset(bytes, 7, sizeof bytes);
-    address = mapped(handle, "a", CAPACITY);
-    WANT_CODE(famsync_store(handle, address, bytes, 5000, NULL), FAMSYNC_OK);
-    WANT_CODE(famsync_store(handle, address + 8192, bytes, 1, NULL), FAMSYNC_BUSADRERR);
+    WANT_CODE(famsync_write(handle, 0, 0, bytes, 5000, NULL), FAMSYNC_OK);
+    WANT_CODE(famsync_write(handle, 0, 8192, bytes, 1, NULL), FAMSYNC_EINVAL);
     WANT_CODE(famsync_msync(handle, NULL), FAMSYNC_OK);
     /* what it grows by is zeros, which can be stored to; nothing of it is durable yet */
     WANT_CODE(famsync_setlength(handle, "a", 20000), FAMSYNC_OK);
     WANT(famsync_file_length(handle, 0) == 20000);
-    WANT_CODE(famsync_load(handle, address, found, 20000, NULL), FAMSYNC_OK);
+    WANT_CODE(famsync_read(handle, 0, 0, found, 20000, NULL), FAMSYNC_OK);
     WANT(memcmp(found, bytes, 5000) == 0 && memcmp(found + 5000, none, 15000) == 0);
-    WANT_CODE(famsync_store(handle, address + 19999, bytes, 1, NULL), FAMSYNC_OK);
+    WANT_CODE(famsync_write(handle, 0, 19999, bytes, 1, NULL), FAMSYNC_OK);
     WANT_CODE(famsync_close(handle), FAMSYNC_OK);
     handle = opened();
     WANT(famsync_file_length(handle, 0) == 5000);
-    address = mapped(handle, "a", CAPACITY);
     /* the page in which it ends isn't in memory yet, and is brought there */
     WANT_CODE(famsync_setlength(handle, "a", 20000), FAMSYNC_OK);
-    WANT_CODE(famsync_store(handle, address + 19999, bytes, 1, NULL), FAMSYNC_OK);
+    WANT_CODE(famsync_write(handle, 0, 19999, bytes, 1, NULL), FAMSYNC_OK);
     WANT_CODE(famsync_setlength(handle, "a", 20000), FAMSYNC_OK);
     WANT_CODE(famsync_msync(handle, NULL), FAMSYNC_OK);
     WANT_CODE(famsync_close(handle), FAMSYNC_OK);
@@ -48,17 +38,18 @@ static void grows(void)
 static void shrinks(void)
 {
     famsync *handle = opened();
-    uint64_t address = mapped(handle, "a", CAPACITY);
     size_t done;
     WANT(famsync_file_length(handle, 0) == 20000);
-    WANT_CODE(famsync_load(handle, address, found, 20000, NULL), FAMSYNC_OK);
+    WANT_CODE(famsync_read(handle, 0, 0, found, 20000, NULL), FAMSYNC_OK);
     WANT(memcmp(found, bytes, 5000) == 0 && memcmp(found + 5000, none, 14999) == 0 && found[19999] == 7);
     /* what is cut off is gone, also where it grows again */
     WANT_CODE(famsync_setlength(handle, "a", 100), FAMSYNC_OK);
-    WANT_CODE(famsync_load(handle, address + 4090, found, 10, &done), FAMSYNC_BUSADRERR);
-    WANT(done == 6);
+    WANT_CODE(famsync_read(handle, 0, 90, found, 20, &done), FAMSYNC_OK);
+    WANT(done == 10);
+    WANT_CODE(famsync_read(handle, 0, 100, found, 20, &done), FAMSYNC_OK);
+    WANT(done == 0);
     WANT_CODE(famsync_setlength(handle, "a", CAPACITY), FAMSYNC_OK);
-    WANT_CODE(famsync_load(handle, address, found, CAPACITY, NULL), FAMSYNC_OK);
+    WANT_CODE(famsync_read(handle, 0, 0, found, CAPACITY, NULL), FAMSYNC_OK);
     WANT(memcmp(found, bytes, 100) == 0 && memcmp(found + 100, none, CAPACITY - 100) == 0);
     WANT_CODE(famsync_msync(handle, NULL), FAMSYNC_OK);
     WANT_CODE(famsync_setlength(handle, "a", 0), FAMSYNC_OK);
@@ -103,7 +94,6 @@ static void plain_memory(void)
 
 static void refusals(void)
 {
-    uint64_t address;
     make_volume_of(layout, 6, "a=5000/40000 b=16384");
     famsync *handle = opened();
     WANT_CODE(famsync_setlength(handle, "a", CAPACITY + 1), FAMSYNC_EINVAL);
@@ -120,16 +110,15 @@ static void refusals(void)
     WANT_CODE(famsync_msync(handle, NULL), FAMSYNC_OK);
     WANT_CODE(famsync_setlength(handle, "a", CAPACITY), FAMSYNC_OK);
     WANT_CODE(famsync_msync(handle, NULL), FAMSYNC_OK);
-    /* clean pages make room for those that a file grows by, and dirty ones don't */
+    /* pages that were read leave room for those that a file grows by, and those that were written don't */
     WANT_CODE(famsync_setlength(handle, "a", 4096), FAMSYNC_OK);
     WANT_CODE(famsync_msync(handle, NULL), FAMSYNC_OK);
-    address = mapped(handle, "b", 0);
-    WANT_CODE(famsync_load(handle, address, bytes, 16384, NULL), FAMSYNC_OK);
+    WANT_CODE(famsync_read(handle, 1, 0, bytes, 16384, NULL), FAMSYNC_OK);
     WANT_CODE(famsync_setlength(handle, "a", 16384), FAMSYNC_OK);
     WANT_CODE(famsync_msync(handle, NULL), FAMSYNC_OK);
     WANT_CODE(famsync_setlength(handle, "a", 4096), FAMSYNC_OK);
     WANT_CODE(famsync_msync(handle, NULL), FAMSYNC_OK);
-    WANT_CODE(famsync_store(handle, address, bytes, 16384, NULL), FAMSYNC_OK);
+    WANT_CODE(famsync_write(handle, 1, 0, bytes, 16384, NULL), FAMSYNC_OK);
     WANT_CODE(famsync_setlength(handle, "a", 16384), FAMSYNC_NOFRAME);
     WANT_CODE(famsync_msync(handle, NULL), FAMSYNC_OK);
     WANT_CODE(famsync_setlength(handle, "a", 16384), FAMSYNC_OK);
@@ -146,19 +135,14 @@ static void without_lengths(void)
     WANT_CODE(famsync_close(handle), FAMSYNC_OK);
 }
 
-struct work {
-    famsync *handle;
-    uint64_t address;
-};
-
 static void *stores(void *argument)
 {
-    struct work *work = argument;
+    famsync *handle = argument;
     for (unsigned round = 0; round < 50; round++) {
         unsigned char byte = (unsigned char)round;
-        WANT_CODE(famsync_store(work->handle, work->address, &byte, 1, NULL), FAMSYNC_OK);
-        WANT_CODE(famsync_msync(work->handle, NULL), FAMSYNC_OK);
-        WANT(famsync_file_length(work->handle, 0) >= 4096);
+        WANT_CODE(famsync_write(handle, 0, 0, &byte, 1, NULL), FAMSYNC_OK);
+        WANT_CODE(famsync_msync(handle, NULL), FAMSYNC_OK);
+        WANT(famsync_file_length(handle, 0) >= 4096);
     }
     return NULL;
 }
@@ -169,9 +153,8 @@ static void threads(void)
     pthread_t thread[2];
     make_volume_of(layout, 12, "a=4096/40000");
     famsync *handle = opened();
-    struct work work = {handle, mapped(handle, "a", CAPACITY)};
     for (unsigned i = 0; i < 2; i++)
-        WANT(pthread_create(&thread[i], NULL, stores, &work) == 0);
+        WANT(pthread_create(&thread[i], NULL, stores, handle) == 0);
     for (unsigned round = 0; round < 50; round++)
         WANT_CODE(famsync_setlength(handle, "a", round % 2 == 0 ? 20000 : 4096), FAMSYNC_OK);
     for (unsigned i = 0; i < 2; i++)

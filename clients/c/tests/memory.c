@@ -58,19 +58,66 @@ static void stores_are_found(void)
     famsync_memory *a = memory_of(handle, "a"), *b = memory_of(handle, "b");
     unsigned char *at = famsync_memory_at(a), *other = famsync_memory_at(b);
     WANT(at[0] == 1 && at[1] == 0 && at[4095] == 2 && at[4096] == 3 && at[19999] == 4 && other[4999] == 5);
-    /* loads and stores see what was committed */
-    uint64_t address;
-    unsigned char found[4];
-    WANT_CODE(famsync_map(handle, "a", 4096, 0, FAMSYNC_READ, &address), FAMSYNC_OK);
-    at[4097] = 9;
-    WANT_CODE(famsync_load(handle, address, found, 2, NULL), FAMSYNC_OK);
-    WANT(found[0] == 3 && found[1] == 0);
+    /* a read may go into plain memory, also of a file that has none */
+    WANT_CODE(famsync_read(handle, 0, 4096, at + 8192, 2, NULL), FAMSYNC_OK);
+    WANT(at[8192] == 3 && at[8193] == 0 && famsync_memory_dirty(a) == 1);
     WANT_CODE(famsync_msync(handle, NULL), FAMSYNC_OK);
-    /* and a load may go into plain memory */
-    WANT_CODE(famsync_load(handle, address, at + 8192, 2, NULL), FAMSYNC_OK);
-    WANT(at[8192] == 3 && at[8193] == 9 && famsync_memory_dirty(a) == 1);
+    WANT_CODE(famsync_memory_close(b), FAMSYNC_OK);
+    WANT_CODE(famsync_read(handle, 1, 4990, at + 12000, 10, NULL), FAMSYNC_OK);
+    WANT(at[12009] == 5 && famsync_memory_dirty(a) == 1);
+    b = memory_of(handle, "b");
     WANT_CODE(famsync_memory_close(a), FAMSYNC_OK);
     WANT_CODE(famsync_memory_close(b), FAMSYNC_OK);
+    WANT_CODE(famsync_close(handle), FAMSYNC_OK);
+}
+
+/* Reads and writes of a file whose memory is open use that. */
+static void both_ways(void)
+{
+    unsigned char bytes[9000], found[9000];
+    size_t done;
+    make_volume(6, "a=20000 b=5000");
+    famsync *handle = opened();
+    memset(bytes, 7, sizeof bytes);
+    WANT_CODE(famsync_write(handle, 0, 10, bytes, 10, NULL), FAMSYNC_OK);
+    famsync_memory *a = memory_of(handle, "a");
+    unsigned char *at = famsync_memory_at(a);
+    WANT(at[9] == 0 && at[10] == 7 && at[19] == 7 && at[20] == 0 && famsync_memory_dirty(a) == 0);
+    at[4096] = 8;
+    WANT_CODE(famsync_read(handle, 0, 4096, found, 2, &done), FAMSYNC_OK);
+    WANT(done == 2 && found[0] == 8 && found[1] == 0);
+    WANT_CODE(famsync_write(handle, 0, 8190, bytes, 9000, &done), FAMSYNC_OK); /* pages 1 to 4 */
+    WANT(done == 9000 && at[8189] == 0 && at[8190] == 7 && at[17189] == 7 && at[17190] == 0);
+    WANT(famsync_memory_dirty(a) == 4);
+    /* from this memory to itself, and short at the end */
+    WANT_CODE(famsync_write(handle, 0, 8000, at + 8100, 9000, NULL), FAMSYNC_OK);
+    WANT(at[8000] == 0 && at[8089] == 0 && at[8090] == 7 && at[16999] == 7);
+    WANT_CODE(famsync_read(handle, 0, 19990, at + 17000, 30, &done), FAMSYNC_OK);
+    WANT(done == 10);
+    WANT_CODE(famsync_write(handle, 0, 19999, bytes, 2, &done), FAMSYNC_EINVAL);
+    WANT(done == 0 && at[19999] == 0);
+    WANT_CODE(famsync_msync(handle, NULL), FAMSYNC_OK);
+    WANT_CODE(famsync_memory_close(a), FAMSYNC_OK);
+    WANT_CODE(famsync_read(handle, 0, 8000, found, 9000, NULL), FAMSYNC_OK);
+    WANT(found[0] == 0 && found[90] == 7 && found[8999] == 7);
+    WANT_CODE(famsync_close(handle), FAMSYNC_OK);
+}
+
+/* More pages than a commit has are opened by no write. What was written and wasn't committed goes with the memory. */
+static void too_much_at_once(void)
+{
+    unsigned char bytes[4 * 4096] = {1}, byte;
+    size_t done;
+    make_volume(3, "a=20000");
+    famsync *handle = opened();
+    famsync_memory *a = memory_of(handle, "a");
+    WANT_CODE(famsync_write(handle, 0, 0, bytes, sizeof bytes, &done), FAMSYNC_NOFRAME);
+    WANT(done == 0 && famsync_memory_dirty(a) == 0 && ((unsigned char *)famsync_memory_at(a))[0] == 0);
+    WANT_CODE(famsync_write(handle, 0, 0, bytes, 3 * 4096, &done), FAMSYNC_OK);
+    WANT(done == 3 * 4096 && famsync_memory_dirty(a) == 3);
+    WANT_CODE(famsync_memory_close(a), FAMSYNC_OK);
+    WANT_CODE(famsync_read(handle, 0, 0, &byte, 1, NULL), FAMSYNC_OK);
+    WANT(byte == 0);
     WANT_CODE(famsync_close(handle), FAMSYNC_OK);
 }
 
@@ -193,18 +240,16 @@ static void too_many_pages(void)
     WANT_CODE(famsync_close(handle), FAMSYNC_OK);
 }
 
-/* Of the same volume. Pages that famsync_store wrote count, too, each page once. Where all together are too many, none
+/* Of the same volume. Pages that famsync_write wrote count, too, each page once. Where all together are too many, none
    is stored: the memory can be closed, and the rest is committed. */
 static void too_many_with_stores(void)
 {
     static unsigned char bytes[4 * 4096], found[4 * 4096];
     famsync *handle = opened();
+    memset(bytes, 9, sizeof bytes);
+    WANT_CODE(famsync_write(handle, 0, 16 * 4096, bytes, sizeof bytes, NULL), FAMSYNC_OK);
     famsync_memory *a = memory_of(handle, "a");
     unsigned char *at = famsync_memory_at(a);
-    uint64_t address;
-    memset(bytes, 9, sizeof bytes);
-    WANT_CODE(famsync_map(handle, "a", 16 * 4096, 0, FAMSYNC_READ | FAMSYNC_WRITE, &address), FAMSYNC_OK);
-    WANT_CODE(famsync_store(handle, address, bytes, sizeof bytes, NULL), FAMSYNC_OK);
     for (int i = 0; i < 5; i++)
         at[i * 2 * 4096] = 3;
     for (int i = 0; i < 2; i++) {
@@ -213,7 +258,7 @@ static void too_many_with_stores(void)
     }
     WANT_CODE(famsync_memory_close(a), FAMSYNC_OK);
     WANT_CODE(famsync_msync(handle, NULL), FAMSYNC_OK);
-    WANT_CODE(famsync_load(handle, address, found, sizeof found, NULL), FAMSYNC_OK);
+    WANT_CODE(famsync_read(handle, 0, 16 * 4096, found, sizeof found, NULL), FAMSYNC_OK);
     WANT(memcmp(found, bytes, sizeof found) == 0);
     WANT_CODE(famsync_close(handle), FAMSYNC_OK);
     handle = opened();
@@ -231,15 +276,13 @@ static void too_many_with_stores(void)
 static void as_many_as_go(unsigned layout)
 {
     static const unsigned char bytes[4 * 4096] = {1};
-    uint64_t address;
     make_volume_of(layout, 9, "a=81920 b=5000/90000");
     famsync *handle = opened();
-    famsync_memory *a = memory_of(handle, "a");
-    unsigned char *at = famsync_memory_at(a);
     unsigned grown = 0, most = famsync_frames(handle);
-    WANT_CODE(famsync_map(handle, "a", 4096, 0, FAMSYNC_READ | FAMSYNC_WRITE, &address), FAMSYNC_OK);
     for (unsigned round = 1; round < 6; round++) {
-        WANT_CODE(famsync_store(handle, address, bytes, sizeof bytes, NULL), FAMSYNC_OK); /* pages 1 to 4 */
+        WANT_CODE(famsync_write(handle, 0, 4096, bytes, sizeof bytes, NULL), FAMSYNC_OK); /* pages 1 to 4 */
+        famsync_memory *a = memory_of(handle, "a");
+        unsigned char *at = famsync_memory_at(a);
         if (has_lengths(layout)) { /* and two of the other file, or three */
             WANT_CODE(famsync_setlength(handle, "b", 5000 + 4096 * (uint64_t)round), FAMSYNC_OK);
             WANT_CODE(famsync_setlength(handle, "b", 5000 + 4096 * (uint64_t)round + 8192), FAMSYNC_OK);
@@ -248,28 +291,34 @@ static void as_many_as_go(unsigned layout)
         }
         for (unsigned page = 3; page < most - grown; page++) /* with pages 1 and 2 that is all but one */
             at[page * 4096] = (unsigned char)round;
+        at[18 * 4096] = at[19 * 4096] = (unsigned char)round; /* which is one too many */
+        WANT_CODE(famsync_msync(handle, NULL), FAMSYNC_NOFRAME);
+        WANT_CODE(famsync_memory_close(a), FAMSYNC_OK);
+        a = memory_of(handle, "a");
+        at = famsync_memory_at(a);
+        for (unsigned page = 3; page < most - grown; page++)
+            at[page * 4096] = (unsigned char)round;
         at[19 * 4096] = (unsigned char)round;
         WANT_CODE(famsync_msync(handle, NULL), FAMSYNC_OK);
+        WANT_CODE(famsync_memory_close(a), FAMSYNC_OK);
     }
-    WANT_CODE(famsync_memory_close(a), FAMSYNC_OK);
     WANT_CODE(famsync_close(handle), FAMSYNC_OK);
 }
 
-/* Memory is filled through frames, which pages that wait for a commit may have. */
+/* Memory is opened beside as many pages as a commit can have; what is stored to it then is too much. */
 static void no_frames(void)
 {
     static const unsigned char bytes[4 * 4096] = {1};
-    uint64_t address;
     famsync_memory *b;
     make_volume(4, "a=16384 b=5000");
     famsync *handle = opened();
-    WANT_CODE(famsync_map(handle, "a", 0, 0, FAMSYNC_READ | FAMSYNC_WRITE, &address), FAMSYNC_OK);
-    WANT_CODE(famsync_store(handle, address, bytes, sizeof bytes, NULL), FAMSYNC_OK);
-    WANT_CODE(famsync_memory_open(handle, "b", &b), FAMSYNC_NOFRAME);
-    WANT(b == NULL);
-    WANT_CODE(famsync_msync(handle, NULL), FAMSYNC_OK);
+    WANT_CODE(famsync_write(handle, 0, 0, bytes, sizeof bytes, NULL), FAMSYNC_OK);
     b = memory_of(handle, "b");
+    ((unsigned char *)famsync_memory_at(b))[0] = 1;
+    WANT_CODE(famsync_msync(handle, NULL), FAMSYNC_NOFRAME);
     WANT_CODE(famsync_memory_close(b), FAMSYNC_OK);
+    WANT_CODE(famsync_msync(handle, NULL), FAMSYNC_OK);
+    WANT_CODE(famsync_memory_close(memory_of(handle, "b")), FAMSYNC_OK);
     WANT_CODE(famsync_close(handle), FAMSYNC_OK);
 }
 
@@ -323,24 +372,36 @@ static void many_handles(void)
     }
 }
 
-/* Memory that is opened and closed takes nothing for good: neither addresses nor what the core has of mappings. */
+/* What the library's core has of memory, in a session of which nothing is left to be written. */
+static uint64_t memory_of_core(famsync *handle)
+{
+    struct famsync_stat stat = {.size = sizeof stat};
+    do {
+        WANT_CODE(famsync_stat(handle, &stat), FAMSYNC_OK);
+        usleep(1000);
+    } while (stat.unwritten > 0);
+    return stat.memory;
+}
+
+/* Memory that is opened and closed takes nothing of the core's for good. */
 static void opened_again(void)
 {
-    uint64_t first, last;
+    uint64_t first = 0;
     make_volume_of(3, 8, "a=4000/40000");
     famsync *handle = opened();
-    WANT_CODE(famsync_memory_close(memory_of(handle, "a")), FAMSYNC_OK);
-    WANT_CODE(famsync_map(handle, "a", 0, 4096, FAMSYNC_READ, &first), FAMSYNC_OK);
-    for (uint64_t length = 1; length < 40000; length += 1000) {
-        WANT_CODE(famsync_setlength(handle, "a", length), FAMSYNC_OK);
-        famsync_memory *a = memory_of(handle, "a");
-        WANT(famsync_memory_length(a) == length);
-        ((unsigned char *)famsync_memory_at(a))[length - 1] = 1;
-        WANT_CODE(famsync_msync(handle, NULL), FAMSYNC_OK);
-        WANT_CODE(famsync_memory_close(a), FAMSYNC_OK);
+    for (unsigned round = 0; round < 4; round++) {
+        for (uint64_t length = 1; length < 40000; length += 1000) {
+            WANT_CODE(famsync_setlength(handle, "a", length), FAMSYNC_OK);
+            famsync_memory *a = memory_of(handle, "a");
+            WANT(famsync_memory_length(a) == length);
+            ((unsigned char *)famsync_memory_at(a))[length - 1] = 1;
+            WANT_CODE(famsync_msync(handle, NULL), FAMSYNC_OK);
+            WANT_CODE(famsync_memory_close(a), FAMSYNC_OK);
+        }
+        if (round == 0)
+            first = memory_of_core(handle);
     }
-    WANT_CODE(famsync_map(handle, "a", 0, 4096, FAMSYNC_READ, &last), FAMSYNC_OK);
-    WANT(last == first + 2 * 4096); /* the page of the first mapping, and one that stays free */
+    WANT(memory_of_core(handle) <= first + 16 * 4096);
     WANT_CODE(famsync_close(handle), FAMSYNC_OK);
 }
 
@@ -384,6 +445,8 @@ int main(void)
     past_the_end();
     stores_are_kept();
     stores_are_found();
+    both_ways();
+    too_much_at_once();
     other_faults();
     too_many_pages();
     too_many_with_stores();

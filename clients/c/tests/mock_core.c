@@ -5,7 +5,7 @@
  *
  *   MOCK_LOG=PATH   each call that is recorded is written there, a line each: core W OFFSET HEX, or core S; and how
  * many are said to be made: core made COUNT
- *   MOCK_ANSWER=N   open, map, load, store, set_length and commit answer this number, and do nothing else
+ *   MOCK_ANSWER=N   open, read, write, set_length and commit answer this number, and do nothing else
  */
 #define _DEFAULT_SOURCE
 #include "famsync_core.h"
@@ -29,16 +29,11 @@ struct call {
     uint8_t *bytes;
 };
 
-struct page {
-    uint8_t *bytes; /* in a frame, or a null pointer */
-    bool dirty;
-};
-
 struct file {
     uint8_t name[32];
     uint64_t length, capacity;
     uint32_t home, pages;
-    struct page *page;
+    uint8_t **staged; /* for each page, what was written to it since the last commit; or a null pointer */
 };
 
 /* What a write-out does next, in order; some are as many steps as it has blocks, or its descriptor. */
@@ -55,11 +50,6 @@ struct journal {
     uint8_t **record; /* the same */
 };
 
-struct mapping {
-    uint64_t address, pages, first;
-    uint32_t file, rights;
-};
-
 struct core {
     uint32_t blocks;
     uint8_t **block;
@@ -72,9 +62,7 @@ struct core {
     struct journal journal[MOST_JOURNALS];
     unsigned next;      /* the journal of the next commit */
     unsigned under_way; /* how many write-outs aren't done: those of the journals before it */
-    struct mapping *mapping;
-    size_t mappings;
-    uint32_t frames, resident, turn;
+    uint32_t frames, staged;
     uint32_t mark, acknowledged;
     bool resized;
 };
@@ -354,8 +342,6 @@ static int read_head(struct core *core)
 {
     const uint8_t *super = core->block[0];
     uint32_t journal_blocks;
-    if (!super)
-        return FAMSYNC_CORE_ARGUMENT;
     if (memcmp(super, "FAMSYNC", 7) != 0 || super[7] < '1' || super[7] > '4')
         return FAMSYNC_CORE_NOTAVOLUME;
     core->layout = super[7] - '0';
@@ -371,14 +357,6 @@ static int read_head(struct core *core)
     for (unsigned i = 0; i < journals(core); i++)
         core->journal[i].gate = 1 + i * journal_blocks;
     return FAMSYNC_CORE_OK;
-}
-
-int64_t famsync_core_head(famsync_core handle, uint8_t **at)
-{
-    struct core *core = core_of(handle);
-    int code = read_head(core);
-    *at = handle.at;
-    return core->open ? FAMSYNC_CORE_ORDER : code != FAMSYNC_CORE_OK ? code : (int64_t)core->head;
 }
 
 static int read_table(struct core *core)
@@ -410,8 +388,8 @@ static int take_room(struct core *core)
     }
     for (uint32_t i = 0; i < core->files; i++) {
         struct file *file = &core->file[i];
-        file->page = memory(file->pages * sizeof *file->page);
-        all = all && file->page;
+        file->staged = memory(file->pages * sizeof *file->staged);
+        all = all && file->staged;
     }
     return all ? FAMSYNC_CORE_OK : FAMSYNC_CORE_NOMEMORY;
 }
@@ -557,32 +535,40 @@ static bool lacks_any(const struct core *core, uint32_t *wanted)
     return has_lengths(core) && lacks(core, first_home(core), wanted);
 }
 
-int32_t famsync_core_open(famsync_core handle, uint32_t frames, uint32_t copies, uint32_t *wanted, uint8_t **at)
+/* Reads what the volume has, whose blocks are known, and begins to recover it. */
+static int open_known(struct core *core)
 {
-    struct core *core = core_of(handle);
-    uint32_t most;
-    int code = core->open ? FAMSYNC_CORE_ORDER : read_head(core);
-    *at = handle.at;
-    if (is_told(&code))
-        return code;
-    if (code == FAMSYNC_CORE_OK && core->head > core->blocks)
-        code = FAMSYNC_CORE_DAMAGED;
-    if (code == FAMSYNC_CORE_OK && lacks_any(core, wanted))
-        code = FAMSYNC_CORE_WANTED;
-    if (code == FAMSYNC_CORE_OK)
-        code = read_table(core);
-    most = core->slots - has_lengths(core);
-    if (code == FAMSYNC_CORE_OK && (frames > most || copies > 64))
-        code = FAMSYNC_CORE_BADSHAPE;
+    int code = read_table(core);
     if (code == FAMSYNC_CORE_OK)
         code = take_room(core);
     if (code == FAMSYNC_CORE_OK)
         code = read_journals(core);
     if (code == FAMSYNC_CORE_OK)
         code = read_lengths(core);
+    return code == FAMSYNC_CORE_OK ? recover_all(core) : code;
+}
+
+int32_t famsync_core_open(famsync_core handle, uint32_t pages, uint32_t *wanted, uint8_t **at)
+{
+    struct core *core = core_of(handle);
+    uint32_t most;
+    int code = FAMSYNC_CORE_OK;
+    *at = handle.at;
+    if (is_told(&code))
+        return code;
+    if (core->open)
+        return FAMSYNC_CORE_ORDER;
+    if (lacks(core, 0, wanted))
+        return FAMSYNC_CORE_WANTED;
+    code = read_head(core);
+    if (code == FAMSYNC_CORE_OK && core->head > core->blocks)
+        code = FAMSYNC_CORE_DAMAGED;
+    if (code == FAMSYNC_CORE_OK && lacks_any(core, wanted))
+        return FAMSYNC_CORE_WANTED;
     if (code == FAMSYNC_CORE_OK)
-        code = recover_all(core);
-    core->frames = frames ? frames : most;
+        code = open_known(core);
+    most = core->slots - has_lengths(core);
+    core->frames = pages > 0 && pages < most ? pages : most;
     core->open = code == FAMSYNC_CORE_OK;
     return code;
 }
@@ -597,6 +583,18 @@ int64_t famsync_core_frames(famsync_core handle, uint8_t **at)
 {
     *at = handle.at;
     return core_of(handle)->open ? (int64_t)core_of(handle)->frames : FAMSYNC_CORE_ORDER;
+}
+
+int64_t famsync_core_head(famsync_core handle, uint8_t **at)
+{
+    *at = handle.at;
+    return core_of(handle)->open ? (int64_t)core_of(handle)->head : FAMSYNC_CORE_ORDER;
+}
+
+int32_t famsync_core_shares_syncs(famsync_core handle, uint8_t **at)
+{
+    *at = handle.at;
+    return core_of(handle)->open ? journals(core_of(handle)) == 4 : FAMSYNC_CORE_ORDER;
 }
 
 int32_t famsync_core_file(famsync_core handle, uint32_t file, uint64_t *length, uint64_t *pages, uint8_t **at)
@@ -749,15 +747,6 @@ static bool step(struct core *core)
     return true;
 }
 
-/* Steps until none is under way. */
-static bool write_all_out(struct core *core)
-{
-    while (core->under_way > 0)
-        if (!step(core))
-            return false;
-    return true;
-}
-
 int32_t famsync_core_write_out(famsync_core handle, uint32_t most, uint8_t **at)
 {
     struct core *core = core_of(handle);
@@ -773,40 +762,63 @@ int32_t famsync_core_write_out(famsync_core handle, uint32_t most, uint8_t **at)
     return FAMSYNC_CORE_OK;
 }
 
-static bool add_record(struct journal *journal, uint32_t home, const uint8_t *bytes)
+/* How many records of a write-out aren't written home yet. */
+static uint32_t unwritten(const struct journal *journal)
 {
-    uint8_t *copy = memory(PAGE);
-    if (!copy)
-        return false;
-    memcpy(copy, bytes, PAGE);
+    return journal->stage < APPLYING ? journal->count : journal->stage == APPLYING ? journal->count - journal->made : 0;
+}
+
+int64_t famsync_core_unwritten(famsync_core handle, uint8_t **at)
+{
+    struct core *core = core_of(handle);
+    int64_t count = 0;
+    *at = handle.at;
+    if (!core->open)
+        return FAMSYNC_CORE_ORDER;
+    for (unsigned number = 0; number < core->under_way; number++)
+        count += unwritten(write_out_of(core, number));
+    return count;
+}
+
+static void add_record(struct journal *journal, uint32_t home, uint8_t *bytes)
+{
     journal->home[journal->count] = home;
-    journal->record[journal->count++] = copy;
+    journal->record[journal->count++] = bytes;
+}
+
+/* The record of the lengths, where one was set; whether there was memory for it. */
+static bool collect_lengths(struct core *core, struct journal *journal)
+{
+    uint8_t *lengths = core->resized ? memory(PAGE) : NULL;
+    if (!lengths)
+        return !core->resized;
+    for (uint32_t i = 0; i < core->files; i++)
+        put_number(lengths + 8 * i, 8, core->file[i].length);
+    add_record(journal, first_home(core), lengths);
+    core->resized = false;
     return true;
 }
 
-/* What a commit has: the lengths where one was set, and the pages that were stored to, in the order of their blocks. */
-static bool collect(struct core *core, struct journal *journal)
-{
-    uint8_t lengths[PAGE] = {0};
-    bool all = true;
-    if (core->resized) {
-        for (uint32_t i = 0; i < core->files; i++)
-            put_number(lengths + 8 * i, 8, core->file[i].length);
-        all = add_record(journal, first_home(core), lengths);
-    }
-    for (uint32_t i = 0; i < core->files; i++)
-        for (uint32_t page = 0; page < core->file[i].pages && all; page++)
-            if (core->file[i].page[page].dirty)
-                all = add_record(journal, core->file[i].home + page, core->file[i].page[page].bytes);
-    return all;
-}
-
-static void clean(struct core *core)
+/* The pages that were written, in the order of their blocks. */
+static void collect_pages(struct core *core, struct journal *journal)
 {
     for (uint32_t i = 0; i < core->files; i++)
         for (uint32_t page = 0; page < core->file[i].pages; page++)
-            core->file[i].page[page].dirty = false;
-    core->resized = false;
+            if (core->file[i].staged[page]) {
+                add_record(journal, core->file[i].home + page, core->file[i].staged[page]);
+                core->file[i].staged[page] = NULL;
+            }
+    core->staged = 0;
+}
+
+/* A write-out of what the next journal has now. */
+static void begin_write_out(struct core *core, struct journal *journal)
+{
+    journal->mark = core->mark;
+    journal->stage = RECORDING;
+    journal->made = 0;
+    core->next = (core->next + 1) % journals(core);
+    core->under_way++;
 }
 
 int32_t famsync_core_commit(famsync_core handle, uint32_t *mark, uint8_t **at)
@@ -819,24 +831,20 @@ int32_t famsync_core_commit(famsync_core handle, uint32_t *mark, uint8_t **at)
         return told;
     if (!core->open || core->broken)
         return core->open ? FAMSYNC_CORE_BROKEN : FAMSYNC_CORE_ORDER;
+    if (core->mark == UINT32_MAX)
+        return FAMSYNC_CORE_BUSY;
     while (core->under_way == journals(core))
         if (!step(core))
             return broken(core);
-    if (!collect(core, journal)) {
-        drop_records(journal);
-        return FAMSYNC_CORE_OUTOFMEMORY;
-    }
+    if (!collect_lengths(core, journal))
+        return broken(core);
+    collect_pages(core, journal);
     *mark = ++core->mark;
     if (journal->count == 0) {
         acknowledge_if_made(core);
         return FAMSYNC_CORE_OK;
     }
-    journal->mark = core->mark;
-    journal->stage = RECORDING;
-    journal->made = 0;
-    core->next = (core->next + 1) % journals(core);
-    core->under_way++;
-    clean(core);
+    begin_write_out(core, journal);
     while (!is_committed(journal))
         if (!step(core))
             return broken(core);
@@ -849,227 +857,197 @@ int64_t famsync_core_acknowledged(famsync_core handle, uint8_t **at)
     return core_of(handle)->open ? (int64_t)core_of(handle)->acknowledged : FAMSYNC_CORE_ORDER;
 }
 
-/* Accesses. */
-
-int32_t famsync_core_map(famsync_core handle, uint32_t file, uint64_t offset, uint64_t length, uint32_t rights,
-                         uint64_t address, uint8_t **at)
-{
-    struct core *core = core_of(handle);
-    size_t bytes = core->mappings * sizeof *core->mapping;
-    int32_t told;
-    void *more;
-    *at = handle.at;
-    if (is_told(&told))
-        return told;
-    if (!core->open)
-        return FAMSYNC_CORE_ORDER;
-    if (file >= core->files)
-        return FAMSYNC_CORE_NOFILE;
-    if (rights != FAMSYNC_CORE_MAP_READ && rights != FAMSYNC_CORE_MAP_READ_WRITE)
-        return FAMSYNC_CORE_ARGUMENT;
-    if (offset % PAGE || length == 0 || length > 65536 * (uint64_t)PAGE || address % PAGE ||
-        offset / PAGE + (length + PAGE - 1) / PAGE > UINT64_C(1) << 32)
-        return FAMSYNC_CORE_EINVAL;
-    more = more_memory(core->mapping, bytes, bytes + sizeof *core->mapping);
-    if (!more)
-        return FAMSYNC_CORE_OUTOFMEMORY;
-    core->mapping = more;
-    core->mapping[core->mappings++] = (struct mapping){address, (length + PAGE - 1) / PAGE, offset / PAGE, file,
-                                                       rights};
-    return FAMSYNC_CORE_OK;
-}
-
-static void drop_page(struct core *core, struct page *page)
-{
-    if (!page->bytes)
-        return;
-    give_back(page->bytes);
-    *page = (struct page){NULL, false};
-    core->resident--;
-}
-
-/* Whether a block belongs to a write-out that isn't done. */
-static bool is_under_way(struct core *core, uint32_t block)
-{
-    for (unsigned number = 0; number < core->under_way; number++) {
-        const struct journal *journal = write_out_of(core, number);
-        for (uint32_t i = 0; i < journal->count; i++)
-            if (journal->home[i] == block)
-                return true;
-    }
-    return false;
-}
-
-/* The page of this block, if it is a file's. */
-static struct page *page_of(struct core *core, uint32_t block)
-{
-    for (uint32_t i = 0; i < core->files; i++) {
-        struct file *file = &core->file[i];
-        if (block >= file->home && block - file->home < file->pages)
-            return &file->page[block - file->home];
-    }
-    return NULL;
-}
-
-/* Takes a page out of memory that is clean and in no write-out, if there is one, in turn. */
-static bool take_out_next(struct core *core)
-{
-    for (uint32_t tries = 0; tries < core->blocks; tries++) {
-        uint32_t block = core->turn++ % core->blocks;
-        struct page *page = page_of(core, block);
-        if (page && page->bytes && !page->dirty && !is_under_way(core, block)) {
-            drop_page(core, page);
-            return true;
-        }
-    }
-    return false;
-}
-
-/* Makes room for a page, if that can be done: where there is none before, once the write-outs are done. Where they
-   can't be recorded, the next commit alone reports it. */
-static bool make_room(struct core *core)
-{
-    if (take_out_next(core))
-        return true;
-    if (!core->broken && !write_all_out(core))
-        core->broken = true;
-    return !core->broken && take_out_next(core);
-}
-
-static int add_page(struct core *core, struct page *page)
-{
-    if (core->resident == core->frames && !make_room(core))
-        return FAMSYNC_CORE_NOFRAME;
-    page->bytes = memory(PAGE);
-    if (!page->bytes)
-        return FAMSYNC_CORE_OUTOFMEMORY;
-    core->resident++;
-    return FAMSYNC_CORE_OK;
-}
-
-static int bring(struct core *core, struct file *file, uint64_t number, uint32_t *wanted)
-{
-    struct page *page = &file->page[number];
-    uint32_t block = file->home + (uint32_t)number;
-    int code;
-    if (page->bytes)
-        return FAMSYNC_CORE_OK;
-    if (!core->block[block]) {
-        *wanted = block;
-        return FAMSYNC_CORE_WANTED;
-    }
-    code = add_page(core, page);
-    if (code == FAMSYNC_CORE_OK)
-        memcpy(page->bytes, core->block[block], PAGE);
-    return code;
-}
-
-/* The page at an address, in memory. */
-static int page_at(struct core *core, uint64_t address, bool writes, struct page **page, uint32_t *wanted)
-{
-    if (address >= UINT64_C(1) << 47)
-        return FAMSYNC_CORE_EINVAL;
-    for (size_t i = 0; i < core->mappings; i++) {
-        struct mapping *mapping = &core->mapping[i];
-        struct file *file = &core->file[mapping->file];
-        uint64_t number;
-        int code;
-        if (address < mapping->address || address - mapping->address >= mapping->pages * PAGE)
-            continue;
-        number = (address - mapping->address) / PAGE + mapping->first;
-        if (writes && mapping->rights == FAMSYNC_CORE_MAP_READ)
-            return FAMSYNC_CORE_SEGVACCERR;
-        if (number >= (file->length + PAGE - 1) / PAGE)
-            return FAMSYNC_CORE_BUSADRERR;
-        code = bring(core, file, number, wanted);
-        *page = &file->page[number];
-        return code;
-    }
-    return FAMSYNC_CORE_SEGVMAPERR;
-}
-
-static int32_t access_of(struct core *core, uint64_t address, uint8_t *loaded, const uint8_t *stored, size_t count,
-                         uint64_t *done, uint32_t *wanted)
-{
-    int32_t told;
-    *done = 0;
-    if (is_told(&told))
-        return told;
-    if (!core->open)
-        return FAMSYNC_CORE_ORDER;
-    while (*done < count) {
-        uint64_t at = address + *done, within = at % PAGE;
-        uint64_t some = count - *done < PAGE - within ? count - *done : PAGE - within;
-        struct page *page;
-        int code = page_at(core, at, stored != NULL, &page, wanted);
-        if (code != FAMSYNC_CORE_OK)
-            return code;
-        if (loaded)
-            memcpy(loaded + *done, page->bytes + within, some);
-        else
-            memcpy(page->bytes + within, stored + *done, some);
-        page->dirty |= stored != NULL;
-        *done += some;
-    }
-    return FAMSYNC_CORE_OK;
-}
-
-int32_t famsync_core_load(famsync_core handle, uint64_t address, uint8_t *bytes, size_t count, uint64_t *done,
-                          uint32_t *wanted, uint8_t **at)
-{
-    *at = handle.at;
-    return access_of(core_of(handle), address, bytes, NULL, count, done, wanted);
-}
-
-int32_t famsync_core_store(famsync_core handle, uint64_t address, const uint8_t *bytes, size_t count, uint64_t *done,
-                           uint32_t *wanted, uint8_t **at)
-{
-    *at = handle.at;
-    return access_of(core_of(handle), address, NULL, bytes, count, done, wanted);
-}
+/* Pages. */
 
 static uint32_t pages_of(uint64_t length)
 {
     return (uint32_t)((length + PAGE - 1) / PAGE);
 }
 
-static uint32_t dirty_pages(const struct core *core)
+/* Whether a page of a file can be read. */
+static int judge_page(const struct core *core, uint32_t number, uint64_t page)
 {
-    uint32_t count = 0;
-    for (uint32_t i = 0; i < core->files; i++)
-        for (uint32_t page = 0; page < core->file[i].pages; page++)
-            count += core->file[i].page[page].dirty;
-    return count;
+    if (!core->open)
+        return FAMSYNC_CORE_ORDER;
+    if (number >= core->files)
+        return FAMSYNC_CORE_NOFILE;
+    return page < pages_of(core->file[number].length) ? FAMSYNC_CORE_OK : FAMSYNC_CORE_EINVAL;
 }
 
-static int grow(struct core *core, struct file *file, uint64_t length)
+/* The record of a block in a write-out that isn't done; a null pointer where it has none. */
+static const uint8_t *record_of(const struct journal *journal, uint32_t block)
 {
-    uint32_t first = pages_of(file->length), end = pages_of(length);
-    struct page *last = file->length % PAGE ? &file->page[first - 1] : NULL;
-    if (last && !last->bytes)
-        return FAMSYNC_CORE_NOTRESIDENT;
-    if (dirty_pages(core) + (end - first) + (last && !last->dirty) > core->frames)
-        return FAMSYNC_CORE_NOFRAME;
-    if (last) {
-        memset(last->bytes + file->length % PAGE, 0, PAGE - file->length % PAGE);
-        last->dirty = true;
+    for (uint32_t i = 0; i < journal->count; i++)
+        if (journal->home[i] == block)
+            return journal->record[i];
+    return NULL;
+}
+
+/* The bytes of a page as they are kept in memory: as it was written last, as the newest commit has it, or its block. A
+   null pointer where none is. */
+static const uint8_t *kept(struct core *core, const struct file *file, uint64_t page)
+{
+    uint32_t block = file->home + (uint32_t)page;
+    if (file->staged[page])
+        return file->staged[page];
+    for (unsigned number = core->under_way; number > 0; number--) {
+        const uint8_t *record = record_of(write_out_of(core, number - 1), block);
+        if (record)
+            return record;
     }
-    for (uint32_t page = first; page < end; page++) {
-        int code = file->page[page].bytes ? FAMSYNC_CORE_OK : add_page(core, &file->page[page]);
-        if (code != FAMSYNC_CORE_OK)
-            return code;
-        file->page[page].dirty = true;
+    return core->block[block];
+}
+
+/* Copies a page, with zeros past the file's end. */
+static void copy_page(const struct file *file, uint64_t page, uint8_t *to, const uint8_t *from)
+{
+    uint64_t left = file->length - page * PAGE, count = left < PAGE ? left : PAGE;
+    memcpy(to, from, count);
+    memset(to + count, 0, PAGE - count);
+}
+
+int32_t famsync_core_read(famsync_core handle, uint32_t file, uint64_t page, uint8_t *bytes, size_t count,
+                          uint32_t *wanted, uint8_t **at)
+{
+    struct core *core = core_of(handle);
+    const uint8_t *found;
+    int32_t code;
+    *at = handle.at;
+    if (is_told(&code))
+        return code;
+    if (count != PAGE || page > UINT32_MAX)
+        return FAMSYNC_CORE_ARGUMENT;
+    code = judge_page(core, file, page);
+    if (code != FAMSYNC_CORE_OK)
+        return code;
+    found = kept(core, &core->file[file], page);
+    if (!found) {
+        *wanted = core->file[file].home + (uint32_t)page;
+        return FAMSYNC_CORE_WANTED;
     }
+    copy_page(&core->file[file], page, bytes, found);
     return FAMSYNC_CORE_OK;
+}
+
+/* Room for a page that is to be written; the next commit has it then. */
+static int stage(struct core *core, struct file *file, uint64_t page)
+{
+    if (file->staged[page])
+        return FAMSYNC_CORE_OK;
+    if (core->staged >= core->frames)
+        return FAMSYNC_CORE_NOFRAME;
+    file->staged[page] = memory(PAGE);
+    if (!file->staged[page])
+        return FAMSYNC_CORE_NOMEMORY;
+    core->staged++;
+    return FAMSYNC_CORE_OK;
+}
+
+static void unstage(struct core *core, struct file *file, uint64_t page)
+{
+    if (!file->staged[page])
+        return;
+    give_back(file->staged[page]);
+    file->staged[page] = NULL;
+    core->staged--;
+}
+
+int32_t famsync_core_write(famsync_core handle, uint32_t file, uint64_t page, const uint8_t *bytes, size_t count,
+                           uint8_t **at)
+{
+    struct core *core = core_of(handle);
+    int32_t code;
+    *at = handle.at;
+    if (is_told(&code))
+        return code;
+    if (count != PAGE || page > UINT32_MAX)
+        return FAMSYNC_CORE_ARGUMENT;
+    code = judge_page(core, file, page);
+    if (code == FAMSYNC_CORE_OK && core->broken)
+        code = FAMSYNC_CORE_BROKEN;
+    if (code == FAMSYNC_CORE_OK)
+        code = stage(core, &core->file[file], page);
+    if (code == FAMSYNC_CORE_OK)
+        copy_page(&core->file[file], page, core->file[file].staged[page], bytes);
+    return code;
+}
+
+int64_t famsync_core_staged(famsync_core handle, uint8_t **at)
+{
+    *at = handle.at;
+    return core_of(handle)->open ? (int64_t)core_of(handle)->staged : FAMSYNC_CORE_ORDER;
+}
+
+int32_t famsync_core_is_staged(famsync_core handle, uint32_t file, uint64_t page, uint8_t **at)
+{
+    struct core *core = core_of(handle);
+    *at = handle.at;
+    if (!core->open)
+        return FAMSYNC_CORE_ORDER;
+    return file < core->files && page < core->file[file].pages && core->file[file].staged[page];
+}
+
+/* Whether a file ends within a page that isn't staged. */
+static bool changes_last(const struct file *file)
+{
+    return file->length % PAGE != 0 && !file->staged[file->length / PAGE];
+}
+
+/* Stages that page as it is: what the file grows by is zeros. */
+static int stage_last(struct core *core, struct file *file, uint32_t *wanted)
+{
+    uint64_t page = file->length / PAGE;
+    const uint8_t *found = kept(core, file, page);
+    int code;
+    if (!found) {
+        *wanted = file->home + (uint32_t)page;
+        return FAMSYNC_CORE_WANTED;
+    }
+    code = stage(core, file, page);
+    if (code == FAMSYNC_CORE_OK)
+        copy_page(file, page, file->staged[page], found);
+    return code;
+}
+
+/* Whether the pages that a file grows by have room in the next commit. */
+static bool has_room(const struct core *core, const struct file *file, uint64_t length)
+{
+    uint32_t count = pages_of(length) - pages_of(file->length);
+    return core->staged + count + changes_last(file) <= core->frames;
+}
+
+static int grow(struct core *core, struct file *file, uint64_t length, uint32_t *wanted)
+{
+    uint32_t first = pages_of(file->length) - changes_last(file), page = first, end = pages_of(length);
+    int code = has_room(core, file, length) ? FAMSYNC_CORE_OK : FAMSYNC_CORE_NOFRAME;
+    if (code == FAMSYNC_CORE_OK && changes_last(file)) {
+        code = stage_last(core, file, wanted);
+        page++;
+    }
+    for (; page < end && code == FAMSYNC_CORE_OK; page++)
+        code = stage(core, file, page);
+    while (code != FAMSYNC_CORE_OK && page > first)
+        unstage(core, file, --page);
+    return code;
 }
 
 static void shrink(struct core *core, struct file *file, uint64_t length)
 {
-    struct page *last = length % PAGE ? &file->page[pages_of(length) - 1] : NULL;
+    uint8_t *last = length % PAGE ? file->staged[length / PAGE] : NULL;
     for (uint32_t page = pages_of(length); page < file->pages; page++)
-        drop_page(core, &file->page[page]);
-    if (last && last->bytes)
-        memset(last->bytes + length % PAGE, 0, PAGE - length % PAGE);
+        unstage(core, file, page);
+    if (last)
+        memset(last + length % PAGE, 0, PAGE - length % PAGE);
+}
+
+/* Whether a file can have a length. */
+static int judge_length(const struct core *core, uint32_t number, uint64_t length)
+{
+    if (!has_lengths(core))
+        return FAMSYNC_CORE_EINVAL;
+    if (number >= core->files)
+        return FAMSYNC_CORE_NOFILE;
+    return length > core->file[number].capacity ? FAMSYNC_CORE_EINVAL : FAMSYNC_CORE_OK;
 }
 
 int32_t famsync_core_set_length(famsync_core handle, uint32_t number, uint64_t length, uint32_t *wanted, uint8_t **at)
@@ -1077,24 +1055,18 @@ int32_t famsync_core_set_length(famsync_core handle, uint32_t number, uint64_t l
     struct core *core = core_of(handle);
     struct file *file = &core->file[number < MOST_FILES ? number : 0];
     int code = FAMSYNC_CORE_OK;
-    (void)wanted;
     *at = handle.at;
     if (is_told(&code))
         return code;
     if (!core->open)
         return FAMSYNC_CORE_ORDER;
-    if (number >= core->files)
-        return FAMSYNC_CORE_NOFILE;
-    if (!has_lengths(core) || length > file->capacity)
-        return FAMSYNC_CORE_EINVAL;
-    if (length == file->length)
-        return FAMSYNC_CORE_OK;
+    code = judge_length(core, number, length);
+    if (code != FAMSYNC_CORE_OK || length == file->length)
+        return code;
     if (core->broken)
         return FAMSYNC_CORE_BROKEN;
-    if (!write_all_out(core))
-        return broken(core);
     if (length > file->length)
-        code = grow(core, file, length);
+        code = grow(core, file, length, wanted);
     else
         shrink(core, file, length);
     if (code == FAMSYNC_CORE_OK) {
@@ -1111,9 +1083,9 @@ void famsync_core_close(famsync_core handle)
         give_back(core->call[i].bytes);
     give_back(core->call);
     for (uint32_t i = 0; i < MOST_FILES; i++) {
-        for (uint32_t page = 0; core->file[i].page && page < core->file[i].pages; page++)
-            drop_page(core, &core->file[i].page[page]);
-        give_back(core->file[i].page);
+        for (uint32_t page = 0; core->file[i].staged && page < core->file[i].pages; page++)
+            unstage(core, &core->file[i], page);
+        give_back(core->file[i].staged);
     }
     for (unsigned i = 0; i < MOST_JOURNALS; i++) {
         drop_records(&core->journal[i]);
@@ -1123,6 +1095,5 @@ void famsync_core_close(famsync_core handle)
     for (uint32_t block = 0; block < core->blocks; block++)
         give_back(core->block[block]);
     give_back(core->block);
-    give_back(core->mapping);
     give_back(core);
 }

@@ -64,20 +64,25 @@ static int code_of(const char *path)
 static void arguments(void)
 {
     famsync *handle = (famsync *)1;
-    uint64_t address;
+    unsigned char byte = 0;
     WANT_CODE(famsync_open(NULL, NULL, &handle), FAMSYNC_ARGUMENT);
     WANT_CODE(famsync_open("", NULL, &handle), FAMSYNC_ARGUMENT);
     WANT_CODE(famsync_open(volume, NULL, NULL), FAMSYNC_ARGUMENT);
     WANT(handle == NULL);
     WANT_CODE(famsync_msync(NULL, NULL), FAMSYNC_ARGUMENT);
-    WANT_CODE(famsync_map(NULL, "a", 0, 0, FAMSYNC_READ, &address), FAMSYNC_ARGUMENT);
+    WANT_CODE(famsync_read(NULL, 0, 0, &byte, 1, NULL), FAMSYNC_ARGUMENT);
+    WANT_CODE(famsync_write(NULL, 0, 0, &byte, 1, NULL), FAMSYNC_ARGUMENT);
+    WANT_CODE(famsync_stat(NULL, &(struct famsync_stat){.size = sizeof(struct famsync_stat)}), FAMSYNC_ARGUMENT);
+    WANT_CODE(famsync_backup(NULL, 1), FAMSYNC_ARGUMENT);
     WANT_CODE(famsync_close(NULL), FAMSYNC_OK);
     WANT_CODE(famsync_memory_close(NULL), FAMSYNC_OK);
     WANT(famsync_files(NULL) == 0 && famsync_frames(NULL) == 0 && famsync_acknowledged(NULL) == 0);
     for (int code = -50; code < 2; code++)
         WANT(strlen(famsync_strerror(code)) > 0);
     handle = opened();
-    WANT_CODE(famsync_map(handle, NULL, 0, 0, FAMSYNC_READ, &address), FAMSYNC_ARGUMENT);
+    WANT_CODE(famsync_read(handle, 0, 0, NULL, 1, NULL), FAMSYNC_ARGUMENT);
+    WANT_CODE(famsync_write(handle, 0, 0, NULL, 1, NULL), FAMSYNC_ARGUMENT);
+    WANT_CODE(famsync_setlength(handle, NULL, 1), FAMSYNC_ARGUMENT);
     WANT_CODE(famsync_memory_open(handle, "a", NULL), FAMSYNC_ARGUMENT);
     WANT_CODE(famsync_close(handle), FAMSYNC_OK);
 }
@@ -261,7 +266,6 @@ static void unlocked(void)
 static void replaced(void)
 {
     famsync *handle;
-    uint64_t address;
     unsigned char byte = 0;
     make_volume(16, "b=4096");
     WANT(rename(volume, other) == 0);
@@ -269,8 +273,7 @@ static void replaced(void)
     replacing = 1;
     handle = opened();
     WANT(strcmp(famsync_file_name(handle, 0), "b") == 0 && famsync_files(handle) == 1);
-    WANT_CODE(famsync_map(handle, "b", 0, 0, FAMSYNC_READ, &address), FAMSYNC_OK);
-    WANT_CODE(famsync_load(handle, address, &byte, 1, NULL), FAMSYNC_OK);
+    WANT_CODE(famsync_read(handle, 0, 0, &byte, 1, NULL), FAMSYNC_OK);
     WANT_CODE(famsync_close(handle), FAMSYNC_OK);
     replacing = 1000;
     WANT_CODE(code_of(volume), FAMSYNC_REPLACED);
@@ -283,10 +286,13 @@ static void shapes(void)
     famsync *handle;
     struct famsync_options options = {.frames = 17};
     WANT_CODE(famsync_open(volume, &options, &handle), FAMSYNC_SHAPE);
-    options = (struct famsync_options){.copies = 65};
-    WANT_CODE(famsync_open(volume, &options, &handle), FAMSYNC_SHAPE);
-    handle = opened_with((struct famsync_options){.frames = 3, .copies = 2});
-    WANT(famsync_frames(handle) == 3);
+    for (unsigned copies = 0; copies < 80; copies += 65) { /* no number of copies matters */
+        handle = opened_with((struct famsync_options){.frames = 3, .copies = copies});
+        WANT(famsync_frames(handle) == 3);
+        WANT_CODE(famsync_close(handle), FAMSYNC_OK);
+    }
+    handle = opened_with((struct famsync_options){.frames = 16});
+    WANT(famsync_frames(handle) == 16);
     WANT_CODE(famsync_close(handle), FAMSYNC_OK);
 }
 

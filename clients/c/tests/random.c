@@ -1,6 +1,6 @@
-/* Sessions of random calls, beside a model of what the files have: in each layout, with few frames and many, loads and
-   stores of one file, whose length is set where that can be, and plain memory of another. Whatever was called, a copy
-   of the volume opens with the files as they were committed last.
+/* Sessions of random calls, beside a model of what the files have: in each layout, with few frames and many, reads and
+   writes of one file, whose length is set where that can be, and plain memory of another, also by reads and writes.
+   Whatever was called, a copy of the volume opens with the files as they were committed last.
 
    usage: random [SEEDS [FIRST]]     how many sessions there are, and the number of the first */
 #include "test.h"
@@ -20,7 +20,6 @@ static struct famsync_options options;
 static famsync *handle;
 static famsync_memory *memory;
 static unsigned char *b;
-static uint64_t address;
 static char copied[100];
 
 static unsigned below(unsigned most)
@@ -39,7 +38,6 @@ static void check(bool holds, const char *what)
 static void begin(void)
 {
     handle = opened_with(options);
-    WANT_CODE(famsync_map(handle, "a", 0, A_MOST, FAMSYNC_READ | FAMSYNC_WRITE, &address), FAMSYNC_OK);
     WANT_CODE(famsync_memory_open(handle, "b", &memory), FAMSYNC_OK);
     b = famsync_memory_at(memory);
     now = committed;
@@ -56,33 +54,54 @@ static void end(void)
 static void load(void)
 {
     unsigned char found[A_MOST];
-    uint64_t from = below(A_MOST), count = below(9000);
-    uint64_t in_file = (now.length + 4095) / 4096 * 4096, whole = from < in_file ? in_file - from : 0;
+    uint64_t from = below(A_MOST), count = below(9000), left = from < now.length ? now.length - from : 0;
     size_t done;
-    if (count > A_MOST - from)
-        count = A_MOST - from;
-    int code = famsync_load(handle, address + from, found, count, &done);
-    if (code == FAMSYNC_NOFRAME)
-        check(done < count, "a load has all of it and is refused");
-    else
-        check(code == (count > whole ? FAMSYNC_BUSADRERR : FAMSYNC_OK) && done == (count > whole ? whole : count),
-              "a load comes to another end");
-    if (from + done > now.length)
-        done = from < now.length ? now.length - from : 0;
-    check(memcmp(found, now.a + from, done) == 0, "a load has other bytes");
+    WANT_CODE(famsync_read(handle, 0, from, found, count, &done), FAMSYNC_OK);
+    check(done == (count < left ? count : left), "a read comes to another end");
+    check(memcmp(found, now.a + from, done) == 0, "a read has other bytes");
 }
 
 static void store(void)
 {
     unsigned char bytes[9000];
-    uint64_t from = now.length ? below((unsigned)now.length) : 0, count = below(sizeof bytes);
+    uint64_t from = below((unsigned)now.length + 1), count = below(sizeof bytes);
     size_t done;
-    if (count > now.length - from)
+    if (count > now.length - from && below(5) > 0)
         count = now.length - from;
     memset(bytes, (int)below(256), sizeof bytes);
-    int code = famsync_store(handle, address + from, bytes, count, &done);
-    check(code == FAMSYNC_NOFRAME ? done < count : code == FAMSYNC_OK && done == count, "a store comes to another end");
+    int code = famsync_write(handle, 0, from, bytes, count, &done);
+    if (count > now.length - from)
+        check(code == FAMSYNC_EINVAL && done == 0, "a write past the end isn't refused");
+    else
+        check(code == FAMSYNC_NOFRAME ? done == 0 : code == FAMSYNC_OK && done == count,
+              "a write comes to another end");
     memcpy(now.a + from, bytes, done);
+}
+
+/* The same of the other file, whose plain memory is open. */
+static void read_memory(void)
+{
+    unsigned char found[9000];
+    unsigned from = below(B_LENGTH), count = below(sizeof found);
+    size_t done;
+    WANT_CODE(famsync_read(handle, 1, from, found, count, &done), FAMSYNC_OK);
+    check(done == (count < B_LENGTH - from ? count : B_LENGTH - from), "a read of plain memory comes to another end");
+    check(memcmp(found, now.b + from, done) == 0, "a read of plain memory has other bytes");
+}
+
+static void write_memory(void)
+{
+    unsigned char bytes[9000];
+    unsigned from = below(B_LENGTH), count = below(below(4) ? 100 : sizeof bytes);
+    size_t done;
+    memset(bytes, (int)below(256), sizeof bytes);
+    int code = famsync_write(handle, 1, from, bytes, count, &done);
+    if (count > B_LENGTH - from)
+        check(code == FAMSYNC_EINVAL && done == 0, "a write past the end of plain memory isn't refused");
+    else
+        check(code == FAMSYNC_NOFRAME ? done == 0 && famsync_frames(handle) < 4 : code == FAMSYNC_OK && done == count,
+              "a write of plain memory comes to another end");
+    memcpy(now.b + from, bytes, done);
 }
 
 static void store_to_memory(void)
@@ -130,18 +149,15 @@ static void look_at_a_copy(void)
     char command[250];
     unsigned char found[A_MOST];
     famsync *other;
-    uint64_t at;
     if (!options.foreground)
         return;
     snprintf(command, sizeof command, "cp '%s' '%s'", volume, copied);
     WANT(system(command) == 0);
     WANT_CODE(famsync_open(copied, NULL, &other), FAMSYNC_OK);
     check(famsync_file_length(other, 0) == committed.length, "a copy has another length");
-    WANT_CODE(famsync_map(other, "a", 0, A_MOST, FAMSYNC_READ, &at), FAMSYNC_OK);
-    WANT_CODE(famsync_load(other, at, found, committed.length, NULL), FAMSYNC_OK);
+    WANT_CODE(famsync_read(other, 0, 0, found, committed.length, NULL), FAMSYNC_OK);
     check(memcmp(found, committed.a, committed.length) == 0, "a copy has other bytes");
-    WANT_CODE(famsync_map(other, "b", 0, 0, FAMSYNC_READ, &at), FAMSYNC_OK);
-    WANT_CODE(famsync_load(other, at, found, B_LENGTH, NULL), FAMSYNC_OK);
+    WANT_CODE(famsync_read(other, 1, 0, found, B_LENGTH, NULL), FAMSYNC_OK);
     check(memcmp(found, committed.b, B_LENGTH) == 0, "a copy has other bytes of plain memory");
     WANT_CODE(famsync_close(other), FAMSYNC_OK);
 }
@@ -156,7 +172,8 @@ static void session(void)
     committed.length = has_lengths(layout) ? 5000 : A_MOST;
     begin();
     for (unsigned calls = 60 + below(60); calls > 0; calls--) {
-        static void (*const call[])(void) = {load, load, store, store, store_to_memory, store_to_memory, set_length};
+        static void (*const call[])(void) = {
+            load, store, store, read_memory, write_memory, store_to_memory, set_length, store_to_memory, load};
         unsigned which = below(40);
         if (which < 2) {
             end();
@@ -166,7 +183,7 @@ static void session(void)
         } else if (which < 14) {
             commit();
         } else {
-            call[which % 7]();
+            call[which % 9]();
         }
     }
     look_at_a_copy();

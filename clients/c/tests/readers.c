@@ -35,12 +35,10 @@ static famsync *reader(void)
 /* Makes a volume in which page I of `a` has the number I. */
 static void make_numbers(unsigned layout)
 {
-    uint64_t address;
     make_volume_of(layout, 16, "a=65536 b=5000");
     famsync *handle = opened();
-    WANT_CODE(famsync_map(handle, "a", 0, 0, FAMSYNC_READ | FAMSYNC_WRITE, &address), FAMSYNC_OK);
     for (unsigned char page = 1; page < 16; page++)
-        WANT_CODE(famsync_store(handle, address + page * 4096u, &page, 1, NULL), FAMSYNC_OK);
+        WANT_CODE(famsync_write(handle, 0, page * 4096u, &page, 1, NULL), FAMSYNC_OK);
     WANT_CODE(famsync_msync(handle, NULL), FAMSYNC_OK);
     WANT_CODE(famsync_close(handle), FAMSYNC_OK);
 }
@@ -56,13 +54,11 @@ static struct stat state_of_volume(unsigned char *bytes, size_t count)
 
 static void reads(famsync *handle)
 {
-    uint64_t address;
     unsigned char byte;
     famsync_memory *memory;
-    WANT_CODE(famsync_map(handle, "a", 0, 0, FAMSYNC_READ, &address), FAMSYNC_OK);
     WANT_CODE(famsync_memory_open(handle, "a", &memory), FAMSYNC_OK);
     for (unsigned page = 0; page < 16; page++) {
-        WANT_CODE(famsync_load(handle, address + page * 4096u, &byte, 1, NULL), FAMSYNC_OK);
+        WANT_CODE(famsync_read(handle, 0, page * 4096u, &byte, 1, NULL), FAMSYNC_OK);
         WANT(byte == page && ((unsigned char *)famsync_memory_at(memory))[page * 4096u] == page);
     }
     WANT_CODE(famsync_memory_touch(memory, 0, 1), FAMSYNC_READONLY);
@@ -72,12 +68,10 @@ static void reads(famsync *handle)
 
 static void refusals(famsync *handle)
 {
-    uint64_t address;
-    WANT_CODE(famsync_map(handle, "a", 0, 0, FAMSYNC_READ | FAMSYNC_WRITE, &address), FAMSYNC_READONLY);
     WANT_CODE(famsync_setlength(handle, "a", 100), FAMSYNC_READONLY);
     WANT_CODE(famsync_msync(handle, NULL), FAMSYNC_READONLY);
-    WANT_CODE(famsync_map(handle, "a", 0, 0, FAMSYNC_READ, &address), FAMSYNC_OK);
-    WANT_CODE(famsync_store(handle, address, "x", 1, NULL), FAMSYNC_SEGVACCERR);
+    WANT_CODE(famsync_write(handle, 0, 0, "x", 1, NULL), FAMSYNC_READONLY);
+    WANT_CODE(famsync_write(handle, 2, 0, "x", 1, NULL), FAMSYNC_NOFILE);
 }
 
 /* Two readers of this process and one of another; a writer comes in once all have gone. */
@@ -147,14 +141,12 @@ static void left_by_a_crash(unsigned layout)
 {
     static unsigned char before[1 << 20], after[1 << 20];
     famsync *handle;
-    uint64_t address;
     int status;
     make_volume_of(layout, 16, "a=65536");
     pid_t child = fork();
     if (child == 0) {
         handle = opened_with((struct famsync_options){.foreground = 1});
-        WANT_CODE(famsync_map(handle, "a", 0, 0, FAMSYNC_READ | FAMSYNC_WRITE, &address), FAMSYNC_OK);
-        WANT_CODE(famsync_store(handle, address, "x", 1, NULL), FAMSYNC_OK);
+        WANT_CODE(famsync_write(handle, 0, 0, "x", 1, NULL), FAMSYNC_OK);
         WANT_CODE(famsync_msync(handle, NULL), FAMSYNC_OK);
         raise(SIGKILL);
     }
@@ -166,8 +158,7 @@ static void left_by_a_crash(unsigned layout)
     WANT_CODE(famsync_close(opened()), FAMSYNC_OK);
     handle = reader();
     unsigned char byte;
-    WANT_CODE(famsync_map(handle, "a", 0, 0, FAMSYNC_READ, &address), FAMSYNC_OK);
-    WANT_CODE(famsync_load(handle, address, &byte, 1, NULL), FAMSYNC_OK);
+    WANT_CODE(famsync_read(handle, 0, 0, &byte, 1, NULL), FAMSYNC_OK);
     WANT(byte == 'x');
     WANT_CODE(famsync_close(handle), FAMSYNC_OK);
 }

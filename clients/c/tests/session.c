@@ -1,17 +1,18 @@
 /*
- * A session for tests that cut it off or make a call of it fail. Of the file `a` the first ten pages have one number in
- * each, the same in all, that is raised by one and committed, round by round; `b` has the last number as its length
- * that four divides. Between two of these a commit comes right after another, and a length waits for those before.
+ * A session for tests that cut it off or make a call of it fail. The first ten pages have one number in each, the same
+ * in all, that is raised by one and committed, round by round: the even ones are of the file `a`, in plain memory, and
+ * the odd ones of `c`, by famsync_write. `b` has the last number as its length that four divides.
  *
  *   session VOLUME make [FILES [LAYOUT]]      makes a volume; of layout 3 where that isn't said
  *   session VOLUME work ROUNDS [foreground|few]
  *                                             prints each call that fails, and the number of each round that is done;
- *                                             `few`: in the foreground, with no more frames than a round stores to, and
- *                                             another page is loaded after each
+ *                                             `few`: in the foreground, with no more pages in a commit than a round
+ *                                             writes, and another page is read after each
  *   session VOLUME load                       the same for ever, by three threads, each with pages of its own
  *   session VOLUME children                   the same, and another thread makes children meanwhile, which store, too
  *   session VOLUME find [trust]               prints the numbers that are there
  *   session VOLUME read                       opens it for reading alone, and keeps it until its input ends
+ *   session VOLUME backup PATH                writes a backup of it, after a store that isn't committed
  *
  * A call that fails is printed with its code, and with errno where that says how.
  */
@@ -19,10 +20,12 @@
 
 #include <stdatomic.h>
 
-#define FILES "a=163840 b=0/5000"
+#define FILES "a=163840 b=0/5000 c=163840"
 #define PAGES 10
 #define THREADS 3
-#define FEW (PAGES + 1) /* as many pages as a round stores to */
+#define FEW (PAGES + 1) /* as many pages as a round writes */
+
+enum { A, B, C };
 
 static int report(const char *call, int code)
 {
@@ -35,22 +38,20 @@ static int report(const char *call, int code)
     return 1;
 }
 
-/* Another page comes into memory, so that one of those that a commit had has to leave. */
-static int load_another(famsync *handle, uint64_t address, uint64_t number)
+static int read_another(famsync *handle, uint64_t number)
 {
     unsigned char byte;
-    return report("load", famsync_load(handle, address + (PAGES + number % PAGES) * 4096, &byte, 1, NULL));
+    return report("read", famsync_read(handle, C, (PAGES + number % PAGES) * 4096, &byte, 1, NULL));
 }
 
-/* The half of the pages is stored to by plain memory, and the other half by famsync_store. */
-static int one_round(famsync *handle, famsync_memory *memory, uint64_t address, uint64_t number)
+static int one_round(famsync *handle, famsync_memory *memory, uint64_t number)
 {
     uint64_t mark;
     int failed = 0;
     for (unsigned page = 0; page < PAGES; page += 2) {
         memcpy((unsigned char *)famsync_memory_at(memory) + page * 4096 + 8 * (number % 16), &number, 8);
         memcpy((unsigned char *)famsync_memory_at(memory) + page * 4096 + 4000, &number, 8);
-        failed |= report("store", famsync_store(handle, address + (page + 1) * 4096 + 4000, &number, 8, NULL));
+        failed |= report("write", famsync_write(handle, C, (page + 1) * 4096 + 4000, &number, 8, NULL));
     }
     if (number % 4 == 0)
         failed |= report("setlength", famsync_setlength(handle, "b", number));
@@ -60,17 +61,17 @@ static int one_round(famsync *handle, famsync_memory *memory, uint64_t address, 
     return failed;
 }
 
-static void make_rounds(famsync *handle, famsync_memory *memory, uint64_t address, uint64_t first, uint64_t end)
+static void make_rounds(famsync *handle, famsync_memory *memory, uint64_t first, uint64_t end)
 {
     bool few = famsync_frames(handle) == FEW;
     int left = 3; /* a call that failed may be tried again */
     for (uint64_t round = first; round < end && left > 0;) {
-        if (one_round(handle, memory, address, round)) {
+        if (one_round(handle, memory, round)) {
             left--;
             continue;
         }
         if (few)
-            left -= load_another(handle, address, round);
+            left -= read_another(handle, round);
         round++;
     }
 }
@@ -79,14 +80,13 @@ static int work(uint64_t rounds, const char *how)
 {
     famsync *handle;
     famsync_memory *memory;
-    uint64_t address, number;
+    uint64_t number;
     struct famsync_options options = {.foreground = *how, .frames = strcmp(how, "few") == 0 ? FEW : 0};
     if (report("open", famsync_open(volume, &options, &handle)))
         return 0;
     if (!report("memory", famsync_memory_open(handle, "a", &memory))) {
-        if (!report("map", famsync_map(handle, "a", 0, 0, 3, &address)) &&
-            !report("load", famsync_load(handle, address + 4096 + 4000, &number, 8, NULL)))
-            make_rounds(handle, memory, address, number + 1, number + 1 + rounds);
+        if (!report("read", famsync_read(handle, C, 4096 + 4000, &number, 8, NULL)))
+            make_rounds(handle, memory, number + 1, number + 1 + rounds);
         report("forget", famsync_memory_close(memory));
     }
     report("close", famsync_close(handle));
@@ -149,19 +149,17 @@ static int loaded(bool with_children)
 static int find(bool trust)
 {
     famsync *handle;
-    uint64_t address;
     struct famsync_options options = {.trust = trust};
     int code = famsync_open(volume, &options, &handle);
     if (code != FAMSYNC_OK) {
         printf("open %d\n", code);
         return 0;
     }
-    WANT_CODE(famsync_map(handle, "a", 0, 0, 1, &address), FAMSYNC_OK);
     for (unsigned part = 0; part <= THREADS; part++) {
         uint64_t first = 0, number, bad = 0;
         for (unsigned page = 0; page < PAGES; page++) {
-            WANT_CODE(famsync_load(handle, address + 4096 * (PAGES * part + page) + 4000, &number, 8, NULL),
-                      FAMSYNC_OK);
+            unsigned of = part == 0 && page % 2 == 1 ? C : A;
+            WANT_CODE(famsync_read(handle, of, 4096 * (PAGES * part + page) + 4000, &number, 8, NULL), FAMSYNC_OK);
             first = page == 0 ? number : first;
             bad |= number != first && (part == 0 || number + 1 != first);
         }
@@ -184,6 +182,16 @@ static int reads(void)
     return report("close", famsync_close(handle));
 }
 
+static int backs_up(const char *path)
+{
+    famsync *handle = opened();
+    int file = open(path, O_RDWR | O_CREAT | O_CLOEXEC, 0600);
+    WANT_CODE(famsync_write(handle, A, 0, "not committed", 13, NULL), FAMSYNC_OK);
+    report("backup", famsync_backup(handle, file));
+    WANT(close(file) == 0);
+    return report("close", famsync_close(handle));
+}
+
 int main(int count, char **words)
 {
     WANT(count >= 3);
@@ -200,5 +208,7 @@ int main(int count, char **words)
         return loaded(words[2][0] == 'c');
     if (strcmp(words[2], "read") == 0)
         return reads();
+    if (strcmp(words[2], "backup") == 0)
+        return backs_up(words[3]);
     return find(count > 3);
 }

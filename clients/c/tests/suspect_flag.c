@@ -51,10 +51,8 @@ static bool is_there(const char *in, const char *name)
 static famsync *stored_to(const char *path)
 {
     famsync *handle;
-    uint64_t address;
     WANT_CODE(famsync_open(path, &(struct famsync_options){.trust = 1, .foreground = 1}, &handle), FAMSYNC_OK);
-    WANT_CODE(famsync_map(handle, "a", 0, 0, FAMSYNC_READ | FAMSYNC_WRITE, &address), FAMSYNC_OK);
-    WANT_CODE(famsync_store(handle, address, "x", 1, NULL), FAMSYNC_OK);
+    WANT_CODE(famsync_write(handle, 0, 0, "x", 1, NULL), FAMSYNC_OK);
     return handle;
 }
 

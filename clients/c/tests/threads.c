@@ -8,6 +8,7 @@
 #include <stdlib.h>
 #include <sys/time.h>
 
+#define SLOTS 24
 #define WORKERS 3
 #define STEPS 6
 #define COMMITS 25u
@@ -15,7 +16,6 @@
 
 static famsync *handle;
 static unsigned char *at;
-static uint64_t address;
 static atomic_bool stopped, quiet;
 static atomic_uint commits, alarms, interrupts;
 
@@ -35,12 +35,13 @@ static void *work(void *argument)
     return NULL;
 }
 
-static void *others_load(void *argument)
+/* Of the file whose memory isn't open. */
+static void *others_read(void *argument)
 {
     unsigned char bytes[5000];
     (void)argument;
     while (!atomic_load(&stopped)) {
-        WANT_CODE(famsync_load(handle, address + 4000, bytes, sizeof bytes, NULL), FAMSYNC_OK);
+        WANT_CODE(famsync_read(handle, 1, 4000, bytes, sizeof bytes, NULL), FAMSYNC_OK);
         usleep(5000);
     }
     return NULL;
@@ -55,7 +56,7 @@ static void on_signal(int number)
     atomic_fetch_add(number == SIGALRM ? &alarms : &interrupts, 1);
 }
 
-/* The thread that commits, the workers, and the one that loads; and the one that interrupts these. */
+/* The thread that commits, the workers, and the one that reads; and the one that interrupts these. */
 struct threads {
     pthread_t thread[WORKERS + 2], interrupter;
 };
@@ -106,11 +107,15 @@ static unsigned judge(const unsigned char *committed)
     return between;
 }
 
-/* What a load finds is what was committed. */
+/* What a backup has is what was committed, whatever is stored meanwhile. */
 static void commit(unsigned char *committed, size_t count)
 {
+    char path[100];
+    snprintf(path, sizeof path, "%s/backup.img", folder);
+    int file = open(path, O_RDWR | O_CREAT | O_CLOEXEC, 0600);
     WANT_CODE(famsync_msync(handle, NULL), FAMSYNC_OK);
-    WANT_CODE(famsync_load(handle, address, committed, count, NULL), FAMSYNC_OK);
+    WANT_CODE(famsync_backup(handle, file), FAMSYNC_OK);
+    WANT(pread(file, committed, count, (off_t)first_home(1, SLOTS) * 4096) == (ssize_t)count && close(file) == 0);
 }
 
 static void begin(struct threads *threads)
@@ -121,7 +126,7 @@ static void begin(struct threads *threads)
     threads->thread[0] = pthread_self();
     for (uintptr_t i = 0; i < WORKERS; i++)
         WANT(pthread_create(&threads->thread[1 + i], NULL, work, (void *)i) == 0);
-    WANT(pthread_create(&threads->thread[1 + WORKERS], NULL, others_load, NULL) == 0);
+    WANT(pthread_create(&threads->thread[1 + WORKERS], NULL, others_read, NULL) == 0);
     if (has_signals())
         WANT(pthread_create(&threads->interrupter, NULL, interrupt, threads) == 0);
 }
@@ -165,11 +170,10 @@ int main(void)
     struct threads threads;
     famsync_memory *memory;
     unsigned between, counted;
-    make_volume(24, "a=77824");
+    make_volume(SLOTS, "a=77824 b=20000");
     handle = opened();
     WANT_CODE(famsync_memory_open(handle, "a", &memory), FAMSYNC_OK);
     at = famsync_memory_at(memory);
-    WANT_CODE(famsync_map(handle, "a", 0, 0, FAMSYNC_READ, &address), FAMSYNC_OK);
     begin(&threads);
     between = commit_all(committed, sizeof committed);
     end(&threads);

@@ -58,10 +58,8 @@ static void leave_a_commit(unsigned pages)
     int status;
     if (child == 0) {
         famsync *handle = opened_with((struct famsync_options){.foreground = 1});
-        uint64_t address;
-        WANT_CODE(famsync_map(handle, "a", 0, 0, FAMSYNC_READ | FAMSYNC_WRITE, &address), FAMSYNC_OK);
         for (unsigned page = 0; page < pages; page++)
-            WANT_CODE(famsync_store(handle, address + 4096 * page, &page, sizeof page, NULL), FAMSYNC_OK);
+            WANT_CODE(famsync_write(handle, 0, 4096 * page, &page, sizeof page, NULL), FAMSYNC_OK);
         WANT_CODE(famsync_msync(handle, NULL), FAMSYNC_OK);
         _exit(0);
     }
@@ -72,17 +70,15 @@ static void leave_a_commit(unsigned pages)
 static void recovers_by_few_reads(unsigned layout, unsigned pages)
 {
     famsync *handle;
-    uint64_t address;
     make_volume_of(layout, 1020, "a=4177920");
     leave_a_commit(pages);
     WANT(open_gates(layout, 1020) == 1);
     reads = 0;
     handle = opened();
     WANT(reads <= 50);
-    WANT_CODE(famsync_map(handle, "a", 0, 0, FAMSYNC_READ, &address), FAMSYNC_OK);
     for (unsigned page = 0; page < pages; page++) {
         unsigned found = pages;
-        WANT_CODE(famsync_load(handle, address + 4096 * page, &found, sizeof found, NULL), FAMSYNC_OK);
+        WANT_CODE(famsync_read(handle, 0, 4096 * page, &found, sizeof found, NULL), FAMSYNC_OK);
         WANT(found == page);
     }
     WANT_CODE(famsync_close(handle), FAMSYNC_OK);

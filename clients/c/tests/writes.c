@@ -31,7 +31,7 @@ int fdatasync(int file)
 }
 
 /* A commit: of so many pages, of which every such one of the file is one; and where it resizes, of the length of
-   another file, which isn't set before what was committed is written home. */
+   another file. */
 struct shape {
     unsigned layout, pages, apart;
     bool resizes;
@@ -44,7 +44,6 @@ enum way { BY_POINTER, BY_CALL };
 
 static famsync *handle;
 static famsync_memory *memory;
-static uint64_t address;
 static atomic_bool stopped;
 
 /* The home blocks of a commit: its pages, and the block of the lengths, which is a neighbour of the first file's first
@@ -88,18 +87,26 @@ static bool were_made(struct count count)
     return count.least <= writes && writes <= count.most;
 }
 
-/* So many commits were written, and home. What shares a sync doesn't share a write: no journal lies before a file's
-   block that is written with it and has a record in each slot. */
-static bool were_written(struct shape shape, unsigned commits)
-{
-    struct count first = writes_to_commit(shape), then = writes_home(shape);
-    return were_made((struct count){commits * (first.least + then.least), commits * (first.most + then.most)});
-}
-
 /* Whether a commit can come while the one before isn't written home yet, and its syncs serve that, too. */
 static bool shares(struct shape shape)
 {
-    return shares_syncs(shape.layout) && !shape.resizes;
+    return shares_syncs(shape.layout);
+}
+
+/* How many writes so many commits can share. A commit in the last journal that has a record in each slot ends right
+   before the block of the lengths; where the commit before is written home at the same time, one call writes both. */
+static unsigned shared_writes(struct shape shape, unsigned commits)
+{
+    bool meets_home = shares(shape) && homes_of(shape) == slots_for(shape);
+    return meets_home ? commits / journals_of(shape.layout) : 0;
+}
+
+/* So many commits were written, and home. */
+static bool were_written(struct shape shape, unsigned commits)
+{
+    struct count first = writes_to_commit(shape), then = writes_home(shape);
+    unsigned least = commits * (first.least + then.least), most = commits * (first.most + then.most);
+    return were_made((struct count){least - shared_writes(shape, commits), most});
 }
 
 /* How many syncs so many commits make to the end, in a row. */
@@ -127,7 +134,6 @@ static void begin(struct famsync_options options, enum way way)
     handle = opened_with(options);
     if (way == BY_POINTER)
         WANT_CODE(famsync_memory_open(handle, "a", &memory), FAMSYNC_OK);
-    WANT_CODE(famsync_map(handle, "a", 0, 0, FAMSYNC_READ | FAMSYNC_WRITE, &address), FAMSYNC_OK);
     atomic_store(&writes, 0);
     atomic_store(&syncs, 0);
 }
@@ -146,7 +152,7 @@ static void commit(struct shape shape, enum way way, uint64_t number)
         if (way == BY_POINTER)
             memcpy((unsigned char *)famsync_memory_at(memory) + at, &number, sizeof number);
         else
-            WANT_CODE(famsync_store(handle, address + at, &number, sizeof number, NULL), FAMSYNC_OK);
+            WANT_CODE(famsync_write(handle, 0, at, &number, sizeof number, NULL), FAMSYNC_OK);
     }
     if (shape.resizes)
         WANT_CODE(famsync_setlength(handle, "b", 9000 - number), FAMSYNC_OK);
@@ -195,18 +201,17 @@ static void count_by_themselves(struct shape shape)
     want_counts(shape, COMMITS, syncs == 4 * COMMITS);
 }
 
-/* The commit of this number makes two syncs of its own; and two more before where that before has to be written home
-   first: when its journal has another commit, or a length is to be set. */
+/* The commit of this number makes two syncs of its own; and two more before where its journal has another commit, which
+   is written home first. */
 static unsigned syncs_to_commit(struct shape shape, unsigned number)
 {
-    unsigned others = shape.resizes ? 1 : journals_of(shape.layout);
-    return shares(shape) || number <= others ? 2 : 4;
+    return shares(shape) || number <= journals_of(shape.layout) ? 2 : 4;
 }
 
 /* Which commit's bytes are in the files' blocks when the one of this number is acknowledged. */
 static uint64_t is_home(struct shape shape, uint64_t number)
 {
-    uint64_t later = shares(shape) || shape.resizes ? 1 : journals_of(shape.layout);
+    uint64_t later = shares(shape) ? 1 : journals_of(shape.layout);
     return number > later ? number - later : 0;
 }
 
@@ -254,12 +259,12 @@ static void thread_waits(struct shape shape)
     WANT(waited);
 }
 
-static void *others_load(void *argument)
+static void *others_read(void *argument)
 {
     unsigned char byte;
     (void)argument;
     while (!atomic_load(&stopped)) {
-        WANT_CODE(famsync_load(handle, address, &byte, 1, NULL), FAMSYNC_OK);
+        WANT_CODE(famsync_read(handle, 0, 100, &byte, 1, NULL), FAMSYNC_OK);
         usleep(100);
     }
     return NULL;
@@ -272,7 +277,7 @@ static void beside_others(struct shape shape)
     make_file(shape);
     begin((struct famsync_options){0}, BY_POINTER);
     atomic_store(&stopped, false);
-    WANT(pthread_create(&loader, NULL, others_load, NULL) == 0);
+    WANT(pthread_create(&loader, NULL, others_read, NULL) == 0);
     for (uint64_t number = 1; number <= COMMITS; number++) {
         commit(shape, BY_POINTER, number);
         usleep(200 * (unsigned)number);

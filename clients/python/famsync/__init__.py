@@ -1,4 +1,4 @@
-"""Files whose stores become durable together.
+"""Files whose changes become durable together.
 
     with famsync.open("bank.vol") as volume:
         bank = volume.memory("bank")
@@ -9,8 +9,8 @@
 Whatever ends this process or the system, the next session finds the files as they were at some commit, all of it and
 nothing else, and not before the last one that `commit` returned from. A volume has one session at a time.
 
-There are two ways to the bytes of a file: `Volume.memory`, a buffer to store through, and `Volume.map`, whose slices
-load and store. Where a call is refused or something fails an `Error` is raised.
+There are two ways to the bytes of a file: `Volume.memory`, a buffer to store through, and `Volume.read` and
+`Volume.write`. Where a call is refused or something fails an `Error` is raised.
 """
 
 from __future__ import annotations
@@ -27,16 +27,12 @@ from ._errors import (
     InUse,
     Invalid,
     NeedsOpening,
-    NoAddresses,
     NoFile,
     NoFrame,
     NoMemory,
-    NotAllowed,
     NotAVolume,
-    NotMapped,
     NotRegular,
     Overlap,
-    PastEnd,
     ReadOnly,
     Replaced,
     SeveralNames,
@@ -46,11 +42,10 @@ from ._errors import (
     Unmarked,
 )
 from ._library import version
-from ._mapping import Mapping
 from ._memory import Memory
-from ._volume import Path, Volume
+from ._volume import Path, Stat, Volume
 
-__version__ = "0.2.0"
+__version__ = "0.3.0"
 
 __all__ = [
     "Argument",
@@ -63,22 +58,18 @@ __all__ = [
     "Forked",
     "InUse",
     "Invalid",
-    "Mapping",
     "Memory",
     "NeedsOpening",
-    "NoAddresses",
     "NoFile",
     "NoFrame",
     "NoMemory",
     "NotAVolume",
-    "NotAllowed",
-    "NotMapped",
     "NotRegular",
     "Overlap",
-    "PastEnd",
     "ReadOnly",
     "Replaced",
     "SeveralNames",
+    "Stat",
     "Suspect",
     "System",
     "Torn",

@@ -11,15 +11,15 @@ from ._library import words
 class Error(Exception):
     """A call was refused, or something failed.
 
-    `code` is that of famsync.h. Of a load or a store that ended on its way, `done` is how many bytes were loaded or
-    stored before, and `loaded` has those that were loaded.
+    `code` is that of famsync.h. Of a read or a write that ended on its way, `done` is how many bytes were read or
+    written before, and `read` has those that were read.
     """
 
     code = 0
 
-    def __init__(self, *what: object, done: int = 0, loaded: bytes = b"") -> None:
+    def __init__(self, *what: object, done: int = 0, read: bytes = b"") -> None:
         super().__init__(*what)
-        self.done, self.loaded = done, loaded
+        self.done, self.read = done, read
 
 
 class Argument(Error, ValueError):
@@ -95,31 +95,13 @@ class Damaged(Error):
 
 
 class BadShape(Error):
-    """The volume doesn't serve so many frames or copies."""
+    """A commit to this volume can't have so many pages as `frames` says."""
 
     code = -18
 
 
-class NotMapped(Error):
-    """The address isn't mapped."""
-
-    code = -23
-
-
-class NotAllowed(Error):
-    """The mapping doesn't allow this access."""
-
-    code = -24
-
-
-class PastEnd(Error):
-    """The page is past the file's end."""
-
-    code = -25
-
-
 class NoFrame(Error):
-    """More pages were stored to, or added to a file, than one commit can have."""
+    """More pages were written, or added to a file, than one commit can have."""
 
     code = -27
 
@@ -137,16 +119,9 @@ class Broken(Error, OSError):
 
 
 class Invalid(Error):
-    """A number is outside the range that the volume or its addresses have: a length above the file's capacity, or any
-    in layout 1 or 2."""
+    """The bytes of a write aren't within the file; or a length is above the file's capacity, or in layout 1 or 2."""
 
     code = -30
-
-
-class NoAddresses(Error):
-    """There are no addresses left."""
-
-    code = -31
 
 
 class Overlap(Error):
@@ -162,7 +137,7 @@ class NoFile(Error):
 
 
 class Busy(Error):
-    """Plain memory of the file is open; or the session has made 2^32 - 1 commits."""
+    """Plain memory of the file is open; a backup is being made; or the session has made 2^32 - 1 commits."""
 
     code = -35
 
@@ -188,14 +163,14 @@ class ReadOnly(Error):
 CLASSES = {kind.code: kind for kind in Error.__subclasses__()}
 
 
-def check(code: int, message: str = "", done: int = 0, loaded: bytes = b"") -> None:
+def check(code: int, message: str = "", done: int = 0, read: bytes = b"") -> None:
     """Raises what a code says, with the library's words for it where there is no other message."""
     if code == 0:
         return
     kind, error = CLASSES.get(code, Error), ctypes.get_errno()
     if issubclass(kind, OSError):
         said = os.strerror(error) if kind is System else f"{words(code)}: {os.strerror(error)}"
-        raise kind(error, message or said, done=done, loaded=loaded)
-    raised = kind(message or words(code), done=done, loaded=loaded)
+        raise kind(error, message or said, done=done, read=read)
+    raised = kind(message or words(code), done=done, read=read)
     raised.code = code
     raise raised

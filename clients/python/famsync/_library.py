@@ -7,7 +7,6 @@ import os
 from ctypes import POINTER, c_char_p, c_int, c_size_t, c_uint, c_uint64, c_void_p
 
 NAME = "libfamsync.so.1"
-READ, WRITE = 1, 2
 
 
 class Options(ctypes.Structure):
@@ -26,6 +25,23 @@ class Options(ctypes.Structure):
     ]
 
 
+class Stat(ctypes.Structure):
+    """struct famsync_stat"""
+
+    _fields_ = [
+        ("size", c_size_t),
+        ("commits", c_uint64),
+        ("frames", c_uint64),
+        ("staged", c_uint64),
+        ("unwritten", c_uint64),
+        ("reads", c_uint64),
+        ("writes", c_uint64),
+        ("syncs", c_uint64),
+        ("bytes_written", c_uint64),
+        ("memory", c_uint64),
+    ]
+
+
 # Of each call what it answers, and what it takes.
 CALLS = {
     "famsync_version": (c_char_p,),
@@ -36,12 +52,13 @@ CALLS = {
     "famsync_file_length": (c_uint64, c_void_p, c_uint),
     "famsync_frames": (c_uint, c_void_p),
     "famsync_setlength": (c_int, c_void_p, c_char_p, c_uint64),
-    "famsync_map": (c_int, c_void_p, c_char_p, c_uint64, c_uint64, c_int, POINTER(c_uint64)),
-    "famsync_load": (c_int, c_void_p, c_uint64, c_void_p, c_size_t, POINTER(c_size_t)),
-    "famsync_store": (c_int, c_void_p, c_uint64, c_char_p, c_size_t, POINTER(c_size_t)),
+    "famsync_read": (c_int, c_void_p, c_uint, c_uint64, c_void_p, c_size_t, POINTER(c_size_t)),
+    "famsync_write": (c_int, c_void_p, c_uint, c_uint64, c_char_p, c_size_t, POINTER(c_size_t)),
     "famsync_msync": (c_int, c_void_p, POINTER(c_uint64)),
     "famsync_acknowledged": (c_uint64, c_void_p),
     "famsync_strerror": (c_char_p, c_int),
+    "famsync_stat": (c_int, c_void_p, POINTER(Stat)),
+    "famsync_backup": (c_int, c_void_p, c_int),
     "famsync_memory_open": (c_int, c_void_p, c_char_p, POINTER(c_void_p)),
     "famsync_memory_at": (c_void_p, c_void_p),
     "famsync_memory_length": (c_size_t, c_void_p),

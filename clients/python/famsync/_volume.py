@@ -8,17 +8,31 @@ import os
 import weakref
 from contextlib import suppress
 from types import TracebackType
-from typing import Any, Dict, List, NoReturn, Optional, Tuple, Type, Union
+from typing import Any, Dict, List, NamedTuple, NoReturn, Optional, Tuple, Type, Union
 
-from ._errors import Argument, Error, check
-from ._library import READ, WRITE, Options, library
-from ._mapping import Mapping
+from . import _library
+from ._errors import Argument, Error, NoFile, check
+from ._library import Options, library, words
 from ._memory import Lent, Memory, open_memory
 from ._session import Once, Session
 
 # FAMSYNC_MESSAGE_SIZE of famsync.h.
 MESSAGE = 9000
 Path = Union[str, bytes, "os.PathLike[str]", "os.PathLike[bytes]"]
+
+
+class Stat(NamedTuple):
+    """Numbers of a session, which `Volume.stat` returns. Calls of the system count from the opening on."""
+
+    commits: int  # the number of the last commit that was acknowledged
+    frames: int  # the most pages of one commit
+    staged: int  # pages that wait for a commit, those of plain memory, too
+    unwritten: int  # pages of commits that wait to be written to their places
+    reads: int  # reads of the volume's file
+    writes: int  # writes to it
+    syncs: int  # syncs of it
+    bytes_written: int  # bytes that were written to it
+    memory: int  # bytes of memory that the sessions of this process take for pages and commits
 
 
 def _number(value: Any, bits: int, what: str) -> int:
@@ -68,12 +82,30 @@ def _files(handle: ctypes.c_void_p) -> Dict[str, int]:
     }
 
 
+def _numbers(handle: ctypes.c_void_p) -> Dict[str, int]:
+    """The numbers of the files, by their names."""
+    numbers = range(library.famsync_files(handle))
+    return {library.famsync_file_name(handle, number).decode(): number for number in numbers}
+
+
+def _new_file(path: Path) -> int:
+    return os.open(_path(path), os.O_RDWR | os.O_CREAT | os.O_CLOEXEC, 0o666)
+
+
+def _sync_folder(path: Path) -> None:
+    folder = os.open(os.path.dirname(_path(path)) or b".", os.O_RDONLY | os.O_DIRECTORY | os.O_CLOEXEC)
+    try:
+        os.fsync(folder)
+    finally:
+        os.close(folder)
+
+
 class Volume:
     """A session with the volume at `path`; `famsync.open` begins one.
 
     - `trust`: a volume whose sync failed once is opened all the same.
-    - `frames`: pages in memory, and the most that one commit can have; 0 is as many as the volume allows.
-    - `copies`: frames for copies, up to 64. No call needs one; leave it 0.
+    - `frames`: the most pages that one commit can have; 0 is as many as the volume allows.
+    - `copies`: ignored.
     - `foreground`: no thread of the library's own, which writes what is left of a commit while nobody calls.
     - `wait_ms`: how many milliseconds to wait for a volume that is in use.
     - `readonly`: a session that only reads. Any number of them share a volume.
@@ -104,6 +136,7 @@ class Volume:
         try:
             code = library.famsync_open(encoded, ctypes.byref(options), ctypes.byref(self._session.handle))
             check(code, said.value.decode("utf-8", "replace"))
+            self._numbers = self._session.call(_numbers)
         except BaseException:
             self._session.closing.end()
             raise
@@ -144,37 +177,87 @@ class Volume:
             with suppress(ValueError):
                 self._lent.remove(one)
 
-    def map(self, name: str, offset: int = 0, length: int = 0, write: Optional[bool] = None) -> Mapping:
-        """Maps pages of a file from `offset` on, a multiple of 4,096; a length of 0 is up to the file's end. It is for
-        writing, too, unless `write` is False or the session only reads."""
-        write = not self._is_readonly if write is None else write
-        return self._session.call(self._map, name, _number(offset, 64, "offset"), _number(length, 64, "length"), write)
+    def read(self, name: str, offset: int = 0, count: Optional[int] = None) -> bytes:
+        """Bytes of a file from `offset` on, as they were written last: `count` of them, or fewer where the file ends
+        before. Without a count up to the file's end. If the file has plain memory that is open, they are read of it."""
+        most = None if count is None else _number(count, 64, "count")
+        return self._session.call(self._read, name, _number(offset, 64, "offset"), most)
 
-    def _map(self, handle: ctypes.c_void_p, name: str, offset: int, length: int, write: bool) -> Mapping:
-        address = ctypes.c_uint64()
-        length = length or max(0, _files(handle).get(name, 0) - offset)
-        rights = READ | WRITE if write else READ
-        check(library.famsync_map(handle, _name(name), offset, length, rights, ctypes.byref(address)))
-        return Mapping(self._session, name, address.value, length)
+    def _read(self, handle: ctypes.c_void_p, name: str, offset: int, count: Optional[int]) -> bytes:
+        number = self._number_of(name)
+        left = max(0, library.famsync_file_length(handle, number) - offset)
+        found, done = bytearray(left if count is None else min(count, left)), ctypes.c_size_t()
+        at = ctypes.byref(ctypes.c_char.from_buffer(found)) if found else None
+        code = library.famsync_read(handle, number, offset, at, len(found), ctypes.byref(done))
+        read = bytes(found[: done.value])
+        check(code, done=done.value, read=read)
+        return read
+
+    def write(self, name: str, offset: int, value: Any) -> None:
+        """Writes bytes, or what has some, to a file from `offset` on. Invalid if one of them lies past the file's end;
+        NoFrame if the next commit has no room for their pages. Nothing is written then.
+
+        Writes wait in memory for `commit`. If the file has plain memory that is open, it is a store to that."""
+        written = value if isinstance(value, bytes) else memoryview(value).tobytes()
+        self._session.call(self._write, name, _number(offset, 64, "offset"), written)
+
+    def _write(self, handle: ctypes.c_void_p, name: str, offset: int, value: bytes) -> None:
+        done = ctypes.c_size_t()
+        code = library.famsync_write(handle, self._number_of(name), offset, value, len(value), ctypes.byref(done))
+        check(code, done=done.value)
+
+    def _number_of(self, name: str) -> int:
+        number = self._numbers.get(os.fsdecode(_name(name)))
+        if number is None:
+            raise NoFile(words(NoFile.code))
+        return number
+
+    def stat(self) -> Stat:
+        """Numbers of this session: commits, pages that wait, calls of the system, memory."""
+        found = _library.Stat(size=ctypes.sizeof(_library.Stat))
+        check(self._session.call(library.famsync_stat, ctypes.byref(found)))
+        return Stat(*(getattr(found, name) for name in Stat._fields))
+
+    def backup(self, file: Union[Path, int, Any]) -> None:
+        """Writes a clean volume with the files of the last acknowledged commit. Other threads may commit meanwhile.
+
+        `file` is a path, whose file is made or overwritten; or a descriptor, or an object with one, that is open for
+        reading and writing. It is emptied first, and synced at the end. Busy if another backup is being made."""
+        if isinstance(file, int):
+            self._back_up(file)
+        elif hasattr(file, "fileno"):
+            self._back_up(file.fileno())
+        else:
+            self._back_up_to(file)
+
+    def _back_up(self, descriptor: int) -> None:
+        check(self._session.call(library.famsync_backup, _number(descriptor, 31, "the descriptor")))
+
+    def _back_up_to(self, path: Path) -> None:
+        descriptor = _new_file(path)
+        try:
+            self._back_up(descriptor)
+        finally:
+            os.close(descriptor)
+        _sync_folder(path)
 
     def set_length(self, name: str, length: int) -> None:
         """Sets the length of a file, up to its capacity, in a volume of layout 3 or 4; else Invalid. Bytes past a new
         end are gone, and what a file grows by is zeros; the pages that it grows by go into the next commit, and NoFrame
-        says that one can't have them all. Like a store it is durable after that commit.
+        says that one can't have them all. Like a write it is durable after that commit.
 
-        Busy as long as plain memory of the file is open. A mapping stays as it is: its pages past the file's end answer
-        PastEnd, and can be used once the file is long enough."""
+        Busy as long as plain memory of the file is open."""
         check(self._session.call(library.famsync_setlength, _name(name), _number(length, 64, "length")))
 
     def commit(self) -> int:
-        """Makes all stores of this session durable, all of them or none, and returns the commit's number, counted from
-        1, once they are. Where it is refused, all stores still wait for a commit."""
+        """Makes all changes of this session durable, all of them or none, and returns the commit's number, counted from
+        1, once they are. Where it is refused, all changes still wait for a commit."""
         mark = ctypes.c_uint64()
         check(self._session.call(library.famsync_msync, ctypes.byref(mark)))
         return mark.value
 
     def close(self) -> None:
-        """Ends the session, and closes its plain memory; stores since the last commit are gone. It waits for the calls
+        """Ends the session, and closes its plain memory; changes since the last commit are gone. It waits for the calls
         of other threads, and is a RuntimeError from within a call of its own, as a signal's handler may be.
 
         BufferError where somebody has a buffer of plain memory: then the volume stays open. Device where a write or a

@@ -63,7 +63,7 @@ class Classes(unittest.TestCase):
         self.assertEqual((type(caught.exception), caught.exception.code), (famsync.Error, -99))
 
     def test_they_can_be_pickled(self):
-        kept = [famsync.System(2, "nowhere"), famsync.Device(28, "full"), famsync.NoFrame("full", done=3, loaded=b"abc")]
+        kept = [famsync.System(2, "nowhere"), famsync.Device(28, "full"), famsync.NoFrame("full", done=3, read=b"abc")]
         for error in kept:
             again = pickle.loads(pickle.dumps(error))
             self.assertEqual((type(again), again.args, again.done), (type(error), error.args, error.done))
@@ -123,35 +123,30 @@ class InASession(InAFolder):
 
     def test_names_and_numbers(self):
         volume = self.opened()
-        for call in (volume.memory, volume.map, lambda name: volume.set_length(name, 1)):
+        calls = [volume.memory, volume.read, lambda name: volume.write(name, 0, b"x")]
+        for call in [*calls, lambda name: volume.set_length(name, 1)]:
             self.assertRaises(famsync.NoFile, call, "c")
             self.assertRaises(famsync.Argument, call, "a\0")
             self.assertRaises(TypeError, call, 1)
-        for offset, length in ((1, 0), (-PAGE, 0), (0, -1), (0, 1 << 64), (1 << 20, 0)):
-            self.assertRaises(famsync.Argument, volume.map, "a", offset, length)
-        self.assertRaises(famsync.NoAddresses, volume.map, "a", 0, (1 << 47) - PAGE)
+        for place in ((-1,), (1 << 64,), (0, -1), (0, 1 << 64)):
+            self.assertRaises(famsync.Argument, volume.read, "a", *place)
+        for offset in (-1, 1 << 64):
+            self.assertRaises(famsync.Argument, volume.write, "a", offset, b"x")
+        for place in ("0", None, 1.0):
+            self.assertRaises(TypeError, volume.read, "a", place)
+            self.assertRaises(TypeError, volume.write, "a", place, b"x")
         self.assertEqual(volume.commit(), 1)
 
     def test_invalid_in_a_layout_without_lengths(self):
         self.assertRaises(famsync.Invalid, self.opened().set_length, "a", 5000)
 
-    def test_accesses(self):
-        volume = self.opened()
-        self.assertRaises(famsync.NotAllowed, volume.map("b", write=False).__setitem__, 0, 1)
-        mapping = volume.map("b", length=16384)
-        mapping[0:3] = b"abc"
-        with self.assertRaises(famsync.PastEnd) as caught:
-            mapping[0:9000]
-        self.assertEqual((caught.exception.done, caught.exception.loaded), (8192, b"abc" + bytes(8189)))
-        with self.assertRaises(famsync.PastEnd) as caught:
-            mapping[8190:8200] = b"x" * 10
-        self.assertEqual((caught.exception.done, caught.exception.loaded), (2, b""))
-
     def test_more_pages_than_a_commit_has(self):
         volume = self.opened()
         with self.assertRaises(famsync.NoFrame) as caught:
-            volume.map("a")[:] = b"x" * 131072
-        self.assertEqual(caught.exception.done, 8 * PAGE)
+            volume.write("a", 0, b"x" * (8 * PAGE + 1))
+        self.assertEqual((caught.exception.done, volume.read("a", 0, 1)), (0, b"\0"))
+        volume.write("a", 0, b"x" * (8 * PAGE))
+        self.assertRaises(famsync.NoFrame, volume.write, "a", 8 * PAGE, b"x")
         self.assertEqual(volume.commit(), 1)
         memory = volume.memory("a")
         for page in range(9):
@@ -163,13 +158,13 @@ class InASession(InAFolder):
 
     def test_more_pages_in_both_ways_together(self):
         volume = self.opened()
-        memory, mapping = volume.memory("a"), volume.map("a", 16 * PAGE)
-        mapping[0 : 4 * PAGE] = b"9" * (4 * PAGE)
+        volume.write("a", 16 * PAGE, b"9" * (4 * PAGE))
+        memory = volume.memory("a")
         for page in range(6):
             memory[2 * page * PAGE] = 3
         self.assertRaises(famsync.NoFrame, volume.commit)
         memory.close()
-        self.assertEqual((volume.commit(), mapping[0], volume.map("a")[0]), (1, 57, 0))
+        self.assertEqual((volume.commit(), volume.read("a", 16 * PAGE, 1), volume.read("a", 0, 1)), (1, b"9", b"\0"))
 
     def test_memory_is_open(self):
         volume = self.opened()
@@ -185,24 +180,28 @@ class InASession(InAFolder):
 
     def test_device(self):
         volume = self.opened()
-        mapping = volume.map("a")
-        mapping[0:5] = b"first"
+        volume.write("a", 0, b"first")
         with limited(resource.RLIMIT_FSIZE, PAGE):
             self.fails(famsync.Device, errno.EFBIG, volume.commit)
             self.fails(famsync.Broken, errno.EFBIG, volume.commit)
-        self.fails(famsync.Broken, errno.EFBIG, volume.map, "a")
+        self.fails(famsync.Broken, errno.EFBIG, volume.read, "a")
+        self.fails(famsync.Broken, errno.EFBIG, volume.stat)
         self.assertEqual(volume.acknowledged, 0)
         self.fails(famsync.Device, errno.EFBIG, volume.close)
         volume.close()
         with famsync.open("v.img") as volume:
-            self.assertEqual(volume.map("a")[0:5], bytes(5))
+            self.assertEqual(volume.read("a", 0, 5), bytes(5))
 
     def test_a_read_that_fails(self):
         volume = self.opened()
-        mapping, blocks = volume.map("a"), os.path.getsize("v.img") // PAGE
+        blocks = os.path.getsize("v.img") // PAGE
+        volume.write("a", 0, b"first")
         with open("v.img", "r+b") as file:
             file.truncate((blocks - 10) * PAGE)
-        self.fails(famsync.Device, errno.EIO, mapping.__getitem__, slice(100000, 131072))
+        self.fails(famsync.Device, errno.EIO, volume.read, "a", 100000)
+        with self.assertRaises(famsync.Device) as caught:
+            volume.read("a", 2)
+        self.assertEqual((caught.exception.done, caught.exception.read), (PAGE - 2, b"rst" + bytes(PAGE - 5)))
 
     def test_no_memory(self):
         self.make(8, f"big={1 << 28}")

@@ -11,14 +11,14 @@ class Forks(InAFolder):
         super().setUp()
         self.volume = self.opened()
         self.memory = self.volume.memory("a")
-        self.mapping = self.volume.map("b")
-        self.memory[0:5] = self.mapping[0:5] = b"first"
+        self.memory[0:5] = b"first"
+        self.volume.write("b", 0, b"first")
 
     def test_each_call_of_a_child(self):
-        volume, memory, mapping = self.volume, self.memory, self.mapping
+        volume, memory = self.volume, self.memory
         calls = [volume.commit, lambda: volume.files, lambda: volume.frames, lambda: volume.acknowledged]
-        calls += [lambda: volume.memory("b"), lambda: volume.map("a"), lambda: volume.set_length("a", 1)]
-        calls += [lambda: mapping[0], lambda: mapping.__setitem__(0, 1), lambda: memory.dirty]
+        calls += [lambda: volume.memory("b"), lambda: volume.read("b"), lambda: volume.set_length("a", 1)]
+        calls += [lambda: volume.write("b", 0, b"x"), lambda: memory.dirty, volume.stat, lambda: volume.backup("copy")]
 
         def work():
             for call in calls:
@@ -27,7 +27,7 @@ class Forks(InAFolder):
                 famsync.open("v.img")
 
         self.assertEqual(forked(work), 0)
-        self.assertEqual((volume.commit(), memory[0:5], mapping[0:5]), (1, b"first", b"first"))
+        self.assertEqual((volume.commit(), memory[0:5], volume.read("b", 0, 5)), (1, b"first", b"first"))
 
     def test_a_child_has_a_copy_of_the_memory(self):
         def work():
@@ -46,7 +46,7 @@ class Forks(InAFolder):
             self.volume.close()
             self.assertRaises(famsync.Forked, self.volume.commit)
             self.volume.close()
-            self.volume = self.memory = self.mapping = None
+            self.volume = self.memory = None
 
         self.assertEqual(forked(work), 0)
         self.memory[0:5] = b"later"

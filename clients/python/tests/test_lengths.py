@@ -21,13 +21,12 @@ class InLayout3(InAFolder):
 
     def test_it_grows_and_shrinks(self):
         with famsync.open("v.img") as volume:
-            mapping = volume.map("a", length=40000)
-            mapping[4999] = 5
-            self.assertRaises(famsync.PastEnd, lambda: mapping[2 * PAGE])
+            volume.write("a", 4999, b"\5")
+            self.assertRaises(famsync.Invalid, volume.write, "a", 2 * PAGE, b"\2")
             volume.set_length("a", 20000)
-            mapping[19999] = 2
-            self.assertEqual((volume.files["a"], mapping[4998:5001]), (20000, b"\0\5\0"))
-            self.assertRaises(famsync.PastEnd, lambda: mapping[20480])
+            volume.write("a", 19999, b"\2")
+            self.assertEqual((volume.files["a"], volume.read("a", 4998, 3)), (20000, b"\0\5\0"))
+            self.assertEqual((volume.read("a", 19999), volume.read("a", 20000)), (b"\2", b""))
             volume.commit()
             volume.set_length("a", 30000)
             volume.set_length("b", 1)
@@ -36,7 +35,7 @@ class InLayout3(InAFolder):
             volume.set_length("a", 10)
             volume.commit()
             volume.set_length("a", 5000)
-            self.assertEqual(volume.map("a")[4990:5000], bytes(10))
+            self.assertEqual(volume.read("a", 4990), bytes(10))
         with famsync.open("v.img") as volume:
             self.assertEqual(volume.files["a"], 10)
 
@@ -65,8 +64,7 @@ class InLayout4(InLayout3):
                 volume.set_length("b", 0)
                 self.assertEqual(volume.commit(), 1)
         with famsync.open("v.img") as volume:
-            mapping = volume.map("a")
-            found = [mapping[page * PAGE + page] for page in range(1500)]
+            found = [volume.read("a", page * PAGE + page, 1)[0] for page in range(1500)]
             self.assertEqual((volume.files["b"], found), (0, [page % 255 + 1 for page in range(1500)]))
 
 

@@ -28,7 +28,7 @@ class Stores(InAFolder):
         self.volume.commit()
         self.volume.close()
         with famsync.open("v.img") as volume:
-            return volume.map("a")[begin:end]
+            return volume.read("a", begin, end - begin)
 
     def test_keys(self):
         memory = self.memory

@@ -31,11 +31,11 @@ class Begins(InAFolder):
                 self.assertEqual(volume.commit(), 1)
 
     def test_options(self):
-        with famsync.open("v.img", frames=3, copies=2, foreground=True) as volume:
-            self.assertEqual(volume.frames, 3)
-        for options in ({"frames": 17}, {"copies": 65}):
-            with self.assertRaises(famsync.BadShape):
-                famsync.open("v.img", **options)
+        for copies in (0, 2, 65):
+            with famsync.open("v.img", frames=3, copies=copies, foreground=True) as volume:
+                self.assertEqual(volume.frames, 3)
+        with self.assertRaises(famsync.BadShape):
+            famsync.open("v.img", frames=17)
         for options in ({"frames": -1}, {"frames": 1 << 32}, {"copies": -1}):
             with self.assertRaises(famsync.Argument):
                 famsync.open("v.img", **options)
@@ -79,19 +79,20 @@ class OnlyReads(InAFolder):
 
     def test_several_read(self):
         with famsync.open("v.img", readonly=True) as one, famsync.open("v.img", readonly=True) as two:
-            self.assertEqual((one.memory("a")[0:5], two.map("a")[0:5]), (b"first", b"first"))
+            self.assertEqual((one.memory("a")[0:5], two.read("a", 0, 5)), (b"first", b"first"))
             self.assertRaises(famsync.InUse, famsync.open, "v.img")
         with famsync.open("v.img"):
             self.assertRaises(famsync.InUse, famsync.open, "v.img", readonly=True)
 
     def test_nothing_is_stored(self):
         with famsync.open("v.img", readonly=True) as volume:
-            memory, mapping = volume.memory("a"), volume.map("a")
-            calls = [volume.commit, memory.touch, lambda: volume.map("a", write=True)]
+            memory = volume.memory("a")
+            calls = [volume.commit, memory.touch, lambda: volume.write("a", 0, b"x")]
             calls += [lambda: volume.set_length("a", 1), lambda: memory.__setitem__(0, 1)]
             for call in calls:
                 self.assertRaises(famsync.ReadOnly, call)
-            self.assertRaises(famsync.NotAllowed, mapping.__setitem__, 0, 1)
+            volume.backup("copy")
+            self.assertEqual(famsync.open("copy").read("a", 0, 5), b"first")
             with memory.view() as view:
                 self.assertTrue(view.readonly)
                 self.assertRaises(TypeError, view.__setitem__, 0, 1)
@@ -122,20 +123,21 @@ os._exit(0)
 class Ends(InAFolder):
     def test_stores_that_were_not_committed_are_gone(self):
         with famsync.open("v.img") as volume:
-            a, b = volume.memory("a"), volume.map("b")
-            a[0:5], b[0:5] = b"first", b"first"
+            memory = volume.memory("a")
+            memory[0:5] = b"first"
+            volume.write("b", 0, b"first")
             volume.commit()
-            a[0:5], b[0:5] = b"other", b"other"
+            memory[0:5] = b"other"
+            volume.write("b", 0, b"other")
         with famsync.open("v.img") as volume:
-            self.assertEqual((volume.memory("a")[0:5], volume.map("b")[0:5]), (b"first", b"first"))
+            self.assertEqual((volume.memory("a")[0:5], volume.read("b", 0, 5)), (b"first", b"first"))
 
     def test_every_call_of_a_closed_one(self):
         volume = famsync.open("v.img")
-        mapping = volume.map("a")
         volume.close()
         calls = [volume.commit, lambda: volume.files, lambda: volume.frames, lambda: volume.acknowledged]
-        calls += [lambda: volume.memory("a"), lambda: volume.map("a"), lambda: volume.set_length("a", 1)]
-        calls += [lambda: mapping[0], lambda: mapping[0:0], lambda: mapping.__setitem__(0, 1)]
+        calls += [lambda: volume.memory("a"), lambda: volume.read("a"), lambda: volume.set_length("a", 1)]
+        calls += [lambda: volume.read("a", 0, 0), lambda: volume.write("a", 0, b"x"), volume.stat]
         for call in calls:
             with self.assertRaisesRegex(ValueError, "the volume 'v.img' is closed"):
                 call()
@@ -178,7 +180,7 @@ view = memory.view()
             ended = run_python(code)
             self.assertEqual((ended.returncode, ended.stderr), (0, ""))
             with famsync.open("v.img") as volume:
-                self.assertEqual(volume.map("a")[0], 1)
+                self.assertEqual(volume.read("a", 0, 1), b"\1")
 
     def test_one_that_is_closed_as_the_program_ends(self):
         code = """
@@ -194,7 +196,7 @@ memory[0] += 1
             ended = run_python(code)
             self.assertEqual((ended.returncode, ended.stderr), (0, ""))
             with famsync.open("v.img") as volume:
-                self.assertEqual(volume.map("a")[0], number)
+                self.assertEqual(volume.read("a", 0, 1)[0], number)
 
     def test_nothing_of_it_can_be_copied(self):
         volume = self.opened()
@@ -202,8 +204,6 @@ memory[0] += 1
             for one in (volume, memory):
                 for make in (copy.copy, copy.deepcopy, pickle.dumps):
                     self.assertRaises(TypeError, make, one)
-            for make in (copy.deepcopy, pickle.dumps):
-                self.assertRaises(TypeError, make, volume.map("a"))
         self.assertEqual(volume.commit(), 1)
 
     def test_an_error_on_its_way_is_kept(self):

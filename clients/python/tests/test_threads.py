@@ -36,13 +36,13 @@ class Threads(InAFolder):
 
     def test_commits(self):
         volume = self.opened()
-        memory, mapping = volume.memory("a"), volume.map("b")
+        memory = volume.memory("a")
 
         def work(number):
             marks = []
             for turn in range(1, ROUNDS + 1):
                 memory[number * PAGE : number * PAGE + 8] = turn.to_bytes(8, "little")
-                mapping[8 * number : 8 * number + 8] = turn.to_bytes(8, "little")
+                volume.write("b", 8 * number, turn.to_bytes(8, "little"))
                 marks.append(volume.commit())
                 self.assertGreaterEqual(volume.acknowledged, marks[-1])
             return marks
@@ -53,8 +53,8 @@ class Threads(InAFolder):
         volume.close()
         with famsync.open("v.img") as volume:
             for number in range(THREADS):
-                self.assertEqual(int.from_bytes(volume.map("a")[number * PAGE :][:8], "little"), ROUNDS)
-                self.assertEqual(int.from_bytes(volume.map("b")[8 * number :][:8], "little"), ROUNDS)
+                self.assertEqual(int.from_bytes(volume.read("a", number * PAGE, 8), "little"), ROUNDS)
+                self.assertEqual(int.from_bytes(volume.read("b", 8 * number, 8), "little"), ROUNDS)
 
     def test_stores_while_others_commit(self):
         """A commit has each store that came before one moment, and none that came after it: a thread stores the same
@@ -79,7 +79,7 @@ class Threads(InAFolder):
         self.assertEqual(together(store, commit)[1], ROUNDS)
         volume.close()
         with famsync.open("v.img") as volume:
-            found = volume.map("a")
+            found = volume.read("a")
             numbers = [int.from_bytes(found[page : page + 8], "little") for page in pages]
         self.assertEqual(numbers, sorted(numbers, reverse=True))
         self.assertLessEqual(numbers[0] - numbers[-1], 1)
@@ -134,7 +134,7 @@ class Threads(InAFolder):
     def test_close_by_several(self):
         for _ in range(20):
             volume = self.opened()
-            volume.map("a")[0] = 1
+            volume.write("a", 0, b"1")
             volume.commit()
             together(*[volume.close] * THREADS)
             self.assertRaises(ValueError, volume.commit)

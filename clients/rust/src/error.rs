@@ -61,29 +61,21 @@ codes! {
     NotAVolume = -16,
     /// The file begins as a volume, and its bytes or its length break the format.
     Damaged = -17,
-    /// The volume doesn't serve so many frames or copies.
+    /// A commit to this volume can't have so many pages as [`Options::frames`](crate::Options::frames) says.
     Shape = -18,
-    /// The address isn't mapped.
-    SegvMapErr = -23,
-    /// The mapping doesn't allow this access.
-    SegvAccErr = -24,
-    /// The page is past the file's end.
-    BusAdrErr = -25,
-    /// More pages were stored to, or added to a file, than one commit can have.
+    /// More pages were written, or added to a file, than one commit can have.
     NoFrame = -27,
     /// A read, a write or a sync of the volume failed, or was refused memory; [`Error::system`] says how.
     Device = -28,
     /// A write or a sync failed earlier, and the session is over; [`Error::system`] says how that one failed.
     Broken = -29,
-    /// A number is outside the range that the volume or its addresses have.
+    /// The bytes or the length are outside the range that the file has.
     Einval = -30,
-    /// There are no addresses left.
-    Enomem = -31,
     /// Memory of the file is open already in another way, or is asked for twice.
     Overlap = -33,
     /// The volume has no such file.
     NoFile = -34,
-    /// Memory of the file is open; or the session has made 2^32 - 1 commits.
+    /// Memory of the file is open; a backup is being made; or the session has made 2^32 - 1 commits.
     Busy = -35,
     /// A sync failed, and the volume's suspect flag couldn't be made; [`Error::system`] says how the sync failed.
     Unmarked = -39,
@@ -140,7 +132,7 @@ impl Error {
         self.system.as_ref()
     }
 
-    /// How many bytes a load or a store had done before it was refused; 0 of all other calls.
+    /// How many bytes a read or a write had done before it was refused; 0 of all other calls.
     pub fn done(&self) -> usize {
         self.done
     }

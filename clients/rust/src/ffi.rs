@@ -27,9 +27,22 @@ pub struct FamsyncOptions {
     pub readonly: c_int,
 }
 
+#[repr(C)]
+#[derive(Default)]
+pub struct FamsyncStat {
+    pub size: usize,
+    pub commits: u64,
+    pub frames: u64,
+    pub staged: u64,
+    pub unwritten: u64,
+    pub reads: u64,
+    pub writes: u64,
+    pub syncs: u64,
+    pub bytes_written: u64,
+    pub memory: u64,
+}
+
 pub const FAMSYNC_OK: c_int = 0;
-pub const FAMSYNC_READ: c_int = 1;
-pub const FAMSYNC_WRITE: c_int = 2;
 
 extern "C" {
     pub fn famsync_version() -> *const c_char;
@@ -40,24 +53,18 @@ extern "C" {
     pub fn famsync_file_length(handle: *const Famsync, file: c_uint) -> u64;
     pub fn famsync_frames(handle: *const Famsync) -> c_uint;
     pub fn famsync_setlength(handle: *mut Famsync, file: *const c_char, length: u64) -> c_int;
-    pub fn famsync_map(
+    pub fn famsync_read(
         handle: *mut Famsync,
-        file: *const c_char,
+        file: c_uint,
         offset: u64,
-        length: u64,
-        protection: c_int,
-        address: *mut u64,
-    ) -> c_int;
-    pub fn famsync_load(
-        handle: *mut Famsync,
-        address: u64,
         bytes: *mut c_void,
         count: usize,
         done: *mut usize,
     ) -> c_int;
-    pub fn famsync_store(
+    pub fn famsync_write(
         handle: *mut Famsync,
-        address: u64,
+        file: c_uint,
+        offset: u64,
         bytes: *const c_void,
         count: usize,
         done: *mut usize,
@@ -65,6 +72,8 @@ extern "C" {
     pub fn famsync_msync(handle: *mut Famsync, mark: *mut u64) -> c_int;
     pub fn famsync_acknowledged(handle: *mut Famsync) -> u64;
     pub fn famsync_strerror(code: c_int) -> *const c_char;
+    pub fn famsync_stat(handle: *mut Famsync, stat: *mut FamsyncStat) -> c_int;
+    pub fn famsync_backup(handle: *mut Famsync, descriptor: c_int) -> c_int;
     pub fn famsync_memory_open(handle: *mut Famsync, file: *const c_char, memory: *mut *mut FamsyncMemory) -> c_int;
     pub fn famsync_memory_at(memory: *const FamsyncMemory) -> *mut c_void;
     pub fn famsync_memory_length(memory: *const FamsyncMemory) -> usize;

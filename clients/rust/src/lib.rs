@@ -1,4 +1,4 @@
-//! Files whose stores become durable together: keep your data in memory, and make it durable with one call.
+//! Files whose changes become durable together: keep your data in memory, and make it durable with one call.
 //!
 //! After a crash at any moment the files of a [`Volume`] are as they were at some [`commit`](Volume::commit), all of it
 //! and nothing else, and not before the last one that was acknowledged.
@@ -24,15 +24,13 @@
 
 mod error;
 mod ffi;
-mod mapping;
 mod memory;
 mod options;
 mod volume;
 
 pub use error::{Code, Error};
-pub use mapping::{Access, Mapping};
 pub use options::Options;
-pub use volume::{File, Volume};
+pub use volume::{File, Stat, Volume};
 
 /// The version of the library that this program runs with.
 pub fn version() -> &'static str {

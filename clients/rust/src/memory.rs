@@ -29,8 +29,9 @@
 //! race rests on how `clients/c/src/memory.c` reads, as its header promises: it reads a page only while that is closed
 //! to stores. The page is closed by `mprotect`, which returns once no processor has it open any more, so that all
 //! earlier stores come before the read. A later store raises SIGSEGV, whose handler waits for a lock that the commit
-//! gives back when it has read: so the read comes before that store. `famsync_memory_dirty` reads pages that are open,
-//! and is asked only by who has the volume alone.
+//! gives back when it has read: so the read comes before that store. `famsync_memory_dirty` and `famsync_stat` read
+//! pages that are open, and are asked only by who has the volume alone. `famsync_read` reads them, too, and only if they
+//! are bytes to those who share the volume.
 //!
 //! Words and slices of the same bytes would be in each other's way, so a file that is shared has one view.
 //!

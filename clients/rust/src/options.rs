@@ -33,8 +33,7 @@ pub struct Options {
 }
 
 impl Options {
-    /// What [`Volume::open`] takes: no trust, as many frames as one commit can have pages, no copies, a thread in the
-    /// background, no waiting, and a session that writes.
+    /// What [`Volume::open`] takes: no trust, as many pages in a commit as the volume takes, a thread in the background, no waiting, and a session that writes.
     pub fn new() -> Options {
         Options::default()
     }
@@ -45,13 +44,13 @@ impl Options {
         self
     }
 
-    /// How many pages are kept in memory; 0 is as many as one commit can have.
+    /// The most pages of one commit; 0 is as many as the volume takes.
     pub fn frames(&mut self, frames: u32) -> &mut Options {
         self.frames = frames;
         self
     }
 
-    /// How many frames there are for copies, 0 to 64. No call needs one.
+    /// Ignored.
     pub fn copies(&mut self, copies: u32) -> &mut Options {
         self.copies = copies;
         self

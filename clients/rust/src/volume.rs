@@ -1,16 +1,16 @@
 use crate::error::{check, Code, Error};
-use crate::mapping::{part, span, Access, Mapping};
 use crate::memory::{Plain, Slot};
 use crate::{ffi, Options};
 use std::array;
 use std::ffi::{c_int, CStr};
-use std::fmt;
-use std::mem::ManuallyDrop;
-use std::ops::RangeBounds;
+use std::mem::{self, ManuallyDrop};
+use std::ops::{Bound, RangeBounds};
+use std::os::fd::{AsFd, AsRawFd};
 use std::path::Path;
 use std::ptr::NonNull;
-use std::sync::atomic::{AtomicU64, Ordering};
-use std::sync::{Mutex, PoisonError};
+use std::sync::atomic::AtomicU64;
+use std::sync::{Mutex, MutexGuard, PoisonError};
+use std::{fmt, process};
 
 /// The handle of a session, which ends when this is dropped.
 pub(crate) struct Session(NonNull<ffi::Famsync>);
@@ -65,13 +65,12 @@ pub struct File<'a> {
 
 /// A session with a volume, which is locked until this is dropped or [closed](Volume::close).
 ///
-/// Its stores become durable together, by [`commit`](Volume::commit). Whatever ends this process or the system, the
+/// Its changes become durable together, by [`commit`](Volume::commit). Whatever ends this process or the system, the
 /// next session finds the files as they were at some commit, all of it and nothing else, and not before the last one
 /// that was acknowledged.
 ///
-/// Of each file use plain memory ([`memory_mut`](Volume::memory_mut), [`words`](Volume::words)) or a mapping
-/// ([`store`](Volume::store)), not both: memory that is open doesn't see what `store` wrote, and overwrites it where
-/// its page is stored to.
+/// There are two ways to the bytes of a file: plain memory ([`memory_mut`](Volume::memory_mut),
+/// [`words`](Volume::words)), and calls ([`read`](Volume::read), [`write`](Volume::write)).
 ///
 /// Threads share a volume by reference for everything but [`memory_mut`](Volume::memory_mut) and its like, which need
 /// it alone: in an `RwLock`, or before and after a scope of threads.
@@ -83,8 +82,8 @@ pub struct Volume {
     opening: Mutex<()>,
     /// Whether the session only reads.
     readonly: bool,
-    /// Counts the volumes of this process, so that a mapping of another one is known.
-    number: u64,
+    /// The number of the process that opened it.
+    process: u32,
 }
 
 impl Volume {
@@ -95,13 +94,12 @@ impl Volume {
 
     /// Takes over the handle of a session.
     pub(crate) fn of(handle: NonNull<ffi::Famsync>, readonly: bool) -> Volume {
-        static COUNT: AtomicU64 = AtomicU64::new(0);
         let session = Session(handle);
         let slots = (0..session.files()).map(|file| Slot::new(session.file_name(file).into())).collect();
-        Volume { slots, session, opening: Mutex::new(()), readonly, number: COUNT.fetch_add(1, Ordering::Relaxed) }
+        Volume { slots, session, opening: Mutex::new(()), readonly, process: process::id() }
     }
 
-    /// Ends the session, as dropping it does, and says whether that went well. Stores since the last commit are gone.
+    /// Ends the session, as dropping it does, and says whether that went well. Changes since the last commit are gone.
     /// [`Code::Device`] where a write or a sync failed, now or earlier: what was acknowledged is kept.
     pub fn close(self) -> Result<(), Error> {
         let Volume { slots, session, .. } = self;
@@ -123,11 +121,11 @@ impl Volume {
         unsafe { ffi::famsync_frames(self.session.handle()) as usize }
     }
 
-    /// Makes all stores of this session durable, all of them or none, and returns when they are. The answer is the
+    /// Makes all changes of this session durable, all of them or none, and returns when they are. The answer is the
     /// commit's number, counted from 1 in each session.
     ///
-    /// Threads that call it while a commit is being written share the next one. Where it is refused, all stores still
-    /// wait for a commit, and the next call takes them again. [`Code::NoFrame`]: the pages that were stored to are more
+    /// Threads that call it while a commit is being written share the next one. Where it is refused, all changes still
+    /// wait for a commit, and the next call takes them again. [`Code::NoFrame`]: the pages that were changed are more
     /// than one commit can have; no later call can commit them either. [`Code::Device`]: a write or a sync failed, and
     /// the session is over; each later call answers [`Code::Broken`].
     ///
@@ -156,12 +154,11 @@ impl Volume {
     }
 
     /// Sets the length of a file, as `ftruncate` does: up to its capacity, in a volume of layout 3 or 4; else
-    /// [`Code::Einval`]. Bytes past a new end are gone, and what a file grows by is zeros. Like a store it is durable
-    /// after the next commit. The pages that a file grows by, and the one in which it ended, count as stored to:
-    /// [`Code::NoFrame`] where they and those that were stored to don't go into one commit.
+    /// [`Code::Einval`]. Bytes past a new end are gone, and what a file grows by is zeros. Like a write it is durable
+    /// after the next commit. The pages that a file grows by, and the one in which it ended, count as written:
+    /// [`Code::NoFrame`] where they and those that were written don't go into one commit.
     ///
-    /// [`Code::Busy`] as long as plain memory of the file is open. A mapping stays as it is: its pages past the file's
-    /// end answer [`Code::BusAdrErr`], and can be used once the file is long enough.
+    /// [`Code::Busy`] as long as plain memory of the file is open.
     pub fn set_length(&self, file: &str, length: u64) -> Result<(), Error> {
         let (_, slot) = self.slot(file)?;
         // Safety: the session is open, and the name ends with a null byte.
@@ -351,66 +348,159 @@ impl Volume {
         Ok(())
     }
 
+    /// Nobody else opens memory until this is dropped.
+    fn hold_off_opening(&self) -> MutexGuard<'_, ()> {
+        self.opening.lock().unwrap_or_else(PoisonError::into_inner)
+    }
+
     /// The slot of a file, with its memory open.
     fn opened(&self, file: &str) -> Result<&Slot, Error> {
         let (_, slot) = self.slot(file)?;
         if !slot.is_open() {
-            let _opening = self.opening.lock().unwrap_or_else(PoisonError::into_inner);
+            let _opening = self.hold_off_opening();
             slot.open(&self.session)?;
         }
         Ok(slot)
     }
 }
 
-/// Load and store: any bytes of what was mapped, by a call and a copy.
+/// Read and write: any bytes of a file, by a call and a copy.
 ///
 /// ```
 /// # include!(concat!(env!("CARGO_MANIFEST_DIR"), "/tests/volumes/mod.rs"));
-/// # use famsync::Access;
 /// # fn main() -> Result<(), famsync::Error> {
 /// # let made = make_volume(1, 16, "log=8192");
 /// # let volume = famsync::Volume::open(made.path())?;
-/// let log = volume.map("log", .., Access::ReadWrite)?;
-/// volume.store(log, 5000, b"hello")?;
+/// volume.write("log", 5000, b"hello")?;
 /// volume.commit()?;
 /// let mut found = [0; 5];
-/// volume.load(log, 5000, &mut found)?;
+/// assert_eq!(volume.read("log", 5000, &mut found)?, 5);
 /// assert_eq!(&found, b"hello");
 /// # Ok(())
 /// # }
 /// ```
 impl Volume {
-    /// Maps a range of a file, which begins with a page: a multiple of 4,096. It may end past the file's end, up to the
-    /// file's capacity; `..` is up to its end. It stays mapped as long as the volume is open.
-    pub fn map(&self, file: &str, range: impl RangeBounds<u64>, access: Access) -> Result<Mapping, Error> {
+    /// Reads bytes of a file from an offset on, as they were written last, and returns how many: fewer where the file
+    /// ends before. Where it is refused on its way, [`Error::done`] says how many bytes were read.
+    ///
+    /// If memory of the file is open, its bytes are read, as by [`memory`](Volume::memory): [`Code::Overlap`] where they
+    /// are [`words`](Volume::words) to somebody who shares the volume.
+    pub fn read(&self, file: &str, offset: u64, bytes: &mut [u8]) -> Result<usize, Error> {
         let (number, slot) = self.slot(file)?;
-        let (offset, length) = span(range, self.session.file_length(number)).ok_or(Error::new(Code::Argument))?;
-        let (handle, name) = (self.session.handle(), slot.name().as_ptr());
-        let mut address = 0;
-        // Safety: the session is open, and the name ends with a null byte.
-        check(unsafe { ffi::famsync_map(handle, name, offset, length, access.protection(), &mut address) })?;
-        Ok(Mapping::of(self.number, address, length))
+        self.check_process()?;
+        let _opening = self.hold_off_opening();
+        if slot.is_open() {
+            slot.bytes()?;
+        }
+        let (handle, at, count, mut done) = (self.session.handle(), bytes.as_mut_ptr().cast(), bytes.len(), 0);
+        // Safety: the session is open, and there is room for so many bytes. Nobody stores to memory that it reads.
+        let read = check(unsafe { ffi::famsync_read(handle, number, offset, at, count, &mut done) });
+        read.map(|()| done).map_err(|error| error.after(done))
     }
 
-    /// Loads bytes from an offset within a mapping on. Where it is refused on its way, [`Error::done`] says how many
-    /// bytes were loaded.
-    pub fn load(&self, mapping: Mapping, offset: u64, bytes: &mut [u8]) -> Result<(), Error> {
-        let address = mapping.address_of(self.number, offset)?;
-        let (at, count, mut done) = (bytes.as_mut_ptr().cast(), bytes.len(), 0);
-        // Safety: the session is open, and there is room for so many bytes.
-        let loaded = check(unsafe { ffi::famsync_load(self.session.handle(), address, at, count, &mut done) });
-        loaded.map_err(|error| error.after(done))
+    /// Writes bytes to a file from an offset on; they wait for [`commit`](Volume::commit). [`Code::Einval`] where one of
+    /// them lies past the file's end, and [`Code::NoFrame`] where the next commit has no room for their pages: then
+    /// nothing is written. Where it is refused on its way, [`Error::done`] says how many bytes were written.
+    ///
+    /// [`Code::Overlap`] where memory of the file is open, which others may share: use
+    /// [`memory_mut`](Volume::memory_mut) then, or [`close_memory`](Volume::close_memory) before.
+    pub fn write(&self, file: &str, offset: u64, bytes: &[u8]) -> Result<(), Error> {
+        let (number, slot) = self.slot(file)?;
+        self.check_process()?;
+        let _opening = self.hold_off_opening();
+        if slot.is_open() {
+            return Err(Error::with_message(Code::Overlap, format!("memory of {file:?} is open")));
+        }
+        let (handle, at, count, mut done) = (self.session.handle(), bytes.as_ptr().cast(), bytes.len(), 0);
+        // Safety: the session is open, and there are so many bytes. The file's memory isn't open.
+        let written = check(unsafe { ffi::famsync_write(handle, number, offset, at, count, &mut done) });
+        written.map_err(|error| error.after(done))
     }
 
-    /// Stores bytes from an offset within a mapping on. Where it is refused on its way, [`Error::done`] says how many
-    /// bytes were stored.
-    pub fn store(&self, mapping: Mapping, offset: u64, bytes: &[u8]) -> Result<(), Error> {
-        let address = mapping.address_of(self.number, offset)?;
-        let (at, count, mut done) = (bytes.as_ptr().cast(), bytes.len(), 0);
-        // Safety: the session is open, and there are so many bytes.
-        let stored = check(unsafe { ffi::famsync_store(self.session.handle(), address, at, count, &mut done) });
-        stored.map_err(|error| error.after(done))
+    /// In a process that was forked another thread may have had the lock.
+    fn check_process(&self) -> Result<(), Error> {
+        if process::id() != self.process {
+            return Err(Error::new(Code::Forked));
+        }
+        Ok(())
     }
+}
+
+/// Numbers of a session, which [`Volume::stat`] returns. Calls of the system count from the opening on, those that
+/// failed or were interrupted, too.
+#[derive(Clone, Copy, Debug, PartialEq, Eq)]
+#[non_exhaustive]
+pub struct Stat {
+    /// The number of the last commit that was acknowledged.
+    pub commits: u64,
+    /// The most pages of one commit.
+    pub frames: u64,
+    /// Pages that wait for a commit, those of plain memory, too.
+    pub staged: u64,
+    /// Pages of commits that wait to be written to their places.
+    pub unwritten: u64,
+    /// Reads of the volume's file.
+    pub reads: u64,
+    /// Writes to it.
+    pub writes: u64,
+    /// Syncs of it.
+    pub syncs: u64,
+    /// Bytes that were written to it.
+    pub bytes_written: u64,
+    /// Bytes of memory that the sessions of this process take for pages and commits.
+    pub memory: u64,
+}
+
+/// Numbers and backups.
+impl Volume {
+    /// Numbers of this session. As [`dirty`](Volume::dirty) it looks at plain memory, so nobody may store meanwhile.
+    pub fn stat(&mut self) -> Result<Stat, Error> {
+        let mut found = ffi::FamsyncStat { size: mem::size_of::<ffi::FamsyncStat>(), ..Default::default() };
+        // Safety: the session is open, and there is as much room as it says.
+        check(unsafe { ffi::famsync_stat(self.session.handle(), &mut found) })?;
+        let ffi::FamsyncStat {
+            commits, frames, staged, unwritten, reads, writes, syncs, bytes_written, memory, ..
+        } = found;
+        Ok(Stat { commits, frames, staged, unwritten, reads, writes, syncs, bytes_written, memory })
+    }
+
+    /// Writes a clean volume with the files of the last acknowledged commit to a file: a backup that can be opened as it
+    /// is. Other threads may commit meanwhile.
+    ///
+    /// The file is a regular one, other than the volume's, and open for reading and writing, not for appending
+    /// ([`Code::Argument`]). It is emptied first, and synced at the end; sync its folder as well if its name is new.
+    /// [`Code::Busy`] if another backup is being made. [`Code::InUse`] if somebody else has the file locked.
+    ///
+    /// ```
+    /// # include!(concat!(env!("CARGO_MANIFEST_DIR"), "/tests/volumes/mod.rs"));
+    /// # fn main() -> Result<(), Box<dyn std::error::Error>> {
+    /// # let made = make_volume(1, 16, "bank=8192");
+    /// # let (volume, path) = (famsync::Volume::open(made.path())?, made.beside("copy.vol"));
+    /// let file = std::fs::OpenOptions::new().read(true).write(true).create_new(true).open(&path)?;
+    /// volume.backup(&file)?;
+    /// # famsync::Volume::open(&path)?;
+    /// # Ok(())
+    /// # }
+    /// ```
+    pub fn backup(&self, file: impl AsFd) -> Result<(), Error> {
+        // Safety: the session is open, and so is the file.
+        check(unsafe { ffi::famsync_backup(self.session.handle(), file.as_fd().as_raw_fd()) })
+    }
+}
+
+/// The first byte of a range of a file with this length, and how many there are.
+fn part(range: impl RangeBounds<u64>, file_length: u64) -> Option<(u64, u64)> {
+    let begin = match range.start_bound() {
+        Bound::Included(first) => *first,
+        Bound::Excluded(before) => before.checked_add(1)?,
+        Bound::Unbounded => 0,
+    };
+    let end = match range.end_bound() {
+        Bound::Included(last) => last.checked_add(1)?,
+        Bound::Excluded(end) => *end,
+        Bound::Unbounded => file_length,
+    };
+    end.checked_sub(begin).map(|length| (begin, length))
 }
 
 impl fmt::Debug for Volume {

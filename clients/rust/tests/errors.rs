@@ -3,7 +3,7 @@
 
 mod volumes;
 
-use famsync::{Access, Code, Error, Options, Volume};
+use famsync::{Code, Error, Options, Volume};
 use std::fs::{self, OpenOptions};
 use std::os::unix::fs::FileExt;
 use std::thread;
@@ -23,12 +23,10 @@ fn arguments() {
     let made = make_volume(1, 16, "a=8192");
     assert_eq!(code(Volume::open("")), Code::Argument);
     assert_eq!(code(Volume::open("a\0b")), Code::Argument);
-    let volume = Volume::open(made.path()).unwrap();
-    assert_eq!(code(volume.map("a", 1.., Access::Read)), Code::Argument);
-    assert_eq!(code(volume.map("a", 4096..4096, Access::Read)), Code::Argument);
-    assert_eq!(code(volume.map("a", 8192.., Access::Read)), Code::Argument);
-    assert_eq!(code(volume.map("a", ..1 << 47, Access::Read)), Code::Enomem);
-    assert_eq!(code(volume.map("b", .., Access::Read)), Code::NoFile);
+    let mut volume = Volume::open(made.path()).unwrap();
+    assert_eq!(code(volume.touch("a", 8193..)), Code::Argument);
+    assert_eq!(code(volume.touch("a", ..8193)), Code::Argument);
+    assert_eq!(code(volume.touch("b", ..)), Code::NoFile);
 }
 
 #[test]
@@ -42,6 +40,8 @@ fn names_of_files() {
         assert_eq!(code(volume.dirty(name)), Code::NoFile);
         assert_eq!(code(volume.close_memory(name)), Code::NoFile);
         assert_eq!(code(volume.set_length(name, 1)), Code::NoFile);
+        assert_eq!(code(volume.read(name, 0, &mut [0])), Code::NoFile);
+        assert_eq!(code(volume.write(name, 0, &[0])), Code::NoFile);
     }
     assert_eq!(code(volume.memories_mut(["a", "a"])), Code::Overlap);
     assert_eq!(code(volume.memories_mut(["a", "b"])), Code::NoFile);
@@ -106,8 +106,9 @@ fn sessions_that_only_read() {
     assert_eq!(code(one.words("a")), Code::ReadOnly);
     assert_eq!(code(one.touch("a", ..)), Code::ReadOnly);
     assert_eq!(code(one.set_length("a", 1)), Code::ReadOnly);
-    assert_eq!(code(one.map("a", .., Access::ReadWrite)), Code::ReadOnly);
-    one.map("a", .., Access::Read).unwrap();
+    one.close_memory("a").unwrap();
+    assert_eq!(code(one.write("a", 0, &[1])), Code::ReadOnly);
+    assert_eq!(one.read("a", 0, &mut [0; 3]).unwrap(), 3);
     drop((one, two));
     Volume::open(made.path()).unwrap();
 }
@@ -141,7 +142,9 @@ fn suspect_volumes() {
 #[test]
 fn shapes() {
     let made = make_volume(1, 16, "a=8192");
-    assert_eq!(code(Options::new().copies(65).open(made.path())), Code::Shape);
-    let volume = Options::new().frames(5).copies(64).foreground(true).open(made.path()).unwrap();
-    assert_eq!(volume.frames(), 5);
+    assert_eq!(code(Options::new().frames(17).open(made.path())), Code::Shape);
+    for copies in [0, 64, 65] {
+        let volume = Options::new().frames(5).copies(copies).foreground(true).open(made.path()).unwrap();
+        assert_eq!(volume.frames(), 5);
+    }
 }

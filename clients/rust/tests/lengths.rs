@@ -2,7 +2,7 @@
 
 mod volumes;
 
-use famsync::{Access, Code, Volume};
+use famsync::{Code, Volume};
 use volumes::make_volume;
 
 fn length(volume: &Volume, name: &str) -> u64 {
@@ -43,10 +43,9 @@ fn grows_and_shrinks(layout: u8) {
 fn what_is_past_the_end() {
     for layout in [3, 4] {
         let volume = Volume::open(make_volume(layout, 16, "a=5000/40000").path()).unwrap();
-        let a = volume.map("a", ..40000, Access::ReadWrite).unwrap();
-        assert_eq!(volume.store(a, 8192, b"hello").unwrap_err().code(), Code::BusAdrErr);
+        assert_eq!(volume.write("a", 8192, b"hello").unwrap_err().code(), Code::Einval);
         volume.set_length("a", 8200).unwrap();
-        volume.store(a, 8192, b"hello").unwrap();
+        volume.write("a", 8192, b"hello").unwrap();
         assert_eq!(volume.set_length("a", 40001).unwrap_err().code(), Code::Einval);
     }
 }

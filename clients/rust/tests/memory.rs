@@ -2,7 +2,7 @@
 
 mod volumes;
 
-use famsync::{Access, Code, Volume};
+use famsync::{Code, Volume};
 use std::fs::File;
 use std::io::{repeat, Read};
 use std::sync::atomic::Ordering;
@@ -70,13 +70,12 @@ fn too_many_pages() {
     assert_eq!(volume.memory("a").unwrap()[0], 1);
 }
 
-/// Pages that `store` wrote and those of memory are counted together, and nothing is stored that doesn't fit.
+/// Pages that `write` wrote and those of memory are counted together, and nothing is stored that doesn't fit.
 #[test]
 fn too_many_pages_in_both_ways() {
     let made = make_volume(1, 8, "a=81920");
     let mut volume = Volume::open(made.path()).unwrap();
-    let mapping = volume.map("a", 16 * 4096.., Access::ReadWrite).unwrap();
-    volume.store(mapping, 0, &[9; 4 * 4096]).unwrap();
+    volume.write("a", 16 * 4096, &[9; 4 * 4096]).unwrap();
     let a = volume.memory_mut("a").unwrap();
     (0..6).for_each(|page| a[page * 2 * 4096] = 3);
     assert_eq!(volume.commit().unwrap_err().code(), Code::NoFrame);

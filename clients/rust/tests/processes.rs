@@ -3,7 +3,7 @@
 
 mod volumes;
 
-use famsync::{Access, Code, Error, Options, Volume};
+use famsync::{Code, Error, Options, Volume};
 use std::env;
 use std::hint::black_box;
 use std::os::unix::process::ExitStatusExt;
@@ -81,8 +81,7 @@ fn memory_that_is_refused() {
 fn memory_is_refused() {
     let mut volume = opened();
     assert_eq!(volume.memory_mut("a").unwrap_err().code(), Code::NoMemory);
-    let mapping = volume.map("a", .., Access::ReadWrite).unwrap();
-    volume.store(mapping, 1 << 29, b"hello").unwrap();
+    volume.write("a", 1 << 29, b"hello").unwrap();
     assert_eq!(volume.commit().unwrap(), 1);
 }
 

@@ -3,7 +3,9 @@
 
 mod volumes;
 
-use famsync::{Access, Volume};
+use famsync::Volume;
+use std::fs::{File, OpenOptions};
+use std::os::unix::fs::FileExt;
 use std::sync::atomic::{AtomicBool, AtomicU64, Ordering};
 use std::sync::RwLock;
 use std::thread;
@@ -108,19 +110,25 @@ fn counts(bytes: &[u8], thread: usize) -> Vec<u64> {
     (0..STEPS).map(|step| number(word(thread, step))).collect()
 }
 
+/// The bytes of a volume's only file as they were committed: at the end of a backup.
+fn read_committed(volume: &Volume, file: &File, bytes: &mut [u8]) {
+    volume.backup(file).unwrap();
+    file.read_exact_at(bytes, file.metadata().unwrap().len() - bytes.len() as u64).unwrap();
+}
+
 #[test]
 fn words_are_stored_to_while_others_commit() {
     let made = make_volume(1, 32, "a=98304");
     let volume = Volume::open(made.path()).unwrap();
     let (words, stopped) = (volume.words("a").unwrap(), &AtomicBool::new(false));
-    let committed = volume.map("a", .., Access::Read).unwrap();
+    let copy = OpenOptions::new().read(true).write(true).create_new(true).open(made.beside("copy.img")).unwrap();
     let mut bytes = vec![0; 98304];
     let last: Vec<_> = thread::scope(|scope| {
         let stop = Stop(stopped);
         let threads: Vec<_> = (0..THREADS).map(|thread| scope.spawn(move || count(words, thread, stopped))).collect();
         for mark in 1..40 {
             assert_eq!(volume.commit().unwrap(), mark);
-            volume.load(committed, 0, &mut bytes).unwrap();
+            read_committed(&volume, &copy, &mut bytes);
             for counts in (0..THREADS).map(|thread| counts(&bytes, thread)) {
                 assert!(are_of_a_moment(&counts), "{counts:?}");
             }
@@ -129,7 +137,7 @@ fn words_are_stored_to_while_others_commit() {
         threads.into_iter().map(|thread| thread.join().unwrap()).collect()
     });
     volume.commit().unwrap();
-    volume.load(committed, 0, &mut bytes).unwrap();
+    read_committed(&volume, &copy, &mut bytes);
     (0..THREADS).for_each(|thread| assert_eq!(counts(&bytes, thread), [last[thread]; STEPS]));
 }
 

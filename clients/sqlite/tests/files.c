@@ -113,13 +113,11 @@ static void refuses_a_large_restore(void)
 static void opens_what_says_wal(void)
 {
     famsync *handle;
-    uint64_t address;
     begin(2, 200);
     must(database, rows);
     end();
     WANT_CODE(famsync_open(volume, NULL, &handle), FAMSYNC_OK);
-    WANT_CODE(famsync_map(handle, "db", 0, 0, FAMSYNC_READ | FAMSYNC_WRITE, &address), FAMSYNC_OK);
-    WANT_CODE(famsync_store(handle, address + 4096 + 18, "\2\2", 2, NULL), FAMSYNC_OK);
+    WANT_CODE(famsync_write(handle, 0, 4096 + 18, "\2\2", 2, NULL), FAMSYNC_OK);
     WANT_CODE(famsync_msync(handle, NULL), FAMSYNC_OK);
     WANT_CODE(famsync_close(handle), FAMSYNC_OK);
     WANT(open_database(path, &database) == SQLITE_OK && has_rows(database, "40"));

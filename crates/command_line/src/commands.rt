@@ -137,7 +137,7 @@ const COMMANDS: &[Shape] = &[
 /// The program with its commands.
 pub fn program<'a>(alloc: Global) -> Result<Command<'a>, AllocError> {
     let mut program = Command::new(alloc, "famsync")
-        .version("0.2.0")
+        .version("0.3.0")
         .about(
             "Commits all stores to the files of a volume at once, whatever moment a crash comes at",
         )

@@ -1,5 +1,7 @@
-pub mod Through
-pub mod Counting
+pub mod Left
+pub mod Awaiting
+pub mod Making
+pub mod Leading
 pub mod Serving
-pub mod Hosted
 pub mod Tended
+pub mod Hosted

@@ -1,195 +1,237 @@
--- What an embedded machine has served, seen over the disk in memory that made the calls.
-use Rattle.std.proofs.Common.{◌≡◌, ℕ, List, [], ◌++◌, Option, Some, None, IfSome, Result, Ok, Err, sym, subst}
-use Rattle.deferred_disk.specs.Deferred.{Deferred, as_recorded, IsSuppliedWell, recorded_calls}
-use Rattle.device.specs.Memory.{Recorded}
-use Rattle.machine.specs.declared.act.Reply.{Reply}
-use Rattle.machine.specs.declared.act.Shape.{Shape}
-use Rattle.machine.specs.declared.act.Step.{Step}
-use Rattle.machine.specs.Runs.{StepTaken}
-use Rattle.machine.specs.State.{Whole}
-use Rattle.engine.specs.Engine.{HasStarted}
-use Rattle.session.specs.declared.files.Files.{Files}
-use Rattle.session.specs.declared.notes.Notes.{Notes}
-use Rattle.session.specs.declared.ranges.Reached.{Reached}
-use Rattle.session.specs.CarriedOut.{CarriesOut}
-use Rattle.session.specs.Commits.{CommitsMark, AnswersCommit}
-use Rattle.session.specs.Ranges.{MakesStepsThat}
-use Rattle.session.specs.Sessions.{no_notes}
-use Rattle.session.specs.Steps.{Makes}
-use Rattle.session.specs.Turns.{InTurn}
-use Rattle.session.proofs.Public.{served_none, served_does, makes_none, makes_then}
-use Rattle.embedded.specs.Recorded.{deferred_disk, recorded_disk, recorded}
-use Rattle.embedded.specs.Embedded.{EmbeddedState, last_committed, last_needed, HasCommitted, HasNeeded, HasMade}
-use Rattle.embedded.specs.Embedded.{ServesWell}
-use Rattle.embedded.proofs.Counting.{counted_moments}
-use Rattle.embedded.proofs.Through.{step_through, makes_through, makes_honest}
-use Rattle.embedded.proofs.Through.{does_through, started_through, started_honest}
+-- What an embedded volume has served stays so by further calls, and a commit adds its mark.
+use Rattle.std.proofs.Common.{◌≡◌, ◌≤◌, ℕ, ◌+◌, ◌-◌, ◌^◌, Bool, true, false, List, [], ◌++◌, length, Option, Some, None}
+use Rattle.std.proofs.Common.{IfSome, Result, Ok, Err, OnOk, OnErr, if◌then◌else◌, refl, sym, ◌∙◌, ap, subst, arith}
+use Rattle.std.proofs.lemmas.Bool.Decides.{nat_tests}
+use Rattle.std.specs.Prelude.{⊤, min, nat_le}
+use Rattle.std.proofs.lemmas.List.Elements.{Contains-append_right}
+use Rattle.deferred_disk.specs.Deferred.{Deferred, as_recorded, carried_moment, IsSuppliedWell, recorded_calls}
+use Rattle.device.specs.Memory.{moment_of, seen_of}
+use Rattle.device.specs.inside.Laws.{since_now_of}
+use Rattle.volume_codec.specs.Files.{File}
+use Rattle.volume_codec.specs.Recovery.{RecoversTo}
+use Rattle.volume_codec.specs.Super.{SuperValue}
+use Rattle.recovery.specs.Opening.{Opens, HasOpened}
+use Rattle.recovery.specs.Reading.{IsOnlyRead}
+use Rattle.recovery.specs.Volume.{IsWellFormed, files_of}
+use Rattle.page_entry.specs.declared.numbers.FilePage.{FilePage}
+use Rattle.page_entry.specs.declared.refusal.Refusal.{Refusal}
+use Rattle.pager.specs.Calls.{after_put, put_refusal, after_length, last_page, set_length_refusal}
+use Rattle.history.specs.History.{Event, Acknowledge}
+use Rattle.pager.specs.State.{PagerState, newly_opened, volume_in}
+use Rattle.pager.specs.Histories.{HasCome, HasGone, Stays}
+use Rattle.pager.proofs.Public.{come_on, gone_on, left_since}
+use Rattle.embedded.specs.Embedded.{HasPassedMark, HasNeeded, HasMadeCalls, ServesWell, made_calls}
+use Rattle.embedded.specs.Embedded.{acknowledged_by_calls, over_device}
+use Rattle.embedded.specs.Recorded.{deferred_disk}
+use Rattle.embedded.specs.Steps.{Commits}
+use Rattle.embedded.proofs.Leading.{Leads, Any, Acknowledges, leads_put, leads_read, leads_length, leads_commit}
 
--- ---- over the disk in memory
+-- ---- an opening
 
-pub start_recorded : (before : Deferred) (shape : Shape) (start : Whole Deferred) → IsSuppliedWell before
-    → HasStarted deferred_disk before shape start → HasStarted recorded_disk (as_recorded before) shape (recorded start)
-start_recorded before shape start well it =
-    started_through as_recorded recorded_disk IsSuppliedWell (λ _. tt) before shape start well it
-
-pub step_recorded : (old new : Whole Deferred) (step : Step) (reply : Reply) → IsSuppliedWell old.device
-    → StepTaken deferred_disk old step reply new → StepTaken recorded_disk (recorded old) step reply (recorded new)
-step_recorded old new step reply well it =
-    step_through as_recorded recorded_disk IsSuppliedWell (λ _. tt) old new step reply well it
-
-pub does_recorded : (old new : Whole Deferred) (before after : Notes) (what : List Step → List Reply → Type 0)
-    → IsSuppliedWell old.device → MakesStepsThat deferred_disk old before what new after
-    → MakesStepsThat recorded_disk (recorded old) before what (recorded new) after
-does_recorded old new before after what well it =
-    does_through as_recorded recorded_disk IsSuppliedWell (λ _. tt) old new before after what well it
-
-pub makes_recorded : (old new : Whole Deferred) (before after : Notes) (steps : List Step) (replies : List Reply)
-    → IsSuppliedWell old.device → Makes deferred_disk old before steps replies new after
-    → Makes recorded_disk (recorded old) before steps replies (recorded new) after
-makes_recorded old new before after steps replies well it =
-    makes_through as_recorded recorded_disk IsSuppliedWell (λ _. tt) old new before after steps replies well it
-
-pub makes_well : (old new : Whole Deferred) (before after : Notes) (steps : List Step) (replies : List Reply)
-    → Makes deferred_disk old before steps replies new after → IsSuppliedWell new.device → IsSuppliedWell old.device
-makes_well old new before after steps replies it well =
-    makes_honest as_recorded recorded_disk IsSuppliedWell (λ _. tt) old new before after steps replies it well
-
-pub does_well : (old new : Whole Deferred) (before after : Notes) (what : List Step → List Reply → Type 0)
-    → MakesStepsThat deferred_disk old before what new after → IsSuppliedWell new.device → IsSuppliedWell old.device
-does_well old new before after what it well = makes_honest as_recorded recorded_disk IsSuppliedWell
-    (λ _. tt) old new before after it.steps it.replies it.makes well
-
--- ---- further steps
-
-module _ (mark : ℕ) (old new : Whole Recorded) (before after : Notes) (steps : List Step) (replies : List Reply)
-    (it : Makes recorded_disk old before steps replies new after) where
-  committed_more : HasCommitted mark old before → HasCommitted mark new after
-  committed_more c = record {
-    before = c.before;
-    shape = c.shape;
-    start = c.start;
-    started = c.started;
-    earlier = c.earlier;
-    replied = c.replied;
-    old = c.old;
-    between = c.between;
-    makes_earlier = c.makes_earlier;
-    p = c.p;
-    steps = c.steps;
-    replies = c.replies;
-    new = c.new;
-    after = c.after;
-    makes = c.makes;
-    commits = c.commits;
-    later = c.later ++ steps;
-    more = c.more ++ replies;
-    makes_later =
-        makes_then recorded_disk c.new old new c.after before after c.later c.more steps replies c.makes_later it;
-  }
-
-module _ (old new : Whole Recorded) (before after : Notes) (steps : List Step) (replies : List Reply)
-    (it : Makes recorded_disk old before steps replies new after) where
-  needs_more : (needed : ℕ) (committed : Option ℕ) → IfSome committed (λ mark. HasNeeded needed mark old before)
-      → IfSome committed (λ mark. HasNeeded needed mark new after)
-  unfolding committed_more
-  needs_more needed None c = tt
-  needs_more needed (Some mark) c = (committed_more mark old new before after steps replies it c.0, c.1)
-
-  made_more : (made : ℕ) (acknowledged : Option ℕ) → IfSome acknowledged (λ mark. HasMade made mark old before)
-      → IfSome acknowledged (λ mark. HasMade made mark new after)
-  unfolding committed_more
-  made_more made None c = tt
-  made_more made (Some mark) c = (committed_more mark old new before after steps replies it c.0, c.1)
-
--- what was served goes on with further steps
-pub serves_more : (committed : Option ℕ) (needed made : ℕ) (acknowledged : Option ℕ) (old new : Whole Deferred)
-    (before after : Notes) (what : List Step → List Reply → Type 0)
-    → ServesWell old before committed needed made acknowledged
-    → MakesStepsThat deferred_disk old before what new after → ServesWell new after committed needed made acknowledged
-serves_more committed needed made acknowledged old new before after what served it = λ well.
-    let first = does_well old new before after what it well in
-    let seen = does_recorded old new before after what first it in
-    let had = served first in
+pub serves_opened : (before : Deferred) (pager : PagerState Deferred) (most : ℕ)
+    → ((a b : Deferred) (table : SuperValue) → HasOpened deferred_disk a table b
+    → RecoversTo (seen_of (as_recorded a)) (files_of table (seen_of (as_recorded b))))
+    → Opens deferred_disk before (Ok pager.table) pager.device → pager ≡ newly_opened (volume_in pager) most
+    → IsWellFormed deferred_disk (volume_in pager) → ServesWell pager None 0 None
+serves_opened before pager most recover opens is formed = λ well.
+    let files = files_of pager.table (seen_of (as_recorded pager.device)) in
     record {
-      serving = served_does recorded_disk (recorded old) (recorded new) before after what had.serving seen;
-      commits = needs_more (recorded old)
-          (recorded new) before after seen.steps seen.replies seen.makes needed committed had.commits;
-      durable = made_more (recorded old)
-          (recorded new) before after seen.steps seen.replies seen.makes made acknowledged had.durable;
-    }
-
--- how far a range was loaded or stored, of the volume and in the words of its users
-pub reached_said : {A : Type 0} (old same : EmbeddedState A) (new : Whole Deferred) (after : Notes) (left : Files A)
-    (what : Reached → ℕ → List Step → List Reply → Type 0) (reached said : Reached) → same ≡ old → said ≡ reached
-    → CarriesOut deferred_disk same.machine same.notes (InTurn same.files (what reached) left) new after
-    → CarriesOut deferred_disk old.machine old.notes (InTurn old.files (what said) left) new after
-reached_said {A} old same new after left what reached said is says done =
-    let P : EmbeddedState A → Type 0 =
-    λ s. CarriesOut deferred_disk s.machine s.notes (InTurn s.files (what said) left) new after in
-    subst P is (subst (λ (r : Reached). CarriesOut deferred_disk same.machine same.notes
-    (InTurn same.files (what r) left) new after) (sym says) done)
-
--- a start
-pub serves_none : (before : Deferred) (shape : Shape) (start : Whole Deferred) (needed made : ℕ)
-    → HasStarted deferred_disk before shape start → ServesWell start no_notes None needed made None
-serves_none before shape start needed made it = λ well.
-    let first = started_honest as_recorded recorded_disk IsSuppliedWell (λ _. tt) before shape start it well in
-    record {
-      serving = served_none recorded_disk (as_recorded before) shape (recorded start)
-          (start_recorded before shape start first it);
+      before = before;
+      files = files;
+      recovered = recover before pager.device pager.table (opens.ended (opens.kept.honest.0 well));
+      history = [];
+      come = subst (λ (s : PagerState Deferred). HasCome deferred_disk files [] s) (sym is)
+          (record {
+            volume = volume_in pager;
+            most = most;
+            rest = formed.at_rest well;
+            files_are = refl;
+            gone = Stays;
+          });
       commits = tt;
       durable = tt;
     }
 
--- a commit
-pub serves_commit : (committed : Option ℕ) (needed made : ℕ) (acknowledged : Option ℕ) (p mark : ℕ)
-    (old new : Whole Deferred) (before after : Notes) → ServesWell old before committed needed made acknowledged
-    → MakesStepsThat deferred_disk old before (CommitsMark p before mark) new after
-    → ServesWell new after (Some mark) (recorded_calls new.device) made acknowledged
-serves_commit committed needed made acknowledged p mark old new before after served it = λ well.
-    let first = does_well old new before after (CommitsMark p before mark) it well in
-    let seen = does_recorded old new before after (CommitsMark p before mark) first it in
-    let had = served first in
-    let (start, earlier, replied, was) = had.serving in
-    record {
-      serving = served_does recorded_disk (recorded old) (recorded new) before after
-          (CommitsMark p before mark) had.serving seen;
-      commits = (
-        record {
-          before = was.before;
-          shape = was.shape;
-          start = start;
-          started = was.started;
-          earlier = earlier;
-          replied = replied;
-          old = recorded old;
-          between = before;
-          makes_earlier = was.makes;
-          p = p;
-          steps = seen.steps;
-          replies = seen.replies;
-          new = recorded new;
-          after = after;
-          makes = seen.makes;
-          commits = seen.holds;
-          later = [];
-          more = [];
-          makes_later = makes_none recorded_disk (recorded new) after;
-        },
-        counted_moments new.device,
-      );
-      durable = made_more (recorded old)
-          (recorded new) before after seen.steps seen.replies seen.makes made acknowledged had.durable;
-    }
+-- ---- further calls
 
--- a commit, whatever it came to
-pub serves_commits : (committed : Option ℕ) (needed made : ℕ) (acknowledged : Option ℕ) (p : ℕ)
-    (result : Result ℕ Reply) (old new : Whole Deferred) (before after : Notes)
-    → ServesWell old before committed needed made acknowledged
-    → MakesStepsThat deferred_disk old before (AnswersCommit p before result) new after
-    → ServesWell new after (last_committed result committed)
-    (last_needed result (recorded_calls new.device) needed) made acknowledged
-serves_commits committed needed made acknowledged p (Ok mark) old new before after served it =
-    serves_commit committed needed made acknowledged p mark old new before after served it
-serves_commits committed needed made acknowledged p (Err reply) old new before after served it =
-    serves_more committed needed made acknowledged old new before after (AnswersCommit p before (Err reply)) served it
+module _ (files : List File) (old new : PagerState Deferred) (events : List Event)
+    (gone : HasGone deferred_disk old events new) where
+  reached_on : (mark : ℕ) → HasPassedMark files mark old → HasPassedMark files mark new
+  reached_on mark it = record {
+    earlier = it.earlier;
+    mid = it.mid;
+    came = it.came;
+    acknowledges = it.acknowledges;
+    later = it.later ++ events;
+    gone = gone_on deferred_disk it.mid it.later old it.gone gone;
+  }
+
+  needed_on : (needed : ℕ) (committed : Option ℕ) → IfSome committed (λ mark. HasNeeded files needed mark old)
+      → IfSome committed (λ mark. HasNeeded files needed mark new)
+  unfolding reached_on
+  needed_on needed None it = tt
+  needed_on needed (Some mark) it = (reached_on mark it.0, it.1)
+
+  made_on : carried_moment old.device ≤ carried_moment new.device → (acknowledged : Option ℕ)
+      → IfSome acknowledged (λ mark. HasMadeCalls files mark old)
+      → IfSome acknowledged (λ mark. HasMadeCalls files mark new)
+  unfolding reached_on
+  made_on more None it = tt
+  made_on more (Some mark) it = (reached_on mark it.0, omega (arith, more, it.1))
+
+module _ (old new : PagerState Deferred) (needed : ℕ) (committed acknowledged : Option ℕ) where
+  pub serves_later : (IsSuppliedWell new.device → IsSuppliedWell old.device)
+      → (IsSuppliedWell new.device → (events : List Event) × HasGone deferred_disk old events new)
+      → carried_moment old.device ≤ carried_moment new.device
+      → ServesWell old committed needed acknowledged → ServesWell new committed needed acknowledged
+  serves_later well goes more served = λ is.
+      let had = served (well is) in
+      let gone = goes is in
+      record {
+        before = had.before;
+        files = had.files;
+        recovered = had.recovered;
+        history = had.history ++ gone.0;
+        come = come_on deferred_disk had.files had.history old had.come gone.1;
+        commits = needed_on had.files old new gone.0 gone.1 needed committed had.commits;
+        durable = made_on had.files old new gone.0 gone.1 more acknowledged had.durable;
+      }
+
+  pub serves_on : (E : List Event → Type 0) → Leads E old new → ServesWell old committed needed acknowledged
+      → ServesWell new committed needed acknowledged
+  serves_on E leads served =
+      serves_later leads.well (λ is. let it = leads.goes is in (it.0, it.2)) (omega (arith, leads.carried)) served
+
+  -- ---- a commit
+
+  pub serves_commit : (mark : ℕ) → Leads (Acknowledges mark) old new → ServesWell old committed needed acknowledged
+      → ServesWell new (Some mark) (recorded_calls new.device) acknowledged
+  serves_commit mark leads served = λ is.
+      let had = served (leads.well is) in
+      let it = leads.goes is in
+      let come = come_on deferred_disk had.files had.history old had.come it.2 in
+      record {
+        before = had.before;
+        files = had.files;
+        recovered = had.recovered;
+        history = had.history ++ it.0;
+        come = come;
+        commits = (
+          record {
+            earlier = had.history ++ it.0;
+            mid = new;
+            came = come;
+            acknowledges = Contains-append_right had.history it.0 (Acknowledge mark) it.1;
+            later = [];
+            gone = Stays;
+          },
+          omega arith,
+        );
+        durable = made_on had.files old new it.0 it.2 (omega (arith, leads.carried)) acknowledged had.durable;
+      }
+
+-- ---- an acknowledgement
+
+-- time doesn't go back
+later : (files : List File) (mark : ℕ) (pager : PagerState Deferred) (it : HasPassedMark files mark pager)
+    → moment_of (as_recorded it.mid.device) ≤ length pager.device.changes
+later files mark pager it =
+    let since = left_since deferred_disk (λ d. since_now_of (as_recorded d)) files it.earlier it.mid it.came it.gone in
+    omega (arith, since.later)
+
+le_true : (a b : ℕ) → nat_le a b ≡ true → a ≤ b
+le_true a b is = grind (arith, nat_tests)
+
+-- where as many calls were made as a commit needs, all that were recorded then were made
+enough : (moment needed all waiting : ℕ) → moment ≤ all → needed ≡ min moment (2 ^ 64 - 1)
+    → needed ≤ min all (2 ^ 64 - 1) - waiting → moment ≤ 0 + all - waiting
+enough moment needed all waiting before is made = omega (arith, before, is, made)
+
+made_now : (files : List File) (needed : ℕ) (pager : PagerState Deferred) → needed ≤ made_calls pager.device
+    → (committed : Option ℕ) → IfSome committed (λ mark. HasNeeded files needed mark pager)
+    → IfSome committed (λ mark. HasMadeCalls files mark pager)
+made_now files needed pager made None it = tt
+made_now files needed pager made (Some mark) it = (
+  it.0,
+  enough (moment_of (as_recorded it.0.mid.device)) needed (length pager.device.changes) pager.device.waiting
+      (later files mark pager it.0) it.1 made,
+)
+
+module _ (pager : PagerState Deferred) (needed : ℕ) (committed before : Option ℕ) where
+  pub serves_confirmed : ServesWell pager committed needed before
+      → ServesWell pager committed needed
+      (acknowledged_by_calls (made_calls pager.device) needed committed before)
+  serves_confirmed served = λ well.
+      let had = served well in
+      record {
+        before = had.before;
+        files = had.files;
+        recovered = had.recovered;
+        history = had.history;
+        come = had.come;
+        commits = had.commits;
+        durable = either had.files (nat_le needed (made_calls pager.device)) refl had.commits had.durable;
+      }
+    where
+      either : (files : List File) (made : Bool) → nat_le needed (made_calls pager.device) ≡ made
+          → IfSome committed (λ mark. HasNeeded files needed mark pager)
+          → IfSome before (λ mark. HasMadeCalls files mark pager)
+          → IfSome (if made then committed else before) (λ mark. HasMadeCalls files mark pager)
+      either files true is commits durable =
+          made_now files needed pager (le_true needed (made_calls pager.device) is) committed commits
+      either files false is commits durable = durable
+
+-- ---- a page that is put
+
+pub serves_put : (old new : PagerState Deferred) (needed : ℕ) (committed acknowledged : Option ℕ) (owner : FilePage)
+    (bytes : List ℕ) (result : Result ⊤ Refusal) → length bytes ≡ 4096 → OnOk result (put_refusal old owner ≡ None)
+    → OnOk result (new ≡ after_put old owner bytes) → OnErr result (new ≡ old)
+    → ServesWell old committed needed acknowledged → ServesWell new committed needed acknowledged
+serves_put old new needed committed acknowledged owner bytes (Ok done) page allowed is same =
+    subst (λ (s : PagerState Deferred).
+    ServesWell old committed needed acknowledged → ServesWell s committed needed acknowledged) (sym is)
+    (serves_on old (after_put old owner bytes) needed committed acknowledged Any
+    (leads_put old owner bytes (record { allowed = allowed; a_page = page })))
+serves_put old new needed committed acknowledged owner bytes (Err why) page allowed is same =
+    subst (λ (s : PagerState Deferred). ServesWell s committed needed acknowledged) (sym same)
+
+-- a page that is read
+pub serves_read : (old new : PagerState Deferred) (needed : ℕ) (committed acknowledged : Option ℕ)
+    → new ≡ over_device old new.device → IsOnlyRead deferred_disk old.device new.device
+    → carried_moment new.device ≡ carried_moment old.device
+    → ServesWell old committed needed acknowledged → ServesWell new committed needed acknowledged
+serves_read old new needed committed acknowledged is read carried =
+    serves_on old new needed committed acknowledged Any
+    (subst (λ (s : PagerState Deferred). Leads Any old s) (sym is)
+    (leads_read old new.device (λ _. read) read.honest.0 carried))
+
+-- a length that is set
+pub serves_length : (old new : PagerState Deferred) (needed : ℕ) (committed acknowledged : Option ℕ) (file to : ℕ)
+    (result : Result ⊤ Refusal) → OnOk result (set_length_refusal old file to ≡ None)
+    → (IsSuppliedWell old.device
+    → OnOk result (new ≡ after_length old file to (last_page old (deferred_disk.seen old.device) file) new.device))
+    → OnErr result (new ≡ over_device old new.device) → IsOnlyRead deferred_disk old.device new.device
+    → carried_moment new.device ≡ carried_moment old.device
+    → ServesWell old committed needed acknowledged → ServesWell new committed needed acknowledged
+serves_length old new needed committed acknowledged file to (Ok done) allowed set same read carried =
+    serves_on old new needed committed acknowledged Any (leads_length old new file to allowed set read carried)
+serves_length old new needed committed acknowledged file to (Err why) allowed set same read carried =
+    serves_read old new needed committed acknowledged same read carried
+
+-- an acknowledgement, by these counts
+pub serves_noted : (pager : PagerState Deferred) (needed made : ℕ) (committed before noted : Option ℕ)
+    → made ≡ made_calls pager.device → noted ≡ acknowledged_by_calls made needed committed before
+    → ServesWell pager committed needed before → ServesWell pager committed needed noted
+serves_noted pager needed made committed before noted counts notes served =
+    subst (λ (a : Option ℕ). ServesWell pager committed needed a)
+    (sym (notes ∙ ap (λ (n : ℕ). acknowledged_by_calls n needed committed before) counts))
+    (serves_confirmed pager needed committed before served)
+
+pub serves_marked : (old new : PagerState Deferred) (needed : ℕ) (committed acknowledged : Option ℕ) (mark : ℕ)
+    (now made : ℕ) (noted : Option ℕ) → Commits old mark new → now ≡ recorded_calls new.device
+    → made ≡ made_calls new.device → noted ≡ acknowledged_by_calls made now (Some mark) acknowledged
+    → ServesWell old committed needed acknowledged → ServesWell new (Some mark) now noted
+serves_marked old new needed committed acknowledged mark now made noted commits counted counts notes served =
+    serves_noted new now made (Some mark) acknowledged noted counts notes
+    (subst (λ (n : ℕ). ServesWell new (Some mark) n acknowledged) (sym counted)
+    (serves_commit old new needed committed acknowledged mark (leads_commit mark old new commits) served))

@@ -1,25 +1,29 @@
 -- A disk that was tended between two requests is the same disk in memory.
-use Rattle.std.proofs.Common.{◌≡◌, ◌≤◌, ◌<◌, ℕ, ◌+◌, ◌-◌, ◌^◌, ◌==◌, ◌∷◌, get_or, Bool, true, false, if◌then◌else◌}
-use Rattle.std.proofs.Common.{List, length, Option, Some, None, IfSome, refl, sym, ◌∙◌, ap, subst, arith}
-use Rattle.deferred_disk.specs.Deferred.{Deferred, as_recorded, after_forget, after_supply, with_known, block_of}
-use Rattle.deferred_disk.specs.Deferred.{IsSuppliedWell}
-use Rattle.device.specs.Memory.{Recorded, seen_of, moment_of}
-use Rattle.machine.specs.State.{Whole}
-use Rattle.session.specs.declared.notes.Notes.{Notes}
-use Rattle.embedded.specs.Embedded.{HasCommitted, HasNeeded, HasMade, HasServed, ServesWell, are_made, made_of}
-use Rattle.embedded.specs.Recorded.{recorded}
-use Rattle.embedded.specs.Supplying.{with_supplied, is_of_disk, with_device}
+use Rattle.std.proofs.Common.{◌≡◌, ◌≤◌, ℕ, ◌+◌, ◌-◌, ◌∷◌, get_or, Bool, true, false, if◌then◌else◌, List, [], Option}
+use Rattle.std.proofs.Common.{refl, sym, ap, subst, arith, inl}
+use Rattle.deferred_disk.specs.Deferred.{Deferred, as_recorded, after_forget, after_supply, with_known, with_waiting}
+use Rattle.deferred_disk.specs.Deferred.{block_of, carried_moment, IsSuppliedWell}
+use Rattle.device.specs.Memory.{Recorded, seen_of, may_leave_of, moment_of, left_since_of}
+use Rattle.device.specs.inside.Laws.{since_now_of}
+use Rattle.recovery.specs.Reading.{IsOnlyRead}
+use Rattle.pager.specs.State.{PagerState}
+use Rattle.pager.specs.Histories.{HasGone, Stays, ThenRead}
+use Rattle.embedded.specs.Embedded.{ServesWell, over_device}
+use Rattle.embedded.specs.Recorded.{deferred_disk}
+use Rattle.embedded.specs.Supplying.{with_supplied, is_of_disk}
 use Rattle.embedded.specs.declared.tending.Supplying.{Supplying}
 use Rattle.embedded.specs.declared.tending.Forgetting.{Forgetting}
 use Rattle.embedded.specs.inside.Tending.{HasSupplied, HasForgotten}
-use Rattle.embedded.proofs.Counting.{steps_later, still_made, needs_made}
+use Rattle.embedded.proofs.Serving.{serves_later}
 
--- the same disk in memory, and supplied well only if the other one was
-abbrev pub IsLike : Deferred → Deferred → Type 0
-IsLike after before = (as_recorded after ≡ as_recorded before) × (IsSuppliedWell after → IsSuppliedWell before)
+-- the same disk in memory, supplied well only if the other one was, of whose calls no fewer were made
+pub record IsLike (after before : Deferred) : Type 0 where
+  pub same : as_recorded after ≡ as_recorded before
+  pub well : IsSuppliedWell after → IsSuppliedWell before
+  pub more : carried_moment before ≤ carried_moment after
 
 like_itself : (disk : Deferred) → IsLike disk disk
-like_itself disk = (refl, λ well. well)
+like_itself disk = record { same = refl; well = λ well. well; more = omega arith }
 
 either_like : (b : Bool) (x y before : Deferred) → IsLike x before → IsLike y before
     → IsLike (if b then x else y) before
@@ -43,7 +47,8 @@ added disk block bytes = record disk {
 
 supplied_like : (disk : Deferred) (block : ℕ) (bytes : List ℕ) → IsLike (with_supplied disk block bytes) disk
 supplied_like disk block bytes =
-    let more : IsLike (added disk block bytes) disk = (refl, λ well. well.1) in
+    let more : IsLike (added disk block bytes) disk =
+    record { same = refl; well = λ well. well.1; more = omega arith } in
     either_like (is_of_disk disk block) (after_supply disk block bytes) disk disk
     (either_like (get_or disk.known block false) disk (added disk block bytes) disk (like_itself disk) more)
     (like_itself disk)
@@ -60,88 +65,41 @@ pub tended_forget : (old new : Forgetting) (before after : Deferred) → HasForg
     → IsLike after before
 tended_forget old new before after it =
     like_one new.done after (after_forget before old.block) before before it.forgotten it.kept
-    (refl, λ well. well) (like_itself before)
+    (record { same = refl; well = λ well. well; more = omega arith }) (like_itself before)
 
--- the machine with its device
-pub machine_is : (old new : Whole Deferred) (device : Deferred) → new.state ≡ old.state → new.device ≡ device
-    → new ≡ with_device old device
-machine_is old new device state is =
-    ap (λ s. with_device (record { state = s; device = old.device }) new.device) state ∙ ap (with_device old) is
+-- a call was made
+pub tended_call : (before after : Deferred) → after ≡ with_waiting before (before.waiting - 1) → IsLike after before
+tended_call before after is = subst (λ (d : Deferred). IsLike d before) (sym is)
+    (record { same = refl; well = λ well. well; more = omega arith })
 
-pub same_recorded : (old new : Whole Deferred) → new.state ≡ old.state → as_recorded new.device ≡ as_recorded old.device
-    → recorded new ≡ recorded old
-same_recorded old new state device =
-    let P : Recorded → Whole Recorded = λ d. record { state = old.state; device = d } in
-    ap (λ s. record { state = s; device = as_recorded new.device }) state ∙ ap P device
+-- nothing was written to such a disk
+only_read : (after before : Deferred) → IsLike after before → IsSuppliedWell after
+    → IsOnlyRead deferred_disk before after
+only_read after before like well =
+    let same = like.same in
+    let had = like.well well in
+    record {
+      same = ap seen_of same;
+      left = λ c left. subst (λ (r : Recorded). may_leave_of r c) same left;
+      keeps = λ honest c left. subst (λ (r : Recorded). may_leave_of r c) (sym same) left;
+      time = record {
+        later = omega (arith, ap moment_of same);
+        each = λ c left. since_now_of (as_recorded before) c
+            (subst (λ (r : Recorded). left_since_of r (moment_of (as_recorded before)) c) same left);
+        before = λ t c le left. inl (subst (λ (r : Recorded). left_since_of r t c) same left);
+        keeps = λ t c le left. subst (λ (r : Recorded). left_since_of r t c) (sym same) left;
+      };
+      honest = (λ _. had, λ _. well);
+    }
 
 -- what was served, is served
-module _ (committed : Option ℕ) (needed made : ℕ) (acknowledged : Option ℕ) (old new : Whole Deferred)
-    (before after : Notes) where
-  pub serves_tended : recorded new ≡ recorded old → after ≡ before
-      → (IsSuppliedWell new.device → IsSuppliedWell old.device)
-      → ServesWell old before committed needed made acknowledged
-      → ServesWell new after committed needed made acknowledged
-  serves_tended same notes keeps served = λ well.
-      let P : Notes → Type 0 = λ n. HasServed (recorded old) n committed needed made acknowledged in
-      let Q : Whole Recorded → Type 0 = λ m. HasServed m after committed needed made acknowledged in
-      subst Q (sym same) (subst P (sym notes) (served (keeps well)))
-
-  pub serves_over : new.state ≡ old.state → after ≡ before → IsLike new.device old.device
-      → ServesWell old before committed needed made acknowledged
-      → ServesWell new after committed needed made acknowledged
-  serves_over state notes tended served = serves_tended (same_recorded old new state tended.0) notes tended.1 served
-
--- The calls are counted, and where those of the last commit were made its mark is acknowledged.
-module _ (needed made counted : ℕ) (machine : Whole Deferred) (notes : Notes)
-    (more : counted < 2 ^ 64 - 1 → made ≤ counted) where
-  pub later_calls : (mark : ℕ) (it : HasCommitted mark (recorded machine) notes)
-      → moment_of it.new.device ≤ length machine.device.changes
-  later_calls mark it =
-      let later = steps_later it.new (recorded machine) it.later it.more it.makes_later.taken in
-      omega (arith, later)
-
-  abbrev now : ℕ
-  now = made_of machine.device counted
-
-  durable_before : (acknowledged : Option ℕ) → IfSome acknowledged (λ mark. HasMade made mark (recorded machine) notes)
-      → IfSome acknowledged (λ mark. HasMade now mark (recorded machine) notes)
-  durable_before None c = tt
-  durable_before (Some mark) c = (
-    c.0,
-    still_made (machine.device.waiting == 0) (moment_of c.0.new.device) made counted
-        (length machine.device.changes) more (later_calls mark c.0) c.1,
-  )
-
-  durable_now : (committed : Option ℕ) → are_made machine.device.waiting needed now ≡ true
-      → IfSome committed (λ mark. HasNeeded needed mark (recorded machine) notes)
-      → IfSome committed (λ mark. HasMade now mark (recorded machine) notes)
-  durable_now None enough c = tt
-  durable_now (Some mark) enough c = (
-    c.0,
-    needs_made (machine.device.waiting == 0) (moment_of c.0.new.device) needed counted
-        (length machine.device.changes) c.1 (later_calls mark c.0) enough,
-  )
-
-  durable_if : (committed acknowledged : Option ℕ) (durable : Bool)
-      → are_made machine.device.waiting needed now ≡ durable
-      → IfSome committed (λ mark. HasNeeded needed mark (recorded machine) notes)
-      → IfSome acknowledged (λ mark. HasMade made mark (recorded machine) notes)
-      → IfSome (if durable then committed else acknowledged) (λ mark. HasMade now mark (recorded machine) notes)
-  durable_if committed acknowledged true enough commits durable = durable_now committed enough commits
-  durable_if committed acknowledged false enough commits durable = durable_before acknowledged durable
-
-  pub serves_confirmed : (committed acknowledged confirmed : Option ℕ) (is : ℕ) (durable : Bool) → is ≡ now
-      → durable ≡ are_made machine.device.waiting needed is → confirmed ≡ (if durable then committed else acknowledged)
-      → ServesWell machine notes committed needed made acknowledged
-      → ServesWell machine notes committed needed is confirmed
-  serves_confirmed committed acknowledged confirmed is durable same tests confirms served = λ well.
-      let had = served well in
-      let enough : are_made machine.device.waiting needed now ≡ durable =
-      sym (tests ∙ ap (are_made machine.device.waiting needed) same) in
-      let P : Option ℕ → Type 0 = λ a. IfSome a (λ mark. HasMade now mark (recorded machine) notes) in
-      let Q : ℕ → Type 0 = λ n. HasServed (recorded machine) notes committed needed n confirmed in
-      subst Q (sym same) (record {
-        serving = had.serving;
-        commits = had.commits;
-        durable = subst P (sym confirms) (durable_if committed acknowledged durable enough had.commits had.durable);
-      })
+pub serves_tended : (old new : PagerState Deferred) (committed : Option ℕ) (needed : ℕ) (acknowledged : Option ℕ)
+    → new ≡ over_device old new.device → IsLike new.device old.device
+    → ServesWell old committed needed acknowledged → ServesWell new committed needed acknowledged
+serves_tended old new committed needed acknowledged is like =
+    serves_later old new needed committed acknowledged like.well
+    (λ well. (
+      [],
+      subst (λ (s : PagerState Deferred). HasGone deferred_disk old [] s) (sym is)
+          (ThenRead [] old new.device (only_read new.device old.device like well) Stays),
+    )) like.more

@@ -1,96 +1,100 @@
--- A machine whose device calls a host makes, and the marks that it committed.
-use Rattle.std.specs.Prelude.{ℕ, ◌≡◌, ◌==◌, ◌-◌, ◌^◌, ◌<◌, ◌≤◌, min, nat_le, Bool, ◌||◌}
-use Rattle.std.specs.Prelude.{if◌then◌else◌, List, Option, Some, IfSome, Result, Ok, Err}
-use Rattle.deferred_disk.specs.Deferred.{Deferred, IsSuppliedWell, recorded_calls}
-use Rattle.device.specs.Memory.{Recorded, moment_of}
-use Rattle.machine.specs.declared.act.Reply.{Reply}
-use Rattle.machine.specs.declared.act.Shape.{Shape}
-use Rattle.machine.specs.declared.act.Step.{Step}
-use Rattle.machine.specs.State.{Whole}
-use Rattle.engine.specs.Engine.{HasStarted}
-use Rattle.session.specs.declared.files.Files.{Files}
-use Rattle.session.specs.declared.notes.Notes.{Notes}
-use Rattle.session.specs.Commits.{CommitsMark}
-use Rattle.session.specs.Sessions.{IsServing, no_notes}
-use Rattle.session.specs.Steps.{Makes}
-use Rattle.embedded.specs.Recorded.{recorded_disk, recorded}
+-- A pager whose device calls a host makes, and the marks that it committed.
+use Rattle.std.specs.Prelude.{ℕ, ◌≡◌, ◌-◌, ◌^◌, ◌≤◌, min, nat_le, if◌then◌else◌, List, Contains}
+use Rattle.std.specs.Prelude.{Option, Some, None, IfSome}
+use Rattle.deferred_disk.specs.Deferred.{Deferred, as_recorded, carried_moment, IsSuppliedWell, recorded_calls}
+use Rattle.device.specs.Memory.{moment_of, seen_of}
+use Rattle.volume_codec.specs.Files.{File}
+use Rattle.volume_codec.specs.Recovery.{RecoversTo}
+use Rattle.history.specs.History.{Event, Acknowledge}
+use Rattle.pager.specs.State.{PagerState}
+use Rattle.pager.specs.Histories.{HasCome, HasGone}
+use Rattle.embedded.specs.Recorded.{deferred_disk}
 
--- what an embedded volume is to its users: its machine, what is noted of the steps that were made, the volume's files,
--- the mark of the last commit, how many device calls were recorded when it was reported, how many the host has made,
--- and the last mark that is acknowledged
-pub record EmbeddedState (A : Type 0) : Type 0 where
-  pub machine : Whole Deferred
-  pub notes : Notes
-  pub files : Files A
+-- what an embedded volume is to its users: its pager; the mark of the last commit, and how many device calls were
+-- recorded when it was reported; and the last mark that is acknowledged
+pub record EmbeddedState : Type 0 where
+  pub pager : PagerState Deferred
   pub committed : Option ℕ
   pub needed : ℕ
-  pub made : ℕ
   pub acknowledged : Option ℕ
 
--- the mark of the last commit, after one that came to this
-abbrev pub last_committed : Result ℕ Reply → Option ℕ → Option ℕ
-last_committed (Ok mark) before = Some mark
-last_committed (Err answer) before = before
+-- as it is over a pager that was just opened
+abbrev pub just_opened : PagerState Deferred → EmbeddedState
+just_opened pager = record { pager = pager; committed = None; needed = 0; acknowledged = None }
 
--- how many device calls it needs, where so many are recorded now
-abbrev pub last_needed : Result ℕ Reply → ℕ → ℕ → ℕ
-last_needed (Ok mark) now before = now
-last_needed (Err answer) now before = before
+-- the same with another pager
+abbrev pub with_pager : EmbeddedState → PagerState Deferred → EmbeddedState
+with_pager embedded pager = record embedded { pager = pager }
 
--- how many device calls were made: all where none waits, and else as many as were counted
-abbrev pub made_of : Deferred → ℕ → ℕ
-made_of disk counted = if disk.waiting == 0 then recorded_calls disk else counted
+-- the pager over another device
+abbrev pub over_device : PagerState Deferred → Deferred → PagerState Deferred
+over_device pager device = record pager { device = device }
 
--- those that a commit needs were made, where so many wait: no call waits, or as many were made as it needs
-abbrev pub are_made : ℕ → ℕ → ℕ → Bool
-are_made waiting needed made = waiting == 0 || nat_le needed made
-
--- From a start, steps led to a machine, a commit of this mark by a processor followed, and later steps led to this
--- machine.
-pub record HasCommitted (mark : ℕ) (machine : Whole Recorded) (notes : Notes) : Type 0 where
-  pub before : Recorded
-  pub shape : Shape
-  pub start : Whole Recorded
-  pub started : HasStarted recorded_disk before shape start
-  pub earlier : List Step
-  pub replied : List Reply
-  pub old : Whole Recorded
-  pub between : Notes
-  pub makes_earlier : Makes recorded_disk start no_notes earlier replied old between
-  pub p : ℕ
-  pub steps : List Step
-  pub replies : List Reply
-  pub new : Whole Recorded
-  pub after : Notes
-  pub makes : Makes recorded_disk old between steps replies new after
-  pub commits : CommitsMark p between mark steps replies
-  pub later : List Step
-  pub more : List Reply
-  pub makes_later : Makes recorded_disk new after later more machine notes
-
--- So it did, and at the end of the commit this many device calls were recorded. (A count that has come to 2^64-1 stays
--- there.)
-abbrev pub HasNeeded : (needed mark : ℕ) → Whole Recorded → Notes → Type 0
-HasNeeded needed mark machine notes =
-    (committed : HasCommitted mark machine notes) × (needed ≡ min (moment_of committed.new.device) (2 ^ 64 - 1))
-
--- So it did, and at the end of the commit no more device calls were recorded than this many, which were made since.
-abbrev pub HasMade : (made mark : ℕ) → Whole Recorded → Notes → Type 0
-HasMade made mark machine notes =
-    (committed : HasCommitted mark machine notes) × (made < 2 ^ 64 - 1 → moment_of committed.new.device ≤ made)
+-- How many device calls the host has made. Of a count of recorded calls that has come to 2^64-1, where it stays, it is
+-- no more than were made.
+abbrev pub made_calls : Deferred → ℕ
+made_calls disk = recorded_calls disk - disk.waiting
 
 -- Rule: deferred acknowledgement: A core's mark is acknowledged once its host has made the calls that its commit
 -- recorded.
--- Of the machine over the disk in memory that made the calls: it was started over a device, and from there steps led
--- to it, of which exactly this is noted. By these steps the mark of the last commit was committed, and needs as many
--- device calls as were recorded then; and so was the one that is acknowledged, whose calls the host has made.
-pub record HasServed (machine : Whole Recorded) (notes : Notes) (committed : Option ℕ) (needed made : ℕ)
-    (acknowledged : Option ℕ) : Type 0 where
-  pub serving : IsServing recorded_disk machine notes
-  pub commits : IfSome committed (λ mark. HasNeeded needed mark machine notes)
-  pub durable : IfSome acknowledged (λ mark. HasMade made mark machine notes)
+-- the mark that is acknowledged once the host has made so many calls: that of the last commit, if it needs no more, and
+-- else the one before
+abbrev pub acknowledged_by_calls : (made needed : ℕ) → (committed before : Option ℕ) → Option ℕ
+acknowledged_by_calls made needed committed before = if nat_le needed made then committed else before
+
+-- after a commit under this mark that led to this pager
+abbrev pub with_mark : EmbeddedState → ℕ → PagerState Deferred → EmbeddedState
+with_mark embedded mark pager = record {
+  pager = pager;
+  committed = Some mark;
+  needed = recorded_calls pager.device;
+  acknowledged = acknowledged_by_calls (made_calls pager.device) (recorded_calls pager.device)
+      (Some mark) embedded.acknowledged;
+}
+
+-- the same over this device, on which the host made a call
+abbrev pub with_call_made : EmbeddedState → Deferred → EmbeddedState
+with_call_made embedded device = record embedded {
+  pager = over_device embedded.pager device;
+  acknowledged = acknowledged_by_calls (made_calls device) embedded.needed embedded.committed embedded.acknowledged;
+}
+
+-- Calls led from a volume at rest that had these files to a pager by whose history a mark is acknowledged, and further
+-- ones from there to this pager.
+pub record HasPassedMark (files : List File) (mark : ℕ) (pager : PagerState Deferred) : Type 0 where
+  pub earlier : List Event
+  pub mid : PagerState Deferred
+  pub came : HasCome deferred_disk files earlier mid
+  pub acknowledges : Contains earlier (Acknowledge mark)
+  pub later : List Event
+  pub gone : HasGone deferred_disk mid later pager
+
+-- So it did, and there this many device calls were recorded. (A count that has come to 2^64-1 stays there.)
+abbrev pub HasNeeded : List File → (needed mark : ℕ) → PagerState Deferred → Type 0
+HasNeeded files needed mark pager =
+    (reached : HasPassedMark files mark pager)
+    × (needed ≡ min (moment_of (as_recorded reached.mid.device)) (2 ^ 64 - 1))
+
+-- So it did, and the host has made the device calls that were recorded there.
+abbrev pub HasMadeCalls : List File → (mark : ℕ) → PagerState Deferred → Type 0
+HasMadeCalls files mark pager =
+    (reached : HasPassedMark files mark pager)
+    × (moment_of (as_recorded reached.mid.device) ≤ carried_moment pager.device)
+
+-- Calls led to this pager from a volume at rest. It had the files to which the bytes of a disk recovered that was
+-- opened. On the way the mark of the last commit was acknowledged in the history, when as many device calls were
+-- recorded as it needs; and so was the mark that is acknowledged, whose device calls the host has made.
+pub record ServesFiles (pager : PagerState Deferred) (committed : Option ℕ) (needed : ℕ) (acknowledged : Option ℕ)
+    : Type 0 where
+  pub before : Deferred
+  pub files : List File
+  pub recovered : RecoversTo (seen_of (as_recorded before)) files
+  pub history : List Event
+  pub come : HasCome deferred_disk files history pager
+  pub commits : IfSome committed (λ mark. HasNeeded files needed mark pager)
+  pub durable : IfSome acknowledged (λ mark. HasMadeCalls files mark pager)
 
 -- So it is as long as the host supplied each block as it was.
-abbrev pub ServesWell : Whole Deferred → Notes → Option ℕ → ℕ → ℕ → Option ℕ → Type 0
-ServesWell machine notes committed needed made acknowledged =
-    IsSuppliedWell machine.device → HasServed (recorded machine) notes committed needed made acknowledged
+abbrev pub ServesWell : PagerState Deferred → Option ℕ → ℕ → Option ℕ → Type 0
+ServesWell pager committed needed acknowledged =
+    IsSuppliedWell pager.device → ServesFiles pager committed needed acknowledged

@@ -1,7 +1,7 @@
 pub mod Recorded
 pub mod Embedded
-pub mod Progress
+pub mod Steps
+pub mod Reading
 pub mod Supplying
-pub mod Tended
 pub mod Hosting
 pub mod inside

@@ -3,7 +3,7 @@ use Rattle.std.specs.Prelude.{ℕ, ◌+◌, ◌*◌, nat_le, Bool, not, ◌&&◌
 use Rattle.deferred_disk.specs.Deferred.{Deferred, as_recorded, after_supply, one_reaches}
 use Rattle.device.specs.Memory.{seen_of}
 use Rattle.volume_codec.specs.Layout.{first_file_home}
-use Rattle.machine.specs.State.{Whole}
+use Rattle.pager.specs.State.{PagerState}
 
 -- the block is one of the disk
 abbrev pub is_of_disk : Deferred → ℕ → Bool
@@ -18,11 +18,6 @@ abbrev pub is_free : Deferred → ℕ → Bool
 is_free disk block = is_of_disk disk block && not (one_reaches (take disk.waiting disk.changes) block)
 
 -- so is this block, and it lies in a file
-abbrev pub may_forget : Whole Deferred → ℕ → Bool
-may_forget machine block =
-    nat_le (first_file_home machine.state.table.layout machine.state.table.slots) block
-    && is_free machine.device block
-
--- the machine with another device
-abbrev pub with_device : {D : Type 0} → Whole D → D → Whole D
-with_device machine device = record { state = machine.state; device = device }
+abbrev pub may_forget : PagerState Deferred → ℕ → Bool
+may_forget pager block =
+    nat_le (first_file_home pager.table.layout pager.table.slots) block && is_free pager.device block

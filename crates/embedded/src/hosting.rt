@@ -1,34 +1,30 @@
 // What a host does for an embedded volume: it supplies blocks, and makes the calls that wait.
-ghost use Rattle.std.specs.Prelude.{◌≡◌, ◌+◌, ◌-◌, ◌^◌, min, true, false, get_or, option_map, if◌then◌else◌, OnOk, OnErr};
+ghost use Rattle.std.specs.Prelude.{◌≡◌, ◌-◌, true, false, get_or, option_map, OnOk, OnErr};
 ghost use Rattle.deferred_disk.specs.Deferred.{after_forget, waits_behind, with_waiting};
 ghost use Rattle.deferred_disk.specs.Lent.{change_lent};
-ghost use Rattle.embedded.specs.Embedded.{are_made, made_of};
-ghost use Rattle.embedded.specs.Supplying.{may_forget, with_supplied, with_device};
-ghost use Rattle.embedded.specs.Tended.{IsTended};
+ghost use Rattle.embedded.specs.Embedded.{over_device, with_call_made, with_pager};
+ghost use Rattle.embedded.specs.Supplying.{may_forget, with_supplied};
 
 use crate::embedded::Embedded;
-use crate::requesting::{confirmed, is_made, made_now};
+use crate::requesting::{confirmed, made_calls};
 use crate::tending::{Carrying, Forgetting, Supplying};
 use deferred_disk::DeferredCall;
 use std::alloc::{AllocError, Allocator};
 
 impl<A: Allocator + Copy> Embedded<A> {
     /// The host has read this block. One that is known keeps its bytes: what was written there, or supplied before. One
-    /// past the end of the disk is left alone.
+    /// past the end of the disk changes nothing.
     pub fn supply(&mut self, block: u32, bytes: &[u8; 4096]) -> Result<(), AllocError>
-        ensures ok { OnOk result (self.new.machine
-            ≡ with_device self.old.machine (with_supplied self.old.machine.device block bytes.now)) }
-        ensures err { OnErr result (self.new.machine ≡ self.old.machine) }
-        ensures rest { IsTended self.old self.new }
-        ensures made { self.new.made ≡ self.old.made }
-        ensures acknowledged { self.new.acknowledged ≡ self.old.acknowledged }
+        ensures ok { OnOk result (self.new ≡ with_pager self.old
+            (over_device self.old.pager (with_supplied self.old.pager.device block bytes.now))) }
+        ensures err { OnErr result (self.new ≡ self.old) }
     {
         let mut supplying = Supplying {
             block,
             bytes,
             refused: false,
         };
-        self.requests.tend(&mut supplying);
+        self.pager.tend(&mut supplying);
         if supplying.refused {
             Err(AllocError)
         } else {
@@ -40,64 +36,50 @@ impl<A: Allocator + Copy> Embedded<A> {
     /// bytes are wanted, the host supplies them again. Blocks before the first file's home are kept, since write-outs
     /// read them.
     pub fn forget(&mut self, block: u32) -> bool
-        ensures result { result ≡ may_forget self.old.machine block }
-        ensures forgotten { result ≡ true → self.new.machine
-            ≡ with_device self.old.machine (after_forget self.old.machine.device block) }
-        ensures kept { result ≡ false → self.new.machine ≡ self.old.machine }
-        ensures rest { IsTended self.old self.new }
-        ensures made { self.new.made ≡ self.old.made }
-        ensures acknowledged { self.new.acknowledged ≡ self.old.acknowledged }
+        ensures result { result ≡ may_forget self.old.pager block }
+        ensures forgotten { result ≡ true → self.new ≡ with_pager self.old
+            (over_device self.old.pager (after_forget self.old.pager.device block)) }
+        ensures kept { result ≡ false → self.new ≡ self.old }
     {
-        if block < self.requests.machine().table().geometry().first_file_home() {
+        if block < self.pager.table().geometry().first_file_home() {
             return false;
         }
         let mut forgetting = Forgetting { block, done: false };
-        self.requests.tend(&mut forgetting);
+        self.pager.tend(&mut forgetting);
         forgetting.done
     }
 
     /// Whether a block is known, so that it needn't be supplied.
     pub fn is_known(&self, block: u32) -> bool
-        ensures { result ≡ get_or self.now.machine.device.known block false }
+        ensures { result ≡ get_or self.now.pager.device.known block false }
     {
-        self.disk().is_known(block)
+        self.pager.device().is_known(block)
     }
 
     /// How many device calls wait for the host to make them.
     pub fn waiting(&self) -> usize
-        ensures { result ≡ self.now.machine.device.waiting }
+        ensures { result ≡ self.now.pager.device.waiting }
     {
-        self.disk().waiting()
+        self.pager.device().waiting()
     }
 
-    /// The device call that waits behind so many older ones that wait: the host makes them in their order, and says of
-    /// the oldest that it was made by `carried_out`.
+    /// The device call that waits behind so many older ones that wait. The host makes them in their order, and reports
+    /// each by `carried_out`.
     pub fn call(&self, others: usize) -> Option<DeferredCall<'_>>
-        ensures { option_map change_lent result ≡ waits_behind others self.now.machine.device }
+        ensures { option_map change_lent result ≡ waits_behind others self.now.pager.device }
     {
-        self.disk().call(others)
+        self.pager.device().call(others)
     }
 
-    /// The host has made the oldest device call that waited. Once those were made that were recorded when the last
-    /// commit was told, its mark is acknowledged, though later ones may wait.
+    /// The host has made the oldest device call that waited. Once it has made those that were recorded when the last
+    /// commit was reported, that commit's mark is acknowledged, though later ones may wait.
     pub fn carried_out(&mut self)
-        ensures carried { self.new.machine ≡ with_device self.old.machine
-            (with_waiting self.old.machine.device (self.old.machine.device.waiting - 1)) }
-        ensures rest { IsTended self.old self.new }
-        ensures made { self.new.made ≡ made_of self.new.machine.device (min (self.old.made + 1) (2 ^ 64 - 1)) }
-        ensures acknowledged { self.new.acknowledged
-            ≡ (if are_made self.new.machine.device.waiting self.old.needed self.new.made
-            then self.old.committed else self.old.acknowledged) }
+        ensures { self.new ≡ with_call_made self.old
+            (with_waiting self.old.pager.device (self.old.pager.device.waiting - 1)) }
     {
-        self.requests.tend(&mut Carrying);
-        let waiting = self.requests.machine().device().waiting();
-        let made = made_now(
-            self.requests.machine().device(),
-            self.made.saturating_add(1),
-        );
-        let is_durable = is_made(waiting, self.needed, made);
-        let acknowledged = confirmed(is_durable, self.committed, self.acknowledged);
-        self.made = made;
+        self.pager.tend(&mut Carrying);
+        let made = made_calls(self.pager.device());
+        let acknowledged = confirmed(made, self.needed, self.committed, self.acknowledged);
         self.acknowledged = acknowledged;
     }
 }

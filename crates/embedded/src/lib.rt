@@ -4,10 +4,11 @@
 mod embedded;
 mod hosting;
 mod laws;
-mod progress;
+mod reading;
 mod requesting;
+mod steps;
 mod tending;
 
 pub use embedded::{Embedded, open};
-pub use laws::{crashed_on_the_host, ran_as_recorded, seen_as_recorded};
-pub use progress::Progress;
+pub use laws::crashed_on_the_host;
+pub use reading::Unread;

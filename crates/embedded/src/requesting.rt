@@ -1,171 +1,144 @@
 // What is asked of an embedded volume.
-ghost use Rattle.std.specs.Prelude.{◌≡◌, [], ◌∷◌, if◌then◌else◌};
-ghost use Rattle.deferred_disk.specs.Deferred.{recorded_calls};
-ghost use Rattle.session.specs.CarriedOut.{CarriesOut};
-ghost use Rattle.session.specs.Commits.{AnswersCommit};
-ghost use Rattle.session.specs.Lengths.{AnswersLength};
-ghost use Rattle.session.specs.Ranges.{LoadsReached, StoresReached};
-ghost use Rattle.session.specs.Steps.{Makes};
-ghost use Rattle.session.specs.Turns.{InTurn};
-ghost use Rattle.embedded.specs.Embedded.{are_made, last_committed, last_needed, made_of};
+ghost use Rattle.std.specs.Prelude.{◌≡◌, ◌⊎◌, None, Some, OnOk, OnErr, IfOk, IfErr};
+ghost use Rattle.deferred_disk.specs.Deferred.{as_recorded, carried_moment, recorded_calls, IsSuppliedWell};
+ghost use Rattle.device.specs.Memory.{seen_of};
+ghost use Rattle.journal.specs.Pages.{home_of};
+ghost use Rattle.recovery.specs.Counts.{Rises};
+ghost use Rattle.recovery.specs.Reading.{IsOnlyRead};
+ghost use Rattle.pager.specs.State.{current_in, up_to_end};
+ghost use Rattle.pager.specs.Calls.{page_refusal, put_refusal, RefusesPut, after_put, read_calls, set_length_refusal, RefusesSetLength, after_length, last_page, length_calls};
+ghost use Rattle.embedded.specs.Embedded.{acknowledged_by_calls, made_calls, over_device, with_mark, with_pager};
+ghost use Rattle.embedded.specs.Reading.{pager_refusal, ReportsWanted};
 ghost use Rattle.embedded.specs.Recorded.{deferred_disk};
-ghost use Rattle.embedded.specs.Progress.{reached_by, ReportsWanted};
+ghost use Rattle.embedded.specs.Steps.{Commits, RefusesCommit, WritesOut, RefusesSteps};
 
 use crate::embedded::Embedded;
-use crate::progress::{Progress, block_number};
+use crate::reading::{Unread, block_number};
+use crate::steps;
 use deferred_disk::DeferredDisk;
-use machine::{Reply, Step};
-use page_entry::ProcessorNumber;
+use page_entry::{FileNumber, FilePage, Refusal};
 use std::alloc::Allocator;
 
 impl<A: Allocator + Copy> Embedded<A> {
-    /// Makes a step, such as one that creates a space, switches to it or maps a file.
-    pub fn make(&mut self, step: &Step) -> Reply
-        ensures makes { Makes deferred_disk self.old.machine self.old.notes (step.now ∷ []) (result ∷ [])
-            self.new.machine self.new.notes }
-        ensures committed { self.new.committed ≡ self.old.committed }
-        ensures needed { self.new.needed ≡ self.old.needed }
-        ensures made { self.new.made ≡ self.old.made }
-        ensures acknowledged { self.new.acknowledged ≡ self.old.acknowledged }
+    /// Copies a page, with zeros past its file's end, as `Pager::read` does.
+    ///
+    /// `Wanted` where its home block isn't known: once the host has supplied it, the page can be read again.
+    pub fn read(&mut self, page: FilePage, buffer: &mut [u8; 4096]) -> Result<(), Unread>
+        ensures there { OnOk result (page_refusal self.old.pager.lengths page ≡ None) }
+        ensures bytes { IsSuppliedWell self.old.pager.device
+            → OnOk result (buffer.new ≡ up_to_end self.old.pager.lengths page
+            (current_in self.old.pager.staged self.old.pager.records (seen_of (as_recorded self.old.pager.device))
+            (home_of self.old.pager.table page))) }
+        ensures refused { IfErr result (λ e. (page_refusal self.old.pager.lengths page ≡ Some (pager_refusal e))
+            ⊎ ((pager_refusal e ≡ Refusal.Device) × (page_refusal self.old.pager.lengths page ≡ None))) }
+        ensures wanted { IfErr result (λ e. ReportsWanted self.new.pager.device.wanted e) }
+        ensures state { self.new ≡ with_pager self.old (over_device self.old.pager self.new.pager.device) }
+        ensures read { IsOnlyRead deferred_disk self.old.pager.device self.new.pager.device }
+        ensures calls { Rises (read_calls self.old.pager page)
+            self.old.pager.device.calls self.new.pager.device.calls }
+        ensures carried { carried_moment self.new.pager.device ≡ carried_moment self.old.pager.device }
     {
-        self.requests.make(step)
+        if let Err(why) = self.pager.read(page, buffer) {
+            let wanted = block_number(self.pager.device().wanted());
+            return Err(Unread::of(why, wanted));
+        }
+        Ok(())
     }
 
-    /// Loads so many bytes from an address on. Where a block is wanted, these are the bytes before it.
-    pub fn load(
-        &mut self,
-        p: ProcessorNumber,
-        va: u64,
-        count: usize,
-        bytes: &mut Vec<u8, A>,
-    ) -> Progress
-        requires { bytes.old.items ≡ [] }
-        ensures reached { CarriesOut deferred_disk self.old.machine self.old.notes
-            (InTurn self.old.files (LoadsReached p va count bytes.new.items (reached_by result)) self.new.files)
-            self.new.machine self.new.notes }
-        ensures wanted { ReportsWanted self.new.machine.device.wanted result }
-        ensures committed { self.new.committed ≡ self.old.committed }
-        ensures needed { self.new.needed ≡ self.old.needed }
-        ensures made { self.new.made ≡ self.old.made }
-        ensures acknowledged { self.new.acknowledged ≡ self.old.acknowledged }
+    /// The page has these bytes from now on, up to its file's end, as `Pager::put` says. The next commit takes it. A
+    /// refusal changes nothing.
+    pub fn put(&mut self, page: FilePage, bytes: &[u8; 4096]) -> Result<(), Refusal>
+        ensures ok { OnOk result (put_refusal self.old.pager page ≡ None) }
+        ensures put { OnOk result (self.new ≡ with_pager self.old (after_put self.old.pager page bytes.now)) }
+        ensures refused { IfErr result (RefusesPut self.old.pager page) }
+        ensures unchanged { OnErr result (self.new ≡ self.old) }
     {
-        let reached = self.requests.load(p, va, count, bytes);
-        Progress::of(
-            &reached,
-            block_number(self.requests.machine().device().wanted()),
-        )
+        self.pager.put(page, bytes)
     }
 
-    /// Stores bytes from an address on. Where a block is wanted, so many of them were stored.
-    pub fn store(&mut self, p: ProcessorNumber, va: u64, bytes: &[u8]) -> Progress
-        ensures reached { CarriesOut deferred_disk self.old.machine self.old.notes
-            (InTurn self.old.files (StoresReached p va bytes.now (reached_by result)) self.new.files)
-            self.new.machine self.new.notes }
-        ensures wanted { ReportsWanted self.new.machine.device.wanted result }
-        ensures committed { self.new.committed ≡ self.old.committed }
-        ensures needed { self.new.needed ≡ self.old.needed }
-        ensures made { self.new.made ≡ self.old.made }
-        ensures acknowledged { self.new.acknowledged ≡ self.old.acknowledged }
+    /// Sets the length of a file in bytes, from 0 to its capacity, as `Pager::set_length` does (POSIX.1-2024,
+    /// `ftruncate`). The next commit takes the change. A refusal changes nothing but the disk, by a read.
+    ///
+    /// `Wanted` where the file grows from inside a page whose home block isn't known: once the host has supplied it,
+    /// the length can be set again.
+    pub fn set_length(&mut self, file: FileNumber, length: u64) -> Result<(), Unread>
+        ensures ok { OnOk result (set_length_refusal self.old.pager file length ≡ None) }
+        ensures set { IsSuppliedWell self.old.pager.device → OnOk result (self.new.pager
+            ≡ after_length self.old.pager file length (last_page self.old.pager
+            (seen_of (as_recorded self.old.pager.device)) file) self.new.pager.device) }
+        ensures refused { IfErr result (λ e. RefusesSetLength self.old.pager file length (pager_refusal e)) }
+        ensures wanted { IfErr result (λ e. ReportsWanted self.new.pager.device.wanted e) }
+        ensures unchanged { OnErr result (self.new.pager ≡ over_device self.old.pager self.new.pager.device) }
+        ensures rest { self.new ≡ with_pager self.old self.new.pager }
+        ensures read { IsOnlyRead deferred_disk self.old.pager.device self.new.pager.device }
+        ensures calls { Rises (length_calls self.old.pager file length)
+            self.old.pager.device.calls self.new.pager.device.calls }
+        ensures carried { carried_moment self.new.pager.device ≡ carried_moment self.old.pager.device }
     {
-        let reached = self.requests.store(p, va, bytes);
-        Progress::of(
-            &reached,
-            block_number(self.requests.machine().device().wanted()),
-        )
+        match self.pager.set_length(file, length) {
+            Ok(()) => Ok(()),
+            Err(why) => Err(Unread::of(why, block_number(self.pager.device().wanted()))),
+        }
     }
 
-    /// Sets the length of a file. It answers as a session does; where a block is wanted, a device call failed.
-    pub fn set_length(&mut self, p: ProcessorNumber, file: u16, length: u64) -> Reply
-        ensures answers { CarriesOut deferred_disk self.old.machine self.old.notes
-            (InTurn self.old.files (AnswersLength p file length result) self.new.files)
-            self.new.machine self.new.notes }
-        ensures committed { self.new.committed ≡ self.old.committed }
-        ensures needed { self.new.needed ≡ self.old.needed }
-        ensures made { self.new.made ≡ self.old.made }
-        ensures acknowledged { self.new.acknowledged ≡ self.old.acknowledged }
+    /// Commits what was put since the last commit. It first makes the steps of earlier commits without which no commit
+    /// begins, and then those up to its acknowledgement by the pager. Answers its mark, which is durable once the host
+    /// has made the calls that wait then; `acknowledged` says when. Where nothing was put no step follows.
+    ///
+    /// `Device` where a step failed, for want of a block or of memory, and `Broken` where one had failed earlier: no
+    /// commit succeeds any more, and the next opening finds the last acknowledged one or a later one. `Busy` where
+    /// 2^32 - 1 commits were made.
+    pub fn commit(&mut self) -> Result<u32, Refusal>
+        ensures commits { IfOk result (λ mark. Commits self.old.pager mark self.new.pager) }
+        ensures mark { IfOk result (λ mark. self.new ≡ with_mark self.old mark self.new.pager) }
+        ensures refused { IfErr result (λ why. RefusesCommit self.old.pager why self.new.pager) }
+        ensures unmarked { OnErr result (self.new ≡ with_pager self.old self.new.pager) }
+        ensures carried { carried_moment self.new.pager.device ≡ carried_moment self.old.pager.device }
     {
-        self.requests.set_length(p, file, length)
-    }
-
-    /// Commits all stores. Answers the number of the mark, which is durable once the calls that wait then were made,
-    /// and then `acknowledged` says so. Or it answers what the step was answered that stopped the commit.
-    pub fn commit(&mut self, p: ProcessorNumber) -> Result<u32, Reply>
-        ensures answers { CarriesOut deferred_disk self.old.machine self.old.notes
-            (AnswersCommit p self.old.notes result) self.new.machine self.new.notes }
-        ensures committed { self.new.committed ≡ last_committed result self.old.committed }
-        ensures needed { self.new.needed
-            ≡ last_needed result (recorded_calls self.new.machine.device) self.old.needed }
-        ensures made { self.new.made ≡ made_of self.new.machine.device self.old.made }
-        ensures acknowledged { self.new.acknowledged
-            ≡ (if are_made self.new.machine.device.waiting self.new.needed self.new.made
-            then self.new.committed else self.old.acknowledged) }
-    {
-        let answer = self.requests.commit(p);
-        let waiting = self.requests.machine().device().waiting();
-        let committed = committed_by(&answer, self.committed);
-        let needed = needed_by(&answer, self.requests.machine().device(), self.needed);
-        let made = made_now(self.requests.machine().device(), self.made);
-        let is_durable = is_made(waiting, needed, made);
-        let acknowledged = confirmed(is_durable, committed, self.acknowledged);
-        self.committed = committed;
+        let mark = steps::commit(&mut self.pager)?;
+        let needed = self.pager.device().recorded();
+        let made = made_calls(self.pager.device());
+        let acknowledged = confirmed(made, needed, Some(mark), self.acknowledged);
+        self.committed = Some(mark);
         self.needed = needed;
-        self.made = made;
         self.acknowledged = acknowledged;
-        answer
+        Ok(mark)
+    }
+
+    /// Makes at most so many further steps of the commits that aren't done, which copy their pages to the home blocks.
+    /// Answers whether a step is left.
+    ///
+    /// `Device` where a step failed, for want of a block or of memory, and `Broken` where one had failed earlier.
+    pub fn write_out(&mut self, most: u32) -> Result<bool, Refusal>
+        ensures steps { IfOk result (λ left. WritesOut most self.old.pager left self.new.pager) }
+        ensures refused { IfErr result (λ why. RefusesSteps most self.old.pager why self.new.pager) }
+        ensures rest { self.new ≡ with_pager self.old self.new.pager }
+        ensures carried { carried_moment self.new.pager.device ≡ carried_moment self.old.pager.device }
+    {
+        steps::write_out(&mut self.pager, most)
     }
 }
 
-// The mark of the last commit, after one that came to this.
-fn committed_by(answer: &Result<u32, Reply>, before: Option<u32>) -> Option<u32>
-    ensures { result ≡ last_committed answer.now before }
+// How many device calls the host has made.
+pub(crate) fn made_calls<A: Allocator + Copy>(disk: &DeferredDisk<A>) -> u64
+    ensures { result ≡ made_calls disk.now }
 {
-    match answer {
-        Ok(mark) => Some(*mark),
-        Err(_) => before,
-    }
-}
-
-// How many device calls the last commit needs, after one that came to this: as many as are recorded, where it is told
-// now.
-fn needed_by<A: Allocator + Copy>(
-    answer: &Result<u32, Reply>,
-    disk: &DeferredDisk<A>,
-    before: u64,
-) -> u64
-    ensures { result ≡ last_needed answer.now (recorded_calls disk.now) before }
-{
-    match answer {
-        Ok(_) => disk.recorded(),
-        Err(_) => before,
-    }
-}
-
-// How many device calls were made: all that were recorded where none waits, and else as many as were counted.
-pub(crate) fn made_now<A: Allocator + Copy>(disk: &DeferredDisk<A>, counted: u64) -> u64
-    ensures { result ≡ made_of disk.now counted }
-{
-    if disk.waiting() == 0 {
-        disk.recorded()
-    } else {
-        counted
-    }
-}
-
-// Whether the device calls were made that a commit needs, where so many wait.
-pub(crate) fn is_made(waiting: usize, needed: u64, made: u64) -> bool
-    ensures { result ≡ are_made waiting needed made }
-{
-    waiting == 0 || needed <= made
+    disk.recorded().saturating_sub(disk.waiting() as u64)
 }
 
 // Rule: deferred acknowledgement
-// The last mark that is acknowledged: that of the last commit where its calls were made, and else the one before.
+// The mark that is acknowledged once the host has made so many calls.
 pub(crate) fn confirmed(
-    is_durable: bool,
+    made: u64,
+    needed: u64,
     committed: Option<u32>,
     acknowledged: Option<u32>,
 ) -> Option<u32>
-    ensures { result ≡ (if is_durable then committed else acknowledged) }
+    ensures { result ≡ acknowledged_by_calls made needed committed acknowledged }
 {
-    if is_durable { committed } else { acknowledged }
+    if needed <= made {
+        committed
+    } else {
+        acknowledged
+    }
 }

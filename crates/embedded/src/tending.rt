@@ -4,7 +4,7 @@ ghost use Rattle.embedded.specs.Supplying.{is_of_disk};
 
 use deferred_disk::DeferredDisk;
 use device::Device;
-use machine::Tender;
+use pager::Tender;
 use std::alloc::Allocator;
 
 // Whether a block lies before the end of the disk.

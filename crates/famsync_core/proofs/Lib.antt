@@ -1,2 +1,3 @@
 pub mod Boxed
 pub mod Opened
+pub mod Writing

@@ -1,6 +1,6 @@
 /*
- * The core over a volume in memory: it is opened, stores are committed and drained, and the bytes are found again, in
- * the core and in a session after it. With an argument it measures: `smoke PAGES` stores to so many pages and commits.
+ * The core over a volume in memory: pages are written and committed, and the bytes are found again, in the core and in
+ * a session after it. With an argument it measures: `smoke PAGES` writes that many pages and commits them, twice.
  */
 #include "../famsync_core.h"
 
@@ -8,7 +8,7 @@
 #include <stdlib.h>
 #include <string.h>
 
-enum { PAGE = 4096, SLOTS = 300, PAGES = 1000, HOME = 1 + 2 + SLOTS, BLOCKS = HOME + PAGES, ADDRESS = 1 << 20 };
+enum { PAGE = 4096, SLOTS = 300, PAGES = 1000, HOME = 1 + 2 + SLOTS, BLOCKS = HOME + PAGES };
 
 /* The volume, and how many calls were made on it. */
 static uint8_t volume[(size_t)BLOCKS * PAGE];
@@ -105,48 +105,31 @@ static famsync_core begin(void)
     uint32_t wanted = 0;
     int32_t code;
     HAVE(famsync_core_begin(BLOCKS, &core.at) == FAMSYNC_CORE_OK);
-    HAVE(famsync_core_head(core, &core.at) == FAMSYNC_CORE_ARGUMENT);
+    HAVE(famsync_core_head(core, &core.at) == FAMSYNC_CORE_ORDER);
     HAVE(famsync_core_files(core, &core.at) == FAMSYNC_CORE_ORDER);
-    supply(&core, 0);
-    HAVE(famsync_core_head(core, &core.at) == HOME);
-    while ((code = famsync_core_open(core, 0, 64, &wanted, &core.at)) == FAMSYNC_CORE_WANTED)
+    while ((code = famsync_core_open(core, 0, &wanted, &core.at)) == FAMSYNC_CORE_WANTED)
         supply(&core, wanted);
     HAVE(code == FAMSYNC_CORE_OK);
-    HAVE(famsync_core_open(core, 0, 64, &wanted, &core.at) == FAMSYNC_CORE_ORDER);
+    HAVE(famsync_core_open(core, 0, &wanted, &core.at) == FAMSYNC_CORE_ORDER);
+    HAVE(famsync_core_head(core, &core.at) == HOME);
+    HAVE(famsync_core_shares_syncs(core, &core.at) == 0);
     drain(&core);
-    HAVE(famsync_core_map(core, 0, 0, (uint64_t)PAGES * PAGE, FAMSYNC_CORE_MAP_READ_WRITE, ADDRESS, &core.at) ==
-         FAMSYNC_CORE_OK);
     return core;
 }
 
-static void store(famsync_core *core, uint64_t address, const uint8_t *bytes, size_t count)
+static void write_page(famsync_core *core, uint64_t page, const uint8_t *bytes)
 {
-    size_t have = 0;
-    while (have < count) {
-        uint64_t done = 0;
-        uint32_t wanted = 0;
-        int code = famsync_core_store(*core, address + have, bytes + have, count - have, &done, &wanted, &core->at);
-        have += done;
-        if (code == FAMSYNC_CORE_WANTED)
-            supply(core, wanted);
-        else
-            HAVE(code == FAMSYNC_CORE_OK);
-    }
+    HAVE(famsync_core_write(*core, 0, page, bytes, PAGE, &core->at) == FAMSYNC_CORE_OK);
+    HAVE(famsync_core_is_staged(*core, 0, page, &core->at) == 1);
 }
 
-static void load(famsync_core *core, uint64_t address, uint8_t *bytes, size_t count)
+static void read_page(famsync_core *core, uint64_t page, uint8_t *bytes)
 {
-    size_t have = 0;
-    while (have < count) {
-        uint64_t done = 0;
-        uint32_t wanted = 0;
-        int code = famsync_core_load(*core, address + have, bytes + have, count - have, &done, &wanted, &core->at);
-        have += done;
-        if (code == FAMSYNC_CORE_WANTED)
-            supply(core, wanted);
-        else
-            HAVE(code == FAMSYNC_CORE_OK);
-    }
+    uint32_t wanted = 0;
+    int code;
+    while ((code = famsync_core_read(*core, 0, page, bytes, PAGE, &wanted, &core->at)) == FAMSYNC_CORE_WANTED)
+        supply(core, wanted);
+    HAVE(code == FAMSYNC_CORE_OK);
 }
 
 static uint32_t commit(famsync_core *core)
@@ -156,42 +139,54 @@ static uint32_t commit(famsync_core *core)
     return mark;
 }
 
+static void refuses_what_is_not_there(famsync_core *core)
+{
+    static uint8_t page[PAGE];
+    uint64_t length = 0, pages = 0;
+    uint32_t wanted = 0;
+    HAVE(famsync_core_file(*core, 1, &length, &pages, &core->at) == FAMSYNC_CORE_ARGUMENT);
+    HAVE(famsync_core_read(*core, 1, 0, page, PAGE, &wanted, &core->at) == FAMSYNC_CORE_NOFILE);
+    HAVE(famsync_core_read(*core, 0, PAGES, page, PAGE, &wanted, &core->at) == FAMSYNC_CORE_EINVAL);
+    HAVE(famsync_core_read(*core, 0, 0, page, PAGE - 1, &wanted, &core->at) == FAMSYNC_CORE_ARGUMENT);
+    HAVE(famsync_core_write(*core, 1 << 20, 0, page, PAGE, &core->at) == FAMSYNC_CORE_NOFILE);
+    HAVE(famsync_core_write(*core, 0, UINT64_MAX, page, PAGE, &core->at) == FAMSYNC_CORE_EINVAL);
+    HAVE(famsync_core_write(*core, 0, 0, page, PAGE + 1, &core->at) == FAMSYNC_CORE_ARGUMENT);
+    HAVE(famsync_core_set_length(*core, 0, PAGE, &wanted, &core->at) == FAMSYNC_CORE_EINVAL); /* layout 1 */
+    HAVE(famsync_core_staged(*core, &core->at) == 0);
+}
+
 static void finds_what_was_committed(void)
 {
-    static uint8_t bytes[3 * PAGE], found[3 * PAGE];
+    static uint8_t bytes[3][PAGE], found[PAGE];
     uint8_t name[32];
-    uint64_t length = 0, pages = 0, done = 0;
-    uint32_t wanted = 0;
+    uint64_t length = 0, pages = 0;
     famsync_core core;
     format();
     core = begin();
     HAVE(famsync_core_files(core, &core.at) == 1 && famsync_core_frames(core, &core.at) == SLOTS);
     HAVE(famsync_core_file(core, 0, &length, &pages, &core.at) == FAMSYNC_CORE_OK);
     HAVE(length == (uint64_t)PAGES * PAGE && pages == PAGES);
-    HAVE(famsync_core_file(core, 1, &length, &pages, &core.at) == FAMSYNC_CORE_ARGUMENT);
     HAVE(famsync_core_file_name(core, 0, name, sizeof name, &core.at) == 1 && name[0] == 'a');
-    HAVE(famsync_core_map(core, 0, 0, PAGE, 2, ADDRESS, &core.at) == FAMSYNC_CORE_ARGUMENT);
-    HAVE(famsync_core_map(core, 0, 0, PAGE, FAMSYNC_CORE_MAP_READ_WRITE, ADDRESS, &core.at) == FAMSYNC_CORE_OVERLAP);
-    HAVE(famsync_core_map(core, 1, 0, PAGE, FAMSYNC_CORE_MAP_READ_WRITE, 1 << 30, &core.at) == FAMSYNC_CORE_NOFILE);
-    HAVE(famsync_core_store(core, PAGE, bytes, 1, &done, &wanted, &core.at) == FAMSYNC_CORE_SEGVMAPERR && done == 0);
-    for (size_t i = 0; i < sizeof bytes; i++)
-        bytes[i] = (uint8_t)(i * 7 + i / PAGE);
-    store(&core, ADDRESS + 100, bytes, sizeof bytes);
-    HAVE(famsync_core_acknowledged(core, &core.at) == 0);
+    refuses_what_is_not_there(&core);
+    for (unsigned i = 0; i < 3; i++) {
+        memset(bytes[i], (int)i + 1, PAGE);
+        write_page(&core, i, bytes[i]);
+    }
+    HAVE(famsync_core_staged(core, &core.at) == 3 && famsync_core_acknowledged(core, &core.at) == 0);
     uint32_t mark = commit(&core);
     HAVE(famsync_core_waiting(core, &core.at) > 0 && famsync_core_acknowledged(core, &core.at) == 0);
+    HAVE(famsync_core_staged(core, &core.at) == 0 && famsync_core_unwritten(core, &core.at) == 3);
     drain(&core);
     HAVE(famsync_core_acknowledged(core, &core.at) == mark);
-    load(&core, ADDRESS + 100, found, sizeof found);
-    HAVE(memcmp(found, bytes, sizeof bytes) == 0);
-    store(&core, ADDRESS, (const uint8_t *)"lost", 4);
+    write_page(&core, 3, bytes[0]); /* is lost */
     famsync_core_close(core);
 
     core = begin();
-    load(&core, ADDRESS + 100, found, sizeof found);
-    HAVE(memcmp(found, bytes, sizeof bytes) == 0);
-    load(&core, ADDRESS, found, 4);
-    HAVE(memcmp(found, "\0\0\0\0", 4) == 0);
+    for (unsigned i = 0; i < 4; i++) {
+        static const uint8_t zeros[PAGE];
+        read_page(&core, i, found);
+        HAVE(memcmp(found, i < 3 ? bytes[i] : zeros, PAGE) == 0);
+    }
     while (famsync_core_write_out(core, 100, &core.at) == FAMSYNC_CORE_OK)
         drain(&core);
     famsync_core_close(core);
@@ -204,7 +199,7 @@ static void acknowledges_before_later_calls(void)
     famsync_core core;
     format();
     core = begin();
-    store(&core, ADDRESS, bytes, sizeof bytes);
+    write_page(&core, 0, bytes);
     uint32_t mark = commit(&core);
     int64_t needed = famsync_core_waiting(core, &core.at);
     HAVE(famsync_core_write_out(core, 100, &core.at) == FAMSYNC_CORE_NONE);
@@ -228,7 +223,7 @@ static void measure(uint32_t count)
     for (uint32_t round = 0; round < 2; round++) {
         memset(page, (int)round + 1, sizeof page);
         for (uint32_t i = 0; i < count; i++)
-            store(&core, ADDRESS + (uint64_t)i * PAGE, page, PAGE);
+            write_page(&core, i, page);
         commit(&core);
         drain(&core);
         while (famsync_core_write_out(core, 1000, &core.at) == FAMSYNC_CORE_OK)

@@ -1,8 +1,7 @@
 // The codes that the calls answer, as famsync_core.h has them.
 ghost use Rattle.std.specs.Prelude.{◌≡◌};
-ghost use Rattle.famsync_core.specs.Codes.{refusal_code, reply_code};
+ghost use Rattle.famsync_core.specs.Codes.{refusal_code, outcome_code};
 
-use machine::{Outcome, Reply};
 use page_entry::Refusal;
 
 pub(crate) const OK: i32 = 0;
@@ -19,45 +18,44 @@ pub(crate) const ORDER: i32 = -3;
 
 const OTHER: i32 = -38;
 
-// Why a volume isn't opened, or a step isn't made.
+// Why a request is refused.
 pub(crate) fn code_of_refusal(refusal: &Refusal) -> i32
     ensures { result ≡ refusal_code refusal.now }
 {
     match refusal {
+        Refusal::OutOfMemory => NO_MEMORY,
         Refusal::NotAVolume => -11,
         Refusal::Damaged => -12,
-        Refusal::BadShape => -13,
-        Refusal::Stalled => -21,
-        Refusal::Locked => -22,
-        Refusal::SegvMapErr => -23,
-        Refusal::SegvAccErr => -24,
-        Refusal::BusAdrErr => -25,
-        Refusal::Held => -26,
         Refusal::NoFrame => -27,
         Refusal::Device => -28,
         Refusal::Broken => -29,
         Refusal::Einval => -30,
-        Refusal::Enomem => -31,
-        Refusal::Eacces => -32,
-        Refusal::Overlap => -33,
         Refusal::NoFile => -34,
         Refusal::Busy => -35,
-        Refusal::OutOfMemory => -36,
-        Refusal::NotResident => -37,
-        Refusal::NotYet(_) | Refusal::Fault(_) | Refusal::TraceFull => OTHER,
+        // Refusals of the machine, and of a trace.
+        Refusal::Stalled
+        | Refusal::Locked
+        | Refusal::NotYet(_)
+        | Refusal::Fault(_)
+        | Refusal::SegvMapErr
+        | Refusal::SegvAccErr
+        | Refusal::BusAdrErr
+        | Refusal::Held
+        | Refusal::Enomem
+        | Refusal::Eacces
+        | Refusal::Overlap
+        | Refusal::NotResident
+        | Refusal::TraceFull
+        | Refusal::BadShape => OTHER,
     }
 }
 
-// What a step is answered that these calls don't expect.
-pub(crate) fn code_of_reply(reply: &Reply) -> i32
-    ensures { result ≡ reply_code reply.now }
+// A request that was carried out, or why it was refused.
+pub(crate) fn code_of_outcome(outcome: &Result<(), Refusal>) -> i32
+    ensures { result ≡ outcome_code outcome.now }
 {
-    match reply.outcome() {
-        Outcome::Refused(refusal) => code_of_refusal(&refusal),
-        Outcome::Unmarked
-        | Outcome::Marked(_)
-        | Outcome::Committed(_)
-        | Outcome::Other
-        | Outcome::Nothing => OTHER,
+    match outcome {
+        Ok(()) => OK,
+        Err(refusal) => code_of_refusal(refusal),
     }
 }

@@ -3,7 +3,8 @@ ghost use Rattle.std.specs.Prelude.{◌≡◌, ℕ, ◌*◌, List, length};
 
 use crate::codes::{ARGUMENT, NO_MEMORY, OK};
 use crate::handle::Handle;
-use crate::state::{State, number_of};
+use crate::state::State;
+use crate::told::number_of;
 use std::alloc::Global;
 
 #[unsafe(no_mangle)]
@@ -45,24 +46,15 @@ pub extern "C" fn famsync_core_is_known(handle: Handle, block: u32, at: &mut *mu
 }
 
 #[unsafe(no_mangle)]
-pub extern "C" fn famsync_core_head(alloc: Global, handle: Handle, at: &mut *mut u8) -> i64 {
-    let mut state = handle.into_box();
-    let answer = state.head(alloc);
-    *at = Box::into_raw(state) as *mut u8;
-    answer
-}
-
-#[unsafe(no_mangle)]
 pub extern "C" fn famsync_core_open(
     alloc: Global,
     handle: Handle,
-    frames: u32,
-    copies: u32,
+    pages: u32,
     wanted: &mut u32,
     at: &mut *mut u8,
 ) -> i32 {
     let mut state = handle.into_box();
-    let answer = state.open(alloc, frames, copies, wanted);
+    let answer = state.open(alloc, pages, wanted);
     *at = Box::into_raw(state) as *mut u8;
     answer
 }
@@ -79,6 +71,22 @@ pub extern "C" fn famsync_core_files(handle: Handle, at: &mut *mut u8) -> i64 {
 pub extern "C" fn famsync_core_frames(handle: Handle, at: &mut *mut u8) -> i64 {
     let state = handle.into_box();
     let answer = state.frames();
+    *at = Box::into_raw(state) as *mut u8;
+    answer
+}
+
+#[unsafe(no_mangle)]
+pub extern "C" fn famsync_core_head(handle: Handle, at: &mut *mut u8) -> i64 {
+    let state = handle.into_box();
+    let answer = state.head();
+    *at = Box::into_raw(state) as *mut u8;
+    answer
+}
+
+#[unsafe(no_mangle)]
+pub extern "C" fn famsync_core_shares_syncs(handle: Handle, at: &mut *mut u8) -> i32 {
+    let state = handle.into_box();
+    let answer = state.shares_syncs();
     *at = Box::into_raw(state) as *mut u8;
     answer
 }
@@ -111,48 +119,51 @@ pub extern "C" fn famsync_core_file_name(
 }
 
 #[unsafe(no_mangle)]
-pub extern "C" fn famsync_core_map(
+pub extern "C" fn famsync_core_read(
     handle: Handle,
     file: u32,
-    offset: u64,
-    length: u64,
-    rights: u32,
-    address: u64,
-    at: &mut *mut u8,
-) -> i32 {
-    let mut state = handle.into_box();
-    let answer = state.map(file, offset, length, rights, address);
-    *at = Box::into_raw(state) as *mut u8;
-    answer
-}
-
-#[unsafe(no_mangle)]
-pub extern "C" fn famsync_core_load(
-    alloc: Global,
-    handle: Handle,
-    address: u64,
+    page: u64,
     bytes: &mut [u8],
-    done: &mut u64,
     wanted: &mut u32,
     at: &mut *mut u8,
 ) -> i32 {
     let mut state = handle.into_box();
-    let answer = state.load(alloc, address, bytes, done, wanted);
+    let answer = state.read(file, page, bytes, wanted);
     *at = Box::into_raw(state) as *mut u8;
     answer
 }
 
 #[unsafe(no_mangle)]
-pub extern "C" fn famsync_core_store(
+pub extern "C" fn famsync_core_write(
     handle: Handle,
-    address: u64,
+    file: u32,
+    page: u64,
     bytes: &[u8],
-    done: &mut u64,
-    wanted: &mut u32,
     at: &mut *mut u8,
 ) -> i32 {
     let mut state = handle.into_box();
-    let answer = state.store(address, bytes, done, wanted);
+    let answer = state.write(file, page, bytes);
+    *at = Box::into_raw(state) as *mut u8;
+    answer
+}
+
+#[unsafe(no_mangle)]
+pub extern "C" fn famsync_core_staged(handle: Handle, at: &mut *mut u8) -> i64 {
+    let state = handle.into_box();
+    let answer = state.staged();
+    *at = Box::into_raw(state) as *mut u8;
+    answer
+}
+
+#[unsafe(no_mangle)]
+pub extern "C" fn famsync_core_is_staged(
+    handle: Handle,
+    file: u32,
+    page: u64,
+    at: &mut *mut u8,
+) -> i32 {
+    let state = handle.into_box();
+    let answer = state.is_staged(file, page);
     *at = Box::into_raw(state) as *mut u8;
     answer
 }
@@ -177,6 +188,14 @@ pub extern "C" fn famsync_core_acknowledged(handle: Handle, at: &mut *mut u8) ->
 pub extern "C" fn famsync_core_write_out(handle: Handle, most: u32, at: &mut *mut u8) -> i32 {
     let mut state = handle.into_box();
     let answer = state.write_out(most);
+    *at = Box::into_raw(state) as *mut u8;
+    answer
+}
+
+#[unsafe(no_mangle)]
+pub extern "C" fn famsync_core_unwritten(handle: Handle, at: &mut *mut u8) -> i64 {
+    let state = handle.into_box();
+    let answer = state.unwritten();
     *at = Box::into_raw(state) as *mut u8;
     answer
 }

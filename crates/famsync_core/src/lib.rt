@@ -1,9 +1,11 @@
-//! A session with a volume, for programs in C: it makes no system call, and says which writes and syncs it wants.
+//! An embedded volume for programs in C: it makes no system call, and reports which writes and syncs it wants.
 #![tactic(auto)]
 
 mod codes;
 mod exports;
 mod handle;
-mod parts;
+mod host;
 mod place;
+mod requests;
 mod state;
+mod told;

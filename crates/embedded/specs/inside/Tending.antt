@@ -1,4 +1,4 @@
--- What is done with the disk of an embedded machine between two requests.
+-- What is done with the disk of an embedded pager between two requests.
 use Rattle.std.specs.Prelude.{◌≡◌, ◌-◌, true, false}
 use Rattle.deferred_disk.specs.Deferred.{Deferred, after_forget, with_waiting}
 use Rattle.embedded.specs.declared.tending.Supplying.{Supplying}

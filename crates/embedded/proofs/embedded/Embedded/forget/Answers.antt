@@ -1,6 +1,6 @@
-use Rattle.embedded.proofs.Tended.{serves_over, tended_forget}
+use Rattle.embedded.proofs.Tended.{serves_tended, tended_forget}
 use Rattle.embedded.proofs.embedded.Embedded.forget.Goals as goal
 
 pub invariant_of-self : goal.invariant_of-self
-invariant_of-self g c = serves_over _ _ _ _ c.self.inside.requests.machine c.tend.new.self.machine _ _
-    c.tend.ensures.state c.tend.ensures.notes (tended_forget _ _ _ _ c.tend.ensures.tended) c.self.invariant
+invariant_of-self g c = serves_tended c.self.inside.pager c.tend.new.self _ _ _ c.tend.ensures.state
+    (tended_forget _ _ _ _ c.tend.ensures.tended) c.self.invariant

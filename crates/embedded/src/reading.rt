@@ -1,0 +1,42 @@
+// Why a page wasn't read.
+ghost use Rattle.std.specs.Prelude.{◌≡◌, ℕ, ◌^◌, ◌≤◌, IfSome, IfNone, Option, Some};
+ghost use Rattle.embedded.specs.Reading.{pager_refusal, ReportsWanted};
+
+use page_entry::Refusal;
+
+/// Why a page wasn't read.
+#[derive(Clone, Copy, PartialEq, Eq, Debug)]
+pub enum Unread {
+    /// A block is wanted. Once the host has supplied it, the page can be asked for again.
+    Wanted(u32),
+    /// The pager refused it.
+    Refused(Refusal),
+}
+
+impl Unread {
+    // Why it was refused by a pager whose disk lacked this block in its last call, or none.
+    pub(crate) fn of(why: Refusal, wanted: Option<u32>) -> Unread
+        ensures refusal { pager_refusal result ≡ why }
+        ensures wanted { (disk : Option ℕ) → IfSome wanted (λ block. disk ≡ Some block)
+            → IfNone wanted ((block : ℕ) → disk ≡ Some block → 2 ^ 32 ≤ block) → ReportsWanted disk result }
+    {
+        match (why, wanted) {
+            (Refusal::Device, Some(block)) => Unread::Wanted(block),
+            (_, _) => Unread::Refused(why),
+        }
+    }
+}
+
+// The number of a block, where it has one of 32 bits.
+pub(crate) fn block_number(wanted: Option<usize>) -> Option<u32>
+    ensures some { IfSome result (λ block. wanted ≡ Some block) }
+    ensures none { IfNone result ((block : ℕ) → wanted ≡ Some block → 2 ^ 32 ≤ block) }
+{
+    match wanted {
+        Some(block) => match u32::try_from(block) {
+            Ok(block) => Some(block),
+            Err(_) => None,
+        },
+        None => None,
+    }
+}
