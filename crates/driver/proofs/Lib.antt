@@ -1,3 +1,6 @@
-mod Going
+mod Calls
+mod Completed
+mod Programs
 mod Runs
 mod Steps
+mod Working

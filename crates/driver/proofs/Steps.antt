@@ -1,29 +1,23 @@
 -- Steps of a script that processors made, one after the other.
-use Rattle.std.proofs.Common.{ℕ, suc, ◌≡◌, ◌≢◌, ◌+◌, ◌<◌, ◌≤◌, ◌==◌, ◌∙◌, inl, inr, Bool}
-use Rattle.std.proofs.Common.{true, false, List, [], ◌∷◌, ◌++◌, Option, Some, map, take, length}
+use Rattle.std.proofs.Common.{ℕ, suc, ◌≡◌, ◌≢◌, ◌+◌, ◌<◌, ◌≤◌, ◌==◌, ◌∙◌, Bool}
+use Rattle.std.proofs.Common.{true, false, List, [], ◌∷◌, ◌++◌, Some, map, take, drop, length}
 use Rattle.std.proofs.Common.{length-append, length-set, set, get_or, refl, sym, ap, subst, arith}
 use Rattle.std.proofs.lemmas.Bool.Decides.{nat_tests}
-use Rattle.std.proofs.lemmas.List.{map-append, append-nil, length-replicate, get_or-set_same, get_or-set_other}
-use Rattle.std.proofs.lemmas.List.Elements.{filter_more}
+use Rattle.std.proofs.lemmas.List.{map-append, append-nil, take-append-drop, get_or-set_same, get_or-set_other}
+use Rattle.std.proofs.lemmas.List.Elements.{filter_more, filter-append}
 use Rattle.std.proofs.lemmas.List.Sums.{sum_by-cons, sum_by-set}
 use Rattle.std.proofs.lemmas.Option.{slice_get_within, slice_get-get_or, get_or_from_slice_get}
 use Rattle.std.specs.Prelude.{filter, cond, slice_get}
-use Rattle.device.specs.declared.device.Device.{Ghosts}
 use Rattle.machine.specs.declared.act.Act.{Act}
 use Rattle.machine.specs.declared.act.Reply.{Reply}
-use Rattle.machine.specs.declared.act.Shape.{Shape}
 use Rattle.machine.specs.declared.act.Step.{Step}
-use Rattle.machine.specs.State.{Whole}
-use Rattle.engine.specs.Engine.{HasStarted}
-use Rattle.service.specs.declared.entry.Entry.{Entry}
-use Rattle.service.specs.Gathering.{CpuState, idle_cpu, answered_calls, HasGathered}
-use Rattle.service.specs.Trace.{of_processor}
-use Rattle.driver.specs.Driver.{acts_of, BeginsWith, AreSetUp}
-use Rattle.driver.specs.inside.Begun.{HasBegun, HaveBegun, GoesOn, AreReady}
+use Rattle.service.specs.Gathering.{CpuState, idle_cpu, answered_calls}
+use Rattle.driver.specs.Driver.{acts_of}
+use Rattle.driver.specs.inside.Begun.{HasMade, HaveMade, HaveBegun}
 use Rattle.driver.proofs.Runs.{one_value}
 
 -- the acts of what was answered
-abbrev firsts : List (Act × Reply) → List Act
+abbrev pub firsts : List (Act × Reply) → List Act
 firsts answered = map (λ (a : Act × Reply). a.0) answered
 
 -- a step's act, if the test of its processor holds
@@ -60,14 +54,6 @@ acts_of_others p steps i s within is other =
     ∙ ap (λ (b : Bool). acts_of p (take i steps) ++ act_if s b) (other_number s.p p other)
     ∙ append-nil (acts_of p (take i steps))
 
--- a processor of this number made exactly its steps of these
-abbrev HasMade : List Step → ℕ → CpuState → Type 0
-HasMade steps i cpu = (cpu.number ≡ i) × (firsts cpu.answered ≡ acts_of i steps)
-
--- so far each processor made exactly its steps of these
-pub record HaveMade (steps : List Step) (cpus : List CpuState) : Type 0 where
-  pub each : (i : ℕ) (cpu : CpuState) → slice_get cpus i ≡ Some cpu → HasMade steps i cpu
-
 pub none_made : (cpus : List CpuState) → ((i : ℕ) → i < length cpus → slice_get cpus i ≡ Some (idle_cpu i))
     → HaveMade [] cpus
 none_made cpus idle = record { each = each }
@@ -77,13 +63,6 @@ none_made cpus idle = record { each = each }
         let is_idle = idle i (slice_get_within cpus i cpu at) in
         let is : idle_cpu i ≡ cpu = one_value (slice_get cpus i) (idle_cpu i) cpu is_idle at in
         subst (λ (c : CpuState). HasMade [] i c) is (refl, refl)
-
-pub all_made : (steps : List Step) (cpus : List CpuState) → HaveMade steps cpus → HaveBegun steps cpus
-all_made steps cpus made i cpu at =
-    let so = made.each i cpu at in
-    let Acts : ℕ → Type 0 = λ n. firsts cpu.answered ≡ acts_of n steps in
-    let own : firsts cpu.answered ≡ acts_of cpu.number steps = subst Acts (sym so.0) so.1 in
-    record { begins = ([], own ∙ sym (append-nil (acts_of cpu.number steps))) }
 
 -- one more step, by a processor that isn't there
 pub step_left_out : (steps : List Step) (i : ℕ) (s : Step) (cpus : List CpuState) → i < length steps
@@ -156,15 +135,6 @@ step_made_by steps i s cpus p d new reply within is same there number answered m
     let Made : ℕ → Type 0 = λ n. HaveMade (take (i + 1) steps) (set cpus n new) in
     subst Made (sym same) (step_made steps i s cpus old new reply within is at was number answered made)
 
--- where each processor went on, the acts of each begin as they did
-pub each_goes_on : (steps : List Step) (old new : List CpuState) → HaveBegun steps old
-    → ((i : ℕ) (cpu : CpuState) → slice_get new i ≡ Some cpu
-    → (before : CpuState) × (slice_get old i ≡ Some before) × GoesOn before cpu)
-    → HaveBegun steps new
-each_goes_on steps old new begun went i cpu at =
-    let so = went i cpu at in
-    so.2.keeps steps (begun i so.0 so.1)
-
 -- nothing was answered yet
 pub none_answered : (cpus : List CpuState)
     → ((i : ℕ) → i < length cpus → slice_get cpus i ≡ Some (idle_cpu i)) → answered_calls cpus ≡ 0
@@ -191,41 +161,16 @@ one_answered cpus p d new act reply below answered =
     ∙ length-append old.answered ((act, reply) ∷ []) in
     omega (arith, sum_by-set f cpus p new d below, longer)
 
--- in the trace that is gathered, the acts of each processor begin with those with which it had begun
-set_up_of : {D : Type 0} (disk : Ghosts D) (origin : Option (Whole D)) (capacity : ℕ) (cpus : List CpuState)
-    (machine : Whole D) (trace : List Entry) (steps : List Step)
-    → HasGathered disk origin capacity cpus machine trace → HaveBegun steps cpus
-    → (start : Whole D) → origin ≡ Some start → (p : ℕ) → p < length start.state.hardware.shootdown.processors
-    → BeginsWith (acts_of p steps) (map (λ (a : Act × Reply). a.0) (of_processor p trace))
-set_up_of {D} disk origin capacity cpus machine trace steps found begun start is p below =
-    let Within : Whole D → Type 0 = λ w. p < length w.state.hardware.shootdown.processors in
-    let same : found.first ≡ start = one_value origin found.first start found.start_is is in
-    let among = found.whole p (subst Within (sym same) below) in
-    let cpu : CpuState = among.1 in
-    let begins : HasBegun steps cpu = begun among.0 cpu among.2 in
-    let answered : of_processor cpu.number trace ≡ cpu.answered = found.each among.0 cpu among.2 in
-    let P : ℕ → Type 0 = λ q. BeginsWith (acts_of q steps) (firsts (of_processor q trace)) in
-    let Q : List (Act × Reply) → Type 0 = λ l. BeginsWith (acts_of cpu.number steps) (firsts l) in
-    subst P among.3 (subst Q (sym answered) begins.begins)
-
--- or the trace is full
-pub set_up_or_full : {D : Type 0} (disk : Ghosts D) (origin : Option (Whole D)) (entries capacity : ℕ)
-    (cpus : List CpuState) (machine : Whole D) (trace : List Entry) (steps : List Step)
-    → HasGathered disk origin entries cpus machine trace → AreReady steps capacity cpus
-    → (start : Whole D) → origin ≡ Some start
-    → AreSetUp (length start.state.hardware.shootdown.processors) steps capacity trace
-set_up_or_full {D} disk origin entries capacity cpus machine trace steps found (inl full) start is =
-    inl (found.counted ∙ full)
-set_up_or_full {D} disk origin entries capacity cpus machine trace steps found (inr begun) start is =
-    inr (set_up_of disk origin entries cpus machine trace steps found begun start is)
-
--- a machine as it was booted has as many processors as its shape says
-pub booted_with : {D : Type 0} (disk : Ghosts D) (before : D) (shape : Shape) (start : Whole D) (steps : List Step)
-    (capacity : ℕ) (trace : List Entry)
-    → HasStarted disk before shape start
-    → AreSetUp (length start.state.hardware.shootdown.processors) steps capacity trace
-    → AreSetUp shape.cpus steps capacity trace
-booted_with {D} disk before shape start steps capacity trace started so =
-    let count : Whole D → ℕ = λ w. length w.state.hardware.shootdown.processors in
-    let same : count start ≡ shape.cpus = ap count started.booted ∙ length-replicate shape.cpus _ in
-    subst (λ (n : ℕ). AreSetUp n steps capacity trace) same so
+-- steps of which some were made begin with these
+pub begun_by : (steps : List Step) (i : ℕ) (cpus : List CpuState) → HaveMade (take i steps) cpus → HaveBegun steps cpus
+begun_by steps i cpus made = record {
+  each = λ j cpu at.
+      let so = made.each j cpu at in
+      let test : Step → Bool = λ s. s.p == j in
+      let rest : List Act = acts_of j (drop i steps) in
+      let parts : acts_of j steps ≡ acts_of j (take i steps) ++ rest =
+      ap (acts_of j) (sym (take-append-drop i steps))
+      ∙ ap (λ (l : List Step). map (λ (s : Step). s.act) l) (filter-append test (take i steps) (drop i steps))
+      ∙ map-append (λ (s : Step). s.act) (filter test (take i steps)) (filter test (drop i steps)) in
+      (so.0, (rest, parts ∙ ap (λ (l : List Act). l ++ rest) (sym so.1)));
+}

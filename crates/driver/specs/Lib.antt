@@ -1,2 +1,3 @@
 pub mod Driver
+pub mod Programs
 pub mod inside

@@ -2,7 +2,8 @@
 ghost use Rattle.std.specs.Prelude.{◌≡◌, ◌↔◌, IsTrue, IfErr};
 ghost use Rattle.page_entry.specs.declared.refusal.Refusal.{Refusal};
 ghost use Rattle.machine.specs.declared.act.Reply.{Reply};
-ghost use Rattle.driver.specs.inside.Begun.{GoesOn};
+ghost use Rattle.driver.specs.Programs.{IsUpkeep, MakesCalls, asks_to_wait, asks_to_flush};
+ghost use Rattle.driver.specs.inside.Working.{IsAttempted, IsCalled, IsMade};
 
 use device::Device;
 use machine::{Act, ProcState, Reply};
@@ -27,66 +28,82 @@ pub struct Answer {
     pub seen: u64,
 }
 
-// Makes an act until it is answered otherwise than that it has to wait or to flush. Before each time, what interrupts
-// the processor is acknowledged, and its stalls are ended.
-#[tactic(auto, using(crate::proofs::Going::goes_nowhere, crate::proofs::Going::goes_further))]
+// Makes an act until it is answered otherwise than that it has to wait or to flush.
 pub fn made<D: Device, L: Origin<D>, R: Wait>(
     rt: &R,
     cpu: &mut Cpu<D, Global, L>,
     turns: u64,
     act: &Act,
 ) -> Result<Answer, Stop>
-    ensures { GoesOn cpu.old cpu.new }
+    ensures { IsMade act.now result cpu.old cpu.new }
 {
-    let mut answer = Answer {
-        reply: Reply::Nothing,
-        seen: 0,
-    };
     for _ in rt.forever() {
-        let seen = ready(rt, cpu, turns)?;
-        let reply = called(rt, cpu, act)?;
-        if has_to_wait(&reply) {
-            waited(rt, cpu, seen, turns)?;
-        } else if has_to_flush(&reply) {
-            called(rt, cpu, &Act::Flush)?;
-        } else {
-            answer = Answer { reply, seen };
-            break;
+        if let Some(answer) = attempted(rt, cpu, turns, act)? {
+            return Ok(answer);
         }
     }
-    Ok(answer)
+    unreachable!()
+}
+
+// Makes an act once. Before it, what interrupts the processor is acknowledged, and its stalls are ended. Answers None
+// where the act is to be made again.
+fn attempted<D: Device, L: Origin<D>, R: Wait>(
+    rt: &R,
+    cpu: &mut Cpu<D, Global, L>,
+    turns: u64,
+    act: &Act,
+) -> Result<Option<Answer>, Stop>
+    ensures { IsAttempted act.now result cpu.old cpu.new }
+{
+    let seen = ready(rt, cpu, turns)?;
+    let reply = called(rt, cpu, act)?;
+    if has_to_wait(&reply) {
+        waited(rt, cpu, seen, turns)?;
+        return Ok(None);
+    }
+    if has_to_flush(&reply) {
+        called(rt, cpu, &Act::Flush)?;
+        return Ok(None);
+    }
+    Ok(Some(Answer { reply, seen }))
 }
 
 // Waits until the processor is neither interrupted nor stalled. Answers how many entries of the trace are progress
 // then.
-#[tactic(auto, using(crate::proofs::Going::goes_nowhere, crate::proofs::Going::goes_further))]
 fn ready<D: Device, L: Origin<D>, R: Wait>(
     rt: &R,
     cpu: &mut Cpu<D, Global, L>,
     turns: u64,
 ) -> Result<u64, Stop>
-    ensures { GoesOn cpu.old cpu.new }
+    ensures { MakesCalls IsUpkeep cpu.old cpu.new }
 {
-    let mut found = 0;
     for _ in rt.forever() {
         let (state, seen) = cpu.look(rt);
         match state {
             ProcState::Interrupted => {
                 called(rt, cpu, &Act::Ack)?;
             }
-            ProcState::Stalled => {
-                let reply = called(rt, cpu, &Act::Resume)?;
-                if has_to_wait(&reply) {
-                    waited(rt, cpu, seen, turns)?;
-                }
-            }
-            _ => {
-                found = seen;
-                break;
-            }
+            ProcState::Stalled => resumed(rt, cpu, seen, turns)?,
+            _ => return Ok(seen),
         }
     }
-    Ok(found)
+    unreachable!()
+}
+
+// Ends a stall, or waits for progress.
+fn resumed<D: Device, L: Origin<D>, R: Wait>(
+    rt: &R,
+    cpu: &mut Cpu<D, Global, L>,
+    seen: u64,
+    turns: u64,
+) -> Result<(), Stop>
+    ensures { MakesCalls IsUpkeep cpu.old cpu.new }
+{
+    let reply = called(rt, cpu, &Act::Resume)?;
+    if has_to_wait(&reply) {
+        waited(rt, cpu, seen, turns)?;
+    }
+    Ok(())
 }
 
 // One call, which isn't made where the trace is full.
@@ -96,7 +113,7 @@ fn called<D: Device, L: Origin<D>, R: Wait>(
     act: &Act,
 ) -> Result<Reply, Stop>
     ensures full { IfErr result (λ why. why ≡ Stop.Full) }
-    ensures goes_on { GoesOn cpu.old cpu.new }
+    ensures called { IsCalled act.now result cpu.old cpu.new }
 {
     let reply = cpu.call(rt, *act);
     if is_trace_full(&reply) {
@@ -129,7 +146,9 @@ pub fn waited<D: Device, L: Origin<D>, R: Wait>(
 }
 
 // Whether an act is to be made again after progress.
-fn has_to_wait(reply: &Reply) -> bool {
+fn has_to_wait(reply: &Reply) -> bool
+    ensures { result ≡ asks_to_wait reply.now }
+{
     matches!(
         reply,
         Reply::Refused(Refusal::Stalled | Refusal::Locked | Refusal::NotYet(_))
@@ -137,6 +156,8 @@ fn has_to_wait(reply: &Reply) -> bool {
 }
 
 // Whether an act is to be made again after a step of the write-outs.
-fn has_to_flush(reply: &Reply) -> bool {
+fn has_to_flush(reply: &Reply) -> bool
+    ensures { result ≡ asks_to_flush reply.now }
+{
     matches!(reply, Reply::Refused(Refusal::Held | Refusal::Busy))
 }

@@ -1,5 +1,10 @@
 // The commands of a program, one after the other.
-ghost use Rattle.driver.specs.inside.Begun.{GoesOn};
+ghost use Rattle.std.specs.Prelude.{◌≡◌, ◌≤◌, ◌↔◌, IsTrue, Some, if◌then◌else◌, Option, None, true};
+ghost use Rattle.driver.specs.Programs.{IsAccessAnswer, IsAccessReply, IsLastFlush, IsOtherByte};
+ghost use Rattle.driver.specs.Programs.{FollowsProgram, GoesToSleep, Flushes, IsUpkeep, MakesChange, Obeys, ObeysAll};
+ghost use Rattle.driver.specs.Programs.{WaitsForMark};
+ghost use Rattle.driver.specs.Programs.{fix_of, is_begun, is_fault, is_fixed, is_refusal, is_sync, mark_to_sync};
+ghost use Rattle.driver.specs.inside.Working.{ComesTo, IsDone, IsDoneBy, IsWritten};
 
 use crate::acts::{Answer, Stop, made, waited};
 use bitflags::Flags;
@@ -12,31 +17,51 @@ use std::alloc::Global;
 use std::sync::Wait;
 
 // Carries out the commands of a program, makes the steps of the write-outs that are left, and lets the processor sleep.
-#[tactic(auto, using(crate::proofs::Going::goes_nowhere, crate::proofs::Going::goes_further))]
 pub fn worked<D: Device, L: Origin<D>, R: Wait>(
     rt: &R,
     cpu: &mut Cpu<D, Global, L>,
     turns: u64,
     program: &[Command],
 ) -> Result<(), Stop>
-    ensures { GoesOn cpu.old cpu.new }
+    ensures { IsDone (FollowsProgram program.now) result cpu.old cpu.new }
 {
-    for command in program {
-        obeyed(rt, cpu, turns, command)?;
+    all_obeyed(rt, cpu, turns, program)?;
+    put_to_sleep(rt, cpu, turns)
+}
+
+fn all_obeyed<D: Device, L: Origin<D>, R: Wait>(
+    rt: &R,
+    cpu: &mut Cpu<D, Global, L>,
+    turns: u64,
+    program: &[Command],
+) -> Result<(), Stop>
+    ensures { IsDone (ObeysAll program.now) result cpu.old cpu.new }
+{
+    for i in 0..program.len() {
+        obeyed(rt, cpu, turns, &program[i])?;
     }
+    Ok(())
+}
+
+fn put_to_sleep<D: Device, L: Origin<D>, R: Wait>(
+    rt: &R,
+    cpu: &mut Cpu<D, Global, L>,
+    turns: u64,
+) -> Result<(), Stop>
+    ensures { IsDone GoesToSleep result cpu.old cpu.new }
+{
     flushed(rt, cpu, turns)?;
     made(rt, cpu, turns, &Act::Idle)?;
     Ok(())
 }
 
-#[tactic(auto, using(crate::proofs::Going::goes_nowhere, crate::proofs::Going::goes_further))]
 fn obeyed<D: Device, L: Origin<D>, R: Wait>(
     rt: &R,
     cpu: &mut Cpu<D, Global, L>,
     turns: u64,
     command: &Command,
 ) -> Result<(), Stop>
-    ensures { GoesOn cpu.old cpu.new }
+    ensures { IsDone (Obeys command.now) result cpu.old cpu.new }
 {
     match command {
         Command::Do(act) => done(rt, cpu, turns, act),
@@ -44,20 +69,32 @@ fn obeyed<D: Device, L: Origin<D>, R: Wait>(
     }
 }
 
-// Makes an act, and the change that it began, and waits until a mark that is to be durable is.
-#[tactic(auto, using(crate::proofs::Going::goes_nowhere, crate::proofs::Going::goes_further))]
+// Makes an act, and the change that it began.
 fn done<D: Device, L: Origin<D>, R: Wait>(
     rt: &R,
     cpu: &mut Cpu<D, Global, L>,
     turns: u64,
     act: &Act,
 ) -> Result<(), Stop>
-    ensures { GoesOn cpu.old cpu.new }
+    ensures { IsDone (Obeys (Command.Do act.now)) result cpu.old cpu.new }
 {
     let begun = served(rt, cpu, turns, act)?;
-    if !matches!(begun.reply, Reply::Begun) {
-        return Ok(());
+    if has_begun(&begun.reply) {
+        changed(rt, cpu, turns, act)
+    } else {
+        Ok(())
     }
+}
+
+// Makes the change that an act began, and waits until a mark that is to be durable is.
+fn changed<D: Device, L: Origin<D>, R: Wait>(
+    rt: &R,
+    cpu: &mut Cpu<D, Global, L>,
+    turns: u64,
+    act: &Act,
+) -> Result<(), Stop>
+    ensures { IsDone (MakesChange true act.now) result cpu.old cpu.new }
+{
     let changed = made(rt, cpu, turns, &Act::Change)?;
     match mark_to_sync(act, &changed.reply) {
         Some(mark) => committed(rt, cpu, turns, mark),
@@ -65,86 +102,114 @@ fn done<D: Device, L: Origin<D>, R: Wait>(
     }
 }
 
+// Whether an act began a change.
+fn has_begun(reply: &Reply) -> bool
+    ensures { result ≡ is_begun reply.now }
+{
+    matches!(reply, Reply::Begun)
+}
+
 // The mark that an act is to make durable.
-fn mark_to_sync(act: &Act, changed: &Reply) -> Option<u64> {
-    if let Act::Msync { flags, .. } = act
-        && flags.contains(MsyncFlags::SYNC)
-        && let Reply::Marked(mark) = changed
-    {
-        Some(u64::from(*mark))
+fn mark_to_sync(act: &Act, changed: &Reply) -> Option<u64>
+    ensures { result ≡ mark_to_sync act.now changed.now }
+{
+    if let Reply::Marked(mark) = changed {
+        if is_sync(act) {
+            return Some(u64::from(*mark));
+        }
+    }
+    None
+}
+
+// Whether an act asks for a commit that is to be durable.
+fn is_sync(act: &Act) -> bool
+    ensures { result ≡ is_sync act.now }
+{
+    if let Act::Msync { flags, .. } = act {
+        flags.contains(MsyncFlags::SYNC)
     } else {
-        None
+        false
     }
 }
 
 // Makes steps of the write-outs until a mark is durable, or one is refused.
-#[tactic(auto, using(crate::proofs::Going::goes_nowhere, crate::proofs::Going::goes_further))]
 fn committed<D: Device, L: Origin<D>, R: Wait>(
     rt: &R,
     cpu: &mut Cpu<D, Global, L>,
     turns: u64,
     mark: u64,
 ) -> Result<(), Stop>
-    ensures { GoesOn cpu.old cpu.new }
+    ensures { IsDoneBy IsUpkeep (WaitsForMark mark) result cpu.old cpu.new }
 {
     for _ in rt.forever() {
         if is_written(rt, cpu, turns, mark)? {
-            break;
+            return Ok(());
         }
     }
-    Ok(())
+    unreachable!()
 }
 
 // Whether a mark is durable; where it isn't, a step of the write-outs is made, and whether that is refused.
-#[tactic(auto, using(crate::proofs::Going::goes_further))]
 fn is_written<D: Device, L: Origin<D>, R: Wait>(
     rt: &R,
     cpu: &mut Cpu<D, Global, L>,
     turns: u64,
     mark: u64,
 ) -> Result<bool, Stop>
-    ensures { GoesOn cpu.old cpu.new }
+    ensures { IsWritten mark result cpu.old cpu.new }
 {
     if is_committed(rt, cpu, mark) {
         return Ok(true);
     }
     let flushed = made(rt, cpu, turns, &Act::Flush)?;
-    Ok(matches!(flushed.reply, Reply::Refused(_)))
+    Ok(is_refused(&flushed.reply))
+}
+
+fn is_refused(reply: &Reply) -> bool
+    ensures { result ≡ is_refusal reply.now }
+{
+    matches!(reply, Reply::Refused(_))
 }
 
 // Whether a mark is durable.
-#[tactic(auto, using(crate::proofs::Going::answered_same))]
 fn is_committed<D: Device, L: Origin<D>, R: Wait>(
     rt: &R,
     cpu: &mut Cpu<D, Global, L>,
     mark: u64,
 ) -> bool
-    ensures { GoesOn cpu.old cpu.new }
+    ensures committed { IsTrue result → mark ≤ cpu.new.committed }
+    ensures number { cpu.new.number ≡ cpu.old.number }
+    ensures answered { cpu.new.answered ≡ cpu.old.answered }
 {
     let (_, committed) = cpu.horizon(rt);
     committed >= mark
 }
 
 // Makes steps of the write-outs until there are none, or one is refused.
-#[tactic(auto, using(crate::proofs::Going::goes_nowhere, crate::proofs::Going::goes_further))]
 fn flushed<D: Device, L: Origin<D>, R: Wait>(
     rt: &R,
     cpu: &mut Cpu<D, Global, L>,
     turns: u64,
 ) -> Result<(), Stop>
-    ensures { GoesOn cpu.old cpu.new }
+    ensures { IsDoneBy IsUpkeep Flushes result cpu.old cpu.new }
 {
     for _ in rt.forever() {
         let flushed = made(rt, cpu, turns, &Act::Flush)?;
-        if matches!(flushed.reply, Reply::Nothing | Reply::Refused(_)) {
-            break;
+        if is_last_flush(&flushed.reply) {
+            return Ok(());
         }
     }
-    Ok(())
+    unreachable!()
+}
+
+// Whether there was nothing to write, or it was refused.
+fn is_last_flush(reply: &Reply) -> bool
+    ensures { IsTrue result ↔ IsLastFlush reply.now }
+{
+    matches!(reply, Reply::Nothing | Reply::Refused(_))
 }
 
 // Loads the byte at an address until it is this one, or a load is refused. Between two loads it waits for progress.
-#[tactic(auto, using(crate::proofs::Going::goes_nowhere, crate::proofs::Going::goes_further))]
 fn awaited<D: Device, L: Origin<D>, R: Wait>(
     rt: &R,
     cpu: &mut Cpu<D, Global, L>,
@@ -152,52 +217,87 @@ fn awaited<D: Device, L: Origin<D>, R: Wait>(
     va: u64,
     byte: u8,
 ) -> Result<(), Stop>
-    ensures { GoesOn cpu.old cpu.new }
+    ensures { IsDone (Obeys (Command.Await va byte)) result cpu.old cpu.new }
 {
     let load = Act::Load { va, count: 1 };
     for _ in rt.forever() {
         let loaded = served(rt, cpu, turns, &load)?;
-        if !has_other_byte(&loaded.reply, byte) {
-            break;
+        if has_other_byte(&loaded.reply, byte) {
+            waited(rt, cpu, loaded.seen, turns)?;
+        } else {
+            return Ok(());
         }
-        waited(rt, cpu, loaded.seen, turns)?;
     }
-    Ok(())
+    unreachable!()
 }
 
 // Whether a load read another byte than this one.
-fn has_other_byte(reply: &Reply, byte: u8) -> bool {
+fn has_other_byte(reply: &Reply, byte: u8) -> bool
+    ensures { IsTrue result ↔ IsOtherByte byte reply.now }
+{
     matches!(reply, Reply::Bytes(bytes) if bytes.as_slice() != [byte].as_slice())
 }
 
 // Makes an act, and serves its faults, until it is answered otherwise. Where a fault isn't served, the answer is why.
-#[tactic(auto, using(crate::proofs::Going::goes_nowhere, crate::proofs::Going::goes_further))]
 fn served<D: Device, L: Origin<D>, R: Wait>(
     rt: &R,
     cpu: &mut Cpu<D, Global, L>,
     turns: u64,
     act: &Act,
 ) -> Result<Answer, Stop>
-    ensures { GoesOn cpu.old cpu.new }
+    ensures { ComesTo IsAccessAnswer act.now result cpu.old cpu.new }
 {
     let mut answer = made(rt, cpu, turns, act)?;
     for _ in rt.forever() {
         let Some(fix) = fix_for(act, &answer.reply) else {
-            break;
+            return Ok(answer);
         };
-        answer = made(rt, cpu, turns, &fix)?;
-        if matches!(answer.reply, Reply::Fixed) {
-            answer = made(rt, cpu, turns, act)?;
-        }
+        answer = fixed(rt, cpu, turns, act, &fix)?;
     }
-    Ok(answer)
+    unreachable!()
+}
+
+// Serves the fault of an act, and makes the act again.
+fn fixed<D: Device, L: Origin<D>, R: Wait>(
+    rt: &R,
+    cpu: &mut Cpu<D, Global, L>,
+    turns: u64,
+    act: &Act,
+    fix: &Act,
+) -> Result<Answer, Stop>
+    requires { fix_of act.now ≡ Some fix.now }
+    ensures { ComesTo IsAccessReply act.now result cpu.old cpu.new }
+{
+    let answer = made(rt, cpu, turns, fix)?;
+    if is_fixed(&answer.reply) {
+        made(rt, cpu, turns, act)
+    } else {
+        Ok(answer)
+    }
+}
+
+fn is_fixed(reply: &Reply) -> bool
+    ensures { result ≡ is_fixed reply.now }
+{
+    matches!(reply, Reply::Fixed)
 }
 
 // The act that serves the fault of a load or a store.
-fn fix_for(act: &Act, reply: &Reply) -> Option<Act> {
-    if !matches!(reply, Reply::Refused(Refusal::Fault(_))) {
-        return None;
-    }
+fn fix_for(act: &Act, reply: &Reply) -> Option<Act>
+    ensures { result ≡ (if is_fault reply.now then fix_of act.now else None) }
+{
+    if is_fault(reply) { fix_of(act) } else { None }
+}
+
+fn is_fault(reply: &Reply) -> bool
+    ensures { result ≡ is_fault reply.now }
+{
+    matches!(reply, Reply::Refused(Refusal::Fault(_)))
+}
+
+fn fix_of(act: &Act) -> Option<Act>
+    ensures { result ≡ fix_of act.now }
+{
     match act.access() {
         Access::Load(va) => Some(Act::Fix { va, write: false }),
         Access::Store(va) => Some(Act::Fix { va, write: true }),

@@ -1,6 +1,6 @@
 // Programs are run over a disk: a machine is booted over its volume and shared, and each thread has a processor of it.
 ghost use Rattle.std.specs.Prelude.{ℕ, ◌≡◌, ◌≢◌, ◌↔◌, ◌+◌, ◌*◌, ◌<◌, ◌++◌, ◌∷◌, [], false, length, slice_get, Some, IsTrue};
-ghost use Rattle.std.specs.Prelude.{IfOk, IfErr};
+ghost use Rattle.std.specs.Prelude.{IfOk, IfErr, map};
 ghost use Rattle.engine.specs.Engine.{HasRun};
 ghost use Rattle.machine.specs.Fresh.{IsFresh};
 ghost use Rattle.machine.specs.State.{Whole};
@@ -9,7 +9,8 @@ ghost use Rattle.service.specs.Gathering.{answered_calls, idle_cpu};
 ghost use Rattle.service.specs.Trace.{steps_of, replies_of};
 ghost use Rattle.driver.specs.declared.running.Ended.{Ended};
 ghost use Rattle.driver.specs.Driver.{AreSetUp, IsEnd, IsLeft, HasNotShared, HasNotRun};
-ghost use Rattle.driver.specs.inside.Begun.{HaveBegun, GoesOn, AreReady, HasRanFrom};
+ghost use Rattle.driver.specs.Programs.{RunsProgram, HaveRunPrograms};
+ghost use Rattle.driver.specs.inside.Begun.{HaveBegun, HaveMade, HaveRun, AreReady, HasRanFrom};
 
 use crate::acts::{Stop, is_trace_full};
 use crate::commands::worked;
@@ -77,6 +78,8 @@ pub fn run_programs<D: Device + Send + Drop, R: Threads + Wait + Sync>(
         (replies_of ran.trace.items) ran.device) }
     ensures set_up { IfOk result (λ ran. AreSetUp script.now.shape.cpus script.now.steps.items script.now.trace
         ran.trace.items) }
+    ensures programs { IfOk result (λ ran. HaveRunPrograms script.now.shape.cpus script.now.steps.items
+        (map (λ program. program.items) script.now.programs.items) script.now.trace ran.trace.items) }
     ensures ended { IfOk result (λ ran. IsEnd script.now.trace (length ran.trace.items) ran.ended) }
     ensures refused { IfErr result (HasNotRun D.Device device script.now.shape script.now.trace) }
 {
@@ -98,7 +101,8 @@ fn named<D: Device + Send + Drop, R: Threads + Wait + Sync>(
     turns: u64,
 ) -> Result<Ran<D>, NotRun<D>>
     requires fresh { IsFresh machine.state }
-    ensures ran { IfOk result (HasRanFrom D.Device machine script.now.steps.items script.now.trace) }
+    ensures ran { IfOk result (HasRanFrom D.Device machine script.now.steps.items
+        (map (λ program. program.items) script.now.programs.items) script.now.trace) }
     ensures ended { IfOk result (λ ran. IsEnd script.now.trace (length ran.trace.items) ran.ended) }
     ensures refused { IfErr result (HasNotShared D.Device machine script.now.trace) }
 {
@@ -119,7 +123,8 @@ fn serve<D: Device + Send + Drop, L: Origin<D> + Send + Sync, R: Threads + Wait 
     requires name { blank.name ≡ L.name }
     requires parts { (blank.parts ≡ L.parts) × (L.parts ≡ 2 * L.all + 1)
         × (L.all ≡ length machine.state.hardware.shootdown.processors) }
-    ensures ran { IfOk result (HasRanFrom D.Device machine script.now.steps.items script.now.trace) }
+    ensures ran { IfOk result (HasRanFrom D.Device machine script.now.steps.items
+        (map (λ program. program.items) script.now.programs.items) script.now.trace) }
     ensures ended { IfOk result (λ ran. IsEnd script.now.trace (length ran.trace.items) ran.ended) }
     ensures refused { IfErr result (HasNotShared D.Device machine script.now.trace) }
 {
@@ -141,7 +146,8 @@ fn carried_out<D: Device + Send + Drop, L: Origin<D> + Send + Sync, R: Threads +
     turns: u64,
 ) -> bool
     requires { (i : ℕ) → i < length cpus.old → slice_get cpus.old i ≡ Some (idle_cpu i) }
-    ensures { AreReady script.now.steps.items script.now.trace cpus.new }
+    ensures { AreReady script.now.steps.items (map (λ program. program.items) script.now.programs.items)
+        script.now.trace cpus.new }
 {
     let are_made = make_steps(rt, cpus, &script.steps, script.trace);
     if !are_made {
@@ -158,8 +164,9 @@ fn make_steps<D: Device, L: Origin<D>, R: Wait>(
     capacity: u64,
 ) -> bool
     requires { (i : ℕ) → i < length cpus.old → slice_get cpus.old i ≡ Some (idle_cpu i) }
-    ensures all { IsTrue result → HaveBegun steps.now cpus.new }
+    ensures all { IsTrue result → HaveMade steps.now cpus.new }
     ensures full { result ≡ false → answered_calls cpus.new ≡ capacity }
+    ensures begun { HaveBegun steps.now cpus.new }
 {
     let mut made: u64 = 0;
     for i in 0..steps.len() {
@@ -202,8 +209,8 @@ fn run_threads<D: Device + Send + Drop, L: Origin<D> + Send + Sync, R: Threads +
     programs: &[Vec<Command>],
     turns: u64,
 ) -> bool
-    requires { HaveBegun steps.now cpus.old }
-    ensures { HaveBegun steps.now cpus.new }
+    requires { HaveMade steps.now cpus.old }
+    ensures { HaveRun steps.now (map (λ program. program.items) programs.now) cpus.new }
 {
     let ran_out = AtomicBool::new(false);
     for_each_mut(
@@ -211,14 +218,13 @@ fn run_threads<D: Device + Send + Drop, L: Origin<D> + Send + Sync, R: Threads +
         cpus,
         16,
         &|i, cpu: &mut Cpu<D, Global, L>|
-            ensures { GoesOn cpu.old cpu.new }
+            ensures { RunsProgram (slice_get (map (λ program. program.items) programs.entry.now) i) cpu.old cpu.new }
         { run_program(rt, cpu, programs, i, turns, &ran_out) },
     );
     ran_out.load(Ordering::SeqCst)
 }
 
 // Runs the program of this number, and notes whether a wait ran out.
-#[tactic(auto, using(crate::proofs::Going::goes_nowhere, crate::proofs::Going::goes_further))]
 fn run_program<D: Device, L: Origin<D>, R: Wait>(
     rt: &R,
     cpu: &mut Cpu<D, Global, L>,
@@ -227,12 +233,18 @@ fn run_program<D: Device, L: Origin<D>, R: Wait>(
     turns: u64,
     ran_out: &AtomicBool,
 )
-    ensures { GoesOn cpu.old cpu.new }
+    ensures { RunsProgram (slice_get (map (λ program. program.items) programs.now) number) cpu.old cpu.new }
 {
-    if let Some(program) = programs.get(number) {
-        if worked(rt, cpu, turns, program) == Err(Stop::RanOut) {
-            ran_out.store(true, Ordering::SeqCst);
-        }
+    if number < programs.len() {
+        let end = worked(rt, cpu, turns, &programs[number]);
+        note(&end, ran_out);
+    }
+}
+
+// Notes whether a thread ended since a wait ran out.
+fn note(end: &Result<(), Stop>, ran_out: &AtomicBool) {
+    if matches!(end, Err(Stop::RanOut)) {
+        ran_out.store(true, Ordering::SeqCst);
     }
 }
 
@@ -259,9 +271,11 @@ fn gathered<D: Device + Drop, L: Origin<D>, R: Wait>(
     ran_out: bool,
 ) -> Result<Ran<D>, NotRun<D>>
     requires parts { L.parts ≡ 2 * L.all + 1 }
-    requires ready { AreReady script.now.steps.items script.now.trace cpus.items }
+    requires ready { AreReady script.now.steps.items (map (λ program. program.items) script.now.programs.items)
+        script.now.trace cpus.items }
     ensures ran { IfOk result (λ ran. (start : Whole D) → L.start ≡ Some start
-        → HasRanFrom D.Device start script.now.steps.items script.now.trace ran) }
+        → HasRanFrom D.Device start script.now.steps.items
+        (map (λ program. program.items) script.now.programs.items) script.now.trace ran) }
     ensures ended { IfOk result (λ ran. IsEnd script.now.trace (length ran.trace.items) ran.ended) }
     ensures refused { IfErr result (λ refused. (start : Whole D) → L.start ≡ Some start → (capacity : ℕ)
         → HasNotShared D.Device start capacity refused) }

@@ -3,29 +3,39 @@ use Rattle.std.specs.Prelude.{ℕ, ◌≡◌, ◌⊎◌, List, length, map, slic
 use Rattle.device.specs.declared.device.Device.{Ghosts}
 use Rattle.machine.specs.declared.act.Step.{Step}
 use Rattle.machine.specs.State.{Whole}
+use Rattle.scripts.specs.declared.command.Command.{Command}
 use Rattle.service.specs.Gathering.{CpuState, answered_calls}
 use Rattle.service.specs.Trace.{steps_of, replies_of}
 use Rattle.driver.specs.declared.running.Ran.{Ran}
-use Rattle.driver.specs.Driver.{acts_of, BeginsWith, RunsFrom, AreSetUp}
+use Rattle.driver.specs.Driver.{acts_of, BeginsWith, RunsFrom}
+use Rattle.driver.specs.Programs.{RunsProgram, HaveRunPrograms}
 
--- the first acts of a processor were its steps of these, in order
-pub record HasBegun (steps : List Step) (cpu : CpuState) : Type 0 where
-  pub begins : BeginsWith (acts_of cpu.number steps) (map (λ a. a.0) cpu.answered)
+-- a processor of this number made exactly its steps of these
+abbrev pub HasMade : List Step → ℕ → CpuState → Type 0
+HasMade steps i cpu = (cpu.number ≡ i) × (map (λ a. a.0) cpu.answered ≡ acts_of i steps)
 
-abbrev pub HaveBegun : List Step → List CpuState → Type 0
-HaveBegun steps cpus = (i : ℕ) (cpu : CpuState) → slice_get cpus i ≡ Some cpu → HasBegun steps cpu
+-- so did each of these
+pub record HaveMade (steps : List Step) (cpus : List CpuState) : Type 0 where
+  pub each : (i : ℕ) (cpu : CpuState) → slice_get cpus i ≡ Some cpu → HasMade steps i cpu
 
--- whatever the first acts of a processor were, they still are
-pub record GoesOn (old new : CpuState) : Type 0 where
-  pub keeps : (steps : List Step) → HasBegun steps old → HasBegun steps new
+-- the calls of each of these are the beginning of its steps, or all of them
+pub record HaveBegun (steps : List Step) (cpus : List CpuState) : Type 0 where
+  pub each : (i : ℕ) (cpu : CpuState) → slice_get cpus i ≡ Some cpu
+      → (cpu.number ≡ i) × BeginsWith (map (λ a. a.0) cpu.answered) (acts_of i steps)
 
--- these processors were called for all of these steps first, or they were answered as often as the trace may have
--- entries
-abbrev pub AreReady : List Step → ℕ → List CpuState → Type 0
-AreReady steps capacity cpus = (answered_calls cpus ≡ capacity) ⊎ HaveBegun steps cpus
+-- each of these processors made its steps, and then ran its program
+pub record HaveRun (steps : List Step) (programs : List (List Command)) (cpus : List CpuState) : Type 0 where
+  pub each : (i : ℕ) (cpu : CpuState) → slice_get cpus i ≡ Some cpu
+      → (first : CpuState) × HasMade steps i first × RunsProgram (slice_get programs i) first cpu
+
+-- so they did, or they began to make their steps, and were answered as often as the trace may have entries
+abbrev pub AreReady : List Step → List (List Command) → ℕ → List CpuState → Type 0
+AreReady steps programs capacity cpus =
+    ((answered_calls cpus ≡ capacity) × HaveBegun steps cpus) ⊎ HaveRun steps programs cpus
 
 -- this is left of programs that were run on a machine after these steps, with a trace of this capacity
-pub record HasRanFrom {D : Type 0} (disk : Ghosts D) (start : Whole D) (steps : List Step) (capacity : ℕ) (ran : Ran D)
-    : Type 0 where
+pub record HasRanFrom {D : Type 0} (disk : Ghosts D) (start : Whole D) (steps : List Step)
+    (programs : List (List Command)) (capacity : ℕ) (ran : Ran D) : Type 0 where
   pub run : RunsFrom disk start (steps_of ran.trace.items) (replies_of ran.trace.items) ran.device
-  pub set_up : AreSetUp (length start.state.hardware.shootdown.processors) steps capacity ran.trace.items
+  pub programs_run : HaveRunPrograms (length start.state.hardware.shootdown.processors) steps programs capacity
+      ran.trace.items

@@ -1,7 +1,7 @@
-use Rattle.driver.specs.inside.Begun.{GoesOn}
+use Rattle.driver.specs.Programs.{MakesCalls, IsUpkeep}
 use Rattle.driver.proofs.commands.flushed.Given as goal
 
 abbrev pub invariant-loop : goal.invariant-loop
 invariant-loop g l =
     (goal.iterator-loop g).can_next l.iterator' × (goal.iterator-loop g).is_finite l.iterator'
-    × GoesOn l.fn.cpu l.cpu
+    × MakesCalls IsUpkeep l.fn.cpu l.cpu

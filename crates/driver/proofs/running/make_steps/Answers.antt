@@ -2,7 +2,8 @@ use Rattle.std.proofs.Common.{ℕ, ◌≡◌, ◌+◌, ◌≤◌, ◌∙◌, Lis
 use Rattle.std.proofs.lemmas.List.{take_all}
 use Rattle.machine.specs.declared.act.Step.{Step}
 use Rattle.service.specs.Gathering.{CpuState, answered_calls}
-use Rattle.driver.proofs.Steps.{HaveMade, none_made, none_answered, all_made, step_made_by, step_left_out, one_answered}
+use Rattle.driver.specs.inside.Begun.{HaveMade}
+use Rattle.driver.proofs.Steps.{begun_by, none_made, none_answered, step_made_by, step_left_out, one_answered}
 use Rattle.driver.proofs.running.make_steps.Goals as goal
 use Rattle.driver.proofs.running.make_steps.Goals.{then-p-cpus+else-made-capacity, else-p-cpus}
 
@@ -45,4 +46,11 @@ pub returns-clause-all : goal.returns-clause-all
 returns-clause-all g c = λ _.
     let steps = c.args.steps.now in
     let all : take c.loop-i.i steps ≡ steps = take_all c.loop-i.i steps c.loop-i-test.false in
-    all_made steps c.loop-i.cpus (subst (λ (made : List Step). HaveMade made c.loop-i.cpus) all c.loop-i.invariant.0)
+    subst (λ (made : List Step). HaveMade made c.loop-i.cpus) all c.loop-i.invariant.0
+
+pub returns-then-made-capacity-clause-begun : goal.returns-then-made-capacity-clause-begun
+returns-then-made-capacity-clause-begun g c =
+    begun_by c.args.steps.now c.loop-i.i c.loop-i.cpus c.loop-i.invariant.0
+
+pub returns-clause-begun : goal.returns-clause-begun
+returns-clause-begun g c = begun_by c.args.steps.now c.loop-i.i c.loop-i.cpus c.loop-i.invariant.0

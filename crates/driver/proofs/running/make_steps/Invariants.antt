@@ -1,6 +1,6 @@
 use Rattle.std.proofs.Common.{◌≡◌, ◌≤◌, take}
 use Rattle.service.specs.Gathering.{answered_calls}
-use Rattle.driver.proofs.Steps.{HaveMade}
+use Rattle.driver.specs.inside.Begun.{HaveMade}
 use Rattle.driver.proofs.running.make_steps.Given as goal
 
 abbrev pub invariant-loop-i : goal.invariant-loop-i
