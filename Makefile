@@ -31,6 +31,6 @@ hooks:
 
 # What the hook does, on what is staged.
 layout:
-	tests/layout
+	tests/lint/layout
 
 .PHONY: all install uninstall dist hooks layout

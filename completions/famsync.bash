@@ -1,5 +1,5 @@
 # Completion of famsync for bash: source it, or put it into a folder of bash-completion as `famsync`.
-# tests/help compares these words with --help.
+# tests/program/help compares these words with --help.
 # words: format migrate run threads serve replay dump info check export crashes help --help --version --layout --trust --json --html
 
 _famsync() {

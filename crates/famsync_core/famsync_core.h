@@ -6,7 +6,7 @@
  * volume's file, in order, and reports them to the core. The host decides how a call is made. The core decides what is
  * written, and that is proved.
  *
- * This program writes the first page of the first file, and commits. `tests/core_header` compiles and runs it.
+ * This program writes the first page of the first file, and commits. `tests/lint/core_header` compiles and runs it.
  *
  *   static void supply(famsync_core *core, int file, uint32_t block)
  *   {
