@@ -136,8 +136,14 @@ def request_of(line):
     return [step_of(value)]
 
 
+# The number of journals and the most slots of each layout.
+JOURNALS = {1: 1, 2: 2, 3: 2, 4: 4}
+MOST_SLOTS = {1: 1020, 2: 1020, 3: 1020, 4: 65535}
+LAYOUTS = tuple(JOURNALS)
+
+
 def journals_of(layout):
-    return {1: 1, 2: 2, 3: 2, 4: 4}[layout]
+    return JOURNALS[layout]
 
 
 def has_lengths(layout):

@@ -12,15 +12,14 @@ from files.program import (
     EXPORT, PROGRAM, bytes_of, calls_of, clear, complains, dump_of, ended, famsync, has, stopped, volume, write,
 )
 from lib.processes import Pipe, want
+from lib.serve_model import descriptor_blocks, has_lengths, journals_of
 
 
 def info_of(image):
     """What a volume says, read from its bytes."""
     layout = int(image.removeprefix(b"FAMSYNC")[:1])
     count, slots, blocks = struct.unpack_from(">III", image, 8)
-    journals = {1: 1, 2: 2, 3: 2, 4: 4}[layout]
-    described = -(-(16 + 4 * slots) // 4096)  # the blocks of a descriptor
-    has_lengths = layout >= 3
+    journals, described = journals_of(layout), descriptor_blocks(slots)
     said = {"layout": layout, "slots": slots, "blocks": blocks, "bytes": 4096 * blocks, "files": [], "journals": []}
     places = {}
     for i in range(count):
@@ -29,9 +28,9 @@ def info_of(image):
         said["files"].append({"name": name, "length": capacity, "capacity": capacity, "pages": pages, "home": home})
         places.update({home + page: {"file": name, "page": page} for page in range(pages)})
     # the super block, a sync, each gate and the lengths
-    said["opening_calls"] = 2 + journals + has_lengths
+    said["opening_calls"] = 2 + journals + has_lengths(layout)
     # which block has the lengths, after which mark
-    lengths = [(0, 1 + journals * (1 + described + slots))] if has_lengths else []
+    lengths = [(0, 1 + journals * (1 + described + slots))] if has_lengths(layout) else []
     for number in range(journals):
         at = 4096 * (1 + number * (1 + described + slots))
         journal = {"number": number, "gate": image[at], "open": image[at] == 0xA7}
