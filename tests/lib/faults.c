@@ -1,6 +1,6 @@
 /*
- * Preloaded into the program by `real_files` and `program`: at the Nth call that changes a file or makes one durable,
- * counted from 1, the call fails, or the process is killed or stopped before it is made.
+ * A library that is preloaded into the program: at the Nth call that changes a file or makes one durable, counted from
+ * 1, the call fails, or the process is killed or stopped before it is made.
  *
  *   FAULT=none             nothing; the number of calls is written to the file COUNT
  *   FAULT=kill:N           the process is killed

@@ -109,6 +109,14 @@ class Pipe:
         return status, rest, said
 
 
+def begun_session(program, volume):
+    """A session of `serve`, which has the volume locked until its end."""
+    session = Pipe([program, "serve", volume])
+    session.send(b'{"cpus":1,"tlb":8,"frames":2,"copies":0}')
+    want((session.line() or "").startswith("ready "), "a session begins", volume)
+    return session
+
+
 def files_of_dump(text):
     """The files that `famsync dump` prints, by their names."""
     files, here = {}, None

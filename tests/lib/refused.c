@@ -1,5 +1,5 @@
 /*
- * Preloaded into the program by `refused_memory`: the Nth request for memory from the program's start on, counted from 1,
+ * A library that is preloaded into the program: the Nth request for memory from the program's start on, counted from 1,
  * is refused.
  *
  *   REFUSED=N   which request; 0 refuses none

@@ -1,7 +1,7 @@
-"""An independent reading of the protocol of `famsync serve`: what a session answers, as far as lines alone decide it.
+"""A second reading of the protocol of `famsync serve`: what a session answers, as far as its lines decide that.
 
-It has the files' bytes and lengths, the mappings, the pages that were stored to and the marks, and nothing of how a
-commit is made: no TLB, no frames, no journal. Where an answer hangs on those, it says so.
+It has the files' bytes and lengths, the mappings, the pages that were stored to, and the marks. It has no TLB, no
+frames and no journal. If an answer depends on those, it says so.
 """
 
 import collections
@@ -211,7 +211,7 @@ class Model:
         self.resized = False
         self.kept = [bytes(memory) for memory in self.memory]
         self.stored = set()
-        # pages of the last commits, whose write-outs may still be under way: of two, or of one where there is one journal
+        # the pages of the last commits, two or with one journal one: their write-outs may be in progress
         self.last = collections.deque(maxlen=min(journals, 2))
         self.marks = 0
         self.spaces = {}

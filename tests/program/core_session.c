@@ -360,7 +360,7 @@ static void write_out(const char *line)
     make_calls();
     bool written = code == FAMSYNC_CORE_OK || code == FAMSYNC_CORE_NONE;
     if (written)
-        want((code == FAMSYNC_CORE_OK) == (famsync_core_unwritten(core, &core.at) > 0), "it tells wrongly what is left");
+        want((code == FAMSYNC_CORE_OK) == (famsync_core_unwritten(core, &core.at) > 0), "it reports what is left");
     printf("%s\n", written ? "written" : word_of(code));
 }
 

@@ -1,8 +1,8 @@
 /*
- * Preloaded by `tests/faults/power_cut`: appends each write and each sync of the volume to the file that LOG names, as
- * `W OFFSET COUNT`, a line, with the bytes behind it, and as `S`, once the call has returned without an error. A call that
- * begins before another one has returned is written as `overlap`. Other files than the one that VOLUME names aren't recorded.
- * With DROP in the environment every second sync does nothing, and isn't recorded: a library that forgets syncs.
+ * Preloaded by `tests/faults/power_cut`: records the writes and syncs of the file that VOLUME names, in the file that
+ * LOG names. A line `W OFFSET COUNT` with the bytes behind it is a write, a line `S` a sync, each once the call has
+ * returned without an error. `overlap` is a call that begins before another one has returned. With DROP in the
+ * environment every second sync does nothing, and isn't recorded: a library that forgets syncs.
  */
 #define _GNU_SOURCE
 #include <dlfcn.h>

@@ -1,4 +1,4 @@
-"""What is said of a volume's bytes, and files that are copied out of it."""
+"""What `info`, `check`, `dump` and `export` print and copy of a volume."""
 
 from files.program import write
 from cases.images import (

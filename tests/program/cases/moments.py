@@ -1,5 +1,4 @@
-"""Runs that are stopped before a call of the system, to see what is printed and what is on the disk by then, or to cut
-the disk's file off. The library that is preloaded (faults.c) stops them."""
+"""Runs that are stopped before a system call (by lib/faults.c): what is printed and on the disk by then."""
 
 import itertools
 import os

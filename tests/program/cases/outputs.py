@@ -1,5 +1,4 @@
-"""Output that fails: a file that may grow no further, a device that is full, a pipe that nobody reads. A run stops with
-its output."""
+"""Outputs that fail: a file at its limit, a full device, a pipe that nobody reads. A run stops with its output."""
 
 import os
 import signal

@@ -1,4 +1,4 @@
-"""Programs that are run in threads, and their traces, which are run again on the volume as it was before."""
+"""Programs that run in threads, and their traces, which `replay` runs again on the volume from before."""
 
 from files.program import write
 from cases.images import image_of_one, makes_volume

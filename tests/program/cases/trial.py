@@ -1,5 +1,4 @@
-"""Runs of the program in the folder of a test, and what is to be said of them. A check gives the faults that it found,
-each a line of text."""
+"""What the cases share: runs of the program in the folder of a test, and checks, which return faults as lines."""
 
 import os
 

@@ -1,4 +1,4 @@
-"""What the words of a command line get: help, or what is wrong."""
+"""Command lines: help, and words that are wrong."""
 
 from files.program import write
 from cases.images import image_of_one, makes_volume

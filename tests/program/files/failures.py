@@ -1,4 +1,4 @@
-"""Files that are cut off, disks that are full, calls that fail or at which the program is killed, little memory."""
+"""Files that are cut off, full disks, failing calls, kills, and little memory."""
 
 import errno
 import itertools
@@ -23,7 +23,8 @@ def cut_files():
             os.truncate("v.img", length)
             os.kill(process.pid, signal.SIGCONT)
             over = ended(process)
-            want(over.status in (0, 3) and "panic" not in over.err, "a run over a cut file ends in order", length, call, over)
+            in_order = over.status in (0, 3) and "panic" not in over.err
+            want(in_order, "a run over a cut file ends in order", length, call, over)
             if over.status == 3:
                 complains(over)
     volume()
@@ -159,7 +160,8 @@ def failed_syncs():
     # A run that is trusted and whose file can't be synced leaves the mark.
     volume()
     write("v.img.suspect", "")
-    complains(famsync("run", "--trust", "v.img", "newer.json", fault=f"fail:1:{errno.EIO}", only="sync"), "can't be synced")
+    trusting = ["run", "--trust", "v.img", "newer.json"]
+    complains(famsync(*trusting, fault=f"fail:1:{errno.EIO}", only="sync"), "can't be synced")
     want(os.path.exists("v.img.suspect"), "the mark stays")
 
 
@@ -186,7 +188,7 @@ def threads_that_fail():
 
 
 def little_memory():
-    """A dump that has not enough memory says so; else it is whole. It takes little: a few steps of 8 KiB are refused."""
+    """A dump reports that it lacks memory, or is whole. It takes little: a few steps of 8 KiB are refused."""
     clear()
     pages = 1020
     row = " 2a" * 16
@@ -201,7 +203,8 @@ def little_memory():
         elif over.status == 3:
             complains(over, "out of memory")
         else:
-            want(not over.out and over.status in (127, -signal.SIGSEGV, -signal.SIGKILL), "it doesn't begin", limit, over)
+            before_it_began = over.status in (127, -signal.SIGSEGV, -signal.SIGKILL)
+            want(not over.out and before_it_began, "it doesn't begin", limit, over)
         found.append(over.status)
         if found.count(0) == 8:
             break

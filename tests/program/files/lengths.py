@@ -1,4 +1,4 @@
-"""Files that grow, and a volume that is great."""
+"""Files that grow, and a large volume."""
 
 import json
 import os
@@ -30,7 +30,8 @@ def lengths_in(layout):
     """A file grows: of a run that is killed at a call the length is the old one or the new one, with its bytes; and
     what threads do with it is a trace that is run again."""
     shape = {"cpus": 2, "tlb": 8, "frames": 3, "copies": 0}
-    stored = GROWS + [[0, "fix", 12288, "write"], [0, "store", 13095, [7]], [0, "msync", 0, 0, 4], [1, "ack"], [0, "change"]]
+    stored = GROWS + [[0, "fix", 12288, "write"], [0, "store", 13095, [7]]]
+    stored += [[0, "msync", 0, 0, 4], [1, "ack"], [0, "change"]]
     write("grows.json", json.dumps({**shape, "steps": stored + [[0, "flush"]] * 13}))
     words, found = ["run", "v.img", "grows.json"], []
     growing_volume(layout)

@@ -1,4 +1,4 @@
-"""Standard streams that are closed, several processes on one volume, and what is no regular file."""
+"""Closed standard streams, several processes on one volume, and paths of no regular file."""
 
 import itertools
 import json
@@ -74,7 +74,8 @@ def other_kinds():
     os.mkdir("folder")
     place = socket.socket(socket.AF_UNIX)
     place.bind("socket")
-    for path, kind in [("/dev/null", "a character device"), ("folder", "a folder"), ("pipe", "a pipe"), ("socket", "a socket")]:
+    kinds = {"/dev/null": "a character device", "folder": "a folder", "pipe": "a pipe", "socket": "a socket"}
+    for path, kind in kinds.items():
         reads = (["dump", path], ["info", path], ["check", path], ["export", path, "a", "a.copy"])
         for words in (["format", path, "4", "a=1"], ["run", path, "newer.json"], *reads):
             complains(famsync(*words), path, f"it is {kind}, and a volume is a regular file")

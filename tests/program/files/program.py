@@ -1,5 +1,7 @@
-"""The program in a folder of its own, and a volume there, for tests of what a user may do to files."""
+"""What the groups share: the program with a fault, in a folder of its own, and a volume there."""
 
+import errno
+import itertools
 import os
 import resource
 import signal
@@ -119,6 +121,43 @@ def calls_of(words, only=None):
     return counted()
 
 
+def makes_whole_or_nothing(words, new, prepare, found, wanted, judge):
+    """Each call of a command is killed, or fails, alone or with all later ones. What is found of the file that it makes
+    is then what was there before or what is wanted; and after a kill at a later call it is never the older one."""
+    prepare()
+    calls, killed = calls_of(words), []
+    for call, how in itertools.product(range(1, calls + 4), ("kill", "fail", "from")):
+        prepare()
+        before = found()
+        over = famsync(*words, fault=f"{how}:{call}" + ("" if how == "kill" else f":{errno.EIO}"))
+        for mark in filter(os.path.exists, ("v.img.suspect", f"{new}.suspect")):
+            os.remove(mark)
+        there = found()
+        want(there in (before, wanted), f"{new} is what it was, or whole", call, how, over)
+        judge(over)
+        if over.status == 0:
+            want(there == wanted and not os.path.exists(f"{new}.new"), "it is there", call, how)
+        elif how != "kill":
+            complains(over)
+        if how == "kill":
+            killed.append(there == wanted)
+        if os.path.exists(f"{new}.new"):
+            complains(famsync(*words), f'"{new}.new" is there already', "remove it")
+            os.remove(f"{new}.new")
+        want(famsync(*words).status == 0 and found() == wanted, "it can be made again", call, how)
+    want(killed == sorted(killed) and set(killed) == {False, True}, "old up to a call, and then new", killed)
+
+
+def refuses_its_own_volume(words):
+    """A command of these words, for a volume and the file to make, doesn't make the volume's file, by whatever name."""
+    os.link("v.img", "link.img")
+    os.symlink("v.img", "v.img.link")
+    for new in ("v.img", "./v.img", "link.img", "v.img.link", os.path.realpath("v.img")):
+        complains(famsync(*words("v.img", new)), "it is the file of the volume")
+        complains(famsync(*words("link.img", new)), "it is the file of the volume")
+    os.remove("link.img")
+
+
 EXPORT = ["export", "v.img", "a", "a.copy"]
 COMMANDS = {
     "format": (TO_OTHER, OTHER),
@@ -159,7 +198,7 @@ def dumped(path):
 
 
 def write_image(path, length, begin=b"", slots=4, gate=0):
-    """A volume in layout 1 with a file c of this length that begins with these bytes; where its gate is open, the journal
+    """A volume in layout 1 with a file c of this length that begins with these bytes. If its gate is open, the journal
     has records for as many pages as there are slots."""
     pages, home = (length + 4095) // 4096, 3 + slots
     super_block = b"FAMSYNC1" + struct.pack(">III", 1, slots, home + pages)

@@ -1,4 +1,4 @@
-"""What `info`, `check`, `dump` and `export` say of a volume, beside what its bytes say."""
+"""What `info`, `check`, `dump` and `export` print, compared with the volume's bytes."""
 
 import errno
 import itertools
@@ -9,9 +9,10 @@ import struct
 
 from files.lengths import lengths
 from files.program import (
-    EXPORT, PROGRAM, bytes_of, calls_of, clear, complains, dump_of, ended, famsync, has, stopped, volume, write,
+    EXPORT, PROGRAM, bytes_of, calls_of, clear, complains, dump_of, ended, famsync, has, makes_whole_or_nothing,
+    refuses_its_own_volume, stopped, volume, write,
 )
-from lib.processes import Pipe, want
+from lib.processes import begun_session, want
 from lib.serve_model import descriptor_blocks, has_lengths, journals_of
 
 
@@ -82,7 +83,8 @@ def looked_at(path):
     said = info_of(image)
     opened = any(journal["open"] for journal in said["journals"])
     text, data = famsync("info", path), famsync("info", "--json", path)
-    want((text.status, text.out, text.err) == (0, "".join(f"{line}\n" for line in info_lines(said)), ""), "info", text, said)
+    wanted = "".join(f"{line}\n" for line in info_lines(said))
+    want((text.status, text.out, text.err) == (0, wanted, ""), "info", text, said)
     want((data.status, data.err) == (0, "") and json.loads(data.out) == said, "info as JSON", data, said)
     state = "needs opening" if opened else "clean"
     checked = famsync("check", path)
@@ -130,7 +132,8 @@ def looks():
             if os.path.basename(os.readlink(f"/proc/{process.pid}/fd/{descriptor}")) == "v.img":
                 with open(f"/proc/{process.pid}/fdinfo/{descriptor}") as file:
                     lines = dict(line.split(":", 1) for line in file)
-                found.append(int(lines["flags"], 8) & os.O_ACCMODE == os.O_RDONLY and " READ " in lines.get("lock", " READ "))
+                is_read_only = int(lines["flags"], 8) & os.O_ACCMODE == os.O_RDONLY
+                found.append(is_read_only and " READ " in lines.get("lock", " READ "))
         want(found == [True], "open for reading alone, and locked so", words, found)
         os.kill(process.pid, signal.SIGCONT)
         want(ended(process).status == 0, "it goes on", words)
@@ -172,7 +175,8 @@ def looks():
         complains(famsync(*words, fault=f"fail:1:{errno.EIO}"), "can't be synced", '"v.img.suspect" marks it')
     # Bad words.
     volume()
-    for words in (["info"], ["check", "v.img", "x"], ["export", "v.img", "a"], ["run", "--json", "v.img", "newer.json"]):
+    with_json = ["run", "--json", "v.img", "newer.json"]
+    for words in (["info"], ["check", "v.img", "x"], ["export", "v.img", "a"], with_json):
         bad = famsync(*words)
         want(bad.status == 2 and not bad.out, "a bad command line", words, bad)
         if "--json" in words:
@@ -185,45 +189,31 @@ def looks():
 
 def exports():
     wanted = b"\x41" + bytes(4999)
-    volume()
-    calls = calls_of(EXPORT)
     for before in (None, b"old"):
-        found = []
-        for call, how in itertools.product(range(1, calls + 4), ("kill", "fail", "from")):
+
+        def prepare():
             volume()
-            image = bytes_of("v.img")
             if before is not None:
                 with open("a.copy", "wb") as file:
                     file.write(before)
                 os.chmod("a.copy", 0o640)
-            fault = f"{how}:{call}" + ("" if how == "kill" else f":{errno.EIO}")
-            over = famsync(*EXPORT, fault=fault)
-            there = bytes_of("a.copy") if os.path.exists("a.copy") else None
-            want(there in (before, wanted), "the old file or the copy, whole", call, how, over)
-            want(bytes_of("v.img") == image, "the volume isn't touched", call, how)
-            if over.status == 0:
-                want(there == wanted and not os.path.exists("a.copy.new"), "the copy is there", call, how)
-                want(before is None or os.stat("a.copy").st_mode & 0o777 == 0o640, "with the old mode")
-            elif how != "kill":
-                complains(over)
-            if how == "kill":
-                found.append(there == wanted)
-            if os.path.exists("v.img.suspect"):
-                os.remove("v.img.suspect")
-            if os.path.exists("a.copy.new"):
-                complains(famsync(*EXPORT), '"a.copy.new" is there already', "remove it")
-                os.remove("a.copy.new")
-            want(famsync(*EXPORT).status == 0 and bytes_of("a.copy") == wanted, "it can be made again", call, how)
-        want(found == sorted(found) and set(found) == {False, True}, "old up to a call, and then the copy", found)
+
+        def found():
+            return bytes_of("a.copy") if os.path.exists("a.copy") else None
+
+        prepare()
+        image = bytes_of("v.img")
+
+        def judge(over):
+            want(bytes_of("v.img") == image, "the volume isn't touched", over)
+            old_mode = before is None or os.stat("a.copy").st_mode & 0o777 == 0o640
+            want(over.status != 0 or old_mode, "with the old mode", over)
+
+        makes_whole_or_nothing(EXPORT, "a.copy", prepare, found, wanted, judge)
     # Not over the volume, by whatever name; not over what isn't a regular file; not over what is locked.
     volume()
-    os.link("v.img", "link.img")
-    os.symlink("v.img", "v.img.link")
     image = bytes_of("v.img")
-    for out in ("v.img", "./v.img", "link.img", "v.img.link", os.path.realpath("v.img")):
-        complains(famsync("export", "v.img", "a", out), "it is the file of the volume")
-        complains(famsync("export", "link.img", "a", out), "it is the file of the volume")
-    os.remove("link.img")
+    refuses_its_own_volume(lambda disk, out: ["export", disk, "a", out])
     os.mkdir("place")
     os.mkfifo("tube")
     for out, kind in (("place", "a folder"), ("tube", "a pipe"), ("/dev/null", "a character device")):
@@ -231,9 +221,7 @@ def exports():
         want(not os.path.exists(f"{out}.new"), "no file is made", out)
     want(famsync("format", "v.img.2", "2", "c=100").status == 0, "another volume is made")
     other = bytes_of("v.img.2")
-    session = Pipe([PROGRAM, "serve", "v.img.2"])
-    session.send(b'{"cpus":1,"tlb":8,"frames":2,"copies":0}')
-    want(session.line() == "ready 1", "a session begins")
+    session = begun_session(PROGRAM, "v.img.2")
     complains(famsync("export", "v.img", "a", "v.img.2"), "in use by another process")
     session.end()
     want(bytes_of("v.img.2") == other, "a volume in use stays")
