@@ -25,7 +25,7 @@ uninstall:
 dist:
 	@$(PROVED) packaging/dist '$(OUT)'
 
-# From now on each commit in this clone is looked at before it is made.
+# From now on git checks each commit and its message in this clone before it makes it.
 hooks:
 	git config core.hooksPath tests/hooks
 
