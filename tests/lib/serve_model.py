@@ -152,7 +152,7 @@ def has_lengths(layout):
 
 
 def descriptor_blocks(slots):
-    """How many blocks the descriptor of a journal with so many slots has: 16 bytes and 4 for each slot."""
+    """The number of blocks of a journal's descriptor, which has 16 bytes and 4 for each slot."""
     return (16 + 4 * slots + PAGE - 1) // PAGE
 
 

@@ -89,7 +89,7 @@ static void begin_file(famsync *handle, struct model *model, unsigned file, uint
     WANT_CODE(famsync_memory_close(memory), FAMSYNC_OK);
 }
 
-/* Stores some bytes to one page of a file, in the model, and in the memory, or by a call where there is none. */
+/* Stores some bytes to one page of a file: in the model, and in plain memory, or by a call without that. */
 static void store_once(famsync *handle, struct model *model, unsigned file, unsigned char *memory, uint64_t page)
 {
     uint64_t first = page * 4096, end = first + 4096;

@@ -88,7 +88,7 @@ SPOILT_JOURNAL = (
     "damaged: the descriptor of an open journal or the lengths break the format, or two journals have one mark"
 )
 
-# What is changed in the image of the volume of layout 4, and what is said of it then.
+# What is changed in the image of the volume of layout 4, and the fault then.
 SPOILT_IMAGES = [
     # Another layout of this shape.
     ([(7, ord("3"))], SPOILT),
@@ -175,7 +175,7 @@ def two_of_four_journals_are_open():
 
 
 def images_of_layout_4_are_refused():
-    """Images that no volume of layout 4 has, what is said of each, and that none is written to."""
+    """Images that no volume of layout 4 has, the fault of each, and that none is written to."""
     for changes, cause in SPOILT_IMAGES:
         write_bytes("spoilt_four.img", image_of_four(changes))
         yield from prints("check|spoilt_four.img", 3, f"{cause}\n")

@@ -38,7 +38,7 @@ b 4096
 
 DOWN = "disk \"none.img\": badshape: LAYOUT is 3, and a volume in layout 4 isn't migrated to a lower one\n"
 
-# What migrations of a volume of layout 2 are refused, and what is said of each.
+# What migrations of a volume of layout 2 are refused, and the fault of each.
 REFUSALS = [
     ("migrate|--layout|0|refused.img|no.img|4", "LAYOUT is 0, and a volume is migrated to 3 or 4\n"),
     ("migrate|--layout|1|refused.img|no.img|4", "LAYOUT is 1, and a volume is migrated to 3 or 4\n"),

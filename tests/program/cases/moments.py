@@ -25,7 +25,7 @@ class Moment:
     def printed(self):
         return bytes_of("printed").decode()
 
-    def gives_up(self):
+    def is_left(self):
         self.process.kill()
         ended(self.process)
 
@@ -39,14 +39,14 @@ class Moment:
 
 def first_moment(name, only, printed):
     """The moment before the first of the calls of a kind that a run makes when this is all that it has printed, or None
-    where it makes none then."""
+    if it makes none then."""
     for call in itertools.count(1):
         moment = Moment(name, call, only)
         if moment.process is None:
             return None
         if moment.printed() == printed:
             return moment
-        moment.gives_up()
+        moment.is_left()
 
 
 def an_acknowledgement_comes_before_the_next_step():

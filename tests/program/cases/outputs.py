@@ -9,12 +9,12 @@ from cases.images import (
 )
 from cases.trial import agree, complained, holds, leaves, prints, same_bytes, words_of
 
-# The greatest length of a file. An output that begins so many bytes below it has this much room.
+# The greatest length of a file. An output that begins N bytes below it has room for N bytes.
 LARGEST = 1 << 30
 
 
 def run_with_room(line, room):
-    """A run whose output has room for so many bytes. Gives how it ended, and what was printed."""
+    """A run whose output has room for ROOM bytes. Returns how it ended, and what was printed."""
     with open("printed", "wb", buffering=0) as out:
         out.seek(LARGEST - room)
         ran = ended(start(words_of(line), limit=LARGEST, ignored=[signal.SIGXFSZ], out=out))
@@ -91,7 +91,7 @@ def a_run_stops_with_its_output():
     yield from leaves("stops.img", "stops.json")
 
 
-# A commit of so many pages, whose steps are answered by more lines `going` than are kept for the next line.
+# A commit of this number of pages. Its steps are answered by more lines `going` than are kept for the next line.
 PAGES = 2000
 SLOTS = PAGES + 1
 

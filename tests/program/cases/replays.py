@@ -22,7 +22,7 @@ STORED = """\
 [[0,"flush"],"going"]
 """
 
-# Parts of traces, and what is said of each.
+# Parts of traces, and the fault of each.
 REPLAYED = [
     # No entries.
     ([SHAPE], 0, "same 0\n"),
@@ -55,7 +55,7 @@ REPLAYED = [
     ([SHAPE, '[[1,"idle"],"einval"]\n'], 0, "same 1\n"),
 ]
 
-# Traces, and what is said of each.
+# Traces, and the fault of each.
 BAD_TRACES = [
     ([""], "it has no lines, and the first has to be the shape of the machine\n"),
     (["\n"], "line 1: it isn't JSON: "),
@@ -84,7 +84,7 @@ BAD_TRACES = [
 
 
 def traces_are_run_again():
-    """Traces on a fresh volume, each with what is said of it. The disk stays as it is."""
+    """Traces on a fresh volume, each with its fault. The disk stays as it is."""
     yield from makes_volume("replay.img")
     for parts, status, said in REPLAYED:
         write("replay.trace", "".join(parts))
@@ -94,7 +94,7 @@ def traces_are_run_again():
 
 
 def traces_are_refused():
-    """Whole traces that are refused, and what is said of each. The trace is judged before the disk, which isn't
+    """Whole traces that are refused, and the fault of each. The trace is judged before the disk, which isn't
     there."""
     for parts, cause in BAD_TRACES:
         yield from refuses_trace("".join(parts).encode(), cause)

@@ -27,7 +27,7 @@ FILE = "the file isn't a whole number up to 65535"
 
 PROT = "prot isn't one of \"r\", \"w\" and \"rw\""
 
-# Steps that aren't in the grammar of scripts, and what is said of each after the step itself.
+# Steps that aren't in the grammar of scripts, and the fault of each after the step itself.
 BAD_STEPS = [
     ("7", FORM),
     ("[]", FORM),
@@ -90,7 +90,7 @@ REPRINTED_STEPS = [
     ),
 ]
 
-# Scripts, and what is said of each.
+# Scripts, and the fault of each.
 BAD_SCRIPTS = [
     ("", "it isn't JSON: "),
     ("{", "it isn't JSON: "),
@@ -132,7 +132,7 @@ BAD_SCRIPTS = [
     ),
 ]
 
-# Members of scripts but for the steps, and what is said of each.
+# Members of scripts but for the steps, and the fault of each.
 BAD_SHAPES = [
     ('"cpus":0,"tlb":8,"frames":4,"copies":0', "cpus is 0, and 1 to 16 are served"),
     ('"cpus":17,"tlb":8,"frames":4,"copies":0', "cpus is 17, and 1 to 16 are served"),
@@ -167,14 +167,14 @@ def steps_are_refused():
 
 
 def refuses_step(step, found, cause):
-    """A script is refused whose second step of two is this, and this is said of it."""
+    """A script is refused whose second step of two is this, and this is the fault."""
     write("refused_steps.json", script_of('[0,"create"]', step))
     said = f'famsync: script "refused_steps.json": step 2, {found}: {cause}\n'
     yield from prints("run|refused_steps.img|refused_steps.json", 1, "", said)
 
 
 def scripts_are_refused():
-    """Whole scripts that are refused, and what is said of each. The script is judged before the disk, which isn't
+    """Whole scripts that are refused, and the fault of each. The script is judged before the disk, which isn't
     there."""
     for text, cause in BAD_SCRIPTS:
         yield from refuses_script(text.encode(), cause)
@@ -188,7 +188,7 @@ def refuses_script(text, cause):
 
 
 def shapes_are_refused():
-    """Shapes that no machine has, and what is said of each."""
+    """Shapes that no machine has, and the fault of each."""
     yield from makes_volume("shape.img")
     for shape, cause in BAD_SHAPES:
         write("shape.json", "{" + shape + ',"steps":[[0,"create"]]}')

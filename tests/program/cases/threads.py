@@ -46,7 +46,7 @@ FOUR = (
     '[["reclaim",0,0],["load",4097,1],["reclaim",0,1],["store",8193,[7]],["reclaim",1,0],["load",16384,1]]'
 )
 
-# Scripts that are refused before the disk is opened, and what is said of each.
+# Scripts that are refused before the disk is opened, and the fault of each.
 REFUSED = [
     ([TWO, '"trace":10,"programs":[[]]}'], "it has 1 programs, and one for each of 2 processors is wanted\n"),
     (
@@ -82,7 +82,7 @@ def replays(trace, status, said):
 
 
 def is_replayed(ran, least):
-    """Programs ended well, with at least so many entries in their trace, and the trace is the same when it is run
+    """Programs ended well, with at least LEAST entries in their trace, and the trace is the same when it is run
     again."""
     entries = entries_of(ran.out)
     yield from ended_so("threads", ran, 0, ran.out)

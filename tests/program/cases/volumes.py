@@ -43,7 +43,7 @@ SPOILT = "damaged: the super block breaks the format"
 
 SPOILT_JOURNAL = "damaged: the descriptor of an open journal breaks the format, or two journals have one mark"
 
-# What is changed in the image of a volume, and what is said of it then.
+# What is changed in the image of a volume, and the fault then.
 SPOILT_IMAGES = [
     ([(0, ord("G"))], FOREIGN),
     ([(7, ord("2"))], SPOILT),
@@ -77,7 +77,7 @@ SPOILT_IMAGES = [
     ([(4096, 0xA7), (8199, 1), (8203, 1), (8211, 10)], SPOILT_JOURNAL),
 ]
 
-# How many bytes of a volume are there, and what is said of it then.
+# How many bytes of a volume are there, and the fault then.
 CUT_IMAGES = [
     (0, "notavolume: the file has 0 bytes, and a volume has 4096 at least"),
     (4095, "notavolume: the file has 4095 bytes, and a volume has 4096 at least"),
@@ -135,7 +135,7 @@ def files_are_made_anew():
 
 
 def images_are_refused():
-    """Images that no volume has, what is said of each, and that none is written to."""
+    """Images that no volume has, the fault of each, and that none is written to."""
     write("images.json", FIRST_SCRIPT)
     for changes, cause in SPOILT_IMAGES:
         yield from is_refused(image_of_one(changes), cause)

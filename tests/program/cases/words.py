@@ -4,7 +4,7 @@ from files.program import write
 from cases.images import image_of_one, makes_volume
 from cases.trial import complains, holds, leaves, prints, shows
 
-# Command lines, and what is said first of each.
+# Command lines, and the first words of each fault.
 BAD_WORDS = [
     ("", "'famsync' requires a subcommand"),
     ("frmat", "unrecognized subcommand 'frmat'"),
@@ -50,7 +50,7 @@ HELP = [
     ("--version", "famsync 0.3.0\n"),
 ]
 
-# Command lines, and what is said of each.
+# Command lines, and the fault of each.
 FAULTS = [
     ("format|none.img|0|a=1", 'disk "none.img": badshape: SLOTS is 0, and 1 to 1020 are allowed\n'),
     ("format|none.img|1021|a=1", 'disk "none.img": badshape: SLOTS is 1021, and 1 to 1020 are allowed\n'),
@@ -109,12 +109,12 @@ LARGEST_MACHINE = (
 
 
 def format_of_files(disk, count):
-    """The words that make a volume of so many files of one byte."""
+    """The words that make a volume of COUNT files of one byte."""
     return f"format|{disk}" + "".join(f"|file_{i}=1" for i in range(count))
 
 
 def bad_words_are_refused():
-    """Bad command lines, and what is said first of each. None makes a file."""
+    """Bad command lines, and the first words of each fault. None makes a file."""
     for line, cause in BAD_WORDS:
         yield from complains(line, 2, cause)
     yield from leaves()
@@ -128,7 +128,7 @@ def help_is_printed():
 
 
 def faults_are_reported():
-    """What ends with status 3, and what is said of each. No file is made, and the disk isn't changed."""
+    """What ends with status 3, and each fault. No file is made, and the disk isn't changed."""
     yield from makes_volume("fault.img")
     write("fault.json", NO_STEPS)
     for line, cause in FAULTS:

@@ -130,10 +130,10 @@ def failed_syncs():
             complains(famsync(*again), '"v.img.suspect" says that a sync of it failed', "--trust")
         want(bytes_of("v.img") == before, "and isn't touched", call)
         trusted = famsync("dump", "--trust", "v.img")
-        want(trusted.status == 0 and trusted.out in (OLD, NEWER), "it is dumped where it is trusted", trusted)
+        want(trusted.status == 0 and trusted.out in (OLD, NEWER), "it is dumped if it is trusted", trusted)
         want(os.path.exists("v.img.suspect"), "and is still marked", call)
         if call % 2:
-            want(famsync("run", "--trust", "v.img", "newer.json").status == 0, "it is run where it is trusted")
+            want(famsync("run", "--trust", "v.img", "newer.json").status == 0, "it is run if it is trusted")
             has(NEWER)
         else:
             want(famsync(*TO_OTHER).status == 0, "it is made anew without that")
@@ -176,7 +176,7 @@ def threads_that_fail():
         complains(ran, '"v.img.suspect" marks it')
         want(os.path.exists("v.img.suspect"), "the volume is marked", call)
         traced = ran.out.startswith('{"copies":0,"cpus":2,')
-        want(traced == ("entry" in ran.err), "the trace is printed where there is one", call, ran)
+        want(traced == ("entry" in ran.err), "the trace is printed if there is one", call, ran)
         trusted = famsync("dump", "--trust", "v.img")
         want(trusted.status == 0 and trusted.out in (OLD, *after), "the volume has its files", call, trusted)
     volume()

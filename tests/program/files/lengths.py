@@ -41,7 +41,7 @@ def lengths_in(layout):
         found.append(has(SHORT, LONG))
         want(found[-1] == 1 or "committed" not in ran.out, "an acknowledged length is there", call, ran)
     want(found == sorted(found) and set(found) == {0, 1}, "the old length up to a call, and then the new one", found)
-    want(famsync(*EXPORT).status == 0 and bytes_of("a.copy") == bytes(8999) + b"\x07", "so many bytes are exported")
+    want(famsync(*EXPORT).status == 0 and bytes_of("a.copy") == bytes(8999) + b"\x07", "its length is exported")
     want(famsync(*migrating(layout)).status == 0 and dumped("w.img") == LONG, "the length goes over")
     # The steps of a script of threads, and those of its trace.
     programs = [[["store", 13095, [7]], ["msync", 0, 0, 4]], [["await", 13095, 7], ["load", 9096, 1]]]

@@ -171,7 +171,7 @@ READERS = ("dump", "info", "check", "export")
 
 
 def stopped(words, call, **how):
-    """The program, stopped before this call, or None where it ended before."""
+    """The program, stopped before this call, or None if it ended before."""
     process = start(words, fault=f"stop:{call}", **how)
     _, status = os.waitpid(process.pid, os.WUNTRACED)
     if os.WIFSTOPPED(status):

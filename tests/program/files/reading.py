@@ -104,7 +104,7 @@ def looked_at(path):
 
 
 def looks():
-    """Volumes after each call of a run: what is said of them, and that nothing is written to them."""
+    """Volumes after each call of a run: what is printed about them, and that nothing is written to them."""
     shapes = [("1", "4", "5000"), ("2", "4", "5000"), ("3", "5", "5000/12288"), ("4", "5", "5000/12288")]
     shapes.append(("4", "1021", "5000/12288"))  # descriptors of two blocks
     for layout, slots, length in shapes:
