@@ -25,7 +25,7 @@ ghost use Rattle.page_entry.specs.declared.refusal.Refusal.TheVariants.{NoFrame}
 use crate::blocks::Blocks;
 use crate::opening::{Room, most_pages};
 use crate::pages::{
-    block_after, capacity_at, cut_off, home_block, last_block, length_at, text_with,
+    block_after, boxed_page, capacity_at, cut_off, home_block, last_block, length_at, text_with,
 };
 use device::Device;
 use journal::{Flushed, WriteOuts};
@@ -88,7 +88,21 @@ impl<D: Device, A: Allocator + Copy> Model for Pager<D, A> {
     }) (vec_capacity p.records) (vec_capacity p.homes) };
 }
 
-// The bytes of a home block in the newest list that has it are copied; false where none has it, and then nothing is.
+// The bytes of a home block in the newest list that has it.
+fn newest<A: Allocator + Copy>(records: &[Blocks<A>], home: u32) -> Option<&[u8; 4096]>
+    ensures { option_copied result ≡ newest_in records.now home }
+{
+    let mut found = None;
+    for blocks in records {
+        match blocks.get(home) {
+            Some(bytes) => found = Some(bytes),
+            None => {}
+        }
+    }
+    found
+}
+
+// The same are copied; false where no list has it, and then nothing is.
 fn copy_newest<A: Allocator + Copy>(
     records: &[Blocks<A>],
     home: u32,
@@ -97,17 +111,33 @@ fn copy_newest<A: Allocator + Copy>(
     ensures found { newest_in records.now home ≡ (if result then Some buffer.new else None) }
     ensures none { result ≡ false → buffer.new ≡ buffer.old }
 {
-    let mut found = false;
-    for blocks in records {
-        match blocks.get(home) {
-            Some(bytes) => {
-                *buffer = *bytes;
-                found = true;
-            }
-            None => {}
+    match newest(records, home) {
+        Some(bytes) => {
+            *buffer = *bytes;
+            true
         }
+        None => false,
     }
-    found
+}
+
+// The bytes of a step that writes the record of this home block, if it writes one.
+fn record_for<A: Allocator + Copy>(records: &[Blocks<A>], home: Option<u32>) -> &[u8; 4096]
+    ensures { result.now ≡ record_for records.now home }
+{
+    match home {
+        Some(home) => match newest(records, home) {
+            Some(bytes) => bytes,
+            None => &[0; 4096],
+        },
+        None => &[0; 4096],
+    }
+}
+
+// A block is whole. It does nothing at run time: the proof of `advance` needs its clause.
+fn has_whole_block(block: &[u8; 4096])
+    ensures { length block.now ≡ 4096 }
+{
+    let _bytes: &[u8] = block;
 }
 
 // The blocks of a write-out that is done go.
@@ -206,23 +236,27 @@ impl<D: Device, A: Allocator + Copy> Pager<D, A> {
     fn is_full(&self, home: u32) -> bool
         ensures { result ≡ is_full self.now.table self.now.most self.now.staged home }
     {
+        if self.staged.len() < self.most as usize {
+            return false;
+        }
         if self.staged.get(home).is_some() {
             return false;
         }
         self.staged.len() + self.reserved() >= self.most as usize + self.lengths_blocks()
     }
 
-    // The bytes of a home block are kept for the next commit.
-    fn stage(&mut self, home: u32, bytes: [u8; 4096]) -> Result<(), Refusal>
+    // The first bytes of a page, and zeros after them, are kept for the next commit.
+    fn stage(&mut self, home: u32, bytes: &[u8; 4096], left: u64) -> Result<(), Refusal>
         requires low { first_home self.old.table.layout self.old.table.slots ≤ home }
         requires within { home < block_count self.old.table }
         requires before { IsBeforeEnd self.old.table self.old.lengths home }
         requires room { is_full self.old.table self.old.most self.old.staged home ≡ false }
-        ensures ok { OnOk result (self.new ≡ record self.old { staged = with_block self.old.staged home bytes }) }
+        ensures ok { OnOk result
+            (self.new ≡ record self.old { staged = with_block self.old.staged home (cut_to left bytes.now) }) }
         ensures err { OnErr result (self.new ≡ self.old) }
         ensures memory { IfErr result (λ why. why ≡ Refusal.OutOfMemory) }
     {
-        let Ok(block) = Box::new(self.alloc, bytes) else {
+        let Ok(block) = boxed_page(self.alloc, bytes, left) else {
             return Err(Refusal::OutOfMemory);
         };
         match self.staged.put(home, block) {
@@ -248,9 +282,7 @@ impl<D: Device, A: Allocator + Copy> Pager<D, A> {
         if self.is_full(home) {
             return Err(Refusal::NoFrame);
         }
-        let mut block = *bytes;
-        cut_off(&mut block, self.left(page));
-        self.stage(home, block)
+        self.stage(home, bytes, self.left(page))
     }
 
     // A commit of what was put begins under the next mark.
@@ -301,21 +333,6 @@ impl<D: Device, A: Allocator + Copy> Pager<D, A> {
         Ok(self.marks)
     }
 
-    // The bytes for the next step.
-    fn next_bytes(&self) -> [u8; 4096]
-        ensures bytes { result ≡ next_bytes self.now }
-        ensures a_block { length (next_bytes self.now) ≡ 4096 }
-    {
-        let mut bytes = [0; 4096];
-        match self.write_outs.next_home() {
-            Some(home) => {
-                let _found = copy_newest(&self.records, home, &mut bytes);
-            }
-            None => {}
-        }
-        bytes
-    }
-
     // The next step of write-outs that aren't done.
     fn advance(&mut self) -> Flushed
         requires { self.old.write_outs.batches ≢ [] }
@@ -328,8 +345,10 @@ impl<D: Device, A: Allocator + Copy> Pager<D, A> {
         ensures did { Did D.Device self.old.device (next_work self.old.write_outs (next_bytes self.old))
             (has_done result) self.new.device }
     {
-        let bytes = self.next_bytes();
-        let answer = self.write_outs.step(&mut self.device, &bytes);
+        let home = self.write_outs.next_home();
+        let bytes = record_for(&self.records, home);
+        has_whole_block(bytes);
+        let answer = self.write_outs.step(&mut self.device, bytes);
         conclude(&mut self.records, answer);
         answer
     }

@@ -1,5 +1,5 @@
 // Pages of files: their home blocks, and how many of their bytes are the file's.
-ghost use Rattle.std.specs.Prelude.{◌≡◌, ◌+◌, ◌*◌, ◌<◌, ◌≤◌, length, take, replicate, slice_index_or, slice_set};
+ghost use Rattle.std.specs.Prelude.{◌≡◌, ◌+◌, ◌*◌, ◌<◌, ◌≤◌, length, take, replicate, slice_index_or, slice_set, IfOk};
 ghost use Rattle.volume_codec.specs.Layout.{first_home};
 ghost use Rattle.volume_codec.specs.Super.{block_count, capacities_in, first_home_of, pages_of};
 ghost use Rattle.volume_codec.specs.Lengths.{AreLengths, lengths_text};
@@ -10,7 +10,7 @@ ghost use Rattle.pager.specs.Calls.{end_page};
 ghost use Rattle.pager.specs.inside.Sound.{IsBeforeEnd};
 
 use page_entry::{FileNumber, FilePage, PAGE};
-use std::alloc::Allocator;
+use std::alloc::{AllocError, Allocator};
 use volume_codec::{Super, write_lengths};
 
 /// The length of a file in bytes, of these lengths.
@@ -102,4 +102,18 @@ pub(crate) fn cut_off(page: &mut [u8; 4096], left: u64)
     if left < PAGE {
         clear(&mut page[left as usize..]);
     }
+}
+
+/// A copy of a page on the heap: its first bytes, and zeros after them.
+pub(crate) fn boxed_page<A: Allocator + Copy>(
+    alloc: A,
+    page: &[u8; 4096],
+    left: u64,
+) -> Result<Box<[u8; 4096], A>, AllocError>
+    ensures { IfOk result (λ block. block.value ≡ padded 4096 (take left page.now)) }
+{
+    let mut block = Box::new(alloc, [0; 4096])?;
+    block.copy_from_slice(page);
+    cut_off(&mut block, left);
+    Ok(block)
 }

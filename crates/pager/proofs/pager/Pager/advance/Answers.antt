@@ -1,11 +1,13 @@
-use Rattle.std.proofs.Common.{◌≡◌, ℕ, ◌≤◌, List, length, subst, sym, ◌⊎◌, arith}
+use Rattle.std.proofs.Common.{◌≡◌, ℕ, ◌≤◌, List, length, subst, sym, ap, ◌∙◌, ◌⊎◌, arith}
 use Rattle.journal.specs.declared.flushed.Flushed.{Flushed}
 use Rattle.journal.specs.declared.flushed.Flushed.TheVariants.{Device}
 use Rattle.journal.specs.WriteOut.{WriteOut}
-use Rattle.journal.specs.WriteOuts.{WriteOutsValue, shares_syncs, next_answer, outs_after}
+use Rattle.journal.specs.Work.{has_done}
+use Rattle.journal.specs.WriteOuts.{WriteOutsValue, shares_syncs, next_answer, next_work, outs_after}
+use Rattle.device.specs.Did.{Did}
 use Rattle.pager.specs.Blocks.{Blocks}
-use Rattle.pager.specs.State.{PagerState}
-use Rattle.pager.specs.Calls.{after_step}
+use Rattle.pager.specs.State.{PagerState, record_for}
+use Rattle.pager.specs.Calls.{after_step, next_bytes}
 use Rattle.pager.specs.inside.Sound.{IsSound}
 use Rattle.pager.proofs.Stepping.{tied_after, fewer_after, all_after}
 use Rattle.pager.proofs.pager.Pager.advance.Goals as goal
@@ -66,3 +68,21 @@ pub returns-clause-answer : goal.returns-clause-answer
 returns-clause-answer g c = subst (λ (s : PagerState g.row.D.Denot).
     (c.step-answer.result ≡ next_answer s.write_outs) ⊎ (c.step-answer.result ≡ Device))
     c.self.view_is c.step-answer.ensures.answer
+
+pub returns-clause-a_block : goal.returns-clause-a_block
+returns-clause-a_block g c =
+    sym (ap length (c.record_for-bytes.ensures
+    ∙ (λ i. record_for (c.deref.ensures.value i) (c.next_home-home.ensures i))
+    ∙ ap (λ (s : PagerState g.row.D.Denot). next_bytes s) c.self.view_is))
+    ∙ c.has_whole_block.ensures
+
+pub returns-clause-did : goal.returns-clause-did
+returns-clause-did g c =
+    let new = c.step-answer.new.device in
+    let done = has_done c.step-answer.result in
+    subst (λ (s : PagerState g.row.D.Denot). Did g.D.Device s.device (next_work s.write_outs (next_bytes s)) done new)
+    c.self.view_is
+    (subst (λ (bytes : List ℕ). Did g.D.Device c.self.inside.device (next_work c.self.inside.write_outs bytes) done new)
+    (c.record_for-bytes.ensures
+    ∙ (λ i. record_for (c.deref.ensures.value i) (c.next_home-home.ensures i)))
+    c.step-answer.ensures.did)
