@@ -1,4 +1,4 @@
-use Rattle.std.proofs.Common.{◌≡◌, ℕ, List, Option, ap, ◌∙◌, sym}
+use Rattle.std.proofs.Common.{ℕ, List, Option, ap, ◌∙◌, sym}
 use Rattle.std.specs.Prelude.{unwrap_or}
 use Rattle.volume_codec.specs.Text.{zeros}
 use Rattle.pager.specs.State.{record_for}
