@@ -1,6 +1,11 @@
 // What a host does: it supplies blocks, lets the core forget some, and makes the calls that wait.
-ghost use Rattle.std.specs.Prelude.{◌≡◌, ◌↔◌, ◌⊎◌, IsTrue, is_some};
-ghost use Rattle.famsync_core.specs.Held.{has_block, knows};
+ghost use Rattle.std.specs.Prelude.{◌≡◌, true, false, OnOk, OnErr};
+ghost use Rattle.std.specs.Option.{option_map, option_map_or};
+ghost use Rattle.deferred_disk.specs.Deferred.{after_forget};
+ghost use Rattle.deferred_disk.specs.Lent.{change_lent};
+ghost use Rattle.embedded.specs.Supplying.{is_of_disk, is_free, with_supplied};
+ghost use Rattle.famsync_core.specs.Held.{has_block, knows, needs_no, waiting_in, waits_in, without_oldest, after_supplied, after_forgotten, after_call_made};
+ghost use Rattle.famsync_core.specs.Requests.{AnswersSupply, AnswersForget, AnswersCall, AnswersMade};
 
 use crate::codes::{ARGUMENT, NO_MEMORY, NONE, OK};
 use crate::place::place_of;
@@ -11,11 +16,13 @@ use std::alloc::{AllocError, Global};
 
 impl State {
     /// Takes a block that the host has read.
-    pub(crate) fn supply(&mut self, block: u32, bytes: &[u8]) -> i32 {
+    pub(crate) fn supply(&mut self, block: u32, bytes: &[u8]) -> i32
+        ensures { AnswersSupply self.old block bytes.now result self.new }
+    {
         let Some(bytes) = bytes.as_array() else {
             return ARGUMENT;
         };
-        if u64::from(block) >= self.blocks() {
+        if !self.has_block(block) {
             return ARGUMENT;
         }
         match self.put_block(block, bytes) {
@@ -24,19 +31,24 @@ impl State {
         }
     }
 
-    fn put_block(&mut self, block: u32, bytes: &[u8; 4096]) -> Result<(), AllocError> {
+    fn put_block(&mut self, block: u32, bytes: &[u8; 4096]) -> Result<(), AllocError>
+        ensures ok { OnOk result (self.new ≡ after_supplied block bytes.now self.old) }
+        ensures err { OnErr result (self.new ≡ self.old) }
+    {
         match &mut self.volume {
             Some(volume) => volume.supply(block, bytes),
             None => put_before(&mut self.disk, block, bytes),
         }
     }
 
-    // How many blocks the volume has.
-    fn blocks(&self) -> u64 {
+    // Whether a block is one of the disk.
+    fn has_block(&self, block: u32) -> bool
+        ensures { result ≡ has_block self.now block }
+    {
         match (&self.volume, &self.disk) {
-            (Some(volume), _) => volume.pager().device().len() / 4096,
-            (None, Some(disk)) => disk.len() / 4096,
-            (None, None) => 0,
+            (Some(volume), _) => is_of_disk(volume.pager().device(), block),
+            (None, Some(disk)) => is_of_disk(disk, block),
+            (None, None) => false,
         }
     }
 
@@ -52,23 +64,45 @@ impl State {
     }
 
     /// Forgets a block, if no call that waits writes to it.
-    pub(crate) fn forget(&mut self, block: u32) -> i32 {
-        if u64::from(block) >= self.blocks() {
+    pub(crate) fn forget(&mut self, block: u32) -> i32
+        ensures { AnswersForget self.old block result self.new }
+    {
+        if !self.has_block(block) {
             return ARGUMENT;
         }
-        let is_forgotten = match &mut self.volume {
+        if self.forget_block(block) { OK } else { NONE }
+    }
+
+    fn forget_block(&mut self, block: u32) -> bool
+        ensures result { result ≡ needs_no self.old block }
+        ensures forgotten { result ≡ true → self.new ≡ after_forgotten block self.old }
+        ensures kept { result ≡ false → self.new ≡ self.old }
+    {
+        match &mut self.volume {
             Some(volume) => volume.forget(block),
             None => forget_before(&mut self.disk, block),
-        };
-        if is_forgotten { OK } else { NONE }
+        }
     }
 
     /// How many calls wait for the host.
-    pub(crate) fn waiting(&self) -> usize {
+    pub(crate) fn waiting(&self) -> usize
+        ensures { result ≡ waiting_in self.now }
+    {
         match (&self.volume, &self.disk) {
             (Some(volume), _) => volume.waiting(),
             (None, Some(disk)) => disk.waiting(),
             (None, None) => 0,
+        }
+    }
+
+    // The call that waits behind so many others.
+    fn lent(&self, others: usize) -> Option<DeferredCall<'_>>
+        ensures { option_map change_lent result ≡ waits_in others self.now }
+    {
+        match (&self.volume, &self.disk) {
+            (Some(volume), _) => volume.call(others),
+            (None, Some(disk)) => disk.call(others),
+            (None, None) => None,
         }
     }
 
@@ -80,14 +114,11 @@ impl State {
         offset: &mut u64,
         bytes: &mut *const u8,
         length: &mut u64,
-    ) -> i32 {
-        let others = index as usize;
-        let call = match (&self.volume, &self.disk) {
-            (Some(volume), _) => volume.call(others),
-            (None, Some(disk)) => disk.call(others),
-            (None, None) => None,
-        };
-        match call {
+    ) -> i32
+        ensures { AnswersCall (waits_in index self.now) result
+            kind.old kind.new offset.old offset.new length.old length.new }
+    {
+        match self.lent(index as usize) {
             Some(DeferredCall::Write { at, bytes: written }) => {
                 *kind = 1;
                 *offset = at;
@@ -104,7 +135,9 @@ impl State {
     }
 
     /// The oldest calls were made.
-    pub(crate) fn carried_out(&mut self, count: u32) -> i32 {
+    pub(crate) fn carried_out(&mut self, count: u32) -> i32
+        ensures { AnswersMade self.old count result self.new }
+    {
         if count as usize > self.waiting() {
             return ARGUMENT;
         }
@@ -114,7 +147,9 @@ impl State {
         OK
     }
 
-    fn carry_one(&mut self) {
+    fn carry_one(&mut self)
+        ensures { self.new ≡ after_call_made self.old }
+    {
         match &mut self.volume {
             Some(volume) => volume.carried_out(),
             None => carry_before(&mut self.disk),
@@ -122,40 +157,59 @@ impl State {
     }
 }
 
+// Whether a block lies before the end of a disk.
+fn is_of_disk(disk: &DeferredDisk<Global>, block: u32) -> bool
+    ensures { result ≡ is_of_disk disk.now block }
+{
+    4096 * u64::from(block) + 4096 <= disk.len()
+}
+
 fn put_before(
     disk: &mut Option<DeferredDisk<Global>>,
     block: u32,
     bytes: &[u8; 4096],
-) -> Result<(), AllocError> {
+) -> Result<(), AllocError>
+    ensures ok { OnOk result (disk.new ≡ option_map (λ d. with_supplied d block bytes.now) disk.old) }
+    ensures err { OnErr result (disk.new ≡ disk.old) }
+{
     match disk {
         Some(disk) => put_on(disk, block, bytes),
         None => Ok(()),
     }
 }
 
-fn put_on(
-    disk: &mut DeferredDisk<Global>,
-    block: u32,
-    bytes: &[u8; 4096],
-) -> Result<(), AllocError> {
-    if 4096 * u64::from(block) + 4096 <= disk.len() {
+fn put_on(disk: &mut DeferredDisk<Global>, block: u32, bytes: &[u8; 4096]) -> Result<(), AllocError>
+    ensures ok { OnOk result (disk.new ≡ with_supplied disk.old block bytes.now) }
+    ensures err { OnErr result (disk.new ≡ disk.old) }
+{
+    if is_of_disk(disk, block) {
         return disk.supply(block, bytes);
     }
     Ok(())
 }
 
-fn forget_before(disk: &mut Option<DeferredDisk<Global>>, block: u32) -> bool {
+fn forget_before(disk: &mut Option<DeferredDisk<Global>>, block: u32) -> bool
+    ensures result { result ≡ option_map_or (λ d. is_free d block) disk.old false }
+    ensures forgotten { result ≡ true → disk.new ≡ option_map (λ d. after_forget d block) disk.old }
+    ensures kept { result ≡ false → disk.new ≡ disk.old }
+{
     match disk {
         Some(disk) => forget_on(disk, block),
         None => false,
     }
 }
 
-fn forget_on(disk: &mut DeferredDisk<Global>, block: u32) -> bool {
-    4096 * u64::from(block) + 4096 <= disk.len() && disk.forget(block)
+fn forget_on(disk: &mut DeferredDisk<Global>, block: u32) -> bool
+    ensures result { result ≡ is_free disk.old block }
+    ensures forgotten { result ≡ true → disk.new ≡ after_forget disk.old block }
+    ensures kept { result ≡ false → disk.new ≡ disk.old }
+{
+    is_of_disk(disk, block) && disk.forget(block)
 }
 
-fn carry_before(disk: &mut Option<DeferredDisk<Global>>) {
+fn carry_before(disk: &mut Option<DeferredDisk<Global>>)
+    ensures { disk.new ≡ option_map without_oldest disk.old }
+{
     if let Some(disk) = disk {
         disk.carried_out();
     }

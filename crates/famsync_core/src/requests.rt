@@ -1,14 +1,14 @@
 // What is asked of an open volume, and how one is opened.
-ghost use Rattle.std.specs.Prelude.{◌≡◌, ℕ, ◌-◌, ◌^◌, min, is_some, IfSome, IfNone, Some};
+ghost use Rattle.std.specs.Prelude.{◌≡◌, ℕ, ◌-◌, ◌^◌, min, is_some, IfSome, IfNone, Some, None};
 ghost use Rattle.famsync_core.specs.Codes.{order_code, outcome_code, reading_code, wanted_block, lack_code, lacked_block, small_block};
 ghost use Rattle.famsync_core.specs.Held.{page_at};
-ghost use Rattle.famsync_core.specs.Requests.{AnswersWrite, AnswersCommit, AnswersSteps};
+ghost use Rattle.famsync_core.specs.Requests.{AnswersOpen, AnswersRead, AnswersWrite, AnswersLength, AnswersCommit, AnswersSteps, most_pages};
 
 use crate::codes::{ARGUMENT, NONE, OK, ORDER, WANTED, code_of_outcome, code_of_refusal};
 use crate::state::State;
 use deferred_disk::DeferredDisk;
 use embedded::{Embedded, Unread};
-use page_entry::{FilePage, Refusal};
+use page_entry::{FileNumber, FilePage, Refusal};
 use std::alloc::Global;
 
 // The page of a file with these numbers. One that is too large for its type is the largest, which no volume has.
@@ -60,6 +60,41 @@ fn code_of_lack(refusal: &Refusal, lacked: Option<u32>, wanted: &mut u32) -> i32
     }
 }
 
+// The most pages of a commit, where 0 stands for as many as its journals take.
+fn most_pages(pages: u32) -> u32
+    ensures { result ≡ most_pages pages }
+{
+    if pages == 0 { u32::MAX } else { pages }
+}
+
+// Reads a page, if there is room for as many bytes as a page has.
+fn read_page(volume: &mut Embedded<Global>, page: FilePage, to: &mut [u8], wanted: &mut u32) -> i32
+    ensures { AnswersRead volume.old page to.old to.new result wanted.old wanted.new volume.new }
+{
+    if to.len() != 4096 {
+        return ARGUMENT;
+    }
+    let mut buffer = [0; 4096];
+    let outcome = volume.read(page, &mut buffer);
+    if outcome.is_ok() {
+        to.copy_from_slice(&buffer);
+    }
+    code_of_reading(&outcome, wanted)
+}
+
+// Sets the length of a file.
+fn change_length(
+    volume: &mut Embedded<Global>,
+    file: FileNumber,
+    length: u64,
+    wanted: &mut u32,
+) -> i32
+    ensures { AnswersLength volume.old file length result wanted.old wanted.new volume.new }
+{
+    let outcome = volume.set_length(file, length);
+    code_of_reading(&outcome, wanted)
+}
+
 // Writes a page of these bytes, if there are as many as a page has.
 fn write_page(volume: &mut Embedded<Global>, page: FilePage, bytes: &[u8]) -> i32
     ensures { AnswersWrite volume.old page bytes.now result volume.new }
@@ -72,11 +107,29 @@ fn write_page(volume: &mut Embedded<Global>, page: FilePage, bytes: &[u8]) -> i3
 
 impl State {
     /// Opens the volume.
-    pub(crate) fn open(&mut self, alloc: Global, pages: u32, wanted: &mut u32) -> i32 {
-        let Some(disk) = self.disk.take() else {
-            return ORDER;
-        };
-        let most = if pages == 0 { u32::MAX } else { pages };
+    pub(crate) fn open(&mut self, alloc: Global, pages: u32, wanted: &mut u32) -> i32
+        ensures order { IfNone self.old.disk
+            ((result ≡ order_code) × (wanted.new ≡ wanted.old) × (self.new ≡ self.old)) }
+        ensures answers { IfSome self.old.disk (λ disk.
+            AnswersOpen self.old disk (most_pages pages) result wanted.old wanted.new self.new) }
+    {
+        match self.disk.take() {
+            Some(disk) => self.open_disk(alloc, disk, most_pages(pages), wanted),
+            None => ORDER,
+        }
+    }
+
+    // Opens the volume of a disk, or keeps the disk.
+    fn open_disk(
+        &mut self,
+        alloc: Global,
+        disk: DeferredDisk<Global>,
+        most: u32,
+        wanted: &mut u32,
+    ) -> i32
+        requires { self.old.disk ≡ None }
+        ensures { AnswersOpen self.old disk most result wanted.old wanted.new self.new }
+    {
         match embedded::open(alloc, disk, most) {
             Ok(volume) => {
                 self.volume = Some(volume);
@@ -89,6 +142,8 @@ impl State {
     // Keeps the disk of a volume that wasn't opened, and answers why: for want of a block, or for another reason.
     fn give_back(&mut self, disk: DeferredDisk<Global>, refusal: Refusal, wanted: &mut u32) -> i32
         ensures kept { self.new ≡ record self.old { disk = Some disk } }
+        ensures code { result ≡ lack_code refusal (small_block disk.wanted) }
+        ensures wanted { wanted.new ≡ lacked_block refusal (small_block disk.wanted) wanted.old }
     {
         let lacked = block_number(disk.wanted());
         self.disk = Some(disk);
@@ -96,25 +151,25 @@ impl State {
     }
 
     /// Reads a page of a file.
-    pub(crate) fn read(&mut self, file: u32, page: u64, to: &mut [u8], wanted: &mut u32) -> i32 {
+    pub(crate) fn read(&mut self, file: u32, page: u64, to: &mut [u8], wanted: &mut u32) -> i32
+        ensures order { IfNone self.old.volume
+            ((result ≡ order_code) × (to.new ≡ to.old) × (wanted.new ≡ wanted.old) × (self.new ≡ self.old)) }
+        ensures open { is_some self.new.volume ≡ is_some self.old.volume }
+        ensures disk { self.new.disk ≡ self.old.disk }
+        ensures answers { IfSome self.old.volume (λ e. IfSome self.new.volume
+            (AnswersRead e (page_at file page) to.old to.new result wanted.old wanted.new)) }
+    {
         let Some(volume) = &mut self.volume else {
             return ORDER;
         };
-        let mut buffer = [0; 4096];
-        if to.len() != 4096 {
-            return ARGUMENT;
-        }
-        let outcome = volume.read(page_at(file, page), &mut buffer);
-        if outcome.is_ok() {
-            to.copy_from_slice(&buffer);
-        }
-        code_of_reading(&outcome, wanted)
+        read_page(volume, page_at(file, page), to, wanted)
     }
 
     /// Writes a page of a file.
     pub(crate) fn write(&mut self, file: u32, page: u64, bytes: &[u8]) -> i32
         ensures order { IfNone self.old.volume ((result ≡ order_code) × (self.new ≡ self.old)) }
         ensures open { is_some self.new.volume ≡ is_some self.old.volume }
+        ensures disk { self.new.disk ≡ self.old.disk }
         ensures answers { IfSome self.old.volume (λ e. IfSome self.new.volume
             (AnswersWrite e (page_at file page) bytes.now result)) }
     {
@@ -126,8 +181,10 @@ impl State {
 
     /// Makes a commit, up to its acknowledgement by the pager.
     pub(crate) fn commit(&mut self, mark: &mut u32) -> i32
-        ensures order { IfNone self.old.volume ((result ≡ order_code) × (self.new ≡ self.old)) }
+        ensures order { IfNone self.old.volume
+            ((result ≡ order_code) × (mark.new ≡ mark.old) × (self.new ≡ self.old)) }
         ensures open { is_some self.new.volume ≡ is_some self.old.volume }
+        ensures disk { self.new.disk ≡ self.old.disk }
         ensures answers { IfSome self.old.volume (λ e. IfSome self.new.volume
             (AnswersCommit e result mark.old mark.new)) }
     {
@@ -147,6 +204,7 @@ impl State {
     pub(crate) fn write_out(&mut self, most: u32) -> i32
         ensures order { IfNone self.old.volume ((result ≡ order_code) × (self.new ≡ self.old)) }
         ensures open { is_some self.new.volume ≡ is_some self.old.volume }
+        ensures disk { self.new.disk ≡ self.old.disk }
         ensures answers { IfSome self.old.volume (λ e. IfSome self.new.volume (AnswersSteps most e result)) }
     {
         let Some(volume) = &mut self.volume else {
@@ -160,11 +218,17 @@ impl State {
     }
 
     /// Sets the length of a file.
-    pub(crate) fn set_length(&mut self, file: u32, length: u64, wanted: &mut u32) -> i32 {
+    pub(crate) fn set_length(&mut self, file: u32, length: u64, wanted: &mut u32) -> i32
+        ensures order { IfNone self.old.volume
+            ((result ≡ order_code) × (wanted.new ≡ wanted.old) × (self.new ≡ self.old)) }
+        ensures open { is_some self.new.volume ≡ is_some self.old.volume }
+        ensures disk { self.new.disk ≡ self.old.disk }
+        ensures answers { IfSome self.old.volume (λ e. IfSome self.new.volume
+            (AnswersLength e (min file (2 ^ 16 - 1)) length result wanted.old wanted.new)) }
+    {
         let Some(volume) = &mut self.volume else {
             return ORDER;
         };
-        let outcome = volume.set_length(file.min(0xFFFF) as u16, length);
-        code_of_reading(&outcome, wanted)
+        change_length(volume, file.min(0xFFFF) as u16, length, wanted)
     }
 }

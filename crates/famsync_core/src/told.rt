@@ -1,5 +1,7 @@
 // What is told of an open volume.
 ghost use Rattle.std.specs.Prelude.{◌≡◌, ℕ, ◌-◌, ◌^◌, min, pos};
+ghost use Rattle.famsync_core.specs.Held.{page_at};
+ghost use Rattle.famsync_core.specs.Requests.{told, files_told, frames_told, head_told, shares_told, acknowledged_told, staged_told, is_staged_told, unwritten_told};
 
 use crate::codes::{ARGUMENT, OK, ORDER};
 use crate::requests::page_at;
@@ -22,7 +24,9 @@ fn copied(bytes: &[u8], to: &mut [u8]) -> usize {
 
 impl State {
     /// How many files the volume has.
-    pub(crate) fn files(&self) -> i64 {
+    pub(crate) fn files(&self) -> i64
+        ensures { result ≡ told files_told self.now }
+    {
         match &self.volume {
             Some(volume) => number_of(volume.pager().table().file_count() as u64),
             None => i64::from(ORDER),
@@ -30,7 +34,9 @@ impl State {
     }
 
     /// How many pages a commit can have.
-    pub(crate) fn frames(&self) -> i64 {
+    pub(crate) fn frames(&self) -> i64
+        ensures { result ≡ told frames_told self.now }
+    {
         match &self.volume {
             Some(volume) => i64::from(volume.pager().most()),
             None => i64::from(ORDER),
@@ -38,7 +44,9 @@ impl State {
     }
 
     /// How many blocks lie before those of the first file.
-    pub(crate) fn head(&self) -> i64 {
+    pub(crate) fn head(&self) -> i64
+        ensures { result ≡ told head_told self.now }
+    {
         match &self.volume {
             Some(volume) => i64::from(volume.pager().table().geometry().first_file_home()),
             None => i64::from(ORDER),
@@ -46,7 +54,9 @@ impl State {
     }
 
     /// Whether commits share their syncs.
-    pub(crate) fn shares_syncs(&self) -> i32 {
+    pub(crate) fn shares_syncs(&self) -> i32
+        ensures { result ≡ told shares_told self.now }
+    {
         match &self.volume {
             Some(volume) => i32::from(volume.pager().table().geometry().journals() == 4),
             None => ORDER,
@@ -89,7 +99,9 @@ impl State {
     }
 
     /// The last mark that is durable, 0 where there is none.
-    pub(crate) fn acknowledged(&self) -> i64 {
+    pub(crate) fn acknowledged(&self) -> i64
+        ensures { result ≡ told acknowledged_told self.now }
+    {
         match &self.volume {
             Some(volume) => match volume.acknowledged() {
                 Some(mark) => i64::from(mark),
@@ -100,7 +112,9 @@ impl State {
     }
 
     /// How many pages the next commit takes.
-    pub(crate) fn staged(&self) -> i64 {
+    pub(crate) fn staged(&self) -> i64
+        ensures { result ≡ told staged_told self.now }
+    {
         match &self.volume {
             Some(volume) => number_of(volume.pager().staged_pages() as u64),
             None => i64::from(ORDER),
@@ -108,7 +122,9 @@ impl State {
     }
 
     /// Whether the next commit takes a page.
-    pub(crate) fn is_staged(&self, file: u32, page: u64) -> i32 {
+    pub(crate) fn is_staged(&self, file: u32, page: u64) -> i32
+        ensures { result ≡ told (is_staged_told (page_at file page)) self.now }
+    {
         match &self.volume {
             Some(volume) => i32::from(volume.pager().is_staged(page_at(file, page))),
             None => ORDER,
@@ -116,7 +132,9 @@ impl State {
     }
 
     /// How many pages are to be written home still.
-    pub(crate) fn unwritten(&self) -> i64 {
+    pub(crate) fn unwritten(&self) -> i64
+        ensures { result ≡ told unwritten_told self.now }
+    {
         match &self.volume {
             Some(volume) => number_of(volume.pager().unwritten() as u64),
             None => i64::from(ORDER),
