@@ -1,5 +1,7 @@
 // What is asked of an open volume, and how one is opened.
 ghost use Rattle.std.specs.Prelude.{◌≡◌, ℕ, ◌-◌, ◌^◌, min, is_some, IfSome, IfNone, Some, None};
+ghost use Rattle.std.specs.Option.{option_map};
+ghost use Rattle.deferred_disk.specs.Deferred.{carried_moment};
 ghost use Rattle.famsync_core.specs.Codes.{order_code, outcome_code, reading_code, wanted_block, lack_code, lacked_block, small_block};
 ghost use Rattle.famsync_core.specs.Held.{page_at};
 ghost use Rattle.famsync_core.specs.Requests.{AnswersOpen, AnswersRead, AnswersWrite, AnswersLength, AnswersCommit, AnswersSteps, most_pages};
@@ -187,6 +189,8 @@ impl State {
         ensures disk { self.new.disk ≡ self.old.disk }
         ensures answers { IfSome self.old.volume (λ e. IfSome self.new.volume
             (AnswersCommit e result mark.old mark.new)) }
+        ensures carried { option_map (λ e. carried_moment e.pager.device) self.new.volume
+            ≡ option_map (λ e. carried_moment e.pager.device) self.old.volume }
     {
         let Some(volume) = &mut self.volume else {
             return ORDER;
@@ -206,6 +210,8 @@ impl State {
         ensures open { is_some self.new.volume ≡ is_some self.old.volume }
         ensures disk { self.new.disk ≡ self.old.disk }
         ensures answers { IfSome self.old.volume (λ e. IfSome self.new.volume (AnswersSteps most e result)) }
+        ensures carried { option_map (λ e. carried_moment e.pager.device) self.new.volume
+            ≡ option_map (λ e. carried_moment e.pager.device) self.old.volume }
     {
         let Some(volume) = &mut self.volume else {
             return ORDER;
