@@ -22,6 +22,16 @@ pub fn u64_at(bytes: &[u8], at: usize) -> u64
     BigEndian::read_u64(&bytes[at..])
 }
 
+/// The 8 bytes of a number.
+#[tactic(auto, unfolding(volume_codec::specs::Text::number_text))]
+pub fn number_bytes(n: u64) -> [u8; 8]
+    ensures { result ≡ number_text 8 n }
+{
+    let mut bytes = [0; 8];
+    BigEndian::write_u64(&mut bytes, n);
+    bytes
+}
+
 /// A block of zeros.
 pub fn zero_block() -> [u8; 4096]
     ensures { result ≡ padded 4096 [] }
@@ -51,13 +61,10 @@ pub fn put_u32(block: &mut [u8; 4096], at: usize, n: u32)
 }
 
 /// Writes a number of 8 bytes at a place, up to which the block is written.
-#[tactic(auto, unfolding(volume_codec::specs::Text::number_text))]
 pub fn put_u64(block: &mut [u8; 4096], at: usize, n: u64)
     requires { at + 8 ≤ 4096 }
     ensures { (text : List ℕ) → block.old ≡ padded 4096 text → length text ≡ at
         → block.new ≡ padded 4096 (text ++ number_text 8 n) }
 {
-    let mut bytes = [0; 8];
-    BigEndian::write_u64(&mut bytes, n);
-    put(block, at, &bytes);
+    put(block, at, &number_bytes(n));
 }

@@ -3,10 +3,16 @@
 #![tactic(auto)]
 
 mod block;
+mod broken;
+mod descriptor;
 mod log;
+mod seal;
 mod sealing;
 mod start;
 
+pub use broken::Broken;
+pub use descriptor::{decode_count, decode_descriptor, encode_descriptor};
 pub use log::LogGeometry;
+pub use seal::{ByteSeal, CommitDigest, open_seal, read_seal};
 pub use sealing::Sealing;
 pub use start::{LogStart, decode_start, encode_start, is_second, selecting_byte, start_block_of};

@@ -1,0 +1,93 @@
+-- What the bytes of a volume with a log recover to: the chain of sealed commits from the start that counts.
+use Rattle.std.specs.Prelude.{◌≡◌, ◌≢◌, ℕ, ◌+◌, ◌-◌, ◌*◌, ◌<◌, ◌≤◌, ◌==◌, if◌then◌else◌}
+use Rattle.std.specs.Prelude.{List, [], ◌∷◌, ◌++◌, length, slice_index}
+use Rattle.volume_codec.specs.Layout.{block_at}
+use Rattle.log_codec.specs.declared.sealing.Sealing.{Sealing}
+use Rattle.log_codec.specs.declared.sealing.Sealing.TheVariants.{ByByte, ByDigest}
+use Rattle.log_codec.specs.declared.start.LogStart.{LogStart}
+use Rattle.log_codec.specs.Log.{LogValue, first_log_home, ring_block, ring_bytes}
+use Rattle.log_codec.specs.Log.{log_descriptor_blocks, log_commit_blocks}
+use Rattle.log_codec.specs.Start.{HasLogStart}
+use Rattle.log_codec.specs.Commit.{LogDescriptor, IsLogged, log_body, log_seal}
+
+-- the position of the records of a commit at position p
+abbrev pub records_position : ℕ → LogDescriptor → ℕ
+records_position p d = p + log_descriptor_blocks (length d.homes)
+
+-- the position behind it
+abbrev pub position_after : ℕ → LogDescriptor → ℕ
+position_after p d = p + log_commit_blocks (length d.homes)
+
+-- at position p of the log in these bytes lies this commit, under the seal of its records in this epoch
+pub record IsSealedAt (g : LogValue) (epoch p : ℕ) (d : LogDescriptor) (bytes : List ℕ) : Type 0 where
+  pub logged : IsLogged g d
+  pub sealed : ring_bytes g.ring bytes p (log_descriptor_blocks (length d.homes))
+      ≡ log_seal g.sealing epoch d (ring_bytes g.ring bytes (records_position p d) (length d.homes)) ++ log_body d
+
+-- the blocks of the log that no commit takes: where a byte seals, that of the next seal
+abbrev pub spare_blocks : Sealing → ℕ
+spare_blocks ByByte = 1
+spare_blocks (ByDigest key) = 0
+
+-- the next commit of a chain: it is sealed, has this number, and lies in this many blocks, which the chain has left
+pub record IsNextCommit (g : LogValue) (epoch p number left : ℕ) (d : LogDescriptor) (bytes : List ℕ) : Type 0 where
+  pub sealed : IsSealedAt g epoch p d bytes
+  pub number_is : d.number ≡ number
+  pub room : log_commit_blocks (length d.homes) + spare_blocks g.sealing ≤ left
+
+-- the log ends at position p. Where a byte seals, the seal there is closed: an open one over anything else than the next
+-- commit is damage. Where a digest seals, the next commit doesn't lie there.
+abbrev pub EndsAt : Sealing → LogValue → ℕ → ℕ → ℕ → ℕ → List ℕ → Type 0
+EndsAt ByByte g epoch p number left bytes = slice_index (block_at bytes (ring_block g.ring p)) 0 ≢ 0xA7
+EndsAt (ByDigest key) g epoch p number left bytes =
+    (d : LogDescriptor) → IsNextCommit g epoch p number left d bytes → ⊥
+
+-- the commits from position p to the end of the log, the oldest first, each with the next number
+abbrev pub IsChain : LogValue → ℕ → ℕ → ℕ → ℕ → List LogDescriptor → List ℕ → Type 0
+IsChain g epoch p number left [] bytes = EndsAt g.sealing g epoch p number left bytes
+IsChain g epoch p number left (d ∷ ds) bytes =
+    IsNextCommit g epoch p number left d bytes
+    × IsChain g epoch (position_after p d) (number + 1) (left - log_commit_blocks (length d.homes)) ds bytes
+
+-- the position behind all commits of a chain
+abbrev pub chain_end : ℕ → List LogDescriptor → ℕ
+chain_end p [] = p
+chain_end p (d ∷ ds) = chain_end (position_after p d) ds
+
+-- these bytes hold a log with this start, and these are its commits
+pub record HasLog (g : LogValue) (s : LogStart) (chain : List LogDescriptor) (bytes : List ℕ) : Type 0 where
+  pub long : 4096 * g.blocks ≤ length bytes
+  pub start : HasLogStart g.ring s bytes
+  pub commits : IsChain g s.epoch s.position s.number g.ring chain bytes
+
+-- the block of the record of home block b in a commit whose records begin at position p, and another block where it has
+-- none
+abbrev pub logged_or : ℕ → ℕ → ℕ → List ℕ → ℕ → ℕ
+logged_or ring other p [] b = other
+logged_or ring other p (home ∷ homes) b = if b == home then ring_block ring p else logged_or ring other (p + 1) homes b
+
+-- the block with the recovered bytes of home block b: its record in the newest commit that has one, else another block
+abbrev pub newest_or : ℕ → ℕ → ℕ → List LogDescriptor → ℕ → ℕ
+newest_or ring other p [] b = other
+newest_or ring other p (d ∷ ds) b =
+    newest_or ring (logged_or ring other (records_position p d) d.homes b) (position_after p d) ds b
+
+-- the contents that these bytes recover to, where this chain begins at position p
+abbrev pub contents_of_log : LogValue → ℕ → List LogDescriptor → List ℕ → ℕ → List ℕ
+contents_of_log g p chain bytes b = block_at bytes (newest_or g.ring b p chain b)
+
+-- a home block of a volume with a log
+pub record IsLogHome (g : LogValue) (b : ℕ) : Type 0 where
+  pub low : first_log_home g.ring ≤ b
+  pub high : b < g.blocks
+
+-- the log of these bytes recovers to these contents
+pub record LogRecovers (g : LogValue) (contents : ℕ → List ℕ) (bytes : List ℕ) : Type 0 where
+  pub start : LogStart
+  pub chain : List LogDescriptor
+  pub log : HasLog g start chain bytes
+  pub contents_are : (b : ℕ) → IsLogHome g b → contents b ≡ contents_of_log g start.position chain bytes b
+
+-- a damaged log: these bytes hold none
+abbrev pub IsDamagedLog : LogValue → List ℕ → Type 0
+IsDamagedLog g bytes = (s : LogStart) (chain : List LogDescriptor) → HasLog g s chain bytes → ⊥
