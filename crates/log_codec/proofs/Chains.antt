@@ -1,12 +1,16 @@
 -- The bytes of a log have at most one chain, and what a further commit makes of the recovered blocks.
 use Rattle.std.proofs.Common.{◌≡◌, ◌≢◌, ℕ, zero, suc, ◌+◌, ◌-◌, ◌*◌, ◌%◌, ◌<◌, ◌≤◌, ◌==◌, List, [], ◌∷◌, ◌++◌}
-use Rattle.std.proofs.Common.{length, take, drop, get_or, refl, sym, ap, subst, ◌∙◌, arith, length-append}
+use Rattle.std.proofs.Common.{Bool, true, false, cond, length, take, drop, get_or, refl, sym, ap, subst, ◌∙◌, arith}
+use Rattle.std.proofs.Common.{add-zero}
+use Rattle.std.specs.List.{AllByRecursion}
+use Rattle.std.proofs.lemmas.Bool.Decides.{nat_tests}
 use Rattle.std.proofs.lemmas.List.{drop_at, take_at, drop-take, get_or-take}
 use Rattle.byteorder.specs.Numbers.{big_from-take}
+use Rattle.volume_codec.specs.Descriptor.{RiseWithin}
 use Rattle.volume_codec.specs.Layout.{block_at}
 use Rattle.volume_codec.specs.Recovery.{blocks_from}
 use Rattle.volume_codec.specs.Text.{number_text, number_in, zeros}
-use Rattle.volume_codec.proofs.Public.{length-block_at, length-number_text, length-zeros}
+use Rattle.volume_codec.proofs.Public.{length-block_at, length-number_text, rising_at}
 use Rattle.log_codec.specs.declared.sealing.Sealing.{Sealing}
 use Rattle.log_codec.specs.declared.sealing.Sealing.TheVariants.{ByByte, ByDigest}
 use Rattle.log_codec.specs.declared.start.LogStart.{LogStart}
@@ -15,7 +19,7 @@ use Rattle.log_codec.specs.Start.{HasLogStart, start_block, counts_second}
 use Rattle.log_codec.specs.Commit.{LogDescriptor, IsLogDescriptor, log_body, log_seal, open_seal}
 use Rattle.log_codec.specs.Broken.{records_said}
 use Rattle.log_codec.specs.Chain.{IsSealedAt, IsNextCommit, EndsAt, IsChain, HasLog, records_position, position_after}
-use Rattle.log_codec.specs.Chain.{chain_end, logged_or, newest_or}
+use Rattle.log_codec.specs.Chain.{chain_end, logged_or, newest_or, contents_of_log, IsLogHome, LogRecovers}
 use Rattle.log_codec.proofs.Starts.{one_start_of}
 use Rattle.log_codec.proofs.Digests.{length-open_seal}
 use Rattle.log_codec.proofs.Reading.{reads_body, one_value}
@@ -105,8 +109,9 @@ one_chain g epoch p number left (d ∷ ds) (e ∷ es) bytes log long is other =
     let same : e ≡ d = one_sealed g epoch p e d bytes log long other.0.sealed is.0.sealed in
     let P : LogDescriptor → Type 0 = λ x. IsChain g epoch (position_after p x) (number + 1)
     (left - log_commit_blocks (length x.homes)) es bytes in
-    let rest = one_chain g epoch (position_after p d) (number + 1) (left - log_commit_blocks (length d.homes)) ds es bytes
-    log long is.1 (subst P same other.1) in
+    let after : ℕ = left - log_commit_blocks (length d.homes) in
+    let rest = one_chain g epoch (position_after p d) (number + 1) after ds es bytes log long is.1
+    (subst P same other.1) in
     ap (λ (x : LogDescriptor). x ∷ ds) (sym same) ∙ ap (λ (xs : List LogDescriptor). e ∷ xs) rest
 
 -- the bytes of a log have one start and one chain
@@ -119,6 +124,30 @@ one_log_there g s t ds es bytes log is other =
       one_chain g s.epoch s.position s.number g.ring ds es bytes log is.long is.commits (subst P same other.commits),
     )
 
+pub same_contents : (g : LogValue) (contents others : ℕ → List ℕ) (bytes : List ℕ) (b : ℕ) → IsLog g
+    → LogRecovers g contents bytes → LogRecovers g others bytes → IsLogHome g b → contents b ≡ others b
+same_contents g contents others bytes b log is other home =
+    let same = one_log_there g is.start other.start is.chain other.chain bytes log is.log other.log in
+    is.contents_are b home
+    ∙ ap (λ (s : LogStart). contents_of_log g s.position is.chain bytes b) same.0
+    ∙ ap (λ (ds : List LogDescriptor). contents_of_log g other.start.position ds bytes b) same.1
+    ∙ sym (other.contents_are b home)
+
+-- ---- where a log ends
+
+pub open_end : (g : LogValue) (epoch p number left : ℕ) (bytes : List ℕ) → g.sealing ≡ ByByte
+    → get_or (block_at bytes (ring_block g.ring p)) 0 0 ≡ 0xA7
+    → ((d : LogDescriptor) → IsNextCommit g epoch p number left d bytes → ⊥)
+    → (ds : List LogDescriptor) → IsChain g epoch p number left ds bytes → ⊥
+open_end g epoch p number left bytes byte opened none [] is =
+    let P : Sealing → Type 0 = λ s. EndsAt s g epoch p number left bytes in subst P byte is opened
+open_end g epoch p number left bytes byte opened none (d ∷ ds) is = none d is.0
+
+pub digest_end : (g : LogValue) (key epoch p number left : ℕ) (bytes : List ℕ) → g.sealing ≡ ByDigest key
+    → ((d : LogDescriptor) → IsNextCommit g epoch p number left d bytes → ⊥) → IsChain g epoch p number left [] bytes
+digest_end g key epoch p number left bytes digest none =
+    let P : Sealing → Type 0 = λ s. EndsAt s g epoch p number left bytes in subst P (sym digest) none
+
 -- ---- recovered blocks
 
 -- a commit more stands before all others
@@ -128,3 +157,28 @@ pub newest_more : (ring other p : ℕ) (ds : List LogDescriptor) (d : LogDescrip
 newest_more ring other p [] d b = refl
 newest_more ring other p (e ∷ ds) d b =
     newest_more ring (logged_or ring other (records_position p e) e.homes b) (position_after p e) ds d b
+
+-- the home block at a place has the record of that place
+pub logged_at : (ring other p low high i : ℕ) (homes : List ℕ) → RiseWithin low high homes → i < length homes
+    → logged_or ring other p homes (get_or homes i 0) ≡ ring_block ring (p + i)
+logged_at ring other p low high i [] rise h = absurd (omega arith)
+logged_at ring other p low high zero (n ∷ ns) rise h =
+    let here : (n == n) ≡ true = grind (arith, nat_tests) in
+    ap (λ (t : Bool). cond t (ring_block ring p) (logged_or ring other (p + 1) ns n)) here
+    ∙ ap (ring_block ring) (sym (add-zero p))
+logged_at ring other p low high (suc i) (n ∷ ns) rise h =
+    let above = rising_at (n + 1) high ns i rise.2 (omega arith) in
+    let apart : (get_or ns i 0 == n) ≡ false = grind (arith, nat_tests, above.0) in
+    let place : p + 1 + i ≡ p + suc i = omega arith in
+    ap (λ (t : Bool). cond t (ring_block ring p) (logged_or ring other (p + 1) ns (get_or ns i 0))) apart
+    ∙ logged_at ring other (p + 1) (n + 1) high i ns rise.2 (omega arith) ∙ ap (ring_block ring) place
+
+-- a block that these homes don't have is read elsewhere
+pub logged_other : (ring other p b : ℕ) (homes : List ℕ) → AllByRecursion (λ home. home ≢ b) homes
+    → logged_or ring other p homes b ≡ other
+logged_other ring other p b [] h = refl
+logged_other ring other p b (n ∷ ns) h =
+    let apart : n ≢ b = h.0 in
+    let test : (b == n) ≡ false = grind (arith, nat_tests) in
+    ap (λ (t : Bool). cond t (ring_block ring p) (logged_or ring other (p + 1) ns b)) test
+    ∙ logged_other ring other (p + 1) b ns h.1

@@ -35,8 +35,8 @@ pub record IsNextCommit (g : LogValue) (epoch p number left : ℕ) (d : LogDescr
   pub number_is : d.number ≡ number
   pub room : log_commit_blocks (length d.homes) + spare_blocks g.sealing ≤ left
 
--- the log ends at position p. Where a byte seals, the seal there is closed: an open one over anything else than the next
--- commit is damage. Where a digest seals, the next commit doesn't lie there.
+-- the log ends at position p. Where a byte seals, the seal there is closed: an open one over anything else than the
+-- next commit is damage. Where a digest seals, the next commit doesn't lie there.
 abbrev pub EndsAt : Sealing → LogValue → ℕ → ℕ → ℕ → ℕ → List ℕ → Type 0
 EndsAt ByByte g epoch p number left bytes = slice_index (block_at bytes (ring_block g.ring p)) 0 ≢ 0xA7
 EndsAt (ByDigest key) g epoch p number left bytes =

@@ -6,8 +6,8 @@ use Rattle.log_codec.specs.declared.seal.ByteSeal.TheVariants.{Closed, Open, Dam
 use Rattle.log_codec.specs.declared.seal.CommitDigest.{CommitDigest}
 use Rattle.log_codec.specs.Commit.{LogDescriptor, log_body, open_seal}
 
--- what eight bytes say in a log that is sealed by a byte: 0xA7 opens, every other byte closes, and seven zeros follow an
--- open one
+-- what eight bytes say in a log that is sealed by a byte: 0xA7 opens, every other byte closes, and seven zeros follow
+-- an open one
 abbrev pub SealSays : ByteSeal → List ℕ → Type 0
 SealSays Closed bytes = slice_index bytes 0 ≢ 0xA7
 SealSays Open bytes = bytes ≡ open_seal

@@ -5,6 +5,7 @@
 mod block;
 mod broken;
 mod descriptor;
+mod laws;
 mod log;
 mod seal;
 mod sealing;
@@ -12,6 +13,7 @@ mod start;
 
 pub use broken::Broken;
 pub use descriptor::{decode_count, decode_descriptor, encode_descriptor};
+pub use laws::{broken_bytes, ends_of_log, one_log, parts_of_log, recovered_from_log};
 pub use log::LogGeometry;
 pub use seal::{ByteSeal, CommitDigest, open_seal, read_seal};
 pub use sealing::Sealing;

@@ -1,4 +1,4 @@
-use Rattle.std.proofs.Common.{◌≡◌, List, ℕ, ◌-◌, ◌*◌, length, take, ap, subst, ◌∙◌, arith, []}
+use Rattle.std.proofs.Common.{◌≡◌, List, ℕ, ◌-◌, ◌*◌, ◌<◌, length, take, ap, subst, ◌∙◌, arith, []}
 use Rattle.std.specs.Prelude.{bit_xor}
 use Rattle.xxh64.specs.Xxh64.{HasMessage}
 use Rattle.log_codec.specs.Commit.{LogDescriptor, log_body}
@@ -22,7 +22,8 @@ loop-index-preserved c =
     let seal = c.open_seal-in-loop-index.result in
     let eight : length seal ≡ 8 = ap length c.open_seal-in-loop-index.ensures ∙ length-open_seal in
     let P : List ℕ → Type 0 = λ m. HasMessage c.update-in-loop-index.new.self seed m in
-    subst P (next_part seal (log_body d) c.encode_descriptor-block.result i eight (omega (arith, c.loop-index.auto.index))
+    let further : 0 < i = omega (arith, c.loop-index.auto.index) in
+    subst P (next_part seal (log_body d) c.encode_descriptor-block.result i eight further
     c.encode_descriptor-block.ensures)
     (c.update-in-loop-index.ensures seed (take (4096 * i - 8) (log_body d)) c.loop-index.invariant)
 

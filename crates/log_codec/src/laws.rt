@@ -1,0 +1,73 @@
+// What follows of the definitions alone.
+ghost use Rattle.std.specs.Prelude.{◌≡◌, ◌≢◌, ℕ, ◌+◌, ◌*◌, ◌<◌, ◌≤◌, List, [], ◌∷◌, ◌++◌, length, slice_index};
+ghost use Rattle.std.specs.List.{AllByRecursion};
+ghost use Rattle.volume_codec.specs.Descriptor.{RiseWithin};
+ghost use Rattle.volume_codec.specs.Layout.{block_at};
+ghost use Rattle.log_codec.specs.declared.broken.Broken.{Broken};
+ghost use Rattle.log_codec.specs.declared.broken.Broken.TheVariants.{OutOfMemory};
+ghost use Rattle.log_codec.specs.declared.sealing.Sealing.TheVariants.{ByByte, ByDigest};
+ghost use Rattle.log_codec.specs.declared.start.LogStart.{LogStart};
+ghost use Rattle.log_codec.specs.Log.{LogValue, IsLog, ring_block, first_log_home, log_descriptor_blocks};
+ghost use Rattle.log_codec.specs.Start.{IsLogStart, IsStartBlock, start_text};
+ghost use Rattle.log_codec.specs.Commit.{LogDescriptor, IsLogged, IsLogDescriptor, log_body};
+ghost use Rattle.log_codec.specs.Broken.{BreaksLogRule};
+ghost use Rattle.log_codec.specs.Chain.{IsSealedAt, IsNextCommit, HasLog, IsLogHome, LogRecovers, IsChain, records_position, chain_end, logged_or, newest_or};
+
+/// What is written reads back: the text of a start, and that of a descriptor under any seal, keep the grammar. A block
+/// says at most one start, bytes say at most one descriptor, and a position has at most one sealed commit. Bytes have
+/// at most one log, and recover to at most one list of contents.
+pub fn one_log()
+    ensures start_back { (ring : ℕ) (s : LogStart) → IsLogStart ring s → IsStartBlock ring s (start_text s) }
+    ensures descriptor_back { (g : LogValue) (d : LogDescriptor) (seal : List ℕ) → IsLogged g d → length seal ≡ 8
+        → IsLogDescriptor g d (seal ++ log_body d) }
+    ensures starts { (g : LogValue) (s t : LogStart) (block : List ℕ) → IsLog g → IsStartBlock g.ring s block
+        → IsStartBlock g.ring t block → s ≡ t }
+    ensures descriptors { (g : LogValue) (d e : LogDescriptor) (bytes : List ℕ) → IsLog g
+        → IsLogDescriptor g d bytes → IsLogDescriptor g e bytes → d ≡ e }
+    ensures commits { (g : LogValue) (epoch p : ℕ) (d e : LogDescriptor) (bytes : List ℕ) → IsLog g
+        → 4096 * g.blocks ≤ length bytes → IsSealedAt g epoch p d bytes → IsSealedAt g epoch p e bytes → d ≡ e }
+    ensures logs { (g : LogValue) (s t : LogStart) (ds es : List LogDescriptor) (bytes : List ℕ) → IsLog g
+        → HasLog g s ds bytes → HasLog g t es bytes → (s ≡ t) × (ds ≡ es) }
+    ensures contents { (g : LogValue) (contents others : ℕ → List ℕ) (bytes : List ℕ) (b : ℕ) → IsLog g
+        → LogRecovers g contents bytes → LogRecovers g others bytes → IsLogHome g b → contents b ≡ others b }
+{}
+
+/// Bytes that break a rule say no descriptor with the number that is asked for.
+pub fn broken_bytes()
+    ensures { (g : LogValue) (number : ℕ) (bytes : List ℕ) (broken : Broken) → IsLog g
+        → BreaksLogRule g number bytes broken → broken ≢ OutOfMemory → (d : LogDescriptor) → d.number ≡ number
+        → IsLogDescriptor g d bytes → ⊥ }
+{}
+
+/// Where a log lies. Its blocks lie from block 4 on and before the home blocks. Blocks from a position on are apart
+/// until the ring is round. A descriptor has room for 32 bytes and 4 for each record, and no block more.
+pub fn parts_of_log()
+    ensures within { (ring p : ℕ) → 0 < ring → (4 ≤ ring_block ring p) × (ring_block ring p < first_log_home ring) }
+    ensures round { (ring p : ℕ) → 0 < ring → ring_block ring (p + ring) ≡ ring_block ring p }
+    ensures room { (records : ℕ) → 32 + 4 * records ≤ 4096 * log_descriptor_blocks records }
+    ensures no_more { (records : ℕ) → 4096 * log_descriptor_blocks records < 32 + 4 * records + 4096 }
+{}
+
+/// Where a log ends, and where it is damaged. Take bytes in which no next commit lies at a position. Where a byte seals
+/// and the seal there is open, no chain leads on: the log is damaged. Where a digest seals, the log ends there.
+pub fn ends_of_log()
+    ensures damaged { (g : LogValue) (epoch p number left : ℕ) (bytes : List ℕ) → g.sealing ≡ ByByte
+        → slice_index (block_at bytes (ring_block g.ring p)) 0 ≡ 0xA7
+        → ((d : LogDescriptor) → IsNextCommit g epoch p number left d bytes → ⊥)
+        → (ds : List LogDescriptor) → IsChain g epoch p number left ds bytes → ⊥ }
+    ensures ended { (g : LogValue) (key epoch p number left : ℕ) (bytes : List ℕ) → g.sealing ≡ ByDigest key
+        → ((d : LogDescriptor) → IsNextCommit g epoch p number left d bytes → ⊥)
+        → IsChain g epoch p number left [] bytes }
+{}
+
+/// What recovered contents are made of. The records of the newest commit stand for its home blocks, record i for the
+/// home block at place i; every other home block is what it is without that commit, and itself without any.
+pub fn recovered_from_log()
+    ensures newest { (ring other p : ℕ) (ds : List LogDescriptor) (d : LogDescriptor) (b : ℕ)
+        → newest_or ring other p (ds ++ d ∷ []) b
+        ≡ logged_or ring (newest_or ring other p ds b) (records_position (chain_end p ds) d) d.homes b }
+    ensures record_of { (ring other p low high i : ℕ) (homes : List ℕ) → RiseWithin low high homes
+        → i < length homes → logged_or ring other p homes (slice_index homes i) ≡ ring_block ring (p + i) }
+    ensures no_record { (ring other p b : ℕ) (homes : List ℕ) → AllByRecursion (λ home. home ≢ b) homes
+        → logged_or ring other p homes b ≡ other }
+{}
