@@ -1,28 +1,34 @@
 -- The bytes of a log have at most one chain, and what a further commit makes of the recovered blocks.
 use Rattle.std.proofs.Common.{◌≡◌, ◌≢◌, ℕ, zero, suc, ◌+◌, ◌-◌, ◌*◌, ◌%◌, ◌<◌, ◌≤◌, ◌==◌, List, [], ◌∷◌, ◌++◌}
 use Rattle.std.proofs.Common.{Bool, true, false, cond, length, take, drop, get_or, refl, sym, ap, subst, ◌∙◌, arith}
-use Rattle.std.proofs.Common.{add-zero}
+use Rattle.std.proofs.Common.{add-zero, add_assoc, inl, inr}
 use Rattle.std.specs.List.{AllByRecursion}
 use Rattle.std.proofs.lemmas.Bool.Decides.{nat_tests}
-use Rattle.std.proofs.lemmas.List.{drop_at, take_at, drop-take, get_or-take}
+use Rattle.std.proofs.lemmas.List.{drop_at, take_at, drop-take, take-take, get_or-take, length-take-le}
+use Rattle.std.proofs.lemmas.List.{take-append-drop}
 use Rattle.byteorder.specs.Numbers.{big_from-take}
 use Rattle.volume_codec.specs.Descriptor.{RiseWithin}
 use Rattle.volume_codec.specs.Layout.{block_at}
 use Rattle.volume_codec.specs.Recovery.{blocks_from}
 use Rattle.volume_codec.specs.Text.{number_text, number_in, zeros}
 use Rattle.volume_codec.proofs.Public.{length-block_at, length-number_text, rising_at}
+use Rattle.log_codec.specs.declared.broken.Broken.{Broken}
+use Rattle.log_codec.specs.declared.broken.Broken.TheVariants.{Length, Number, Count}
 use Rattle.log_codec.specs.declared.sealing.Sealing.{Sealing}
 use Rattle.log_codec.specs.declared.sealing.Sealing.TheVariants.{ByByte, ByDigest}
 use Rattle.log_codec.specs.declared.start.LogStart.{LogStart}
-use Rattle.log_codec.specs.Log.{LogValue, IsLog, ring_block, ring_bytes, log_descriptor_blocks, log_commit_blocks}
+use Rattle.log_codec.specs.Log.{LogValue, IsLog, IsCommitSize, ring_block, ring_bytes}
+use Rattle.log_codec.specs.Log.{log_descriptor_blocks, log_commit_blocks}
 use Rattle.log_codec.specs.Start.{HasLogStart, start_block, counts_second}
-use Rattle.log_codec.specs.Commit.{LogDescriptor, IsLogDescriptor, log_body, log_seal, open_seal}
-use Rattle.log_codec.specs.Broken.{records_said}
+use Rattle.log_codec.specs.Commit.{LogDescriptor, IsCommitNumber, IsLogged, IsLogDescriptor}
+use Rattle.log_codec.specs.Commit.{log_body, log_seal, open_seal}
+use Rattle.log_codec.specs.Broken.{BreaksFirstRule, records_said}
 use Rattle.log_codec.specs.Chain.{IsSealedAt, IsNextCommit, EndsAt, IsChain, HasLog, records_position, position_after}
 use Rattle.log_codec.specs.Chain.{chain_end, logged_or, newest_or, contents_of_log, IsLogHome, LogRecovers}
+use Rattle.log_codec.specs.Chain.{spare_blocks, chain_blocks}
 use Rattle.log_codec.proofs.Starts.{one_start_of}
 use Rattle.log_codec.proofs.Digests.{length-open_seal}
-use Rattle.log_codec.proofs.Reading.{reads_body, one_value}
+use Rattle.log_codec.proofs.Reading.{BodyReadsAs, reads_body, one_value}
 
 pub length-log_seal : (sealing : Sealing) (epoch : ℕ) (d : LogDescriptor) (records : List ℕ)
     → length (log_seal sealing epoch d records) ≡ 8
@@ -75,6 +81,95 @@ one_sealed g epoch p d e bytes log long is other =
     let P : ℕ → Type 0 = λ n. IsLogDescriptor g e (ring_bytes g.ring bytes p (log_descriptor_blocks n)) in
     one_value g d e (ring_bytes g.ring bytes p (log_descriptor_blocks (length d.homes))) log
     (said_there g epoch p d bytes is) (subst P many (said_there g epoch p e bytes other))
+
+-- the number is within the first block, too
+number_within : (bytes : List ℕ) → take 8 (drop 8 (take 4096 bytes)) ≡ take 8 (drop 8 bytes)
+number_within bytes =
+    ap (take 8) (drop-take 8 4088 bytes) ∙ take-take 8 4088 (drop 8 bytes) (omega arith)
+
+-- the first block of the next commit
+pub next_first : (g : LogValue) (epoch p number left : ℕ) (d : LogDescriptor) (bytes : List ℕ) (broken : Broken)
+    → IsLog g → 4096 * g.blocks ≤ length bytes → IsNextCommit g epoch p number left d bytes
+    → (records_said (block_at bytes (ring_block g.ring p)) ≡ length d.homes)
+    × (BreaksFirstRule g number (block_at bytes (ring_block g.ring p)) broken → ⊥)
+next_first g epoch p number left d bytes broken log long is = (said, by broken)
+  where
+    first : List ℕ
+    first = block_at bytes (ring_block g.ring p)
+
+    blocks : ℕ
+    blocks = log_descriptor_blocks (length d.homes)
+
+    said : records_said first ≡ length d.homes
+    said = count_there g epoch p d bytes log long is.sealed
+
+    whole : List ℕ
+    whole = ring_bytes g.ring bytes p blocks
+
+    begins : take 4096 whole ≡ first
+    begins = first_of_ring g bytes p blocks log long (omega arith)
+
+    reads : BodyReadsAs d whole
+    reads = reads_body g d whole log (said_there g epoch p d bytes is.sealed)
+
+    logged : IsLogged g d
+    logged = is.sealed.logged
+
+    same : take 8 (drop 8 first) ≡ number_text 8 number
+    same = ap (λ (l : List ℕ). take 8 (drop 8 l)) (sym begins) ∙ number_within whole ∙ reads.numbered
+        ∙ ap (number_text 8) is.number_is
+
+    numbered : IsCommitNumber number
+    numbered = let P : ℕ → Type 0 = λ n. IsCommitNumber n in subst P is.number_is logged.number
+
+    sized : IsCommitSize g.ring (records_said first)
+    sized = let P : ℕ → Type 0 = λ n. IsCommitSize g.ring n in subst P (sym said) logged.size
+
+    four : 4096 ≤ length whole
+    four = omega (arith, reads.size)
+
+    full : length first ≡ 4096
+    full = ap length (sym begins) ∙ length-take-le 4096 whole four
+
+    by : (b : Broken) → BreaksFirstRule g number first b → ⊥
+    by Length h = omega (arith, full, h)
+    by Number (inl none) = none numbered
+    by Number (inr other) = other same
+    by Count h = h sized
+    by _ h = h
+
+-- the descriptor of the next commit
+pub next_descriptor : (g : LogValue) (epoch p number left : ℕ) (d : LogDescriptor) (bytes : List ℕ)
+    → IsNextCommit g epoch p number left d bytes
+    → IsLogDescriptor g d (ring_bytes g.ring bytes p (log_descriptor_blocks (length d.homes)))
+    × (take 8 (ring_bytes g.ring bytes p (log_descriptor_blocks (length d.homes)))
+    ≡ log_seal g.sealing epoch d (ring_bytes g.ring bytes (records_position p d) (length d.homes)))
+next_descriptor g epoch p number left d bytes is =
+    let records : List ℕ = ring_bytes g.ring bytes (records_position p d) (length d.homes) in
+    let seal : List ℕ = log_seal g.sealing epoch d records in (
+      said_there g epoch p d bytes is.sealed,
+      ap (take 8) is.sealed.sealed ∙ take_at seal (log_body d) 8 (length-log_seal g.sealing epoch d records),
+    )
+
+-- a descriptor under the seal of its records is that of a sealed commit
+pub next_found : (g : LogValue) (epoch p number left : ℕ) (d : LogDescriptor) (bytes : List ℕ)
+    → IsLogDescriptor g d (ring_bytes g.ring bytes p (log_descriptor_blocks (length d.homes)))
+    → take 8 (ring_bytes g.ring bytes p (log_descriptor_blocks (length d.homes)))
+    ≡ log_seal g.sealing epoch d (ring_bytes g.ring bytes (records_position p d) (length d.homes))
+    → d.number ≡ number → log_commit_blocks (length d.homes) + spare_blocks g.sealing ≤ left
+    → IsNextCommit g epoch p number left d bytes
+next_found g epoch p number left d bytes says seals numbered fits =
+    let head : List ℕ = ring_bytes g.ring bytes p (log_descriptor_blocks (length d.homes)) in
+    let records : List ℕ = ring_bytes g.ring bytes (records_position p d) (length d.homes) in
+    record {
+      sealed = record {
+        logged = says.logged;
+        sealed = sym (take-append-drop 8 head) ∙ ap (λ (l : List ℕ). l ++ drop 8 head) seals
+            ∙ ap (λ (l : List ℕ). log_seal g.sealing epoch d records ++ l) says.spelled;
+      };
+      number_is = numbered;
+      room = fits;
+    }
 
 -- where a byte seals, the seal of a commit is open
 open_there : (g : LogValue) (epoch p : ℕ) (d : LogDescriptor) (bytes : List ℕ) → IsLog g
@@ -147,6 +242,23 @@ pub digest_end : (g : LogValue) (key epoch p number left : ℕ) (bytes : List �
     → ((d : LogDescriptor) → IsNextCommit g epoch p number left d bytes → ⊥) → IsChain g epoch p number left [] bytes
 digest_end g key epoch p number left bytes digest none =
     let P : Sealing → Type 0 = λ s. EndsAt s g epoch p number left bytes in subst P (sym digest) none
+
+-- ---- the room of a chain
+
+pub ends_behind : (p : ℕ) (ds : List LogDescriptor) → chain_end p ds ≡ p + chain_blocks ds
+ends_behind p [] = sym (add-zero p)
+ends_behind p (d ∷ ds) =
+    ends_behind (position_after p d) ds ∙ add_assoc p (log_commit_blocks (length d.homes)) (chain_blocks ds)
+
+pub chain_fits : (g : LogValue) (epoch p number left : ℕ) (ds : List LogDescriptor) (bytes : List ℕ)
+    → spare_blocks g.sealing ≤ left → IsChain g epoch p number left ds bytes
+    → chain_blocks ds + spare_blocks g.sealing ≤ left
+chain_fits g epoch p number left [] bytes spare is = omega arith
+chain_fits g epoch p number left (d ∷ ds) bytes spare is =
+    let blocks : ℕ = log_commit_blocks (length d.homes) in
+    let here : blocks + spare_blocks g.sealing ≤ left = is.0.room in
+    let rest = chain_fits g epoch (position_after p d) (number + 1) (left - blocks) ds bytes (omega arith) is.1 in
+    omega arith
 
 -- ---- recovered blocks
 

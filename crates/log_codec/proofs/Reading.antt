@@ -13,7 +13,7 @@ use Rattle.log_codec.specs.declared.broken.Broken.TheVariants.{Length, Number, C
 use Rattle.log_codec.specs.declared.broken.Broken.TheVariants.{OutOfMemory}
 use Rattle.log_codec.specs.Log.{LogValue, IsLog, IsCommitSize, first_log_home, log_descriptor_blocks}
 use Rattle.log_codec.specs.Commit.{LogDescriptor, IsCommitNumber, IsLogged, IsLogDescriptor, log_body}
-use Rattle.log_codec.specs.Broken.{BreaksLogRule, records_said, homes_said}
+use Rattle.log_codec.specs.Broken.{BreaksFirstRule, BreaksLogRule, records_said, homes_said}
 
 -- what stands behind the first part of bytes from a place on
 behind : (bytes part more : List ℕ) (i k : ℕ) → drop i bytes ≡ part ++ more → length part ≡ k
@@ -119,3 +119,11 @@ breaks_all g number bytes Homes log none not d same is =
     let said : homes_said bytes ≡ d.homes = ap (λ n. numbers_in 4 n (drop 32 bytes)) r.count ∙ r.homes in
     none (subst P (sym said) is.logged.rising)
 breaks_all g number bytes OutOfMemory log any not d same is = not refl
+
+-- what the first block breaks, the bytes break that begin with it
+pub breaks_first : (g : LogValue) (number : ℕ) (bytes : List ℕ) (broken : Broken)
+    → BreaksFirstRule g number bytes broken → BreaksLogRule g number bytes broken
+breaks_first g number bytes Length h = inl h
+breaks_first g number bytes Number h = h
+breaks_first g number bytes Count h = h
+breaks_first g number bytes _ h = absurd h

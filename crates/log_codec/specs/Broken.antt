@@ -16,13 +16,20 @@ records_said bytes = number_in 4 (drop 16 bytes)
 abbrev pub homes_said : List ℕ → List ℕ
 homes_said bytes = numbers_in 4 (records_said bytes) (drop 32 bytes)
 
+-- the rule that the first block of a descriptor breaks already, by its name
+abbrev pub BreaksFirstRule : LogValue → ℕ → List ℕ → Broken → Type 0
+BreaksFirstRule g number bytes Length = length bytes < 4096
+BreaksFirstRule g number bytes Number =
+    (IsCommitNumber number → ⊥) ⊎ (take 8 (drop 8 bytes) ≢ number_text 8 number)
+BreaksFirstRule g number bytes Count = IsCommitSize g.ring (records_said bytes) → ⊥
+BreaksFirstRule g number bytes _ = ⊥
+
 -- the rule that these bytes break, by its name. Memory may be refused for any bytes.
 abbrev pub BreaksLogRule : LogValue → ℕ → List ℕ → Broken → Type 0
 BreaksLogRule g number bytes Length =
     (length bytes < 4096) ⊎ (length bytes ≢ 4096 * log_descriptor_blocks (records_said bytes))
-BreaksLogRule g number bytes Number =
-    (IsCommitNumber number → ⊥) ⊎ (take 8 (drop 8 bytes) ≢ number_text 8 number)
-BreaksLogRule g number bytes Count = IsCommitSize g.ring (records_said bytes) → ⊥
+BreaksLogRule g number bytes Number = BreaksFirstRule g number bytes Number
+BreaksLogRule g number bytes Count = BreaksFirstRule g number bytes Count
 BreaksLogRule g number bytes Reserved = take 12 (drop 20 bytes) ≢ zeros 12
 BreaksLogRule g number bytes Padding =
     drop (32 + 4 * records_said bytes) bytes ≢ zeros (length bytes - (32 + 4 * records_said bytes))

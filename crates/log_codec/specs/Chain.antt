@@ -54,6 +54,11 @@ abbrev pub chain_end : ℕ → List LogDescriptor → ℕ
 chain_end p [] = p
 chain_end p (d ∷ ds) = chain_end (position_after p d) ds
 
+-- the number of blocks of its commits
+abbrev pub chain_blocks : List LogDescriptor → ℕ
+chain_blocks [] = 0
+chain_blocks (d ∷ ds) = log_commit_blocks (length d.homes) + chain_blocks ds
+
 -- these bytes hold a log with this start, and these are its commits
 pub record HasLog (g : LogValue) (s : LogStart) (chain : List LogDescriptor) (bytes : List ℕ) : Type 0 where
   pub long : 4096 * g.blocks ≤ length bytes

@@ -6,7 +6,7 @@ ghost use Rattle.volume_codec.specs.Descriptor.{RiseWithin};
 ghost use Rattle.volume_codec.specs.Text.{number_text, numbers_in, zeros, padded};
 ghost use Rattle.log_codec.specs.Log.{IsCommitSize, log_descriptor_blocks};
 ghost use Rattle.log_codec.specs.Commit.{LogDescriptor, IsCommitNumber, IsLogDescriptor, log_body};
-ghost use Rattle.log_codec.specs.Broken.{BreaksLogRule, records_said};
+ghost use Rattle.log_codec.specs.Broken.{BreaksFirstRule, BreaksLogRule, records_said};
 
 use crate::block::{number_bytes, put, put_u32, put_u64, u32_at, zero_block};
 use crate::broken::Broken;
@@ -137,7 +137,7 @@ pub fn decode_count(log: &LogGeometry, number: u64, bytes: &[u8]) -> Result<u32,
     ensures ok { IfOk result (λ count. (4096 ≤ length bytes.now) × IsCommitNumber number
         × (take 8 (drop 8 bytes.now) ≡ number_text 8 number) × (count ≡ records_said bytes.now)
         × IsCommitSize log.now.ring count) }
-    ensures refused { IfErr result (BreaksLogRule log.now number bytes.now) }
+    ensures refused { IfErr result (BreaksFirstRule log.now number bytes.now) }
 {
     if bytes.len() < 4096 {
         return Err(Broken::Length);

@@ -1,5 +1,5 @@
 // What follows of the definitions alone.
-ghost use Rattle.std.specs.Prelude.{◌≡◌, ◌≢◌, ℕ, ◌+◌, ◌*◌, ◌<◌, ◌≤◌, List, [], ◌∷◌, ◌++◌, length, slice_index};
+ghost use Rattle.std.specs.Prelude.{◌≡◌, ◌≢◌, ℕ, ◌+◌, ◌*◌, ◌<◌, ◌≤◌, List, [], ◌∷◌, ◌++◌, length, take, slice_index};
 ghost use Rattle.std.specs.List.{AllByRecursion};
 ghost use Rattle.volume_codec.specs.Descriptor.{RiseWithin};
 ghost use Rattle.volume_codec.specs.Layout.{block_at};
@@ -7,11 +7,11 @@ ghost use Rattle.log_codec.specs.declared.broken.Broken.{Broken};
 ghost use Rattle.log_codec.specs.declared.broken.Broken.TheVariants.{OutOfMemory};
 ghost use Rattle.log_codec.specs.declared.sealing.Sealing.TheVariants.{ByByte, ByDigest};
 ghost use Rattle.log_codec.specs.declared.start.LogStart.{LogStart};
-ghost use Rattle.log_codec.specs.Log.{LogValue, IsLog, ring_block, first_log_home, log_descriptor_blocks};
+ghost use Rattle.log_codec.specs.Log.{LogValue, IsLog, ring_block, ring_bytes, first_log_home, log_descriptor_blocks, log_commit_blocks};
 ghost use Rattle.log_codec.specs.Start.{IsLogStart, IsStartBlock, start_text};
-ghost use Rattle.log_codec.specs.Commit.{LogDescriptor, IsLogged, IsLogDescriptor, log_body};
-ghost use Rattle.log_codec.specs.Broken.{BreaksLogRule};
-ghost use Rattle.log_codec.specs.Chain.{IsSealedAt, IsNextCommit, HasLog, IsLogHome, LogRecovers, IsChain, records_position, chain_end, logged_or, newest_or};
+ghost use Rattle.log_codec.specs.Commit.{LogDescriptor, IsLogged, IsLogDescriptor, log_body, log_seal};
+ghost use Rattle.log_codec.specs.Broken.{BreaksFirstRule, BreaksLogRule, records_said};
+ghost use Rattle.log_codec.specs.Chain.{IsSealedAt, IsNextCommit, HasLog, IsLogHome, LogRecovers, IsChain, spare_blocks, records_position, chain_end, chain_blocks, logged_or, newest_or};
 
 /// What is written reads back: the text of a start, and that of a descriptor under any seal, keep the grammar. A block
 /// says at most one start, bytes say at most one descriptor, and a position has at most one sealed commit. Bytes have
@@ -48,6 +48,27 @@ pub fn parts_of_log()
     ensures no_more { (records : ℕ) → 4096 * log_descriptor_blocks records < 32 + 4 * records + 4096 }
 {}
 
+/// How the next commit is found at a position. The first block says its number of records, and breaks no rule. The
+/// descriptor's blocks say the commit, and begin with its seal. Where these blocks say a commit with the number that is
+/// asked for, in the room that is left, under the seal of its records, it is the next one.
+pub fn next_commit()
+    ensures first { (g : LogValue) (epoch p number left : ℕ) (d : LogDescriptor) (bytes : List ℕ) (broken : Broken)
+        → IsLog g → 4096 * g.blocks ≤ length bytes → IsNextCommit g epoch p number left d bytes
+        → let block = block_at bytes (ring_block g.ring p) in
+        (records_said block ≡ length d.homes) × (BreaksFirstRule g number block broken → ⊥) }
+    ensures descriptor { (g : LogValue) (epoch p number left : ℕ) (d : LogDescriptor) (bytes : List ℕ)
+        → IsNextCommit g epoch p number left d bytes
+        → let head = ring_bytes g.ring bytes p (log_descriptor_blocks (length d.homes)) in
+        IsLogDescriptor g d head × (take 8 head
+        ≡ log_seal g.sealing epoch d (ring_bytes g.ring bytes (records_position p d) (length d.homes))) }
+    ensures found { (g : LogValue) (epoch p number left : ℕ) (d : LogDescriptor) (bytes : List ℕ)
+        → let head = ring_bytes g.ring bytes p (log_descriptor_blocks (length d.homes)) in
+        IsLogDescriptor g d head
+        → take 8 head ≡ log_seal g.sealing epoch d (ring_bytes g.ring bytes (records_position p d) (length d.homes))
+        → d.number ≡ number → log_commit_blocks (length d.homes) + spare_blocks g.sealing ≤ left
+        → IsNextCommit g epoch p number left d bytes }
+{}
+
 /// Where a log ends, and where it is damaged. Take bytes in which no next commit lies at a position. Where a byte seals
 /// and the seal there is open, no chain leads on: the log is damaged. Where a digest seals, the log ends there.
 pub fn ends_of_log()
@@ -58,6 +79,15 @@ pub fn ends_of_log()
     ensures ended { (g : LogValue) (key epoch p number left : ℕ) (bytes : List ℕ) → g.sealing ≡ ByDigest key
         → ((d : LogDescriptor) → IsNextCommit g epoch p number left d bytes → ⊥)
         → IsChain g epoch p number left [] bytes }
+{}
+
+/// The room of a chain. Its commits lie one behind the other, and with the block that no commit takes they have room in
+/// the blocks that were left for them. So none lies over another one.
+pub fn room_of_chain()
+    ensures behind { (p : ℕ) (ds : List LogDescriptor) → chain_end p ds ≡ p + chain_blocks ds }
+    ensures fits { (g : LogValue) (epoch p number left : ℕ) (ds : List LogDescriptor) (bytes : List ℕ)
+        → spare_blocks g.sealing ≤ left → IsChain g epoch p number left ds bytes
+        → chain_blocks ds + spare_blocks g.sealing ≤ left }
 {}
 
 /// What recovered contents are made of. The records of the newest commit stand for its home blocks, record i for the

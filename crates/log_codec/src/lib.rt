@@ -10,10 +10,15 @@ mod log;
 mod seal;
 mod sealing;
 mod start;
+#[cfg(test)]
+mod tests;
 
 pub use broken::Broken;
 pub use descriptor::{decode_count, decode_descriptor, encode_descriptor};
-pub use laws::{broken_bytes, ends_of_log, one_log, parts_of_log, recovered_from_log};
+pub use laws::{
+    broken_bytes, ends_of_log, next_commit, one_log, parts_of_log, recovered_from_log,
+    room_of_chain,
+};
 pub use log::LogGeometry;
 pub use seal::{ByteSeal, CommitDigest, open_seal, read_seal};
 pub use sealing::Sealing;
