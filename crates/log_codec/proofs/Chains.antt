@@ -23,9 +23,9 @@ use Rattle.log_codec.specs.Start.{HasLogStart, start_block, counts_second}
 use Rattle.log_codec.specs.Commit.{LogDescriptor, IsCommitNumber, IsLogged, IsLogDescriptor}
 use Rattle.log_codec.specs.Commit.{log_body, log_seal, open_seal}
 use Rattle.log_codec.specs.Broken.{BreaksFirstRule, records_said}
-use Rattle.log_codec.specs.Chain.{IsSealedAt, IsNextCommit, EndsAt, IsChain, HasLog, records_position, position_after}
+use Rattle.log_codec.specs.Chain.{IsSealedAt, IsNextCommit, LogEndsAt, IsChain, HasLog, records_position, position_after}
 use Rattle.log_codec.specs.Chain.{chain_end, logged_or, newest_or, contents_of_log, IsLogHome, LogRecovers}
-use Rattle.log_codec.specs.Chain.{spare_blocks, chain_blocks}
+use Rattle.log_codec.specs.Chain.{spare_blocks, chain_blocks, IsDamagedLog}
 use Rattle.log_codec.proofs.Starts.{one_start_of}
 use Rattle.log_codec.proofs.Digests.{length-open_seal}
 use Rattle.log_codec.proofs.Reading.{BodyReadsAs, reads_body, one_value}
@@ -186,7 +186,7 @@ open_there g epoch p d bytes log long byte is =
 
 -- no commit lies where the log ends
 not_both : (sealing : Sealing) (g : LogValue) (epoch p number left : ℕ) (d : LogDescriptor) (bytes : List ℕ) → IsLog g
-    → 4096 * g.blocks ≤ length bytes → g.sealing ≡ sealing → EndsAt sealing g epoch p number left bytes
+    → 4096 * g.blocks ≤ length bytes → g.sealing ≡ sealing → LogEndsAt sealing g epoch p number left bytes
     → IsNextCommit g epoch p number left d bytes → ⊥
 not_both ByByte g epoch p number left d bytes log long same ends is =
     ends (open_there g epoch p d bytes log long same is.sealed)
@@ -235,13 +235,34 @@ pub open_end : (g : LogValue) (epoch p number left : ℕ) (bytes : List ℕ) →
     → ((d : LogDescriptor) → IsNextCommit g epoch p number left d bytes → ⊥)
     → (ds : List LogDescriptor) → IsChain g epoch p number left ds bytes → ⊥
 open_end g epoch p number left bytes byte opened none [] is =
-    let P : Sealing → Type 0 = λ s. EndsAt s g epoch p number left bytes in subst P byte is opened
+    let P : Sealing → Type 0 = λ s. LogEndsAt s g epoch p number left bytes in subst P byte is opened
 open_end g epoch p number left bytes byte opened none (d ∷ ds) is = none d is.0
 
 pub digest_end : (g : LogValue) (key epoch p number left : ℕ) (bytes : List ℕ) → g.sealing ≡ ByDigest key
     → ((d : LogDescriptor) → IsNextCommit g epoch p number left d bytes → ⊥) → IsChain g epoch p number left [] bytes
 digest_end g key epoch p number left bytes digest none =
-    let P : Sealing → Type 0 = λ s. EndsAt s g epoch p number left bytes in subst P (sym digest) none
+    let P : Sealing → Type 0 = λ s. LogEndsAt s g epoch p number left bytes in subst P (sym digest) none
+
+-- a chain goes on with the next commit
+pub goes_on : (g : LogValue) (epoch p number left : ℕ) (d : LogDescriptor) (ds : List LogDescriptor) (bytes : List ℕ)
+    → IsLog g → 4096 * g.blocks ≤ length bytes → IsNextCommit g epoch p number left d bytes
+    → IsChain g epoch p number left ds bytes
+    → (rest : List LogDescriptor) × (ds ≡ d ∷ rest) × IsChain g epoch (position_after p d) (number + 1)
+    (left - log_commit_blocks (length d.homes)) rest bytes
+goes_on g epoch p number left d [] bytes log long next is =
+    absurd (not_both g.sealing g epoch p number left d bytes log long refl is next)
+goes_on g epoch p number left d (e ∷ es) bytes log long next is =
+    let same : e ≡ d = one_sealed g epoch p e d bytes log long is.0.sealed next.sealed in
+    let P : LogDescriptor → Type 0 = λ x. IsChain g epoch (position_after p x) (number + 1)
+    (left - log_commit_blocks (length x.homes)) es bytes in
+    (es, ap (λ (x : LogDescriptor). x ∷ es) same, subst P same is.1)
+
+pub damaged_chain : (g : LogValue) (s : LogStart) (bytes : List ℕ) → IsLog g → HasLogStart g.ring s bytes
+    → ((ds : List LogDescriptor) → IsChain g s.epoch s.position s.number g.ring ds bytes → ⊥) → IsDamagedLog g bytes
+damaged_chain g s bytes log is none = λ t ds has.
+    let same : t ≡ s = one_start_of g.ring t s _ log.few_ring has.start is in
+    let P : LogStart → Type 0 = λ x. IsChain g x.epoch x.position x.number g.ring ds bytes in
+    none ds (subst P same has.commits)
 
 -- ---- the room of a chain
 

@@ -37,14 +37,14 @@ pub record IsNextCommit (g : LogValue) (epoch p number left : ℕ) (d : LogDescr
 
 -- the log ends at position p. Where a byte seals, the seal there is closed: an open one over anything else than the
 -- next commit is damage. Where a digest seals, the next commit doesn't lie there.
-abbrev pub EndsAt : Sealing → LogValue → ℕ → ℕ → ℕ → ℕ → List ℕ → Type 0
-EndsAt ByByte g epoch p number left bytes = slice_index (block_at bytes (ring_block g.ring p)) 0 ≢ 0xA7
-EndsAt (ByDigest key) g epoch p number left bytes =
+abbrev pub LogEndsAt : Sealing → LogValue → ℕ → ℕ → ℕ → ℕ → List ℕ → Type 0
+LogEndsAt ByByte g epoch p number left bytes = slice_index (block_at bytes (ring_block g.ring p)) 0 ≢ 0xA7
+LogEndsAt (ByDigest key) g epoch p number left bytes =
     (d : LogDescriptor) → IsNextCommit g epoch p number left d bytes → ⊥
 
 -- the commits from position p to the end of the log, the oldest first, each with the next number
 abbrev pub IsChain : LogValue → ℕ → ℕ → ℕ → ℕ → List LogDescriptor → List ℕ → Type 0
-IsChain g epoch p number left [] bytes = EndsAt g.sealing g epoch p number left bytes
+IsChain g epoch p number left [] bytes = LogEndsAt g.sealing g epoch p number left bytes
 IsChain g epoch p number left (d ∷ ds) bytes =
     IsNextCommit g epoch p number left d bytes
     × IsChain g epoch (position_after p d) (number + 1) (left - log_commit_blocks (length d.homes)) ds bytes

@@ -1,5 +1,5 @@
 // What follows of the definitions alone.
-ghost use Rattle.std.specs.Prelude.{◌≡◌, ◌≢◌, ℕ, ◌+◌, ◌*◌, ◌<◌, ◌≤◌, List, [], ◌∷◌, ◌++◌, length, take, slice_index};
+ghost use Rattle.std.specs.Prelude.{◌≡◌, ◌≢◌, ℕ, ◌+◌, ◌-◌, ◌*◌, ◌<◌, ◌≤◌, List, [], ◌∷◌, ◌++◌, length, take, slice_index};
 ghost use Rattle.std.specs.List.{AllByRecursion};
 ghost use Rattle.volume_codec.specs.Descriptor.{RiseWithin};
 ghost use Rattle.volume_codec.specs.Layout.{block_at};
@@ -8,10 +8,10 @@ ghost use Rattle.log_codec.specs.declared.broken.Broken.TheVariants.{OutOfMemory
 ghost use Rattle.log_codec.specs.declared.sealing.Sealing.TheVariants.{ByByte, ByDigest};
 ghost use Rattle.log_codec.specs.declared.start.LogStart.{LogStart};
 ghost use Rattle.log_codec.specs.Log.{LogValue, IsLog, ring_block, ring_bytes, first_log_home, log_descriptor_blocks, log_commit_blocks};
-ghost use Rattle.log_codec.specs.Start.{IsLogStart, IsStartBlock, start_text};
+ghost use Rattle.log_codec.specs.Start.{IsLogStart, IsStartBlock, HasLogStart, start_text};
 ghost use Rattle.log_codec.specs.Commit.{LogDescriptor, IsLogged, IsLogDescriptor, log_body, log_seal};
 ghost use Rattle.log_codec.specs.Broken.{BreaksFirstRule, BreaksLogRule, records_said};
-ghost use Rattle.log_codec.specs.Chain.{IsSealedAt, IsNextCommit, HasLog, IsLogHome, LogRecovers, IsChain, spare_blocks, records_position, chain_end, chain_blocks, logged_or, newest_or};
+ghost use Rattle.log_codec.specs.Chain.{IsSealedAt, IsNextCommit, HasLog, IsLogHome, LogRecovers, IsChain, IsDamagedLog, spare_blocks, position_after, records_position, chain_end, chain_blocks, logged_or, newest_or};
 
 /// What is written reads back: the text of a start, and that of a descriptor under any seal, keep the grammar. A block
 /// says at most one start, bytes say at most one descriptor, and a position has at most one sealed commit. Bytes have
@@ -69,9 +69,15 @@ pub fn next_commit()
         → IsNextCommit g epoch p number left d bytes }
 {}
 
-/// Where a log ends, and where it is damaged. Take bytes in which no next commit lies at a position. Where a byte seals
-/// and the seal there is open, no chain leads on: the log is damaged. Where a digest seals, the log ends there.
+/// Where a log goes on, where it ends, and where it is damaged. Each chain goes on with the next commit, if one lies at
+/// its position. Else, where a byte seals and the seal there is open, there is no chain; where a digest seals, the log
+/// ends there. A log with a start and no chain is damaged, and so is one without a start.
 pub fn ends_of_log()
+    ensures goes_on { (g : LogValue) (epoch p number left : ℕ) (d : LogDescriptor) (ds : List LogDescriptor)
+        (bytes : List ℕ) → IsLog g → 4096 * g.blocks ≤ length bytes → IsNextCommit g epoch p number left d bytes
+        → IsChain g epoch p number left ds bytes
+        → (rest : List LogDescriptor) × (ds ≡ d ∷ rest) × IsChain g epoch (position_after p d) (number + 1)
+        (left - log_commit_blocks (length d.homes)) rest bytes }
     ensures damaged { (g : LogValue) (epoch p number left : ℕ) (bytes : List ℕ) → g.sealing ≡ ByByte
         → slice_index (block_at bytes (ring_block g.ring p)) 0 ≡ 0xA7
         → ((d : LogDescriptor) → IsNextCommit g epoch p number left d bytes → ⊥)
@@ -79,6 +85,11 @@ pub fn ends_of_log()
     ensures ended { (g : LogValue) (key epoch p number left : ℕ) (bytes : List ℕ) → g.sealing ≡ ByDigest key
         → ((d : LogDescriptor) → IsNextCommit g epoch p number left d bytes → ⊥)
         → IsChain g epoch p number left [] bytes }
+    ensures no_chain { (g : LogValue) (s : LogStart) (bytes : List ℕ) → IsLog g → HasLogStart g.ring s bytes
+        → ((ds : List LogDescriptor) → IsChain g s.epoch s.position s.number g.ring ds bytes → ⊥)
+        → IsDamagedLog g bytes }
+    ensures no_start { (g : LogValue) (bytes : List ℕ) → ((s : LogStart) → HasLogStart g.ring s bytes → ⊥)
+        → IsDamagedLog g bytes }
 {}
 
 /// The room of a chain. Its commits lie one behind the other, and with the block that no commit takes they have room in
