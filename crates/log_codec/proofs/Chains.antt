@@ -10,7 +10,7 @@ use Rattle.byteorder.specs.Numbers.{big_from-take}
 use Rattle.volume_codec.specs.Descriptor.{RiseWithin}
 use Rattle.volume_codec.specs.Layout.{block_at}
 use Rattle.volume_codec.specs.Recovery.{blocks_from}
-use Rattle.volume_codec.specs.Text.{number_text, number_in, zeros}
+use Rattle.volume_codec.specs.Text.{number_text, number_in}
 use Rattle.volume_codec.proofs.Public.{length-block_at, length-number_text, rising_at}
 use Rattle.log_codec.specs.declared.broken.Broken.{Broken}
 use Rattle.log_codec.specs.declared.broken.Broken.TheVariants.{Length, Number, Count}
@@ -19,11 +19,12 @@ use Rattle.log_codec.specs.declared.sealing.Sealing.TheVariants.{ByByte, ByDiges
 use Rattle.log_codec.specs.declared.start.LogStart.{LogStart}
 use Rattle.log_codec.specs.Log.{LogValue, IsLog, IsCommitSize, ring_block, ring_bytes}
 use Rattle.log_codec.specs.Log.{log_descriptor_blocks, log_commit_blocks}
-use Rattle.log_codec.specs.Start.{HasLogStart, start_block, counts_second}
+use Rattle.log_codec.specs.Start.{HasLogStart}
 use Rattle.log_codec.specs.Commit.{LogDescriptor, IsCommitNumber, IsLogged, IsLogDescriptor}
 use Rattle.log_codec.specs.Commit.{log_body, log_seal, open_seal}
 use Rattle.log_codec.specs.Broken.{BreaksFirstRule, records_said}
-use Rattle.log_codec.specs.Chain.{IsSealedAt, IsNextCommit, LogEndsAt, IsChain, HasLog, records_position, position_after}
+use Rattle.log_codec.specs.Chain.{IsSealedAt, IsNextCommit, LogEndsAt, IsChain, HasLog, records_position}
+use Rattle.log_codec.specs.Chain.{position_after}
 use Rattle.log_codec.specs.Chain.{chain_end, logged_or, newest_or, contents_of_log, IsLogHome, LogRecovers}
 use Rattle.log_codec.specs.Chain.{spare_blocks, chain_blocks, IsDamagedLog}
 use Rattle.log_codec.proofs.Starts.{one_start_of}

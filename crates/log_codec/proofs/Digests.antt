@@ -6,7 +6,6 @@ use Rattle.std.proofs.lemmas.List.{append-nil, take_all, drop_at, drop-take, tak
 use Rattle.xxh64.specs.declared.Xxh64.{Xxh64}
 use Rattle.xxh64.specs.Xxh64.{HasMessage}
 use Rattle.volume_codec.specs.Layout.{block_at}
-use Rattle.volume_codec.specs.Text.{zeros}
 use Rattle.volume_codec.proofs.Public.{length-zeros}
 use Rattle.volume_codec.proofs.Padding.{drop-past}
 use Rattle.log_codec.specs.Log.{log_descriptor_blocks}

@@ -1,5 +1,5 @@
 -- What the fields of a descriptor read as, so that bytes say at most one value, and what breaks a rule says none.
-use Rattle.std.proofs.Common.{◌≡◌, ◌≢◌, ℕ, zero, suc, ◌+◌, ◌-◌, ◌*◌, ◌^◌, ◌<◌, ◌≤◌, List, [], ◌∷◌, ◌++◌}
+use Rattle.std.proofs.Common.{◌≡◌, ◌≢◌, ℕ, ◌+◌, ◌-◌, ◌*◌, ◌^◌, ◌<◌, List, [], ◌∷◌, ◌++◌}
 use Rattle.std.proofs.Common.{length, take, drop, inl, inr, refl, sym, ap, subst, ◌∙◌, arith, append_assoc}
 use Rattle.std.proofs.Common.{length-append}
 use Rattle.std.specs.List.{AllByRecursion, flat_map}
@@ -12,7 +12,7 @@ use Rattle.log_codec.specs.declared.broken.Broken.{Broken}
 use Rattle.log_codec.specs.declared.broken.Broken.TheVariants.{Length, Number, Count, Reserved, Padding, Homes}
 use Rattle.log_codec.specs.declared.broken.Broken.TheVariants.{OutOfMemory}
 use Rattle.log_codec.specs.Log.{LogValue, IsLog, IsCommitSize, first_log_home, log_descriptor_blocks}
-use Rattle.log_codec.specs.Commit.{LogDescriptor, IsCommitNumber, IsLogged, IsLogDescriptor, log_body}
+use Rattle.log_codec.specs.Commit.{LogDescriptor, IsCommitNumber, IsLogDescriptor}
 use Rattle.log_codec.specs.Broken.{BreaksFirstRule, BreaksLogRule, records_said, homes_said}
 
 -- what stands behind the first part of bytes from a place on

@@ -1,12 +1,12 @@
 -- Reading a start that was spelled gives it back.
-use Rattle.std.proofs.Common.{◌≡◌, ℕ, ◌+◌, ◌-◌, ◌^◌, ◌≤◌, List, ◌++◌, length, drop, sym, ap, ◌∙◌, arith, append_assoc}
+use Rattle.std.proofs.Common.{◌≡◌, ℕ, ◌-◌, ◌^◌, ◌≤◌, List, ◌++◌, length, drop, sym, ap, ◌∙◌, arith, append_assoc}
 use Rattle.std.proofs.lemmas.List.{drop_at}
 use Rattle.volume_codec.specs.Text.{number_text, number_in, zeros}
 use Rattle.volume_codec.proofs.Public.{length-number_text}
 use Rattle.volume_codec.proofs.Padding.{drop-past}
 use Rattle.volume_codec.proofs.Functional.{number_in-text}
 use Rattle.log_codec.specs.declared.start.LogStart.{LogStart}
-use Rattle.log_codec.specs.Start.{IsStartBlock, start_text}
+use Rattle.log_codec.specs.Start.{IsStartBlock}
 
 group_start : (a b c d : List ℕ) → a ++ b ++ c ++ d ≡ a ++ (b ++ (c ++ d))
 group_start a b c d = simp append_assoc

@@ -1,7 +1,7 @@
 -- Bytes that are written into a block behind those that are written already.
 use Rattle.std.proofs.Common.{◌≡◌, ℕ, ◌+◌, ◌-◌, ◌≤◌, List, ◌++◌, length, take, drop, sym, ap, ◌∙◌, arith}
 use Rattle.std.proofs.Common.{append_assoc, length-append}
-use Rattle.std.proofs.lemmas.List.{take_at, drop-drop, drop_at}
+use Rattle.std.proofs.lemmas.List.{take_at, drop_at}
 use borrow.Rule.Slice.PartMut.{put_mid}
 use Rattle.volume_codec.specs.Text.{zeros, padded}
 use Rattle.volume_codec.proofs.Padding.{drop-zeros}

@@ -1,5 +1,5 @@
 -- Why bytes are no descriptor of a commit with a given number.
-use Rattle.std.specs.Prelude.{◌≡◌, ◌≢◌, ℕ, ◌+◌, ◌-◌, ◌*◌, ◌<◌, ◌⊎◌, List, length, take, drop}
+use Rattle.std.specs.Prelude.{◌≢◌, ℕ, ◌+◌, ◌-◌, ◌*◌, ◌<◌, ◌⊎◌, List, length, take, drop}
 use Rattle.volume_codec.specs.Descriptor.{RiseWithin}
 use Rattle.volume_codec.specs.Text.{number_text, number_in, numbers_in, zeros}
 use Rattle.log_codec.specs.declared.broken.Broken.{Broken}

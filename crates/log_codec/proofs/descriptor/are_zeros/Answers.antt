@@ -1,4 +1,4 @@
-use Rattle.std.proofs.Common.{◌≡◌, List, ℕ, length, get_or, false, refl, ap, arith}
+use Rattle.std.proofs.Common.{List, ℕ, length, get_or, false, refl, ap, arith}
 use Rattle.std.proofs.lemmas.Bool.{both_ways}
 use Rattle.log_codec.proofs.Zeros.{zero_at, all_zeros}
 use Rattle.log_codec.proofs.descriptor.are_zeros.Goals as goal

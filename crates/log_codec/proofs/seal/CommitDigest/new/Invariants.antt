@@ -1,4 +1,4 @@
-use Rattle.std.proofs.Common.{◌≡◌, ◌≤◌, ◌-◌, ◌*◌, take}
+use Rattle.std.proofs.Common.{◌-◌, ◌*◌, take}
 use Rattle.std.specs.Prelude.{bit_xor}
 use Rattle.xxh64.specs.Xxh64.{HasMessage}
 use Rattle.log_codec.specs.Commit.{log_body}
