@@ -1,5 +1,5 @@
 -- The bytes of a log have at most one chain, and what a further commit makes of the recovered blocks.
-use Rattle.std.proofs.Common.{◌≡◌, ◌≢◌, ℕ, zero, suc, ◌+◌, ◌-◌, ◌*◌, ◌%◌, ◌<◌, ◌≤◌, ◌==◌, List, [], ◌∷◌, ◌++◌}
+use Rattle.std.proofs.Common.{◌≡◌, ◌≢◌, ℕ, zero, suc, ◌+◌, ◌-◌, ◌*◌, ◌%◌, ◌^◌, ◌<◌, ◌≤◌, ◌==◌, List, [], ◌∷◌, ◌++◌}
 use Rattle.std.proofs.Common.{Bool, true, false, cond, length, take, drop, get_or, refl, sym, ap, subst, ◌∙◌, arith}
 use Rattle.std.proofs.Common.{add-zero, add_assoc, inl, inr}
 use Rattle.std.specs.List.{AllByRecursion}
@@ -19,7 +19,7 @@ use Rattle.log_codec.specs.declared.sealing.Sealing.TheVariants.{ByByte, ByDiges
 use Rattle.log_codec.specs.declared.start.LogStart.{LogStart}
 use Rattle.log_codec.specs.Log.{LogValue, IsLog, IsCommitSize, ring_block, ring_bytes}
 use Rattle.log_codec.specs.Log.{log_descriptor_blocks, log_commit_blocks}
-use Rattle.log_codec.specs.Start.{HasLogStart}
+use Rattle.log_codec.specs.Start.{IsLogStart, HasLogStart}
 use Rattle.log_codec.specs.Commit.{LogDescriptor, IsCommitNumber, IsLogged, IsLogDescriptor}
 use Rattle.log_codec.specs.Commit.{log_body, log_seal, open_seal}
 use Rattle.log_codec.specs.Broken.{BreaksFirstRule, records_said}
@@ -281,6 +281,35 @@ chain_fits g epoch p number left (d ∷ ds) bytes spare is =
     let here : blocks + spare_blocks g.sealing ≤ left = is.0.room in
     let rest = chain_fits g epoch (position_after p d) (number + 1) (left - blocks) ds bytes (omega arith) is.1 in
     omega arith
+
+-- the number behind a chain
+number_behind : (g : LogValue) (epoch p number left : ℕ) (ds : List LogDescriptor) (bytes : List ℕ)
+    → number < 2 ^ 64 → IsChain g epoch p number left ds bytes → number + length ds < 2 ^ 64
+number_behind g epoch p number left [] bytes small is = omega arith
+number_behind g epoch p number left (d ∷ ds) bytes small is =
+    let next = is.0.sealed.logged.number.small in
+    let here : d.number ≡ number = is.0.number_is in
+    let rest = number_behind g epoch (position_after p d) (number + 1) (left - log_commit_blocks (length d.homes)) ds
+    bytes (omega arith) is.1 in
+    omega arith
+
+pub start_behind : (g : LogValue) (s : LogStart) (ds : List LogDescriptor) (bytes : List ℕ) → IsLog g
+    → HasLog g s ds bytes → s.epoch + 1 < 2 ^ 64
+    → IsLogStart g.ring (record {
+      position = chain_end s.position ds % g.ring;
+      number = s.number + length ds;
+      epoch = s.epoch + 1;
+    })
+start_behind g s ds bytes log has small =
+    let ring = log.some_ring in
+    let start = has.start.start in
+    record {
+      within = omega arith;
+      some_number = omega arith;
+      small_number = number_behind g s.epoch s.position s.number g.ring ds bytes start.small_number has.commits;
+      some_epoch = omega arith;
+      small_epoch = small;
+    }
 
 -- ---- recovered blocks
 

@@ -20,8 +20,8 @@ pub record IsCommitNumber (n : ℕ) : Type 0 where
   pub some : 0 < n
   pub small : n + 1 < 2 ^ 64
 
--- the rules of a descriptor's value: a number, and as many home blocks as a commit may have records, rising strictly,
--- all of them home blocks of the volume
+-- the rules of a descriptor's value: a number that a commit may have; a number of home blocks that a commit may have;
+-- home blocks of the volume, rising strictly
 pub record IsLogged (g : LogValue) (d : LogDescriptor) : Type 0 where
   pub number : IsCommitNumber d.number
   pub size : IsCommitSize g.ring (length d.homes)

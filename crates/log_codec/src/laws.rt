@@ -1,5 +1,5 @@
 // What follows of the definitions alone.
-ghost use Rattle.std.specs.Prelude.{◌≡◌, ◌≢◌, ℕ, ◌+◌, ◌-◌, ◌*◌, ◌<◌, ◌≤◌, List, [], ◌∷◌, ◌++◌, length, take, slice_index};
+ghost use Rattle.std.specs.Prelude.{◌≡◌, ◌≢◌, ℕ, ◌+◌, ◌-◌, ◌*◌, ◌%◌, ◌^◌, ◌<◌, ◌≤◌, List, [], ◌∷◌, ◌++◌, length, take, slice_index};
 ghost use Rattle.std.specs.List.{AllByRecursion};
 ghost use Rattle.volume_codec.specs.Descriptor.{RiseWithin};
 ghost use Rattle.volume_codec.specs.Layout.{block_at};
@@ -49,8 +49,8 @@ pub fn parts_of_log()
 {}
 
 /// How the next commit is found at a position. The first block says its number of records, and breaks no rule. The
-/// descriptor's blocks say the commit, and begin with its seal. Where these blocks say a commit with the number that is
-/// asked for, in the room that is left, under the seal of its records, it is the next one.
+/// descriptor's blocks say the commit, and begin with its seal. A descriptor is that of the next commit if it has the
+/// wanted number, room in the blocks that are left, and the seal of its records.
 pub fn next_commit()
     ensures first { (g : LogValue) (epoch p number left : ℕ) (d : LogDescriptor) (bytes : List ℕ) (broken : Broken)
         → IsLog g → 4096 * g.blocks ≤ length bytes → IsNextCommit g epoch p number left d bytes
@@ -92,13 +92,20 @@ pub fn ends_of_log()
         → IsDamagedLog g bytes }
 {}
 
-/// The room of a chain. Its commits lie one behind the other, and with the block that no commit takes they have room in
-/// the blocks that were left for them. So none lies over another one.
+/// The room of a chain, and its end. The commits lie one behind the other. They fit in the blocks that were left for
+/// them, with the block that no commit takes. So none lies over another one. Behind the last commit a start may be.
 pub fn room_of_chain()
     ensures behind { (p : ℕ) (ds : List LogDescriptor) → chain_end p ds ≡ p + chain_blocks ds }
     ensures fits { (g : LogValue) (epoch p number left : ℕ) (ds : List LogDescriptor) (bytes : List ℕ)
         → spare_blocks g.sealing ≤ left → IsChain g epoch p number left ds bytes
         → chain_blocks ds + spare_blocks g.sealing ≤ left }
+    ensures next_start { (g : LogValue) (s : LogStart) (ds : List LogDescriptor) (bytes : List ℕ) → IsLog g
+        → HasLog g s ds bytes → s.epoch + 1 < 2 ^ 64
+        → IsLogStart g.ring (record {
+          position = chain_end s.position ds % g.ring;
+          number = s.number + length ds;
+          epoch = s.epoch + 1;
+        }) }
 {}
 
 /// What recovered contents are made of. The records of the newest commit stand for its home blocks, record i for the

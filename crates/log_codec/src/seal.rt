@@ -50,8 +50,8 @@ pub struct CommitDigest {
 }
 
 impl CommitDigest {
-    /// Begins with the body of the descriptor of the commit with this number and these home blocks, in the volume's key
-    /// and the epoch of the session.
+    /// Begins with the body of a descriptor: that of the commit with this number and these home blocks. The seed is the
+    /// volume's key, changed by the epoch of the session.
     pub fn new(key: u64, epoch: u64, number: u64, homes: &[u32]) -> Self
         requires { length homes.now ≤ 65535 }
         ensures { HasTakenCommit result key epoch (record { number = number; homes = homes.now }) [] }
