@@ -67,13 +67,15 @@ enum famsync_code {
     FAMSYNC_EINVAL = -30,  /* the bytes or the length are outside the range that the file has */
     FAMSYNC_OVERLAP = -33, /* plain memory of the file is open already */
     FAMSYNC_NOFILE = -34,  /* the volume has no such file */
-    FAMSYNC_BUSY = -35,    /* plain memory of the file is open; a backup is being made; the session has made 2^32 - 1
-                              commits */
+    FAMSYNC_BUSY = -35,    /* a backup is being made; the session has made 2^32 - 1 commits */
 
     /* suspect flags that can't be made, and sessions that only read */
     FAMSYNC_UNMARKED = -39,     /* a sync failed, and the volume's suspect flag couldn't be made */
     FAMSYNC_NEEDSOPENING = -40, /* a crash or a failed sync left work for a writer: open it once for writing */
-    FAMSYNC_READONLY = -41      /* the session only reads */
+    FAMSYNC_READONLY = -41,     /* the session only reads */
+
+    /* plain memory */
+    FAMSYNC_ADDRESS = -42 /* there can't be memory at this address */
 };
 
 typedef struct famsync famsync;
@@ -96,6 +98,8 @@ struct famsync_options {
     size_t message_size; /* and how much there is room for; a message is cut off there */
     unsigned wait_ms;    /* how long to wait for a volume that is in use, in milliseconds */
     int readonly;        /* not 0: a session that only reads */
+    int resident;        /* not 0: plain memory is read in whole, and is no mapping of the volume's file */
+    size_t budget;       /* the most bytes of committed pages that plain memory keeps; 0: 64 MB */
 };
 
 /* The version of the library that this program runs with: FAMSYNC_VERSION of its own header. */
@@ -136,8 +140,8 @@ unsigned famsync_frames(const famsync *handle);
    and so does the one in which it ended: FAMSYNC_NOFRAME where they and those that were written don't go into one
    commit; then grow it less at a time, with an msync in between. Nothing is changed where it is refused.
 
-   Plain memory has the length with which it was opened, and so FAMSYNC_BUSY is answered as long as plain memory of this
-   file is open. */
+   If plain memory of the file is open, it grows or shrinks in place. What lies past the new end may not be used any
+   more. FAMSYNC_SYSTEM if the system refuses that. */
 int famsync_setlength(famsync *handle, const char *file, uint64_t length);
 
 /* Reads `count` bytes of a file, which is named by its number, from `offset` on. `*done`, which may be a null pointer,
@@ -217,9 +221,17 @@ int famsync_stat(famsync *handle, struct famsync_stat *stat);
 int famsync_backup(famsync *handle, int descriptor);
 
 /*
- * Plain memory: a whole file of the volume as memory of this process. It is filled at the open and kept read-only; the
- * first store to a page raises SIGSEGV, whose handler notes the page and opens it for writing. Faults elsewhere go to
- * the handler that was there before.
+ * Plain memory: a whole file of the volume as memory of this process. It is a private mapping of the volume's file, so
+ * nothing is read when it is opened. Its pages are read-only; the first store to one raises SIGSEGV, whose handler
+ * notes the page and opens it for writing. Faults elsewhere go to the handler that was there before.
+ *
+ * Pages that were stored to are memory of this process. Once they are committed and written to their places, the
+ * library gives them back to the system where they are more than `budget` bytes, with a copy of each.
+ *
+ * If the volume's file can't be read, or somebody cut it off, a load raises SIGBUS, as with each mapped file. In a
+ * process that was forked, a page that wasn't stored to before has what is committed later. With `resident` the whole
+ * file is read when the memory is opened, and none of this holds; so it is on a system whose pages are larger than
+ * 4,096 bytes, or that can't map the volume's file.
  *
  * Other threads may store meanwhile. A commit has, of all threads and all plain memory of the handle, each store that
  * came before some one moment within famsync_msync, and none that came after it: at that moment all pages are closed,
@@ -232,12 +244,18 @@ int famsync_backup(famsync *handle, int descriptor);
  * famsync_memory_open installs the library's handler again where another one took its place, and passes to that one
  * what isn't the library's.
  *
- * Bytes past the file's end, in its last page, are memory that isn't kept. famsync_read and famsync_write use the
- * memory of a file as long as it is open. An empty file has no memory (FAMSYNC_ARGUMENT).
+ * Bytes past the file's end, in its last page, are memory that isn't kept. What lies behind may not be used, up to the
+ * file's capacity, for which address space is reserved. famsync_read and famsync_write use the memory of a file as long
+ * as it is open. An empty file has no memory (FAMSYNC_ARGUMENT).
  */
 int famsync_memory_open(famsync *handle, const char *file, famsync_memory **memory);
 
-/* Where it begins, and how many bytes the file has. */
+/* The same, at an address: so pointers into the memory may be kept in the file. From one page before the address to one
+   page behind the file's capacity there is no other memory. FAMSYNC_ADDRESS if there is, or if the address isn't that
+   of a page, or is below 65,536 and a page, or leaves no room for the capacity. A null pointer means any address. */
+int famsync_memory_open_at(famsync *handle, const char *file, void *address, famsync_memory **memory);
+
+/* Where it begins, which never changes, and how many bytes the file has. */
 void *famsync_memory_at(const famsync_memory *memory);
 size_t famsync_memory_length(const famsync_memory *memory);
 

@@ -8,6 +8,9 @@
 /* How large the options were when they got a size. */
 #define FIRST_SIZE (offsetof(struct famsync_options, readonly) + sizeof(int))
 
+/* How many bytes of committed pages plain memory keeps. */
+#define DEFAULT_BUDGET (64u << 20)
+
 /* A session that is over: the call that meets it first answers why, unless one has already. */
 static int why_over(famsync *handle)
 {
@@ -69,8 +72,10 @@ static int read_super(famsync *handle)
     return FAMSYNC_OK;
 }
 
+/* Files lie one after the other. */
 static int read_files(famsync *handle)
 {
+    uint64_t home = handle->head;
     for (unsigned i = 0; i < handle->files; i++) {
         struct file *file = &handle->file[i];
         uint64_t length, pages;
@@ -78,8 +83,11 @@ static int read_files(famsync *handle)
         if (name < 0 || famsync_core_file(handle->core, i, &length, &pages, &handle->core.at) != FAMSYNC_CORE_OK)
             return FAMSYNC_DAMAGED;
         atomic_store(&file->length, length);
+        file->pages = pages;
+        file->home = home;
+        home += pages;
     }
-    return FAMSYNC_OK;
+    return home <= handle->blocks ? FAMSYNC_OK : FAMSYNC_DAMAGED;
 }
 
 /* What the core says of a volume that it has opened. It takes a number of pages that a commit can't have for the most
@@ -154,6 +162,8 @@ static int open_session(famsync *handle, const char *path, const struct famsync_
     code = handle->read ? read_super(handle) : FAMSYNC_NOMEMORY;
     if (code == FAMSYNC_OK)
         code = open_core(handle, options);
+    handle->resident = options->resident != 0;
+    handle->budget = options->budget > 0 ? options->budget : DEFAULT_BUDGET;
     if (code == FAMSYNC_OK && !options->foreground && !options->readonly)
         begin_background(handle);
     if (code != FAMSYNC_OK)
@@ -204,7 +214,7 @@ static famsync *new_handle(void)
     pthread_mutex_init(&handle->queue, NULL);
     begin_condition(&handle->answered);
     begin_condition(&handle->work);
-    handle->volume.file = handle->volume.folder = -1;
+    handle->volume.file = handle->volume.unlocked = handle->volume.folder = -1;
     if (enter_handle(handle) == FAMSYNC_OK)
         return handle;
     free_handle(handle);

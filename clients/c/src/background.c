@@ -7,6 +7,18 @@
 /* How long the thread waits for another commit, in nanoseconds. */
 #define PAUSE 10000000l
 
+/* The most journals that a layout has. */
+#define MOST_JOURNALS 4u
+
+/* A journal is used again once the commit in it is written home, so those of all earlier ones are, too. */
+uint32_t newest_home(famsync *handle)
+{
+    if (famsync_core_unwritten(handle->core, &handle->core.at) == 0 &&
+        famsync_core_waiting(handle->core, &handle->core.at) == 0)
+        return handle->numbered;
+    return handle->numbered > MOST_JOURNALS ? handle->numbered - MOST_JOURNALS : 0;
+}
+
 /* Neighbours are one system call where they are gathered together, so nothing is written before the steps ask for a
    sync. Between two steps the thread gives way: a call waits for one of them, which copies a page; or where they ask
    for a sync, for the pages of one commit and for that sync, as it waits for a commit, which has two. */
@@ -21,6 +33,7 @@ int write_out(famsync *handle, bool gives_way)
     } while (answer == FAMSYNC_CORE_OK && !ends_with_sync(handle));
     code = drain(handle);
     handle->left = answer == FAMSYNC_CORE_OK && code == FAMSYNC_OK;
+    keep_to_budget(handle);
     return code != FAMSYNC_OK ? code : answer_of(handle, answer);
 }
 

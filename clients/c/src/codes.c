@@ -29,10 +29,11 @@ static const struct {
     {FAMSYNC_EINVAL, "the bytes or the length are outside the range that the file has"},
     {FAMSYNC_OVERLAP, "plain memory of the file is open already"},
     {FAMSYNC_NOFILE, "the volume has no such file"},
-    {FAMSYNC_BUSY, "plain memory of the file is open, a backup is being made, or no number is left for a commit"},
+    {FAMSYNC_BUSY, "a backup is being made, or no number is left for a commit"},
     {FAMSYNC_UNMARKED, "a sync of the volume failed, and its suspect flag couldn't be made"},
     {FAMSYNC_NEEDSOPENING, "a crash or a failed sync left work for a writer: open the volume once for writing"},
     {FAMSYNC_READONLY, "the session only reads"},
+    {FAMSYNC_ADDRESS, "there can't be plain memory at this address"},
 };
 
 const char *famsync_strerror(int code)

@@ -10,12 +10,21 @@ static int end_write_out(famsync *handle)
     return famsync_core_waiting(handle->core, &handle->core.at) > 0 ? write_out(handle, false) : FAMSYNC_OK;
 }
 
+/* Nothing waits for a commit any more. */
+static void forget_staged(famsync *handle)
+{
+    for (unsigned i = 0; i < handle->files; i++)
+        handle->file[i].staged = (struct span){0, 0};
+    handle->resized = false;
+}
+
 /* Makes a commit in the core, and what it records; it is acknowledged once all that was made. The sync of a commit
    would part the writes of the one before, and so these come first; or where syncs are shared it serves them, too, but
    for a commit that has nothing to write. */
 static int commit(famsync *handle, uint64_t *mark)
 {
     uint32_t number = 0;
+    bool has_pages = famsync_core_staged(handle->core, &handle->core.at) > 0;
     int code = handle->shares_syncs ? FAMSYNC_OK : end_write_out(handle), drained;
     if (code != FAMSYNC_OK)
         return code;
@@ -31,6 +40,8 @@ static int commit(famsync *handle, uint64_t *mark)
     if (acknowledged < 0 || (uint64_t)acknowledged < number)
         return FAMSYNC_BROKEN;
     atomic_store(&handle->acknowledged, number);
+    forget_staged(handle);
+    handle->numbered += has_pages;
     handle->left = true;
     *mark = number;
     return FAMSYNC_OK;

@@ -189,10 +189,16 @@ static size_t pages_to_open(const famsync_memory *memory, size_t page)
     return count;
 }
 
-/* Opens all pages of a memory, and leaves it to the next commit to compare each with its copy. */
+/* Makes all pages of a memory writable. */
+static bool make_all_writable(const famsync_memory *memory)
+{
+    return mprotect(memory->at, memory->pages * memory->grain, PROT_READ | PROT_WRITE) == 0;
+}
+
+/* Opens all pages of a memory, and leaves it to the next commit to compare each with its committed bytes. */
 static bool open_all(famsync_memory *memory)
 {
-    if (mprotect(memory->at, memory->room, PROT_READ | PROT_WRITE) != 0)
+    if (!make_all_writable(memory))
         return false;
     for (size_t page = 0; page < memory->pages; page++)
         if (memory->dirty[page] == CLOSED)
@@ -220,22 +226,33 @@ bool open_pages(famsync_memory *memory, size_t first, size_t end)
     return opened;
 }
 
+bool open_unstored(famsync_memory *memory, size_t page)
+{
+    return memory->dirty[page] != CLOSED || make_writable(memory, page, page + 1);
+}
+
+/* Opens the page that was stored to, unless it lies past the file's end, and maybe some behind it. */
+static bool open_for_store(famsync_memory *memory, size_t page)
+{
+    size_t count = page < memory->pages ? pages_to_open(memory, page) : 0;
+    if (count == 0 || !make_writable(memory, page, page + count))
+        return false;
+    memory->dirty[page] = STORED;
+    memory->next = page + count;
+    memory->ahead = count;
+    return true;
+}
+
 /* Opens the page that has an address for writing, and notes it. */
 static bool open_page(famsync_memory *memory, uintptr_t address)
 {
-    size_t page = (size_t)(address - (uintptr_t)memory->at) / memory->grain, count;
+    size_t page = (size_t)(address - (uintptr_t)memory->at) / memory->grain;
     bool opened;
     /* A process that was forked has a copy of the memory, which nobody closes. */
     if (is_forked(memory->handle))
-        return mprotect(memory->at, memory->room, PROT_READ | PROT_WRITE) == 0;
+        return page < memory->pages && make_all_writable(memory);
     take(memory->handle);
-    count = pages_to_open(memory, page);
-    opened = make_writable(memory, page, page + count);
-    if (opened) {
-        memory->dirty[page] = STORED;
-        memory->next = page + count;
-        memory->ahead = count;
-    }
+    opened = open_for_store(memory, page);
     give(memory->handle);
     return opened;
 }

@@ -32,6 +32,7 @@ __attribute__((format(printf, 2, 3))) void say(struct message *message, const ch
 /* The file of a volume, open and locked. */
 struct volume {
     int file;         /* the file's descriptor; -1 if it isn't open */
+    int unlocked;     /* another one of the file, by which it is mapped: a mapping keeps a lock of its descriptor */
     int folder;       /* the descriptor of its folder; -1 if that isn't open */
     const char *name; /* the file's name in the folder: the end of `place` */
     char *flag;       /* the suspect flag's name in the folder */
@@ -40,9 +41,26 @@ struct volume {
     uint64_t bytes;   /* the file's length */
 };
 
+/* Some pages, from one up to before another. */
+struct span {
+    size_t begin, end;
+};
+
+/* Makes a span have these pages, too. */
+static inline void widen(struct span *span, size_t begin, size_t end)
+{
+    if (span->begin == span->end)
+        *span = (struct span){begin, end};
+    span->begin = begin < span->begin ? begin : span->begin;
+    span->end = end > span->end ? end : span->end;
+}
+
 struct file {
     char name[MOST_NAME + 1];
     _Atomic uint64_t length; /* in bytes; set under `turn`, read by any thread */
+    uint64_t pages;          /* the most that it can have */
+    uint64_t home;           /* the block of its first page */
+    struct span staged;      /* all of its pages that wait for a commit in the core lie in it */
 };
 
 /* Writes that are made together, in rising order of their offsets; none overlaps another. Their bytes are where the
@@ -112,6 +130,10 @@ struct famsync {
     struct reading reading[READS_KEPT];
     unsigned readings; /* how many were made */
     _Atomic uint64_t acknowledged;
+    bool resized;             /* a length was set that waits for a commit */
+    uint32_t numbered;        /* how many commits there were that had pages */
+    bool resident;            /* plain memory is read in, and isn't the volume's file */
+    uint64_t budget;          /* the most bytes of committed pages that plain memory keeps */
     famsync_memory *memories; /* open ones, linked by `next_one` */
     atomic_uint closing; /* taken by the handler of SIGSEGV, too: plain memory's pages are opened and closed under it */
     /* commits: who waits for one, and whether one is being made; under `queue` */
@@ -189,17 +211,24 @@ int supply(famsync *handle, uint32_t block, uint64_t pages);
 int read_range(famsync *handle, unsigned file, uint64_t offset, unsigned char *bytes, size_t count, size_t *done);
 int write_range(famsync *handle, unsigned file, uint64_t offset, const unsigned char *bytes, size_t count,
                 size_t *done);
+/* Sets a file's length, up to its capacity. */
+int set_length(famsync *handle, unsigned file, uint64_t length);
 /* How many of some pages of a file the next commit has already. */
 uint64_t staged_among(famsync *handle, unsigned file, uint64_t first, uint64_t count);
 
-/* memory.c: the stores to plain memory, for a commit; the caller has its turn. */
+/* stores.c: the stores to plain memory, for a commit; the caller has its turn. */
 int take_stores(famsync *handle);
 void put_stores_back(famsync *handle);
 void stores_are_committed(famsync *handle);
+/* Gives committed pages back to the system where plain memory keeps more of them than its budget has. */
+void keep_to_budget(famsync *handle);
+/* memory.c: */
 /* How many pages of plain memory were stored to that the core doesn't have for the next commit. */
 uint64_t stored_pages(famsync *handle);
 /* The plain memory of a file that is open; a null pointer where none is. */
 famsync_memory *memory_of_file(const famsync *handle, unsigned file);
+/* Sets the length of a file by its plain memory. */
+int resize_memory(famsync_memory *memory, uint64_t length);
 /* Reads and writes a range of a file by its plain memory; the same as with the core's pages. */
 void read_memory(const famsync_memory *memory, uint64_t offset, unsigned char *bytes, size_t count);
 int write_memory(famsync_memory *memory, uint64_t offset, const unsigned char *bytes, size_t count);
@@ -217,6 +246,8 @@ void end_background(famsync *handle);
 int write_out(famsync *handle, bool gives_way);
 /* Makes all that is left of commits. */
 int write_all_out(famsync *handle);
+/* The newest of the numbered commits of which all pages are in their home blocks, and so are those before it. */
+uint32_t newest_home(famsync *handle);
 
 /* forks.c: the handles of this process, so that a forked one lets their volumes go. */
 int enter_handle(famsync *handle);

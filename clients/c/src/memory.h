@@ -4,43 +4,67 @@
 
 #include "inside.h"
 
-/* Some pages of a memory, from one up to before another. */
-struct span {
-    size_t begin, end;
-};
-
 /* A file's bytes as plain memory. "Page" means a page of the system, which may hold several pages of the volume. A
-   field is guarded by the lock that its comment names. */
+   field is guarded by the lock that its comment names. There is room for the file's capacity: what lies past its length
+   can't be used.
+
+   The committed bytes of a page are in `copy` if it is kept there, and else in its home block. Without a mapping of the
+   home blocks `copy` has all pages. */
 struct famsync_memory {
     famsync *handle;
-    famsync_memory *next_one; /* the handle's next memory */
-    unsigned char *at;        /* where the memory begins */
-    size_t length;            /* the file's length in bytes */
-    size_t room;              /* bytes of the memory: whole pages */
-    size_t grain;             /* bytes of a page */
-    size_t pages;             /* how many pages there are */
-    unsigned file;            /* the file's number */
-    struct entry *entry;      /* in the handler's table; null if the handler doesn't serve this memory */
-    bool stored;              /* the core has stores of it that aren't committed; `turn` */
-    unsigned char *dirty;     /* for each page CLOSED, STORED or OPENED; `closing` */
-    unsigned char *taken;     /* for each page, whether the current commit has taken it; `turn` */
-    unsigned char *copy;      /* all pages as the last commit took them; `turn` */
-    struct span open;         /* all pages that aren't CLOSED lie in it; `closing` */
-    struct span takes;        /* all taken pages lie in it; `turn` */
-    size_t next, ahead;       /* the page after those opened last, and how many those were; `closing` */
+    famsync_memory *next_one;  /* the handle's next memory */
+    unsigned char *at;         /* where the memory begins */
+    _Atomic size_t length;     /* the file's length in bytes; set under `turn` and `closing` */
+    size_t room;               /* bytes of the memory: whole pages of the capacity */
+    size_t grain;              /* bytes of a page */
+    size_t most;               /* how many pages there are room for */
+    size_t pages;              /* how many pages the file has; set under `turn` and `closing` */
+    unsigned file;             /* the file's number */
+    struct entry *entry;       /* in the handler's table; null if the handler doesn't serve this memory */
+    bool stored;               /* the core has stores of it that aren't committed; `turn` */
+    unsigned char *dirty;      /* for each page CLOSED, STORED or OPENED; `closing` */
+    unsigned char *taken;      /* for each page, whether the current commit has taken it; `turn` */
+    unsigned char *copy;       /* pages as the last commit took them; `closing` */
+    const unsigned char *home; /* the file's home blocks; null if the file was read in */
+    uint32_t *since;           /* for each page that is kept, the number of its last commit; else 0; `closing` */
+    size_t kept;               /* how many pages are kept; `closing` */
+    struct span keeps;         /* all kept pages lie in it; `closing` */
+    struct span open;          /* all pages that aren't CLOSED lie in it; `closing` */
+    struct span takes;         /* all taken pages lie in it; `turn` */
+    size_t next, ahead;        /* the page after those opened last, and how many those were; `closing` */
 };
 
-/* A page is closed, opened by a store to it, or opened without one. The last has to be compared with its copy. */
+/* A page is closed, opened by a store to it, or opened without one. The last has to be compared with its committed
+   bytes. */
 enum { CLOSED, STORED, OPENED };
 
-/* Makes a span have these pages, too. */
-static inline void widen(struct span *span, size_t begin, size_t end)
+/* Of the page with this number of the system, the bytes that the file has, and the pages of the volume in them. */
+static inline size_t bytes_in(const famsync_memory *memory, size_t page)
 {
-    if (span->begin == span->end)
-        *span = (struct span){begin, end};
-    span->begin = begin < span->begin ? begin : span->begin;
-    span->end = end > span->end ? end : span->end;
+    size_t left = memory->length - page * memory->grain;
+    return left < memory->grain ? left : memory->grain;
 }
+
+static inline size_t pages_in(const famsync_memory *memory, size_t page)
+{
+    return (bytes_in(memory, page) + PAGE - 1) / PAGE;
+}
+
+/* mapping.c: the address space of a memory, and what it begins with. FAMSYNC_ADDRESS if it can't begin at `address`,
+   which is a null pointer if it may begin anywhere. */
+int map_memory(famsync_memory *memory, void *address);
+void unmap_memory(famsync_memory *memory);
+/* Grows and shrinks it. */
+int resize_memory(famsync_memory *memory, uint64_t length);
+
+/* stores.c: takes the lock of the handler with all signals blocked, and gives it back. */
+void lock_pages(famsync *handle, sigset_t *blocked);
+void unlock_pages(famsync *handle, const sigset_t *blocked);
+/* The number of pages of the volume that were stored to since the last msync. The caller has the lock. */
+size_t dirty_in(const famsync_memory *memory);
+/* The committed bytes of pages are those of the next commit, which keeps them, or again those of their home blocks. */
+void keep(famsync_memory *memory, size_t first, size_t end);
+void keep_no_more(famsync_memory *memory, size_t first, size_t end);
 
 /* faults.c: the lock under which pages are opened and closed. Whoever has it blocks all signals and waits for nothing,
    so the handler of SIGSEGV may wait for it. */
@@ -49,6 +73,8 @@ void give(famsync *handle);
 
 /* Opens pages for writing, all of which count as stored to; the caller has the lock. */
 bool open_pages(famsync_memory *memory, size_t first, size_t end);
+/* Opens a page for writing that counts as stored to if its bytes differ from the committed ones. */
+bool open_unstored(famsync_memory *memory, size_t page);
 
 /* Enters memory in the handler's table, and installs the handler where that has to be done. */
 int enter_table(famsync_memory *memory);

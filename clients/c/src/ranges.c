@@ -62,6 +62,7 @@ int read_range(famsync *handle, unsigned file, uint64_t offset, unsigned char *b
 
 static int write_page(famsync *handle, unsigned file, uint64_t page, const unsigned char *bytes)
 {
+    widen(&handle->file[file].staged, page, page + 1);
     return answer_of(handle, famsync_core_write(handle->core, file, page, bytes, PAGE, &handle->core.at));
 }
 
@@ -192,16 +193,24 @@ static int ask_length(famsync *handle, unsigned file, uint64_t length)
     }
 }
 
-static int set_length(famsync *handle, unsigned file, uint64_t length)
+/* Of a file that becomes longer the core has the page in which it ended, and those behind it. */
+int set_length(famsync *handle, unsigned number, uint64_t length)
 {
-    int code = ask_length(handle, file, length);
-    if (code == FAMSYNC_OK)
-        atomic_store(&handle->file[file].length, length);
-    return code;
+    struct file *file = &handle->file[number];
+    uint64_t before = file->length;
+    int code = ask_length(handle, number, length);
+    if (code != FAMSYNC_OK || length == before)
+        return code;
+    if (length > before)
+        widen(&file->staged, before / PAGE, (length + PAGE - 1) / PAGE);
+    atomic_store(&file->length, length);
+    handle->resized = true;
+    return FAMSYNC_OK;
 }
 
 int famsync_setlength(famsync *handle, const char *file, uint64_t length)
 {
+    famsync_memory *memory;
     unsigned number;
     int code = enter(handle, file != NULL);
     if (code != FAMSYNC_OK)
@@ -211,7 +220,6 @@ int famsync_setlength(famsync *handle, const char *file, uint64_t length)
         return leave(handle, FAMSYNC_NOFILE);
     if (handle->volume.readonly)
         return leave(handle, FAMSYNC_READONLY);
-    if (memory_of_file(handle, number))
-        return leave(handle, FAMSYNC_BUSY);
-    return leave(handle, set_length(handle, number, length));
+    memory = memory_of_file(handle, number);
+    return leave(handle, memory ? resize_memory(memory, length) : set_length(handle, number, length));
 }

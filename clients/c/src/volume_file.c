@@ -218,6 +218,7 @@ static void close_descriptor(int *descriptor)
 void let_volume_go(struct volume *volume)
 {
     close_descriptor(&volume->file);
+    close_descriptor(&volume->unlocked);
     close_descriptor(&volume->folder);
 }
 
@@ -252,6 +253,16 @@ static int open_locked(struct volume *volume)
         unlock_file(volume);
     }
     return FAMSYNC_REPLACED;
+}
+
+/* Opens the file once more. */
+static int open_unlocked(struct volume *volume)
+{
+    struct stat found, again;
+    volume->unlocked = open_above_streams(volume->folder, volume->name, O_RDONLY | O_NONBLOCK | O_NOCTTY);
+    if (volume->unlocked < 0 || fstat(volume->file, &found) != 0 || fstat(volume->unlocked, &again) != 0)
+        return FAMSYNC_SYSTEM;
+    return found.st_dev == again.st_dev && found.st_ino == again.st_ino ? FAMSYNC_OK : FAMSYNC_REPLACED;
 }
 
 static uint64_t milliseconds(void)
@@ -343,10 +354,12 @@ int open_volume_file(const char *path, const struct famsync_options *options, st
                      struct message *message)
 {
     int code, error;
-    *volume = (struct volume){.file = -1, .folder = -1, .readonly = options->readonly != 0};
+    *volume = (struct volume){.file = -1, .unlocked = -1, .folder = -1, .readonly = options->readonly != 0};
     code = find_places(path, volume);
     if (code == FAMSYNC_OK)
         code = open_within(volume, options->wait_ms);
+    if (code == FAMSYNC_OK)
+        code = open_unlocked(volume);
     error = errno;
     if (code != FAMSYNC_OK) {
         say(message, "\"%s\": %s", path, code == FAMSYNC_SYSTEM ? strerror(error) : famsync_strerror(code));

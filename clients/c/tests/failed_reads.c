@@ -111,11 +111,12 @@ static void commits(void)
 }
 
 /* Plain memory isn't opened where its file can't be read, nor is a file grown whose last page can't be. */
-static void others(void)
+static void others(int resident)
 {
     famsync_memory *memory;
     make_volume_of(4, 8, "a=5000/9000");
-    handle = opened_with((struct famsync_options){.foreground = 1});
+    handle = opened_with(
+        (struct famsync_options){.size = sizeof(struct famsync_options), .foreground = 1, .resident = resident});
     fails_from = 1;
     WANT_CODE(famsync_memory_open(handle, "a", &memory), FAMSYNC_DEVICE);
     WANT(memory == NULL && errno == EIO);
@@ -132,7 +133,8 @@ int main(void)
     in_the_middle();
     whole_pages();
     commits();
-    others();
+    others(0);
+    others(1);
     printf("clients/c: failed_reads: as it should be\n");
     return 0;
 }

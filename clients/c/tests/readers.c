@@ -236,10 +236,15 @@ static void sizes(void)
     WANT_CODE(famsync_open(volume, &later.options, &handle), FAMSYNC_OK);
     WANT_CODE(famsync_msync(handle, NULL), FAMSYNC_READONLY);
     WANT_CODE(famsync_close(handle), FAMSYNC_OK);
-    for (size_t size = 1; size < sizeof later.options - sizeof(int); size++) {
+    size_t first = offsetof(struct famsync_options, readonly) + sizeof(int); /* what the first version had */
+    for (size_t size = 1; size < first; size++) {
         later.options.size = size;
         WANT_CODE(famsync_open(volume, &later.options, &handle), FAMSYNC_ARGUMENT);
     }
+    later.options.size = first;
+    WANT_CODE(famsync_open(volume, &later.options, &handle), FAMSYNC_OK);
+    WANT_CODE(famsync_msync(handle, NULL), FAMSYNC_READONLY);
+    WANT_CODE(famsync_close(handle), FAMSYNC_OK);
     WANT(strcmp(famsync_version(), FAMSYNC_VERSION) == 0);
 }
 

@@ -16,6 +16,7 @@ There are two ways to the bytes of a file: `Volume.memory`, a buffer to store th
 from __future__ import annotations
 
 from ._errors import (
+    Address,
     Argument,
     BadShape,
     Broken,
@@ -48,6 +49,7 @@ from ._volume import Path, Stat, Volume
 __version__ = "0.3.0"
 
 __all__ = [
+    "Address",
     "Argument",
     "BadShape",
     "Broken",
@@ -89,6 +91,8 @@ def open(
     foreground: bool = False,
     wait_ms: int = 0,
     readonly: bool = False,
+    resident: bool = False,
+    budget: int = 0,
 ) -> Volume:
     """Begins a session with a volume; `Volume` says what the arguments are."""
     return Volume(
@@ -99,4 +103,6 @@ def open(
         foreground=foreground,
         wait_ms=wait_ms,
         readonly=readonly,
+        resident=resident,
+        budget=budget,
     )

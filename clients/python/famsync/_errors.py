@@ -160,6 +160,12 @@ class ReadOnly(Error):
     code = -41
 
 
+class Address(Error):
+    """There can't be memory at this address."""
+
+    code = -42
+
+
 CLASSES = {kind.code: kind for kind in Error.__subclasses__()}
 
 

@@ -22,6 +22,8 @@ class Options(ctypes.Structure):
         ("message_size", c_size_t),
         ("wait_ms", c_uint),
         ("readonly", c_int),
+        ("resident", c_int),
+        ("budget", c_size_t),
     ]
 
 
@@ -60,6 +62,7 @@ CALLS = {
     "famsync_stat": (c_int, c_void_p, POINTER(Stat)),
     "famsync_backup": (c_int, c_void_p, c_int),
     "famsync_memory_open": (c_int, c_void_p, c_char_p, POINTER(c_void_p)),
+    "famsync_memory_open_at": (c_int, c_void_p, c_char_p, c_void_p, POINTER(c_void_p)),
     "famsync_memory_at": (c_void_p, c_void_p),
     "famsync_memory_length": (c_size_t, c_void_p),
     "famsync_memory_dirty": (c_size_t, c_void_p),

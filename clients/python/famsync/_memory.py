@@ -23,7 +23,8 @@ class Lent:
 
     closing: Optional[Once] = None
 
-    def __init__(self, volume: Volume) -> None:
+    def __init__(self, volume: Volume, name: str) -> None:
+        self.name = name
         self.pointer = ctypes.c_void_p()
         self.owner = os.getpid()
         self._volume = volume
@@ -54,12 +55,12 @@ class Memory:
     _bytes: memoryview
     __hash__ = object.__hash__  # arrays of ctypes have none
 
-    def _begin(self, name: str, lent: Lent, address: int, length: int, readonly: bool) -> None:
+    def _begin(self, lent: Lent, address: int, length: int, readonly: bool) -> None:
         # All buffers that are given out are of this array, and have it; nothing else does. So when it goes, nobody
         # uses the memory any more, and what it has goes with it.
         array = _buffers.array_at(address, length)
         array.lent = lent  # type: ignore[attr-defined]
-        self.name, self._pointer, self._owner = name, lent.pointer, lent.owner
+        self.name, self._pointer, self._owner = lent.name, lent.pointer, lent.owner
         self._array = weakref.ref(array)
         self._is_readonly = readonly
         self._bytes = self._all_of(array)
@@ -170,13 +171,18 @@ def _place(value: Any, length: int, what: str) -> int:
     return place
 
 
-def open_memory(handle: ctypes.c_void_p, lent: Lent, name: str, encoded: bytes, readonly: bool) -> Memory:
-    """Opens plain memory of a file. If an interrupt comes in between, nothing is left open."""
+def open_memory(handle: ctypes.c_void_p, lent: Lent, address: int, readonly: bool) -> Memory:
+    """Opens plain memory of a file, anywhere if the address is 0. If an interrupt comes in between, nothing is left
+    open."""
     try:
-        check(library.famsync_memory_open(handle, encoded, ctypes.byref(lent.pointer)))
+        encoded, pointer = os.fsencode(lent.name), ctypes.byref(lent.pointer)
+        if address == 0:
+            check(library.famsync_memory_open(handle, encoded, pointer))
+        else:
+            check(library.famsync_memory_open_at(handle, encoded, address, pointer))
         address, length = library.famsync_memory_at(lent.pointer), library.famsync_memory_length(lent.pointer)
         memory = _buffers.new(Memory, address, length)
-        memory._begin(name, lent, address, length, readonly)
+        memory._begin(lent, address, length, readonly)
         return memory
     except BaseException:
         lent.give_back()

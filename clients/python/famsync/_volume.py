@@ -11,7 +11,7 @@ from types import TracebackType
 from typing import Any, Dict, List, NamedTuple, NoReturn, Optional, Tuple, Type, Union
 
 from . import _library
-from ._errors import Argument, Error, NoFile, check
+from ._errors import Argument, Busy, Error, NoFile, check
 from ._library import Options, library, words
 from ._memory import Lent, Memory, open_memory
 from ._session import Once, Session
@@ -50,20 +50,15 @@ def _name(name: str) -> bytes:
     return os.fsencode(name)
 
 
-def _options(
-    said: Any, trust: bool, frames: int, copies: int, foreground: bool, wait_ms: int, readonly: bool
-) -> Options:
+# How many bits the options have that are numbers; the others are true or false.
+_BITS = {"frames": 32, "copies": 32, "wait_ms": 32, "budget": 8 * ctypes.sizeof(ctypes.c_size_t)}
+
+
+def _options(said: Any, **given: Any) -> Options:
     """The options of a session, with room for what is said where it doesn't begin."""
+    fields = {name: _number(value, _BITS[name], name) if name in _BITS else bool(value) for name, value in given.items()}
     return Options(
-        size=ctypes.sizeof(Options),
-        trust=bool(trust),
-        frames=_number(frames, 32, "frames"),
-        copies=_number(copies, 32, "copies"),
-        foreground=bool(foreground),
-        message=ctypes.addressof(said),
-        message_size=ctypes.sizeof(said),
-        wait_ms=_number(wait_ms, 32, "wait_ms"),
-        readonly=bool(readonly),
+        size=ctypes.sizeof(Options), message=ctypes.addressof(said), message_size=ctypes.sizeof(said), **fields
     )
 
 
@@ -109,6 +104,8 @@ class Volume:
     - `foreground`: no thread of the library's own, which writes what is left of a commit while nobody calls.
     - `wait_ms`: how many milliseconds to wait for a volume that is in use.
     - `readonly`: a session that only reads. Any number of them share a volume.
+    - `resident`: plain memory is read in whole, and is no mapping of the volume's file.
+    - `budget`: the most bytes of committed pages that plain memory keeps, with a copy of each; 0 is 64 MB.
 
     Threads may share it, and their commits. At the end of a `with` it is closed.
     """
@@ -123,12 +120,24 @@ class Volume:
         foreground: bool = False,
         wait_ms: int = 0,
         readonly: bool = False,
+        resident: bool = False,
+        budget: int = 0,
     ) -> None:
         self._memories: weakref.WeakSet[Memory] = weakref.WeakSet()
         self._lent: List[Tuple[Once, weakref.ref[Lent]]] = []
         self.path = path
         said = ctypes.create_string_buffer(MESSAGE)
-        options = _options(said, trust, frames, copies, foreground, wait_ms, readonly)
+        options = _options(
+            said,
+            trust=trust,
+            frames=frames,
+            copies=copies,
+            foreground=foreground,
+            wait_ms=wait_ms,
+            readonly=readonly,
+            resident=resident,
+            budget=budget,
+        )
         encoded = _path(path)
         self._session = Session(f"the volume {os.fsdecode(path)!r}")
         self._at_the_end = self._session.closing.with_(self)
@@ -158,15 +167,17 @@ class Volume:
         mark: int = self._session.call(library.famsync_acknowledged)
         return mark
 
-    def memory(self, name: str) -> Memory:
-        """Plain memory of a whole file, which has a byte at least."""
-        return self._session.call(self._open_memory, name)
+    def memory(self, name: str, *, address: int = 0) -> Memory:
+        """Plain memory of a whole file, which has a byte at least. It is at `address`, if that isn't 0, so that the
+        file may have pointers into itself; Address if there can't be memory."""
+        bits = 8 * ctypes.sizeof(ctypes.c_void_p)
+        return self._session.call(self._open_memory, name, _number(address, bits, "address"))
 
-    def _open_memory(self, handle: ctypes.c_void_p, name: str) -> Memory:
+    def _open_memory(self, handle: ctypes.c_void_p, name: str, address: int) -> Memory:
         self._take_back()
-        lent = Lent(self)
+        lent = Lent(self, os.fsdecode(_name(name)))
         self._lent.append((lent.closing, weakref.ref(lent)))
-        memory = open_memory(handle, lent, name, _name(name), self._is_readonly)
+        memory = open_memory(handle, lent, address, self._is_readonly)
         self._memories.add(memory)
         return memory
 
@@ -246,8 +257,18 @@ class Volume:
         end are gone, and what a file grows by is zeros; the pages that it grows by go into the next commit, and NoFrame
         says that one can't have them all. Like a write it is durable after that commit.
 
-        Busy as long as plain memory of the file is open."""
-        check(self._session.call(library.famsync_setlength, _name(name), _number(length, 64, "length")))
+        Busy as long as plain memory of the file is open, of which somebody may have a buffer."""
+        self._session.call(self._set_length, name, _number(length, 64, "length"))
+
+    def _set_length(self, handle: ctypes.c_void_p, name: str, length: int) -> None:
+        encoded = _name(name)
+        if not self._is_readonly and self._has_memory(os.fsdecode(encoded)):
+            raise Busy(f"memory of {name!r} is open")
+        check(library.famsync_setlength(handle, encoded, length))
+
+    def _has_memory(self, name: str) -> bool:
+        self._take_back()
+        return any(one.name == name and closing.pointer for closing, lent in self._lent if (one := lent()))
 
     def commit(self) -> int:
         """Makes all changes of this session durable, all of them or none, and returns the commit's number, counted from

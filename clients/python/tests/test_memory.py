@@ -14,6 +14,8 @@ try:
 except ImportError:
     numpy = None
 
+ADDRESS = 0x220000000000
+
 ANSWERS = sys.version_info >= (3, 12)
 
 
@@ -246,6 +248,36 @@ class OtherFaults(InAFolder):
         self.assertEqual(
             self.ends("faulthandler.enable()\n" + memory + "faulthandler.disable()\n" + store), (-11, "", False)
         )
+
+
+class AtAnAddress(InAFolder):
+    def test_it_is_there_in_each_session(self):
+        for number in range(3):
+            with self.opened() as volume:
+                memory = volume.memory("a", address=ADDRESS)
+                self.assertEqual((ctypes.addressof(ctypes.c_char.from_buffer(memory)), memory[7]), (ADDRESS, number))
+                memory[7] += 1
+                volume.commit()
+
+    def test_what_is_refused(self):
+        volume = self.opened()
+        with volume.memory("a", address=ADDRESS):
+            for address in (1, PAGE, ADDRESS, ADDRESS + 1, ADDRESS + 4 * PAGE, (1 << 64) - PAGE):
+                self.assertRaises(famsync.Address, volume.memory, "b", address=address)
+            for address in (-1, 1 << 64):
+                self.assertRaises(famsync.Argument, volume.memory, "b", address=address)
+            self.assertRaises(famsync.Overlap, volume.memory, "a", address=2 * ADDRESS)
+        volume.memory("b", address=ADDRESS).close()
+
+    def test_the_file_is_read_in(self):
+        for options in ({"resident": True}, {"budget": 1}, {"resident": False, "budget": 0}):
+            with self.opened(**options) as volume:
+                memory = volume.memory("a")
+                memory[0] += 1
+                volume.commit()
+        with self.opened() as volume:
+            self.assertEqual(volume.memory("a")[0], 3)
+        self.assertRaises(famsync.Argument, famsync.open, "v.img", budget=-1)
 
 
 if __name__ == "__main__":

@@ -247,6 +247,10 @@ class Interrupts(InAFolder):
         for name in ("famsync_memory_open", "famsync_memory_at", "famsync_memory_length"):
             self.interrupted(_memory, name, volume.memory, "a")
             volume.memory("a").close()
+        with mock.patch.object(_memory, "library", Interrupted("famsync_memory_open_at")):
+            with self.assertRaises(KeyboardInterrupt):
+                volume.memory("a", address=0x230000000000)
+        volume.memory("a", address=0x230000000000).close()
         volume.close()
         try:
             with famsync.open("v.img") as volume:

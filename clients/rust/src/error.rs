@@ -83,6 +83,8 @@ codes! {
     NeedsOpening = -40,
     /// The session only reads.
     ReadOnly = -41,
+    /// There can't be memory at this address.
+    Address = -42,
 }
 
 impl Code {

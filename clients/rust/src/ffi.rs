@@ -25,6 +25,8 @@ pub struct FamsyncOptions {
     pub message_size: usize,
     pub wait_ms: c_uint,
     pub readonly: c_int,
+    pub resident: c_int,
+    pub budget: usize,
 }
 
 #[repr(C)]
@@ -75,6 +77,12 @@ extern "C" {
     pub fn famsync_stat(handle: *mut Famsync, stat: *mut FamsyncStat) -> c_int;
     pub fn famsync_backup(handle: *mut Famsync, descriptor: c_int) -> c_int;
     pub fn famsync_memory_open(handle: *mut Famsync, file: *const c_char, memory: *mut *mut FamsyncMemory) -> c_int;
+    pub fn famsync_memory_open_at(
+        handle: *mut Famsync,
+        file: *const c_char,
+        address: *mut c_void,
+        memory: *mut *mut FamsyncMemory,
+    ) -> c_int;
     pub fn famsync_memory_at(memory: *const FamsyncMemory) -> *mut c_void;
     pub fn famsync_memory_length(memory: *const FamsyncMemory) -> usize;
     pub fn famsync_memory_dirty(memory: *const FamsyncMemory) -> usize;

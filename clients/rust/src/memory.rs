@@ -26,7 +26,7 @@
 //! # Why words may be stored to meanwhile
 //!
 //! Of an atomic the compiler knows that others may read it at any time. That the library's own read of it is no data
-//! race rests on how `clients/c/src/memory.c` reads, as its header promises: it reads a page only while that is closed
+//! race rests on how `clients/c/src/stores.c` reads, as its header promises: it reads a page only while that is closed
 //! to stores. The page is closed by `mprotect`, which returns once no processor has it open any more, so that all
 //! earlier stores come before the read. A later store raises SIGSEGV, whose handler waits for a lock that the commit
 //! gives back when it has read: so the read comes before that store. `famsync_memory_dirty` and `famsync_stat` read
@@ -46,7 +46,7 @@
 use crate::error::{check, Code, Error};
 use crate::ffi;
 use crate::volume::Session;
-use std::ffi::{CStr, CString};
+use std::ffi::{c_void, CStr, CString};
 use std::ptr::{self, NonNull};
 use std::slice;
 use std::sync::atomic::AtomicU64;
@@ -66,10 +66,17 @@ unsafe impl Sync for Plain {}
 
 impl Plain {
     /// It has to be dropped before the session.
-    pub(crate) fn open(session: &Session, name: &CStr) -> Result<Plain, Error> {
+    pub(crate) fn open(session: &Session, name: &CStr, address: Option<usize>) -> Result<Plain, Error> {
         let mut memory = ptr::null_mut();
-        // Safety: the session is open, and the name ends with a null byte.
-        check(unsafe { ffi::famsync_memory_open(session.handle(), name.as_ptr(), &mut memory) })?;
+        // Safety: the session is open, and the name ends with a null byte. It takes the place of no other memory.
+        check(unsafe {
+            match address {
+                None => ffi::famsync_memory_open(session.handle(), name.as_ptr(), &mut memory),
+                Some(address) => {
+                    ffi::famsync_memory_open_at(session.handle(), name.as_ptr(), address as *mut c_void, &mut memory)
+                }
+            }
+        })?;
         // Safety: the memory was opened, and isn't closed yet.
         let at = unsafe { ffi::famsync_memory_at(memory) };
         let length = unsafe { ffi::famsync_memory_length(memory) };
@@ -93,6 +100,12 @@ impl Plain {
 
     pub(crate) fn length(&self) -> usize {
         self.length
+    }
+
+    /// Notes the length that the memory has now.
+    pub(crate) fn measure(&mut self) {
+        // Safety: the memory is open.
+        self.length = unsafe { ffi::famsync_memory_length(self.memory.as_ptr()) };
     }
 
     pub(crate) fn bytes_mut(&mut self) -> &mut [u8] {
@@ -140,9 +153,16 @@ impl Slot {
     /// Opens the memory where it isn't open; one thread at a time calls this.
     pub(crate) fn open(&self, session: &Session) -> Result<(), Error> {
         if self.plain.get().is_none() {
-            let plain = Plain::open(session, &self.name)?;
+            let plain = Plain::open(session, &self.name, None)?;
             self.plain.get_or_init(|| plain);
         }
+        Ok(())
+    }
+
+    /// Opens the memory at an address; one thread at a time calls this.
+    pub(crate) fn open_at(&self, session: &Session, address: usize) -> Result<(), Error> {
+        let plain = Plain::open(session, &self.name, Some(address))?;
+        self.plain.get_or_init(|| plain);
         Ok(())
     }
 

@@ -30,6 +30,8 @@ pub struct Options {
     foreground: bool,
     wait: Duration,
     readonly: bool,
+    resident: bool,
+    budget: usize,
 }
 
 impl Options {
@@ -77,6 +79,19 @@ impl Options {
         self
     }
 
+    /// Whether plain memory is read in whole, and is no mapping of the volume's file. Without it a load may raise SIGBUS
+    /// if that file can't be read or was cut off, and a forked process may see later commits.
+    pub fn resident(&mut self, resident: bool) -> &mut Options {
+        self.resident = resident;
+        self
+    }
+
+    /// The most bytes of committed pages that plain memory keeps, with a copy of each; 0 is 64 MB.
+    pub fn budget(&mut self, bytes: usize) -> &mut Options {
+        self.budget = bytes;
+        self
+    }
+
     /// Opens a volume: a regular file with one name that `famsync format` made. It is locked until the volume is
     /// dropped. The error says in words what is wrong with which file.
     pub fn open(&self, path: impl AsRef<Path>) -> Result<Volume, Error> {
@@ -92,6 +107,8 @@ impl Options {
             message_size: message.len(),
             wait_ms: c_uint::try_from(self.wait.as_millis()).unwrap_or(c_uint::MAX),
             readonly: c_int::from(self.readonly),
+            resident: c_int::from(self.resident),
+            budget: self.budget,
         };
         let mut handle = ptr::null_mut();
         // Safety: the name ends with a null byte, and the options have as much room for a message as they say.

@@ -158,9 +158,42 @@ impl Volume {
     /// after the next commit. The pages that a file grows by, and the one in which it ended, count as written:
     /// [`Code::NoFrame`] where they and those that were written don't go into one commit.
     ///
-    /// [`Code::Busy`] as long as plain memory of the file is open.
+    /// [`Code::Busy`] as long as plain memory of the file is open, which somebody may have a slice of: see
+    /// [`resize`](Volume::resize).
     pub fn set_length(&self, file: &str, length: u64) -> Result<(), Error> {
         let (_, slot) = self.slot(file)?;
+        let _closed = self.hold_off_opening();
+        if slot.is_open() && !self.readonly {
+            return Err(Error::with_message(Code::Busy, format!("memory of {file:?} is open")));
+        }
+        self.set_length_of(slot, length)
+    }
+
+    /// Sets the length of a file as [`set_length`](Volume::set_length) does. If its memory is open, that grows or
+    /// shrinks in place.
+    ///
+    /// ```
+    /// # include!(concat!(env!("CARGO_MANIFEST_DIR"), "/tests/volumes/mod.rs"));
+    /// # fn main() -> Result<(), famsync::Error> {
+    /// # let made = make_volume(4, 16, "log=4096/8192");
+    /// # let mut volume = famsync::Volume::open(made.path())?;
+    /// volume.memory_mut("log")?[0] = 1;
+    /// volume.resize("log", 8192)?;
+    /// volume.memory_mut("log")?[8191] = 2;
+    /// volume.commit()?;
+    /// # Ok(())
+    /// # }
+    /// ```
+    pub fn resize(&mut self, file: &str, length: u64) -> Result<(), Error> {
+        self.set_length_of(self.slot(file)?.1, length)?;
+        if let Some(plain) = self.slot_mut(file)?.plain_mut() {
+            plain.measure();
+        }
+        Ok(())
+    }
+
+    /// Nobody has a slice of memory of the file that may become shorter.
+    fn set_length_of(&self, slot: &Slot, length: u64) -> Result<(), Error> {
         // Safety: the session is open, and the name ends with a null byte.
         check(unsafe { ffi::famsync_setlength(self.session.handle(), slot.name().as_ptr(), length) })
     }
@@ -270,6 +303,26 @@ impl Volume {
             }
         }
         Ok(bytes)
+    }
+
+    /// Opens the memory of a file at an address, so that the file may have pointers into itself. Up to the file's
+    /// capacity, and one page before and behind, there is no other memory: else [`Code::Address`]. [`Code::Overlap`]
+    /// where the memory of the file is open.
+    ///
+    /// ```
+    /// # include!(concat!(env!("CARGO_MANIFEST_DIR"), "/tests/volumes/mod.rs"));
+    /// # fn main() -> Result<(), famsync::Error> {
+    /// # let made = make_volume(1, 16, "heap=8192");
+    /// let mut volume = famsync::Volume::open(made.path())?;
+    /// volume.open_memory_at("heap", 0x2000_0000_0000)?;
+    /// assert_eq!(volume.memory_mut("heap")?.as_ptr() as usize, 0x2000_0000_0000);
+    /// # Ok(())
+    /// # }
+    /// ```
+    pub fn open_memory_at(&self, file: &str, address: usize) -> Result<(), Error> {
+        let (_, slot) = self.slot(file)?;
+        let _mine = self.hold_off_opening();
+        slot.open_at(&self.session, address)
     }
 
     /// The whole words of a file, in this machine's order of bytes: those who share the volume may store to them, also

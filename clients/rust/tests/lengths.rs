@@ -2,7 +2,7 @@
 
 mod volumes;
 
-use famsync::{Code, Volume};
+use famsync::{Code, Options, Volume};
 use volumes::make_volume;
 
 fn length(volume: &Volume, name: &str) -> u64 {
@@ -37,6 +37,32 @@ fn grows_and_shrinks(layout: u8) {
     volume.set_length("a", 100).unwrap();
     drop(volume);
     assert_eq!(length(&Volume::open(made.path()).unwrap(), "a"), 20000);
+}
+
+#[test]
+fn memory_grows_and_shrinks_in_place() {
+    for resident in [false, true] {
+        let made = make_volume(4, 16, "a=5000/40000 b=8192");
+        let mut volume = Options::new().resident(resident).budget(1).open(made.path()).unwrap();
+        let a = volume.memory_mut("a").unwrap();
+        a[4999] = 7;
+        let at = a.as_ptr();
+        volume.resize("a", 20000).unwrap();
+        let a = volume.memory_mut("a").unwrap();
+        assert!(a.as_ptr() == at && a.len() == 20000 && a[4999] == 7 && a[5000..].iter().all(|byte| *byte == 0));
+        a[19999] = 8;
+        assert_eq!(volume.set_length("a", 100).unwrap_err().code(), Code::Busy);
+        assert_eq!(volume.resize("a", 40001).unwrap_err().code(), Code::Einval);
+        assert_eq!(volume.resize("c", 1).unwrap_err().code(), Code::NoFile);
+        volume.commit().unwrap();
+        volume.resize("a", 4999).unwrap();
+        assert!(volume.memory_mut("a").unwrap().iter().all(|byte| *byte == 0));
+        volume.resize("a", 5000).unwrap();
+        assert_eq!((volume.memory("a").unwrap().len(), volume.memory("a").unwrap()[4999]), (5000, 0));
+        volume.commit().unwrap();
+        drop(volume);
+        assert_eq!(length(&Volume::open(made.path()).unwrap(), "a"), 5000);
+    }
 }
 
 #[test]

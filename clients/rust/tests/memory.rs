@@ -88,6 +88,26 @@ fn too_many_pages_in_both_ways() {
 }
 
 #[test]
+fn at_an_address() {
+    let made = make_volume(1, 16, "a=8192 b=8192");
+    let address = 0x2100_0000_0000;
+    for round in 0..3 {
+        let mut volume = Volume::open(made.path()).unwrap();
+        for wrong in [1, 4096, address + 1, usize::MAX - 4095] {
+            assert_eq!(volume.open_memory_at("a", wrong).unwrap_err().code(), Code::Address);
+        }
+        assert_eq!(volume.open_memory_at("c", address).unwrap_err().code(), Code::NoFile);
+        volume.open_memory_at("a", address).unwrap();
+        assert_eq!(volume.open_memory_at("a", address).unwrap_err().code(), Code::Overlap);
+        assert_eq!(volume.open_memory_at("b", address + 4096).unwrap_err().code(), Code::Address);
+        let a = volume.memory_mut("a").unwrap();
+        assert_eq!((a.as_ptr() as usize, a[0]), (address, round));
+        a[0] += 1;
+        volume.commit().unwrap();
+    }
+}
+
+#[test]
 fn bytes_or_words() {
     let made = make_volume(1, 16, "a=8192 b=5001");
     let mut volume = Volume::open(made.path()).unwrap();

@@ -1,0 +1,305 @@
+/* What is stored to plain memory: which pages were stored to since the last commit, what the next commit takes of them,
+   and which committed pages are given back to the system. */
+#include "memory.h"
+
+#include <string.h>
+#include <sys/mman.h>
+
+void lock_pages(famsync *handle, sigset_t *blocked)
+{
+    sigset_t all;
+    sigfillset(&all);
+    pthread_sigmask(SIG_SETMASK, &all, blocked);
+    take(handle);
+}
+
+void unlock_pages(famsync *handle, const sigset_t *blocked)
+{
+    give(handle);
+    pthread_sigmask(SIG_SETMASK, blocked, NULL);
+}
+
+/* The first page of a span, from one on, that has a note; the end of the span if none has. Notes of eight pages are
+   looked at together. */
+static size_t first_noted(const unsigned char *notes, size_t page, size_t end)
+{
+    uint64_t eight;
+    while (page < end) {
+        size_t step = end - page < sizeof eight ? 1 : sizeof eight;
+        eight = 0;
+        memcpy(&eight, notes + page, step);
+        if (eight == 0)
+            page += step;
+        else if (notes[page] != CLOSED)
+            break;
+        else
+            page++;
+    }
+    return page;
+}
+
+/* Calls `each` for each run of pages of a span that have this note, up to one that answers other than FAMSYNC_OK. */
+static int for_runs(famsync_memory *memory, const unsigned char *notes, struct span span,
+                    int (*each)(famsync_memory *memory, size_t first, size_t end))
+{
+    int code = FAMSYNC_OK;
+    for (size_t page = span.begin; page < span.end && code == FAMSYNC_OK;) {
+        const unsigned char *found = memchr(notes + page, STORED, span.end - page);
+        size_t first;
+        if (!found)
+            break;
+        first = page = (size_t)(found - notes);
+        while (page < span.end && notes[page] == STORED)
+            page++;
+        code = each(memory, first, page);
+    }
+    return code;
+}
+
+/* The committed bytes of a page. */
+static const unsigned char *committed(const famsync_memory *memory, size_t page)
+{
+    bool at_home = memory->home && memory->since[page] == 0;
+    return (at_home ? memory->home : memory->copy) + page * memory->grain;
+}
+
+/* Whether a page was stored to since the last msync, as far as its bytes show it where it was opened with others. */
+static bool is_stored(const famsync_memory *memory, size_t page)
+{
+    return memory->dirty[page] == STORED ||
+           (memory->dirty[page] == OPENED &&
+            memcmp(memory->at + page * memory->grain, committed(memory, page), bytes_in(memory, page)) != 0);
+}
+
+size_t dirty_in(const famsync_memory *memory)
+{
+    size_t count = 0, end = memory->open.end;
+    for (size_t page = first_noted(memory->dirty, memory->open.begin, end); page < end;
+         page = first_noted(memory->dirty, page + 1, end))
+        if (is_stored(memory, page))
+            count += pages_in(memory, page);
+    return count;
+}
+
+/* Of those pages, how many the core has for the next commit already. */
+static uint64_t staged_in(const famsync_memory *memory)
+{
+    uint64_t count = 0, end = memory->open.end;
+    for (size_t page = first_noted(memory->dirty, memory->open.begin, end); page < end;
+         page = first_noted(memory->dirty, page + 1, end))
+        if (is_stored(memory, page))
+            count += staged_among(memory->handle, memory->file, page * (memory->grain / PAGE), pages_in(memory, page));
+    return count;
+}
+
+uint64_t stored_pages(famsync *handle)
+{
+    uint64_t count = 0;
+    sigset_t blocked;
+    lock_pages(handle, &blocked);
+    for (const famsync_memory *memory = handle->memories; memory; memory = memory->next_one)
+        count += dirty_in(memory) - staged_in(memory);
+    unlock_pages(handle, &blocked);
+    return count;
+}
+
+/* Without a mapping of the home blocks all pages are kept, and nothing is noted of that. */
+void keep(famsync_memory *memory, size_t first, size_t end)
+{
+    if (!memory->home || first == end)
+        return;
+    for (size_t page = first; page < end; page++) {
+        memory->kept += memory->since[page] == 0;
+        memory->since[page] = memory->handle->numbered + 1;
+    }
+    widen(&memory->keeps, first, end);
+}
+
+void keep_no_more(famsync_memory *memory, size_t first, size_t end)
+{
+    if (!memory->home)
+        return;
+    for (size_t page = first; page < end; page++) {
+        memory->kept -= memory->since[page] != 0;
+        memory->since[page] = 0;
+    }
+    (void)madvise(memory->copy + first * memory->grain, (end - first) * memory->grain, MADV_DONTNEED);
+}
+
+/* Whether a page that is kept may be given back: its home block has the same bytes. Of the last page the bytes past the
+   file's end are memory, which no block has. */
+static bool is_spare(const famsync_memory *memory, size_t page, uint32_t newest)
+{
+    return memory->since[page] != 0 && memory->since[page] <= newest && memory->dirty[page] == CLOSED &&
+           (page + 1) * memory->grain <= memory->length;
+}
+
+/* Gives a run of pages back: what is loaded from there is the home blocks again. */
+static void give_back(famsync_memory *memory, size_t first, size_t end)
+{
+    (void)madvise(memory->at + first * memory->grain, (end - first) * memory->grain, MADV_DONTNEED);
+    keep_no_more(memory, first, end);
+}
+
+/* The first page of a span, from one on, that is kept; the end of the span if none is. */
+static size_t first_kept(const famsync_memory *memory, size_t page, size_t end)
+{
+    const size_t size = sizeof *memory->since;
+    return first_noted((const unsigned char *)memory->since, page * size, end * size) / size;
+}
+
+/* Gives all pages back that may be. */
+static void give_back_spare(famsync_memory *memory, uint32_t newest)
+{
+    size_t end = memory->keeps.end, page = first_kept(memory, memory->keeps.begin, end);
+    memory->keeps = (struct span){0, 0};
+    for (size_t first; page < end; page = first_kept(memory, page, end)) {
+        for (first = page; page < end && is_spare(memory, page, newest); page++)
+            continue;
+        if (first < page) {
+            give_back(memory, first, page);
+            continue;
+        }
+        widen(&memory->keeps, page, page + 1);
+        page++;
+    }
+}
+
+/* A page that is kept is there twice: as the program has it, and as it was committed. */
+void keep_to_budget(famsync *handle)
+{
+    famsync_memory *memory;
+    sigset_t blocked;
+    uint64_t bytes = 0;
+    for (memory = handle->memories; memory; memory = memory->next_one)
+        bytes += 2 * memory->kept * memory->grain;
+    if (bytes <= handle->budget)
+        return;
+    for (memory = handle->memories; memory; memory = memory->next_one) {
+        lock_pages(handle, &blocked);
+        give_back_spare(memory, newest_home(handle));
+        unlock_pages(handle, &blocked);
+    }
+}
+
+/* Closes all pages that are open, by one call from the first to the last of them: those between are closed. Then those
+   that were opened with others, and weren't stored to, are found. */
+static int close_pages(famsync_memory *memory)
+{
+    size_t begin = memory->open.begin, end = memory->open.end;
+    if (begin == end)
+        return FAMSYNC_OK;
+    if (mprotect(memory->at + begin * memory->grain, (end - begin) * memory->grain, PROT_READ) != 0)
+        return FAMSYNC_SYSTEM;
+    for (size_t page = first_noted(memory->dirty, begin, end); page < end;
+         page = first_noted(memory->dirty, page + 1, end))
+        memory->dirty[page] = is_stored(memory, page) ? STORED : CLOSED;
+    return FAMSYNC_OK;
+}
+
+static int forget_run(famsync_memory *memory, size_t first, size_t end)
+{
+    memset(memory->taken + first, CLOSED, end - first);
+    return FAMSYNC_OK;
+}
+
+/* Forgets which pages a commit has. */
+static void end_taking(famsync_memory *memory)
+{
+    for_runs(memory, memory->taken, memory->takes, forget_run);
+    memory->takes = (struct span){0, 0};
+}
+
+/* Copies pages that were stored to, and were closed, and moves what is noted of them to the commit that is made. */
+static int copy_run(famsync_memory *memory, size_t first, size_t end)
+{
+    memcpy(memory->copy + first * memory->grain, memory->at + first * memory->grain, (end - first) * memory->grain);
+    memset(memory->taken + first, STORED, end - first);
+    memset(memory->dirty + first, CLOSED, end - first);
+    keep(memory, first, end);
+    return FAMSYNC_OK;
+}
+
+static int store_run(famsync_memory *memory, size_t first, size_t end)
+{
+    size_t begin = first * memory->grain, stop = (end - 1) * memory->grain + bytes_in(memory, end - 1), done;
+    memory->stored = true;
+    return write_range(memory->handle, memory->file, begin, memory->copy + begin, stop - begin, &done);
+}
+
+/* Whether the next commit has room for these pages of plain memory, which are closed, and for those of the core. */
+static bool has_room(famsync *handle, uint64_t pages)
+{
+    uint64_t count = pages + (uint64_t)famsync_core_staged(handle->core, &handle->core.at);
+    for (famsync_memory *memory = handle->memories; memory && count > handle->frames; memory = memory->next_one)
+        count -= staged_in(memory);
+    return count <= handle->frames;
+}
+
+/* Closes all pages; `*pages` is how many were stored to. */
+static int close_all(famsync *handle, uint64_t *pages)
+{
+    int code = FAMSYNC_OK;
+    *pages = 0;
+    for (famsync_memory *memory = handle->memories; memory && code == FAMSYNC_OK; memory = memory->next_one) {
+        code = close_pages(memory);
+        *pages += code == FAMSYNC_OK ? dirty_in(memory) : 0;
+    }
+    return code;
+}
+
+/* Closes all pages, and copies then those that were stored to; in between no page of this handle can be opened. Whether
+   all go into one commit is judged before any is stored. */
+static int take_pages(famsync *handle)
+{
+    sigset_t blocked;
+    uint64_t pages;
+    int code;
+    lock_pages(handle, &blocked);
+    code = close_all(handle, &pages);
+    if (code == FAMSYNC_OK && !has_room(handle, pages))
+        code = FAMSYNC_NOFRAME;
+    for (famsync_memory *memory = handle->memories; memory && code == FAMSYNC_OK; memory = memory->next_one) {
+        end_taking(memory);
+        memory->takes = memory->open;
+        for_runs(memory, memory->dirty, memory->open, copy_run);
+        memory->open = (struct span){0, 0};
+    }
+    unlock_pages(handle, &blocked);
+    return code;
+}
+
+int take_stores(famsync *handle)
+{
+    int code = take_pages(handle);
+    for (famsync_memory *memory = handle->memories; memory && code == FAMSYNC_OK; memory = memory->next_one)
+        code = for_runs(memory, memory->taken, memory->takes, store_run);
+    return code;
+}
+
+static int put_run_back(famsync_memory *memory, size_t first, size_t end)
+{
+    memset(memory->dirty + first, STORED, end - first);
+    widen(&memory->open, first, end);
+    return FAMSYNC_OK;
+}
+
+void put_stores_back(famsync *handle)
+{
+    sigset_t blocked;
+    lock_pages(handle, &blocked);
+    for (famsync_memory *memory = handle->memories; memory; memory = memory->next_one) {
+        for_runs(memory, memory->taken, memory->takes, put_run_back);
+        end_taking(memory);
+    }
+    unlock_pages(handle, &blocked);
+}
+
+void stores_are_committed(famsync *handle)
+{
+    for (famsync_memory *memory = handle->memories; memory; memory = memory->next_one) {
+        memory->stored = false;
+        end_taking(memory);
+    }
+    keep_to_budget(handle);
+}
