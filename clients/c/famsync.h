@@ -50,7 +50,7 @@ enum famsync_code {
     FAMSYNC_INUSE = -6,    /* the volume is open already: in another process, or in this one */
     FAMSYNC_SUSPECT = -7,  /* a sync of the volume failed once; it opens where it is trusted */
     FAMSYNC_FORKED = -11,  /* the handle is of the process from which this one was forked */
-    FAMSYNC_TORN = -12,    /* memory was closed of which a refused msync had stored a part: commit no more */
+    FAMSYNC_TORN = -12,    /* a part of what belongs together was stored or undone: commit no more */
 
     /* why a volume isn't opened */
     FAMSYNC_NOTREGULAR = -13, /* it is a folder, a device, a pipe or a socket, and no regular file */
@@ -75,7 +75,8 @@ enum famsync_code {
     FAMSYNC_READONLY = -41,     /* the session only reads */
 
     /* plain memory */
-    FAMSYNC_ADDRESS = -42 /* there can't be memory at this address */
+    FAMSYNC_ADDRESS = -42, /* there can't be memory at this address */
+    FAMSYNC_STAGED = -43   /* a write, a length or a part of a refused commit waits, which can't be undone */
 };
 
 typedef struct famsync famsync;
@@ -182,6 +183,16 @@ int famsync_write(famsync *handle, unsigned file, uint64_t offset, const void *b
    What a commit writes after its acknowledgement is written by a thread of the library's own while nobody calls, in
    layout 4 once no commit has come for 10 ms, or by the next commit; with `foreground` there is no such thread. */
 int famsync_msync(famsync *handle, uint64_t *mark);
+
+/* Undoes all stores to plain memory since the last famsync_msync, in all memory of this handle; and with them what
+   famsync_write wrote to a file whose memory is open. Other threads may store meanwhile: undone is each store that came
+   before some one moment within the call, and none that came after it. First the library writes earlier commits to
+   their places; of memory that was read in it makes a copy.
+
+   FAMSYNC_STAGED: something else waits for a commit, which can't be undone: what famsync_write wrote to a file without
+   open memory, a length, or a part of what a refused famsync_msync took. Then nothing is undone. FAMSYNC_SYSTEM: the
+   system refused it. If a part was undone before that, the session commits no more (FAMSYNC_TORN). */
+int famsync_rollback(famsync *handle);
 
 /* The number of the last commit that was acknowledged, 0 where none was. */
 uint64_t famsync_acknowledged(famsync *handle);

@@ -13,7 +13,7 @@
 /* Below this address the system has no memory for programs. */
 #define LOWEST 65536u
 
-static void *anonymous(size_t room)
+void *anonymous(size_t room)
 {
     void *at = mmap(NULL, room, PROT_READ | PROT_WRITE, MAP_PRIVATE | MAP_ANONYMOUS | MAP_NORESERVE, -1, 0);
     return at == MAP_FAILED ? NULL : at;
@@ -124,12 +124,20 @@ static bool is_zeros(const unsigned char *bytes, size_t count)
     return count == 0 || (bytes[0] == 0 && memcmp(bytes, bytes + 1, count - 1) == 0);
 }
 
-/* Bytes past the file's end are zeros: those of its last page. The block of that may have others. */
-static void clear_end(famsync_memory *memory)
+/* The bytes of the last page that lie past the file's end. */
+static size_t count_past_end(const famsync_memory *memory)
 {
-    size_t length = memory->length, count = pages_for(memory, length) * memory->grain - length;
-    if (!is_zeros(memory->at + length, count))
-        memset(memory->at + length, 0, count);
+    return memory->pages * memory->grain - memory->length;
+}
+
+bool is_end_clear(const famsync_memory *memory)
+{
+    return is_zeros(memory->at + memory->length, count_past_end(memory));
+}
+
+void clear_end(famsync_memory *memory)
+{
+    memset(memory->at + memory->length, 0, count_past_end(memory));
 }
 
 /* Pages that wait for a commit in the core. */
@@ -170,7 +178,8 @@ static int begin_mapped(famsync_memory *memory)
         return code;
     *first = *first;
     (void)madvise(memory->at, memory->grain, MADV_DONTNEED);
-    clear_end(memory);
+    if (!is_end_clear(memory))
+        clear_end(memory);
     return fill_staged(memory);
 }
 

@@ -31,6 +31,7 @@ struct famsync_memory {
     struct span keeps;         /* all kept pages lie in it; `closing` */
     struct span open;          /* all pages that aren't CLOSED lie in it; `closing` */
     struct span takes;         /* all taken pages lie in it; `turn` */
+    unsigned char *spare;      /* a copy of `copy`, during a rollback; `turn` */
     size_t next, ahead;        /* the page after those opened last, and how many those were; `closing` */
 };
 
@@ -56,12 +57,25 @@ int map_memory(famsync_memory *memory, void *address);
 void unmap_memory(famsync_memory *memory);
 /* Grows and shrinks it. */
 int resize_memory(famsync_memory *memory, uint64_t length);
+/* Memory of this process that the system takes as it is used; a null pointer if there is none. */
+void *anonymous(size_t room);
+/* Whether the bytes past the file's end are zeros, in its last page; the block of that may have others. Makes them
+   zeros, if the page is open. */
+bool is_end_clear(const famsync_memory *memory);
+void clear_end(famsync_memory *memory);
 
 /* stores.c: takes the lock of the handler with all signals blocked, and gives it back. */
 void lock_pages(famsync *handle, sigset_t *blocked);
 void unlock_pages(famsync *handle, const sigset_t *blocked);
 /* The number of pages of the volume that were stored to since the last msync. The caller has the lock. */
 size_t dirty_in(const famsync_memory *memory);
+/* Calls `each` for each run of pages of a span whose note is STORED, up to one that answers other than FAMSYNC_OK. */
+int for_runs(famsync_memory *memory, const unsigned char *notes, struct span span,
+             int (*each)(famsync_memory *memory, size_t first, size_t end));
+/* Closes all pages of all memories; `*pages` is how many were stored to, which are STORED then. The caller has the
+ * lock.
+ */
+int close_stores(famsync *handle, uint64_t *pages);
 /* The committed bytes of pages are those of the next commit, which keeps them, or again those of their home blocks. */
 void keep(famsync_memory *memory, size_t first, size_t end);
 void keep_no_more(famsync_memory *memory, size_t first, size_t end);

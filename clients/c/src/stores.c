@@ -38,9 +38,8 @@ static size_t first_noted(const unsigned char *notes, size_t page, size_t end)
     return page;
 }
 
-/* Calls `each` for each run of pages of a span that have this note, up to one that answers other than FAMSYNC_OK. */
-static int for_runs(famsync_memory *memory, const unsigned char *notes, struct span span,
-                    int (*each)(famsync_memory *memory, size_t first, size_t end))
+int for_runs(famsync_memory *memory, const unsigned char *notes, struct span span,
+             int (*each)(famsync_memory *memory, size_t first, size_t end))
 {
     int code = FAMSYNC_OK;
     for (size_t page = span.begin; page < span.end && code == FAMSYNC_OK;) {
@@ -236,8 +235,7 @@ static bool has_room(famsync *handle, uint64_t pages)
     return count <= handle->frames;
 }
 
-/* Closes all pages; `*pages` is how many were stored to. */
-static int close_all(famsync *handle, uint64_t *pages)
+int close_stores(famsync *handle, uint64_t *pages)
 {
     int code = FAMSYNC_OK;
     *pages = 0;
@@ -256,7 +254,7 @@ static int take_pages(famsync *handle)
     uint64_t pages;
     int code;
     lock_pages(handle, &blocked);
-    code = close_all(handle, &pages);
+    code = close_stores(handle, &pages);
     if (code == FAMSYNC_OK && !has_room(handle, pages))
         code = FAMSYNC_NOFRAME;
     for (famsync_memory *memory = handle->memories; memory && code == FAMSYNC_OK; memory = memory->next_one) {

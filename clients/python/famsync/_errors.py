@@ -59,7 +59,7 @@ class Forked(Error):
 
 
 class Torn(Error):
-    """Memory was closed of which a refused commit had stored a part: nothing more can be committed."""
+    """A part of what belongs together was stored or undone, and nothing can be committed."""
 
     code = -12
 
@@ -164,6 +164,12 @@ class Address(Error):
     """There can't be memory at this address."""
 
     code = -42
+
+
+class Staged(Error):
+    """A write, a length or a part of a refused commit waits, which can't be undone."""
+
+    code = -43
 
 
 CLASSES = {kind.code: kind for kind in Error.__subclasses__()}

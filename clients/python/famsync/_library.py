@@ -57,6 +57,7 @@ CALLS = {
     "famsync_read": (c_int, c_void_p, c_uint, c_uint64, c_void_p, c_size_t, POINTER(c_size_t)),
     "famsync_write": (c_int, c_void_p, c_uint, c_uint64, c_char_p, c_size_t, POINTER(c_size_t)),
     "famsync_msync": (c_int, c_void_p, POINTER(c_uint64)),
+    "famsync_rollback": (c_int, c_void_p),
     "famsync_acknowledged": (c_uint64, c_void_p),
     "famsync_strerror": (c_char_p, c_int),
     "famsync_stat": (c_int, c_void_p, POINTER(Stat)),

@@ -6,12 +6,12 @@ import ctypes
 import operator
 import os
 import weakref
-from contextlib import suppress
+from contextlib import contextmanager, suppress
 from types import TracebackType
-from typing import Any, Dict, List, NamedTuple, NoReturn, Optional, Tuple, Type, Union
+from typing import Any, Dict, Iterator, List, NamedTuple, NoReturn, Optional, Tuple, Type, Union
 
 from . import _library
-from ._errors import Argument, Busy, Error, NoFile, check
+from ._errors import Argument, Broken, Busy, Device, Error, NoFile, Unmarked, check
 from ._library import Options, library, words
 from ._memory import Lent, Memory, open_memory
 from ._session import Once, Session
@@ -276,6 +276,29 @@ class Volume:
         mark = ctypes.c_uint64()
         check(self._session.call(library.famsync_msync, ctypes.byref(mark)))
         return mark.value
+
+    def rollback(self) -> None:
+        """Undoes all stores to plain memory since the last commit, in all memory of this session. Staged if something
+        else waits for a commit: what was written to a file without memory, or a length. Then nothing is undone."""
+        check(self._session.call(library.famsync_rollback))
+
+    @contextmanager
+    def transaction(self) -> Iterator[None]:
+        """Commits at the end of the `with`. If an exception comes before, or the commit is refused, what was stored to
+        plain memory is rolled back, and the exception goes on.
+
+            with volume.transaction():
+                bank[0:8] = (93).to_bytes(8, "little")
+                bank[8:16] = (7).to_bytes(8, "little")
+        """
+        try:
+            yield
+            self.commit()
+        except (Device, Unmarked, Broken):  # the session is over
+            raise
+        except BaseException:
+            self.rollback()
+            raise
 
     def close(self) -> None:
         """Ends the session, and closes its plain memory; changes since the last commit are gone. It waits for the calls

@@ -280,5 +280,53 @@ class AtAnAddress(InAFolder):
         self.assertRaises(famsync.Argument, famsync.open, "v.img", budget=-1)
 
 
+class Rollbacks(InAFolder):
+    slots, files, layout = 4, ("a=20000/40000", "b=5000"), 4
+
+    def test_stores_are_undone(self):
+        for resident in (False, True):
+            with self.opened(resident=resident) as volume:
+                a, b = volume.memory("a"), volume.memory("b")
+                a[0:5], b[4999] = b"hello", 7
+                volume.commit()
+                a[0:20000], b[0] = bytes(range(250)) * 80, 9
+                volume.write("a", 3, b"other")
+                volume.rollback()
+                self.assertEqual((a[0:6], a[19999], b[0], b[4999], a.dirty), (b"hello\0", 0, 0, 7, 0))
+
+    def test_what_cant_be_undone(self):
+        with self.opened() as volume:
+            a = volume.memory("a")
+            a[0] = 1
+            volume.write("b", 0, b"x")
+            self.assertRaises(famsync.Staged, volume.rollback)
+            volume.commit()
+            a.close()
+            volume.set_length("a", 10)
+            self.assertRaises(famsync.Staged, volume.rollback)
+        self.assertRaises(ValueError, volume.rollback)
+        with self.opened(readonly=True) as volume:
+            self.assertRaises(famsync.ReadOnly, volume.rollback)
+
+    def test_transactions(self):
+        volume = self.opened()
+        a = volume.memory("a")
+        with volume.transaction():
+            a[0] = 1
+        self.assertEqual((volume.acknowledged, a[0]), (1, 1))
+        for error in (ZeroDivisionError, KeyboardInterrupt):
+            with self.assertRaises(error), volume.transaction():
+                a[0] = a[9000] = 2
+                raise error
+            self.assertEqual((volume.acknowledged, a[0], a[9000]), (1, 1, 0))
+        with self.assertRaises(famsync.NoFrame), volume.transaction():
+            a[:] = b"x" * 20000
+        self.assertEqual((volume.acknowledged, a[0:2], a.dirty), (1, b"\1\0", 0))
+        with self.assertRaises(famsync.Staged) as raised, volume.transaction():
+            volume.write("b", 0, b"x")
+            raise ZeroDivisionError
+        self.assertIsInstance(raised.exception.__context__, ZeroDivisionError)
+
+
 if __name__ == "__main__":
     unittest.main()

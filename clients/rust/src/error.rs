@@ -49,7 +49,7 @@ codes! {
     Suspect = -7,
     /// The volume was opened by the process from which this one was forked.
     Forked = -11,
-    /// Memory was closed of which a refused commit had stored a part: nothing more can be committed.
+    /// A part of what belongs together was stored or undone: nothing more can be committed.
     Torn = -12,
     /// It is a folder, a device, a pipe or a socket, and no regular file.
     NotRegular = -13,
@@ -85,6 +85,8 @@ codes! {
     ReadOnly = -41,
     /// There can't be memory at this address.
     Address = -42,
+    /// A write, a length or a part of a refused commit waits, which can't be undone.
+    Staged = -43,
 }
 
 impl Code {

@@ -72,6 +72,7 @@ extern "C" {
         done: *mut usize,
     ) -> c_int;
     pub fn famsync_msync(handle: *mut Famsync, mark: *mut u64) -> c_int;
+    pub fn famsync_rollback(handle: *mut Famsync) -> c_int;
     pub fn famsync_acknowledged(handle: *mut Famsync) -> u64;
     pub fn famsync_strerror(code: c_int) -> *const c_char;
     pub fn famsync_stat(handle: *mut Famsync, stat: *mut FamsyncStat) -> c_int;

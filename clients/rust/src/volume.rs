@@ -147,6 +147,42 @@ impl Volume {
         Ok(mark)
     }
 
+    /// Undoes all stores to plain memory since the last commit, in all files. [`Code::Staged`] where something else waits
+    /// for a commit, as what was written to a file without memory, or a length: then nothing is undone.
+    pub fn rollback(&mut self) -> Result<(), Error> {
+        // Safety: the session is open, and nobody has a slice of plain memory.
+        check(unsafe { ffi::famsync_rollback(self.session.handle()) })
+    }
+
+    /// Makes changes and commits them. Where `change` answers an error or panics, or the commit is refused, what it
+    /// stored to plain memory is rolled back. If that is refused, the answer says so.
+    ///
+    /// ```
+    /// # include!(concat!(env!("CARGO_MANIFEST_DIR"), "/tests/volumes/mod.rs"));
+    /// # fn main() -> Result<(), famsync::Error> {
+    /// # let made = make_volume(1, 16, "bank=8192");
+    /// # let mut volume = famsync::Volume::open(made.path())?;
+    /// volume.transaction(|volume| -> Result<(), famsync::Error> {
+    ///     let bank = volume.memory_mut("bank")?;
+    ///     bank[3] += 7;
+    ///     bank[4099] += 7;
+    ///     Ok(())
+    /// })?;
+    /// # Ok(())
+    /// # }
+    /// ```
+    pub fn transaction<T, E: From<Error>>(&mut self, change: impl FnOnce(&mut Volume) -> Result<T, E>) -> Result<T, E> {
+        let mut undo = Undo(Some(self));
+        let changed = change(undo.volume()).and_then(|answer| Ok((answer, undo.volume().commit()?)));
+        match changed {
+            Ok((answer, _)) => {
+                undo.0 = None;
+                Ok(answer)
+            }
+            Err(error) => undo.now().map_or(Err(error), |refused| Err(refused.into())),
+        }
+    }
+
     /// The number of the last commit that was acknowledged, 0 where none was.
     pub fn acknowledged(&self) -> u64 {
         // Safety: the session is open.
@@ -538,6 +574,27 @@ impl Volume {
     pub fn backup(&self, file: impl AsFd) -> Result<(), Error> {
         // Safety: the session is open, and so is the file.
         check(unsafe { ffi::famsync_backup(self.session.handle(), file.as_fd().as_raw_fd()) })
+    }
+}
+
+/// Rolls a volume back as it goes, also where a panic comes.
+struct Undo<'a>(Option<&'a mut Volume>);
+
+impl Undo<'_> {
+    fn volume(&mut self) -> &mut Volume {
+        self.0.as_mut().unwrap()
+    }
+
+    /// Rolls it back, and answers why that was refused. A session that is over has nothing to undo.
+    fn now(&mut self) -> Option<Error> {
+        let error = self.0.take()?.rollback().err()?;
+        (error.code() != Code::Broken).then_some(error)
+    }
+}
+
+impl Drop for Undo<'_> {
+    fn drop(&mut self) {
+        self.now();
     }
 }
 

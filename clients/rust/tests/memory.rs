@@ -2,9 +2,10 @@
 
 mod volumes;
 
-use famsync::{Code, Volume};
+use famsync::{Code, Error, Options, Volume};
 use std::fs::File;
 use std::io::{repeat, Read};
+use std::panic::{catch_unwind, AssertUnwindSafe};
 use std::sync::atomic::Ordering;
 use volumes::make_volume;
 
@@ -85,6 +86,72 @@ fn too_many_pages_in_both_ways() {
     let volume = Volume::open(made.path()).unwrap();
     let a = volume.memory("a").unwrap();
     assert!(a[..16 * 4096].iter().all(|byte| *byte == 0) && a[16 * 4096..].iter().all(|byte| *byte == 9));
+}
+
+#[test]
+fn rollbacks() {
+    let made = make_volume(4, 16, "a=20000/40000 b=8192");
+    for resident in [false, true] {
+        let mut volume = Options::new().resident(resident).open(made.path()).unwrap();
+        volume.memory_mut("a").unwrap()[..5000].fill(7);
+        volume.commit().unwrap();
+        volume.memory_mut("a").unwrap()[4000..20000].fill(8);
+        volume.rollback().unwrap();
+        let a = volume.memory("a").unwrap();
+        assert!(a[..5000].iter().all(|byte| *byte == 7) && a[5000..].iter().all(|byte| *byte == 0));
+        volume.write("b", 0, b"other").unwrap();
+        volume.memory_mut("a").unwrap()[0] = 9;
+        assert_eq!(volume.rollback().unwrap_err().code(), Code::Staged);
+        assert_eq!(volume.memory("a").unwrap()[0], 9);
+        volume.commit().unwrap();
+        volume.resize("a", 30000).unwrap();
+        assert_eq!(volume.rollback().unwrap_err().code(), Code::Staged);
+        volume.resize("a", 20000).unwrap();
+        volume.commit().unwrap();
+    }
+    let mut volume = Options::new().readonly(true).open(made.path()).unwrap();
+    assert_eq!(volume.rollback().unwrap_err().code(), Code::ReadOnly);
+}
+
+#[test]
+fn transactions() {
+    let made = make_volume(1, 4, "a=40960 b=8192");
+    let mut volume = Volume::open(made.path()).unwrap();
+    let store = |volume: &mut Volume, pages: usize, byte| {
+        volume.transaction(|volume| -> Result<usize, Error> {
+            let a = volume.memory_mut("a")?;
+            (0..pages).for_each(|page| a[page * 4096] = byte);
+            volume.memory("c")?;
+            Ok(pages)
+        })
+    };
+    assert_eq!(store(&mut volume, 2, 1).unwrap_err().code(), Code::NoFile);
+    assert_eq!((volume.dirty("a").unwrap(), volume.memory("a").unwrap()[0], volume.acknowledged()), (0, 0, 0));
+    let answer: Result<usize, Error> = volume.transaction(|volume| {
+        volume.memory_mut("a")?[0] = 2;
+        Ok(5)
+    });
+    assert_eq!((answer.unwrap(), volume.memory("a").unwrap()[0], volume.acknowledged()), (5, 2, 1));
+    // a commit that is refused, and a panic
+    let refused = volume.transaction(|volume| -> Result<(), Error> {
+        volume.memory_mut("a")?.fill(3);
+        Ok(())
+    });
+    assert_eq!(refused.unwrap_err().code(), Code::NoFrame);
+    assert_eq!((volume.dirty("a").unwrap(), volume.memory("a").unwrap()[..2].to_vec()), (0, vec![2, 0]));
+    let panicked = catch_unwind(AssertUnwindSafe(|| {
+        volume.transaction(|volume| -> Result<(), Error> {
+            volume.memory_mut("a")?[1] = 4;
+            panic!("within a transaction")
+        })
+    }));
+    assert!(panicked.is_err() && volume.memory("a").unwrap()[..2] == [2, 0]);
+    // what can't be rolled back
+    let mixed = volume.transaction(|volume| -> Result<(), Error> {
+        volume.write("b", 0, b"other")?;
+        volume.memory("c").map(|_| ())
+    });
+    assert_eq!(mixed.unwrap_err().code(), Code::Staged);
 }
 
 #[test]
