@@ -67,7 +67,8 @@ enum famsync_code {
     FAMSYNC_EINVAL = -30,  /* the bytes or the length are outside the range that the file has */
     FAMSYNC_OVERLAP = -33, /* plain memory of the file is open already */
     FAMSYNC_NOFILE = -34,  /* the volume has no such file */
-    FAMSYNC_BUSY = -35,    /* a backup is being made; the session has made 2^32 - 1 commits */
+    FAMSYNC_BUSY = -35,    /* a backup is being made; a thread stored during a commit; the session has made 2^32 - 1
+                              commits */
 
     /* suspect flags that can't be made, and sessions that only read */
     FAMSYNC_UNMARKED = -39,     /* a sync failed, and the volume's suspect flag couldn't be made */
@@ -76,7 +77,8 @@ enum famsync_code {
 
     /* plain memory */
     FAMSYNC_ADDRESS = -42, /* there can't be memory at this address */
-    FAMSYNC_STAGED = -43   /* a write, a length or a part of a refused commit waits, which can't be undone */
+    FAMSYNC_STAGED = -43,  /* a write, a length or a part of a refused commit waits, which can't be undone */
+    FAMSYNC_TRACKING = -44 /* the system can't track stores to plain memory in the way that was asked for */
 };
 
 typedef struct famsync famsync;
@@ -101,7 +103,11 @@ struct famsync_options {
     int readonly;        /* not 0: a session that only reads */
     int resident;        /* not 0: plain memory is read in whole, and is no mapping of the volume's file */
     size_t budget;       /* the most bytes of committed pages that plain memory keeps; 0: 64 MB */
+    int tracking;        /* FAMSYNC_TRACK_SIGNALS, or FAMSYNC_TRACK_KERNEL; see famsync_memory_open */
 };
+
+/* How stores to plain memory are noticed. */
+enum famsync_tracking { FAMSYNC_TRACK_SIGNALS = 0, FAMSYNC_TRACK_KERNEL = 1 };
 
 /* The version of the library that this program runs with: FAMSYNC_VERSION of its own header. */
 const char *famsync_version(void);
@@ -254,6 +260,13 @@ int famsync_backup(famsync *handle, int descriptor);
  * doesn't call the one before gets the library's faults. famsync_memory_touch opens pages ahead for all three.
  * famsync_memory_open installs the library's handler again where another one took its place, and passes to that one
  * what isn't the library's.
+ *
+ * With FAMSYNC_TRACK_KERNEL no handler is installed: the kernel notes stores, also those of read(2) and the like, and
+ * each commit asks it which pages were stored to. Then other threads may not store during famsync_msync,
+ * famsync_rollback and famsync_setlength. A commit that finds such a store as it copies pages takes them again, up to
+ * four times, and then answers FAMSYNC_BUSY; nothing is committed then. Committed pages are not given back.
+ * FAMSYNC_TRACKING, of famsync_open or famsync_memory_open: the system can't (Linux 6.7 can). `resident` and
+ * FAMSYNC_TRACK_KERNEL don't go together (FAMSYNC_ARGUMENT).
  *
  * Bytes past the file's end, in its last page, are memory that isn't kept. What lies behind may not be used, up to the
  * file's capacity, for which address space is reserved. famsync_read and famsync_write use the memory of a file as long

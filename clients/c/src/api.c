@@ -163,7 +163,10 @@ static int open_session(famsync *handle, const char *path, const struct famsync_
     if (code == FAMSYNC_OK)
         code = open_core(handle, options);
     handle->resident = options->resident != 0;
+    handle->is_tracked = options->tracking == FAMSYNC_TRACK_KERNEL && !options->readonly;
     handle->budget = options->budget > 0 ? options->budget : DEFAULT_BUDGET;
+    if (code == FAMSYNC_OK && handle->is_tracked)
+        code = begin_tracking(&handle->tracker);
     if (code == FAMSYNC_OK && !options->foreground && !options->readonly)
         begin_background(handle);
     if (code != FAMSYNC_OK)
@@ -190,6 +193,7 @@ static void drop(famsync *handle)
 {
     int error = errno;
     leave_handle(handle);
+    end_tracking(&handle->tracker);
     close_volume_file(&handle->volume);
     free_handle(handle);
     errno = error;
@@ -214,6 +218,7 @@ static famsync *new_handle(void)
     pthread_mutex_init(&handle->queue, NULL);
     begin_condition(&handle->answered);
     begin_condition(&handle->work);
+    handle->tracker.faults = handle->tracker.pages = -1;
     handle->volume.file = handle->volume.unlocked = handle->volume.folder = -1;
     if (enter_handle(handle) == FAMSYNC_OK)
         return handle;
@@ -234,6 +239,8 @@ static int take_options(const struct famsync_options *given, struct famsync_opti
         if (((const unsigned char *)given)[i] != 0)
             return FAMSYNC_ARGUMENT;
     memcpy(options, given, size < sizeof *options ? size : sizeof *options);
+    if (options->tracking != FAMSYNC_TRACK_SIGNALS && (options->tracking != FAMSYNC_TRACK_KERNEL || options->resident))
+        return FAMSYNC_ARGUMENT;
     return FAMSYNC_OK;
 }
 

@@ -29,12 +29,13 @@ static const struct {
     {FAMSYNC_EINVAL, "the bytes or the length are outside the range that the file has"},
     {FAMSYNC_OVERLAP, "plain memory of the file is open already"},
     {FAMSYNC_NOFILE, "the volume has no such file"},
-    {FAMSYNC_BUSY, "a backup is being made, or no number is left for a commit"},
+    {FAMSYNC_BUSY, "a backup is being made, a thread stored during a commit, or no number is left for a commit"},
     {FAMSYNC_UNMARKED, "a sync of the volume failed, and its suspect flag couldn't be made"},
     {FAMSYNC_NEEDSOPENING, "a crash or a failed sync left work for a writer: open the volume once for writing"},
     {FAMSYNC_READONLY, "the session only reads"},
     {FAMSYNC_ADDRESS, "there can't be plain memory at this address"},
     {FAMSYNC_STAGED, "a write, a length or a part of a refused commit waits, which can't be undone"},
+    {FAMSYNC_TRACKING, "the system can't track stores to plain memory in this way"},
 };
 
 const char *famsync_strerror(int code)

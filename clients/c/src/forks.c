@@ -30,8 +30,10 @@ static void after_fork_in_parent(void)
 static void after_fork_in_child(void)
 {
     atomic_store(process, 0); /* where the system doesn't know of pages that are wiped */
-    for (famsync *handle = handles; handle; handle = handle->next)
+    for (famsync *handle = handles; handle; handle = handle->next) {
         let_volume_go(&handle->volume);
+        end_tracking(&handle->tracker);
+    }
     unlock_table();
     pthread_mutex_unlock(&list);
 }

@@ -55,6 +55,11 @@ static inline void widen(struct span *span, size_t begin, size_t end)
     span->end = end > span->end ? end : span->end;
 }
 
+/* By what the kernel tracks stores: the descriptors of a userfaultfd and of this process's page map. */
+struct tracker {
+    int faults, pages;
+};
+
 struct file {
     char name[MOST_NAME + 1];
     _Atomic uint64_t length; /* in bytes; set under `turn`, read by any thread */
@@ -130,8 +135,10 @@ struct famsync {
     struct reading reading[READS_KEPT];
     unsigned readings; /* how many were made */
     _Atomic uint64_t acknowledged;
-    bool resized;             /* a length was set that waits for a commit */
-    uint32_t numbered;        /* how many commits there were that had pages */
+    bool resized;      /* a length was set that waits for a commit */
+    uint32_t numbered; /* how many commits there were that had pages */
+    bool is_tracked;   /* the kernel notes stores to plain memory, and not the handler of SIGSEGV */
+    struct tracker tracker;
     bool resident;            /* plain memory is read in, and isn't the volume's file */
     uint64_t budget;          /* the most bytes of committed pages that plain memory keeps */
     famsync_memory *memories; /* open ones, linked by `next_one` */
@@ -176,7 +183,13 @@ int leave(famsync *handle, int code);
 /* The number of the file with this name; that of all files where there is none. */
 unsigned number_of(const famsync *handle, const char *name);
 
-/* volume_file.c: opens, locks and judges the file of a volume, and syncs it; nothing is open where it is refused. */
+/* volume_file.c: a file under a descriptor above 2, that no program which is started gets: where a standard stream was
+   closed, a file that is opened gets its number, and what is meant for the stream would land in the file. */
+int above_streams(int file);
+int open_above_streams(int folder, const char *name, int flags);
+/* Closes a descriptor that is open, and keeps errno. */
+void close_descriptor(int *descriptor);
+/* Opens, locks and judges the file of a volume, and syncs it; nothing is open where it is refused. */
 int open_volume_file(const char *path, const struct famsync_options *options, struct volume *volume,
                      struct message *message);
 void close_volume_file(struct volume *volume);
@@ -232,6 +245,10 @@ int resize_memory(famsync_memory *memory, uint64_t length);
 /* Reads and writes a range of a file by its plain memory; the same as with the core's pages. */
 void read_memory(const famsync_memory *memory, uint64_t offset, unsigned char *bytes, size_t count);
 int write_memory(famsync_memory *memory, uint64_t offset, const unsigned char *bytes, size_t count);
+
+/* tracking.c: FAMSYNC_TRACKING if the system can't track stores. */
+int begin_tracking(struct tracker *tracker);
+void end_tracking(struct tracker *tracker);
 
 /* backup.c: copies the blocks that are about to be overwritten to the backup that is being made, if any. */
 void save_for_backup(famsync *handle);

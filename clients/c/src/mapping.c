@@ -107,6 +107,8 @@ static void unmap_pages(famsync_memory *memory)
 static int map_either(famsync_memory *memory, void *address)
 {
     int code;
+    if (memory->handle->is_tracked && memory->grain != PAGE)
+        return FAMSYNC_TRACKING;
     if (memory->handle->resident || memory->grain != PAGE)
         return map_pages(memory, address, false);
     code = map_pages(memory, address, true);
@@ -114,6 +116,8 @@ static int map_either(famsync_memory *memory, void *address)
         code = map_home(memory);
     if (code == FAMSYNC_OK || !is_unmappable())
         return code;
+    if (memory->handle->is_tracked)
+        return FAMSYNC_TRACKING;
     unmap_pages(memory);
     return map_pages(memory, address, false);
 }
@@ -193,12 +197,20 @@ static int begin_resident(famsync_memory *memory)
     return code;
 }
 
-/* Closes all pages, and those past the end for loads, too. */
+/* What the pages of the file may be used for before they are opened. */
+static int protection(const famsync_memory *memory)
+{
+    return memory->handle->is_tracked ? PROT_READ | PROT_WRITE : PROT_READ;
+}
+
+/* Closes all pages, and those past the end for loads, too. Pages that the kernel tracks stay open. */
 static int close_all(famsync_memory *memory)
 {
     bool closed = mprotect(memory->at - memory->grain, memory->room + 2 * memory->grain, PROT_NONE) == 0 &&
-                  mprotect(memory->at, memory->pages * memory->grain, PROT_READ) == 0;
-    return closed ? FAMSYNC_OK : FAMSYNC_SYSTEM;
+                  mprotect(memory->at, memory->pages * memory->grain, protection(memory)) == 0;
+    if (!closed)
+        return FAMSYNC_SYSTEM;
+    return memory->handle->is_tracked ? track(memory) : FAMSYNC_OK;
 }
 
 /* The address that a program asks for is that of a page, and leaves room for the one before. */
@@ -242,7 +254,7 @@ static bool add_pages(famsync_memory *memory, size_t first, size_t end)
     if (mprotect(at, count, PROT_READ | PROT_WRITE) != 0)
         return false;
     memset(at, 0, count);
-    return mprotect(at, count, PROT_READ) == 0;
+    return mprotect(at, count, protection(memory)) == 0;
 }
 
 /* Nobody may use these pages, which lie past the end, any more. If the system refuses that, a store to them is lost. */
@@ -288,7 +300,7 @@ static bool open_end(famsync_memory *memory, size_t from)
 {
     sigset_t blocked;
     bool opened;
-    if (from % memory->grain == 0)
+    if (from % memory->grain == 0 || memory->handle->is_tracked)
         return true;
     lock_pages(memory->handle, &blocked);
     opened = open_unstored(memory, from / memory->grain);

@@ -45,7 +45,7 @@ static int open_new(famsync *handle, unsigned file, void *address, famsync_memor
     if (!memory)
         return FAMSYNC_NOMEMORY;
     code = map_memory(memory, address);
-    if (code == FAMSYNC_OK && !handle->volume.readonly)
+    if (code == FAMSYNC_OK && !handle->volume.readonly && !handle->is_tracked)
         code = enter_table(memory);
     if (code != FAMSYNC_OK) {
         drop_memory(memory);
@@ -105,6 +105,7 @@ size_t famsync_memory_dirty(const famsync_memory *memory)
     if (!memory || !memory->dirty || is_forked(memory->handle))
         return 0;
     lock_pages(memory->handle, &blocked);
+    note_tracked((famsync_memory *)(uintptr_t)memory);
     count = dirty_in(memory);
     unlock_pages(memory->handle, &blocked);
     return count;
@@ -118,6 +119,8 @@ static int touch(famsync_memory *memory, size_t first, size_t end)
     bool opened;
     if (count > memory->handle->frames)
         return FAMSYNC_NOFRAME;
+    if (memory->handle->is_tracked)
+        return FAMSYNC_OK;
     lock_pages(memory->handle, &blocked);
     opened = open_pages(memory, first, end);
     unlock_pages(memory->handle, &blocked);

@@ -67,6 +67,8 @@ void clear_end(famsync_memory *memory);
 /* stores.c: takes the lock of the handler with all signals blocked, and gives it back. */
 void lock_pages(famsync *handle, sigset_t *blocked);
 void unlock_pages(famsync *handle, const sigset_t *blocked);
+/* Notes what the kernel has tracked, if it does. The caller has the lock. */
+void note_tracked(famsync_memory *memory);
 /* The number of pages of the volume that were stored to since the last msync. The caller has the lock. */
 size_t dirty_in(const famsync_memory *memory);
 /* Calls `each` for each run of pages of a span whose note is STORED, up to one that answers other than FAMSYNC_OK. */
@@ -79,6 +81,10 @@ int close_stores(famsync *handle, uint64_t *pages);
 /* The committed bytes of pages are those of the next commit, which keeps them, or again those of their home blocks. */
 void keep(famsync_memory *memory, size_t first, size_t end);
 void keep_no_more(famsync_memory *memory, size_t first, size_t end);
+
+/* tracking.c: has the kernel track the stores to a memory; notes those that it has tracked since the last time. */
+int track(famsync_memory *memory);
+int collect(famsync_memory *memory);
 
 /* faults.c: the lock under which pages are opened and closed. Whoever has it blocks all signals and waits for nothing,
    so the handler of SIGSEGV may wait for it. */

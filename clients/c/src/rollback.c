@@ -61,7 +61,8 @@ static int undo_mapped(famsync_memory *memory)
 {
     int code = for_runs(memory, memory->dirty, memory->open, undo_run);
     memory->open = (struct span){0, 0};
-    if (code == FAMSYNC_OK && !is_end_clear(memory) && open_unstored(memory, memory->pages - 1))
+    if (code == FAMSYNC_OK && !is_end_clear(memory) &&
+        (memory->handle->is_tracked || open_unstored(memory, memory->pages - 1)))
         clear_end(memory);
     return code;
 }

@@ -91,13 +91,21 @@ static uint64_t staged_in(const famsync_memory *memory)
     return count;
 }
 
+void note_tracked(famsync_memory *memory)
+{
+    if (memory->handle->is_tracked)
+        (void)collect(memory);
+}
+
 uint64_t stored_pages(famsync *handle)
 {
     uint64_t count = 0;
     sigset_t blocked;
     lock_pages(handle, &blocked);
-    for (const famsync_memory *memory = handle->memories; memory; memory = memory->next_one)
+    for (famsync_memory *memory = handle->memories; memory; memory = memory->next_one) {
+        note_tracked(memory);
         count += dirty_in(memory) - staged_in(memory);
+    }
     unlock_pages(handle, &blocked);
     return count;
 }
@@ -170,6 +178,8 @@ void keep_to_budget(famsync *handle)
     famsync_memory *memory;
     sigset_t blocked;
     uint64_t bytes = 0;
+    if (handle->is_tracked) /* nothing keeps a thread from storing to a page as it is given back */
+        return;
     for (memory = handle->memories; memory; memory = memory->next_one)
         bytes += 2 * memory->kept * memory->grain;
     if (bytes <= handle->budget)
@@ -182,10 +192,12 @@ void keep_to_budget(famsync *handle)
 }
 
 /* Closes all pages that are open, by one call from the first to the last of them: those between are closed. Then those
-   that were opened with others, and weren't stored to, are found. */
+   that were opened with others, and weren't stored to, are found. Pages that the kernel tracks stay open. */
 static int close_pages(famsync_memory *memory)
 {
     size_t begin = memory->open.begin, end = memory->open.end;
+    if (memory->handle->is_tracked)
+        return collect(memory);
     if (begin == end)
         return FAMSYNC_OK;
     if (mprotect(memory->at + begin * memory->grain, (end - begin) * memory->grain, PROT_READ) != 0)
@@ -248,13 +260,10 @@ int close_stores(famsync *handle, uint64_t *pages)
 
 /* Closes all pages, and copies then those that were stored to; in between no page of this handle can be opened. Whether
    all go into one commit is judged before any is stored. */
-static int take_pages(famsync *handle)
+static int close_and_copy(famsync *handle)
 {
-    sigset_t blocked;
     uint64_t pages;
-    int code;
-    lock_pages(handle, &blocked);
-    code = close_stores(handle, &pages);
+    int code = close_stores(handle, &pages);
     if (code == FAMSYNC_OK && !has_room(handle, pages))
         code = FAMSYNC_NOFRAME;
     for (famsync_memory *memory = handle->memories; memory && code == FAMSYNC_OK; memory = memory->next_one) {
@@ -262,6 +271,49 @@ static int take_pages(famsync *handle)
         memory->takes = memory->open;
         for_runs(memory, memory->dirty, memory->open, copy_run);
         memory->open = (struct span){0, 0};
+    }
+    return code;
+}
+
+static int put_run_back(famsync_memory *memory, size_t first, size_t end)
+{
+    memset(memory->dirty + first, STORED, end - first);
+    widen(&memory->open, first, end);
+    return FAMSYNC_OK;
+}
+
+/* Gives back what a commit has taken, and hasn't made. The caller has the lock. */
+static void put_back(famsync *handle)
+{
+    for (famsync_memory *memory = handle->memories; memory; memory = memory->next_one) {
+        for_runs(memory, memory->taken, memory->takes, put_run_back);
+        end_taking(memory);
+    }
+}
+
+/* Whether nobody has stored to a page since it was copied. Where the kernel tracks stores, nothing keeps threads from
+   that. If none has, the copies are of the moment at which the first memory is looked at. */
+static int judge_copies(famsync *handle)
+{
+    uint64_t pages = 0;
+    int code = handle->is_tracked ? close_stores(handle, &pages) : FAMSYNC_OK;
+    return code == FAMSYNC_OK && pages > 0 ? FAMSYNC_BUSY : code;
+}
+
+/* How often pages are copied again that a thread stores to meanwhile. */
+#define TRIES 4
+
+static int take_pages(famsync *handle)
+{
+    sigset_t blocked;
+    int code = FAMSYNC_BUSY;
+    lock_pages(handle, &blocked);
+    for (unsigned tries = 0; tries < TRIES && code == FAMSYNC_BUSY; tries++) {
+        code = close_and_copy(handle);
+        if (code == FAMSYNC_OK)
+            code = judge_copies(handle);
+        if (code != FAMSYNC_OK)
+            put_back(handle);
     }
     unlock_pages(handle, &blocked);
     return code;
@@ -275,21 +327,11 @@ int take_stores(famsync *handle)
     return code;
 }
 
-static int put_run_back(famsync_memory *memory, size_t first, size_t end)
-{
-    memset(memory->dirty + first, STORED, end - first);
-    widen(&memory->open, first, end);
-    return FAMSYNC_OK;
-}
-
 void put_stores_back(famsync *handle)
 {
     sigset_t blocked;
     lock_pages(handle, &blocked);
-    for (famsync_memory *memory = handle->memories; memory; memory = memory->next_one) {
-        for_runs(memory, memory->taken, memory->takes, put_run_back);
-        end_taking(memory);
-    }
+    put_back(handle);
     unlock_pages(handle, &blocked);
 }
 

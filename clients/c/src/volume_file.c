@@ -21,14 +21,9 @@
 static const char FLAG_TEXT[] =
     "A sync of the volume beside this file failed. What the system gives of it may not be on the disk.\n";
 
-/* A file under a descriptor above 2, that no program which is started gets: where a standard stream was closed, a file
-   that is opened gets its number, and what is meant for the stream would land in the file. */
-static int open_above_streams(int folder, const char *name, int flags)
+int above_streams(int file)
 {
-    int file, above, error;
-    do
-        file = openat(folder, name, flags | O_CLOEXEC, 0666);
-    while (file < 0 && errno == EINTR);
+    int above, error;
     if (file < 0 || file > 2)
         return file;
     above = fcntl(file, F_DUPFD_CLOEXEC, 3);
@@ -36,6 +31,15 @@ static int open_above_streams(int folder, const char *name, int flags)
     close(file);
     errno = error;
     return above;
+}
+
+int open_above_streams(int folder, const char *name, int flags)
+{
+    int file;
+    do
+        file = openat(folder, name, flags | O_CLOEXEC, 0666);
+    while (file < 0 && errno == EINTR);
+    return above_streams(file);
 }
 
 static int sync_file(int file)
@@ -206,7 +210,7 @@ static int open_once(struct volume *volume, struct stat *found, bool *right)
     return FAMSYNC_OK;
 }
 
-static void close_descriptor(int *descriptor)
+void close_descriptor(int *descriptor)
 {
     int error = errno;
     if (*descriptor >= 0)

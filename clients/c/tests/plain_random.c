@@ -14,6 +14,7 @@ struct file {
 
 static struct file now[FILES], committed[FILES];
 static unsigned layout, seed, commits;
+static bool has_tracking;               /* the system can track stores */
 static bool is_written[FILES], resized; /* by a call since the last commit: a file without memory, a length */
 static struct famsync_options options;
 static famsync *handle;
@@ -197,6 +198,8 @@ static void session(void)
     unsigned slots = below(3) ? 20 + below(12) : 60;
     layout = 1 + seed % LAYOUTS;
     options = (struct famsync_options){.size = sizeof options, .foreground = (int)below(2), .resident = below(4) == 0};
+    if (!options.resident && has_tracking && below(3) == 0)
+        options.tracking = FAMSYNC_TRACK_KERNEL;
     options.budget = below(3) == 0 ? 0 : below(2) ? 1 : 40000;
     make_volume_of(layout, slots, has_lengths(layout) ? "a=5000/60000 b=30000/60000" : "a=60000 b=60000");
     memset(committed, 0, sizeof committed);
@@ -215,9 +218,21 @@ static void session(void)
     end();
 }
 
+/* Whether the kernel tracks stores where it is asked to. */
+static bool tracks(void)
+{
+    famsync *tried;
+    make_volume(16, "a=4096");
+    int code = famsync_open(volume, &(struct famsync_options){.size = sizeof options, .tracking = FAMSYNC_TRACK_KERNEL},
+                            &tried);
+    check(code == FAMSYNC_OK || code == FAMSYNC_TRACKING, "the system's tracking isn't opened");
+    return code == FAMSYNC_OK && famsync_close(tried) == FAMSYNC_OK;
+}
+
 int main(int count, char **words)
 {
     unsigned sessions = count > 1 ? (unsigned)atoi(words[1]) : 48, first = count > 2 ? (unsigned)atoi(words[2]) : 1;
+    has_tracking = tracks();
     for (seed = first; seed < first + sessions; seed++) {
         srand(seed);
         session();

@@ -41,6 +41,7 @@ from ._errors import (
     Suspect,
     System,
     Torn,
+    Tracking,
     Unmarked,
 )
 from ._library import version
@@ -77,6 +78,7 @@ __all__ = [
     "Suspect",
     "System",
     "Torn",
+    "Tracking",
     "Unmarked",
     "Volume",
     "open",
@@ -95,6 +97,7 @@ def open(
     readonly: bool = False,
     resident: bool = False,
     budget: int = 0,
+    kernel_tracking: bool = False,
 ) -> Volume:
     """Begins a session with a volume; `Volume` says what the arguments are."""
     return Volume(
@@ -107,4 +110,5 @@ def open(
         readonly=readonly,
         resident=resident,
         budget=budget,
+        kernel_tracking=kernel_tracking,
     )

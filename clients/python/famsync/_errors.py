@@ -137,7 +137,8 @@ class NoFile(Error):
 
 
 class Busy(Error):
-    """Plain memory of the file is open; a backup is being made; or the session has made 2^32 - 1 commits."""
+    """Plain memory of the file is open; a backup is being made; a thread stored during a commit, with kernel tracking; or
+    the session has made 2^32 - 1 commits."""
 
     code = -35
 
@@ -170,6 +171,12 @@ class Staged(Error):
     """A write, a length or a part of a refused commit waits, which can't be undone."""
 
     code = -43
+
+
+class Tracking(Error):
+    """The system can't track stores to plain memory in the way that was asked for."""
+
+    code = -44
 
 
 CLASSES = {kind.code: kind for kind in Error.__subclasses__()}

@@ -24,6 +24,7 @@ class Options(ctypes.Structure):
         ("readonly", c_int),
         ("resident", c_int),
         ("budget", c_size_t),
+        ("tracking", c_int),
     ]
 
 

@@ -106,6 +106,8 @@ class Volume:
     - `readonly`: a session that only reads. Any number of them share a volume.
     - `resident`: plain memory is read in whole, and is no mapping of the volume's file.
     - `budget`: the most bytes of committed pages that plain memory keeps, with a copy of each; 0 is 64 MB.
+    - `kernel_tracking`: the kernel notes stores to plain memory, also its own, without a handler of SIGSEGV; Tracking if
+      it can't. Other threads may not store during a commit then: Busy. It doesn't go together with `resident`.
 
     Threads may share it, and their commits. At the end of a `with` it is closed.
     """
@@ -122,6 +124,7 @@ class Volume:
         readonly: bool = False,
         resident: bool = False,
         budget: int = 0,
+        kernel_tracking: bool = False,
     ) -> None:
         self._memories: weakref.WeakSet[Memory] = weakref.WeakSet()
         self._lent: List[Tuple[Once, weakref.ref[Lent]]] = []
@@ -137,6 +140,7 @@ class Volume:
             readonly=readonly,
             resident=resident,
             budget=budget,
+            tracking=kernel_tracking,
         )
         encoded = _path(path)
         self._session = Session(f"the volume {os.fsdecode(path)!r}")

@@ -328,5 +328,22 @@ class Rollbacks(InAFolder):
         self.assertIsInstance(raised.exception.__context__, ZeroDivisionError)
 
 
+class KernelTracking(InAFolder):
+    def test_the_kernel_stores(self):
+        self.assertRaises(famsync.Argument, famsync.open, "v.img", kernel_tracking=True, resident=True)
+        try:
+            volume = self.opened(kernel_tracking=True)
+        except famsync.Tracking as error:
+            self.skipTest(str(error))
+        memory = volume.memory("a")
+        with open("/dev/zero", "rb", buffering=0) as zeros, memory.view() as view:
+            self.assertEqual(zeros.readinto(view[:100]), 100)
+        memory[9000] = 7
+        self.assertEqual((memory.dirty, volume.commit(), memory.dirty), (2, 1, 0))
+        memory[9000] = 8
+        volume.rollback()
+        self.assertEqual(memory[9000], 7)
+
+
 if __name__ == "__main__":
     unittest.main()

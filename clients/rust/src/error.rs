@@ -75,7 +75,8 @@ codes! {
     Overlap = -33,
     /// The volume has no such file.
     NoFile = -34,
-    /// Memory of the file is open; a backup is being made; or the session has made 2^32 - 1 commits.
+    /// Memory of the file is open; a backup is being made; a thread stored during a commit, with
+    /// [`kernel_tracking`](crate::Options::kernel_tracking); or the session has made 2^32 - 1 commits.
     Busy = -35,
     /// A sync failed, and the volume's suspect flag couldn't be made; [`Error::system`] says how the sync failed.
     Unmarked = -39,
@@ -87,6 +88,8 @@ codes! {
     Address = -42,
     /// A write, a length or a part of a refused commit waits, which can't be undone.
     Staged = -43,
+    /// The system can't track stores to plain memory in the way that was asked for.
+    Tracking = -44,
 }
 
 impl Code {

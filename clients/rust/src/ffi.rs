@@ -27,6 +27,7 @@ pub struct FamsyncOptions {
     pub readonly: c_int,
     pub resident: c_int,
     pub budget: usize,
+    pub tracking: c_int,
 }
 
 #[repr(C)]
@@ -45,6 +46,8 @@ pub struct FamsyncStat {
 }
 
 pub const FAMSYNC_OK: c_int = 0;
+pub const FAMSYNC_TRACK_SIGNALS: c_int = 0;
+pub const FAMSYNC_TRACK_KERNEL: c_int = 1;
 
 extern "C" {
     pub fn famsync_version() -> *const c_char;

@@ -32,6 +32,7 @@ pub struct Options {
     readonly: bool,
     resident: bool,
     budget: usize,
+    kernel_tracking: bool,
 }
 
 impl Options {
@@ -92,6 +93,14 @@ impl Options {
         self
     }
 
+    /// Whether the kernel notes stores to plain memory, also its own, without a handler of SIGSEGV; [`Code::Tracking`]
+    /// where it can't. Threads may not store to [`words`](Volume::words) during a commit then: [`Code::Busy`]. It
+    /// doesn't go together with [`resident`](Options::resident).
+    pub fn kernel_tracking(&mut self, kernel_tracking: bool) -> &mut Options {
+        self.kernel_tracking = kernel_tracking;
+        self
+    }
+
     /// Opens a volume: a regular file with one name that `famsync format` made. It is locked until the volume is
     /// dropped. The error says in words what is wrong with which file.
     pub fn open(&self, path: impl AsRef<Path>) -> Result<Volume, Error> {
@@ -109,6 +118,7 @@ impl Options {
             readonly: c_int::from(self.readonly),
             resident: c_int::from(self.resident),
             budget: self.budget,
+            tracking: if self.kernel_tracking { ffi::FAMSYNC_TRACK_KERNEL } else { ffi::FAMSYNC_TRACK_SIGNALS },
         };
         let mut handle = ptr::null_mut();
         // Safety: the name ends with a null byte, and the options have as much room for a message as they say.

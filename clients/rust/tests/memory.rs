@@ -155,6 +155,26 @@ fn transactions() {
 }
 
 #[test]
+fn tracked_by_the_kernel() {
+    let made = make_volume(4, 16, "a=20000/40000");
+    let opened = Options::new().kernel_tracking(true).open(made.path());
+    if opened.as_ref().is_err_and(|error| error.code() == Code::Tracking) {
+        return;
+    }
+    let mut volume = opened.unwrap();
+    let mut zeros = File::open("/dev/zero").unwrap();
+    let a = volume.memory_mut("a").unwrap();
+    a[9000] = 7;
+    zeros.read_exact(&mut a[..10]).unwrap();
+    assert_eq!((volume.dirty("a").unwrap(), volume.commit().unwrap(), volume.dirty("a").unwrap()), (2, 1, 0));
+    volume.memory_mut("a").unwrap()[9000] = 8;
+    volume.rollback().unwrap();
+    assert_eq!(volume.memory("a").unwrap()[9000], 7);
+    let both = Options::new().kernel_tracking(true).resident(true).open(made.path());
+    assert_eq!(both.unwrap_err().code(), Code::Argument);
+}
+
+#[test]
 fn at_an_address() {
     let made = make_volume(1, 16, "a=8192 b=8192");
     let address = 0x2100_0000_0000;
