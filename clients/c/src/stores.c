@@ -19,22 +19,23 @@ void unlock_pages(famsync *handle, const sigset_t *blocked)
     pthread_sigmask(SIG_SETMASK, blocked, NULL);
 }
 
-/* The first page of a span, from one on, that has a note; the end of the span if none has. Notes of eight pages are
-   looked at together. */
+/* How many notes are looked at together, and whether none of so many is one. */
+#define TOGETHER 64u
+
+static bool are_blank(const unsigned char *notes)
+{
+    uint64_t words[TOGETHER / sizeof(uint64_t)], all = 0;
+    memcpy(words, notes, sizeof words);
+    for (size_t i = 0; i < sizeof words / sizeof *words; i++)
+        all |= words[i];
+    return all == 0;
+}
+
+/* The first page of a span, from one on, that has a note; the end of the span if none has. */
 static size_t first_noted(const unsigned char *notes, size_t page, size_t end)
 {
-    uint64_t eight;
-    while (page < end) {
-        size_t step = end - page < sizeof eight ? 1 : sizeof eight;
-        eight = 0;
-        memcpy(&eight, notes + page, step);
-        if (eight == 0)
-            page += step;
-        else if (notes[page] != CLOSED)
-            break;
-        else
-            page++;
-    }
+    while (page < end && notes[page] == CLOSED)
+        page += end - page >= TOGETHER && are_blank(notes + page) ? TOGETHER : 1;
     return page;
 }
 
@@ -192,20 +193,28 @@ void keep_to_budget(famsync *handle)
 }
 
 /* Closes all pages that are open, by one call from the first to the last of them: those between are closed. Then those
-   that were opened with others, and weren't stored to, are found. Pages that the kernel tracks stay open. */
-static int close_pages(famsync_memory *memory)
+   that were opened with others, and weren't stored to, are found. `*pages` becomes greater by the pages that were. */
+static int close_pages(famsync_memory *memory, uint64_t *pages)
 {
     size_t begin = memory->open.begin, end = memory->open.end;
-    if (memory->handle->is_tracked)
-        return collect(memory);
     if (begin == end)
         return FAMSYNC_OK;
     if (mprotect(memory->at + begin * memory->grain, (end - begin) * memory->grain, PROT_READ) != 0)
         return FAMSYNC_SYSTEM;
     for (size_t page = first_noted(memory->dirty, begin, end); page < end;
-         page = first_noted(memory->dirty, page + 1, end))
+         page = first_noted(memory->dirty, page + 1, end)) {
         memory->dirty[page] = is_stored(memory, page) ? STORED : CLOSED;
+        *pages += memory->dirty[page] == STORED ? pages_in(memory, page) : 0;
+    }
     return FAMSYNC_OK;
+}
+
+/* Pages that the kernel tracks stay open. */
+static int collect_pages(famsync_memory *memory, uint64_t *pages)
+{
+    int code = collect(memory);
+    *pages += dirty_in(memory);
+    return code;
 }
 
 static int forget_run(famsync_memory *memory, size_t first, size_t end)
@@ -251,10 +260,8 @@ int close_stores(famsync *handle, uint64_t *pages)
 {
     int code = FAMSYNC_OK;
     *pages = 0;
-    for (famsync_memory *memory = handle->memories; memory && code == FAMSYNC_OK; memory = memory->next_one) {
-        code = close_pages(memory);
-        *pages += code == FAMSYNC_OK ? dirty_in(memory) : 0;
-    }
+    for (famsync_memory *memory = handle->memories; memory && code == FAMSYNC_OK; memory = memory->next_one)
+        code = handle->is_tracked ? collect_pages(memory, pages) : close_pages(memory, pages);
     return code;
 }
 
