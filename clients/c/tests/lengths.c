@@ -130,6 +130,7 @@ static void refused_with_memory(int resident)
 }
 
 static sigjmp_buf back;
+static volatile unsigned char loaded; /* a load whose byte nobody uses may be left out */
 
 static void jump_back(int number)
 {
@@ -145,7 +146,7 @@ static bool reaches(volatile unsigned char *at, bool stores)
     if (stores)
         *at = 1;
     else
-        (void)*at;
+        loaded = *at;
     return true;
 }
 

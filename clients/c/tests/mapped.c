@@ -371,6 +371,25 @@ static void cant_be_mapped(int flags, int error)
     end(handle, memory);
 }
 
+/* Somebody cuts the volume's file off: a load raises SIGBUS, unless the file was read in. */
+static void cut_off(int resident)
+{
+    int status;
+    make_volume_of(1, 20, "a=65536");
+    pid_t child = fork();
+    if (child == 0) {
+        alarm(60);
+        signal(SIGBUS, SIG_DFL);
+        famsync *handle = opened_with(
+            (struct famsync_options){.size = sizeof(struct famsync_options), .foreground = 1, .resident = resident});
+        volatile unsigned char *at = famsync_memory_at(memory_of(handle));
+        WANT(truncate(volume, 4096) == 0);
+        _exit(at[30000]);
+    }
+    WANT(waitpid(child, &status, 0) == child);
+    WANT(resident ? status == 0 : WIFSIGNALED(status) && WTERMSIG(status) == SIGBUS);
+}
+
 int main(void)
 {
     reads_nothing();
@@ -386,6 +405,7 @@ int main(void)
     }
     for (int resident = 0; resident < 2; resident++) {
         bytes_past_the_end(resident);
+        cut_off(resident);
         child_is_left(resident);
     }
     cut_within_a_page();
