@@ -95,7 +95,9 @@ static void refusals(void)
     want_refused(handle, 65536);
     want_refused(handle, UINTPTR_MAX - PAGE + 1);
     want_refused(handle, UINTPTR_MAX - 8 * PAGE + 1);
+#ifndef __SANITIZE_THREAD__ /* which ends a process that maps there */
     want_refused(handle, (uintptr_t)1 << 62);
+#endif
     WANT_CODE(famsync_memory_open_at(handle, "c", address, &memory), FAMSYNC_NOFILE);
     WANT_CODE(famsync_memory_open_at(handle, NULL, address, &memory), FAMSYNC_ARGUMENT);
     WANT_CODE(famsync_memory_open_at(handle, "a", address, NULL), FAMSYNC_ARGUMENT);

@@ -4,20 +4,18 @@
 
 #include <sys/mman.h>
 
-#include <sys/syscall.h>
-
 #define PAGES 2048u
 
 /* Mappings of files with one of these flags fail by this errno, where it isn't 0. */
 static int refused, refused_flags;
 
-void *mmap(void *at, size_t length, int protection, int flags, int file, off_t offset)
+BEFORE_SANITIZERS void *mmap(void *at, size_t length, int protection, int flags, int file, off_t offset)
 {
     if (file >= 0 && refused != 0 && (flags & refused_flags) != 0) {
         errno = refused;
         return MAP_FAILED;
     }
-    return (void *)syscall(SYS_mmap, at, length, protection, flags, file, offset);
+    return other_mmap(at, length, protection, flags, file, offset);
 }
 
 static famsync_memory *memory_of(famsync *handle)

@@ -6,7 +6,6 @@
 #include <stdarg.h>
 #include <stdatomic.h>
 #include <sys/mman.h>
-#include <sys/syscall.h>
 
 static unsigned layout;
 static struct famsync_options options;
@@ -234,24 +233,24 @@ static void threads(void)
         WANT_CODE(famsync_memory_close(memory[i]), FAMSYNC_OK);
     WANT_CODE(famsync_close(handle), FAMSYNC_OK);
     printf("clients/c: rollback: %u of %u were within a round\n", parted, 25 * WORKERS);
+    fflush(stdout);
 }
 
 /* Each call of the system that a rollback makes is refused. */
-static enum { NONE, MMAP, MADVISE, MREMAP } refused;
+enum { NONE, MMAP, MADVISE, MREMAP };
 
-void *mmap(void *at, size_t length, int protection, int flags, int file, off_t offset)
+static int refused;
+
+BEFORE_SANITIZERS void *mmap(void *at, size_t length, int protection, int flags, int file, off_t offset)
 {
-    static void *(*next)(void *, size_t, int, int, int, off_t);
     if (refused == MMAP) {
         errno = ENOMEM;
         return MAP_FAILED;
     }
-    if (!next)
-        *(void **)&next = dlsym(RTLD_NEXT, "mmap");
-    return next(at, length, protection, flags, file, offset);
+    return other_mmap(at, length, protection, flags, file, offset);
 }
 
-int madvise(void *at, size_t length, int advice)
+BEFORE_SANITIZERS int madvise(void *at, size_t length, int advice)
 {
     static int (*next)(void *, size_t, int);
     if (refused == MADVISE) {
@@ -263,7 +262,7 @@ int madvise(void *at, size_t length, int advice)
     return next(at, length, advice);
 }
 
-void *mremap(void *at, size_t length, size_t new_length, int flags, ...)
+BEFORE_SANITIZERS void *mremap(void *at, size_t length, size_t new_length, int flags, ...)
 {
     if (refused == MREMAP) {
         errno = ENOMEM;

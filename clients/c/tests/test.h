@@ -15,11 +15,26 @@
 #include <stdlib.h>
 #include <string.h>
 #include <sys/stat.h>
+#include <sys/syscall.h>
 #include <sys/wait.h>
 #include <unistd.h>
 
 #define WANT(holds) want((holds), #holds, __FILE__, __LINE__)
 #define WANT_CODE(call, code) want_code((call), (code), #call, __FILE__, __LINE__)
+
+/* A function that is called before a sanitizer has begun. */
+#define BEFORE_SANITIZERS __attribute__((no_sanitize("thread", "address", "undefined")))
+
+/* A test may have an mmap of its own, which calls this: that of a sanitizer if there is one, else the system's. */
+extern void *__interceptor_mmap(void *, size_t, int, int, int, off_t) __attribute__((weak));
+
+BEFORE_SANITIZERS static inline void *other_mmap(void *at, size_t length, int protection, int flags, int file,
+                                                 off_t offset)
+{
+    if (__interceptor_mmap)
+        return __interceptor_mmap(at, length, protection, flags, file, offset);
+    return (void *)syscall(SYS_mmap, at, length, protection, flags, file, offset);
+}
 
 static char folder[64];
 static char volume[80];

@@ -7,7 +7,6 @@
 #include <stdatomic.h>
 #include <stddef.h>
 #include <sys/prctl.h>
-#include <sys/syscall.h>
 
 static struct famsync_options options = {.size = sizeof options, .tracking = FAMSYNC_TRACK_KERNEL};
 
