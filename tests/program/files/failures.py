@@ -6,8 +6,8 @@ import os
 import signal
 
 from files.program import (
-    EXPORT, NEWER, OLD, OTHER, REPLIES, TO_OTHER, bytes_of, calls_of, clear, complains, ended, famsync, has, start,
-    stopped, volume, write, write_image,
+    EXPORT, MIGRATE, NEWER, OLD, OTHER, REPLIES, TO_OTHER, bytes_of, calls_of, clear, complains, ended, famsync, has,
+    start, stopped, volume, write, write_image,
 )
 from lib.processes import TOP, want
 
@@ -163,6 +163,33 @@ def failed_syncs():
     trusting = ["run", "--trust", "v.img", "newer.json"]
     complains(famsync(*trusting, fault=f"fail:1:{errno.EIO}", only="sync"), "can't be synced")
     want(os.path.exists("v.img.suspect"), "the mark stays")
+
+
+def names_before_their_sync():
+    """The last sync of a command that gives a file a name is that of the folder, which has the name by then."""
+    for words, name in ((TO_OTHER, "v.img"), (EXPORT, "a.copy"), (MIGRATE, "w.img")):
+        volume()
+        syncs = calls_of(words, "sync")
+        volume()
+        before = os.path.exists(name) and os.stat(name).st_ino
+        process = stopped(words, syncs, only="sync")
+        descriptors = f"/proc/{process.pid}/fd"
+        opened = [os.readlink(f"{descriptors}/{number}") for number in os.listdir(descriptors)]
+        want(os.path.realpath(".") in opened, "the folder is open", words, opened)
+        want(os.path.exists(name) and os.stat(name).st_ino != before, "the file has its name", words)
+        os.kill(process.pid, signal.SIGCONT)
+        want(ended(process).status == 0, "it goes on", words)
+        volume()
+        complains(famsync(*words, fault=f"fail:{syncs}:{errno.EIO}", only="sync"))
+
+
+def suspect_volumes():
+    """Without --trust, no command reads a volume that is marked as suspect."""
+    volume()
+    write("v.img.suspect", "")
+    threads = ["threads", "v.img", f"{TOP}/examples/threads.json"]
+    for words in (["dump", "v.img"], ["crashes", "v.img", "old.json"], MIGRATE, threads):
+        complains(famsync(*words), '"v.img.suspect" says that a sync of it failed', "--trust")
 
 
 def threads_that_fail():
