@@ -22,8 +22,8 @@
  * the process ends or starts another program; it doesn't keep the volume in use. A child of vfork shares the memory of
  * its parent: what it stores to plain memory is a store of the parent. It must not call the library.
  *
- * Not in this version: a file doesn't grow past the capacity that it was given when the volume was made, and in a
- * volume of layout 1 or 2 it keeps its length.
+ * Not in this version: a file doesn't grow past its capacity, which is set when the volume is made. In a volume of
+ * layout 1 or 2 it keeps its length.
  */
 #ifndef FAMSYNC_H
 #define FAMSYNC_H
@@ -90,7 +90,7 @@ typedef struct famsync_memory famsync_memory;
 /* How a session is begun. A null pointer means the defaults, which are all zero. Set `size` to the size of this
    structure: a later version of the library adds fields at the end, and by `size` it knows which of them a program has.
    A size of 0 means the fields up to `readonly`. FAMSYNC_ARGUMENT if a program asks for what this library doesn't know:
-   it has a greater size, and a byte that isn't 0 beyond the fields below. */
+   its `size` is larger than the library's, and a byte beyond the fields below isn't 0. */
 struct famsync_options {
     size_t size;
     int trust;           /* not 0: a volume that is flagged as suspect is opened, and its flag removed */
@@ -145,7 +145,7 @@ unsigned famsync_frames(const famsync *handle);
    Bytes past a new end are gone, and what a file grows by is zeros. Like a write it is durable after the next
    famsync_msync that is acknowledged, and else gone with the session. The pages that a file grows by count as written,
    and so does the one in which it ended: FAMSYNC_NOFRAME where they and those that were written don't go into one
-   commit; then grow it less at a time, with an msync in between. Nothing is changed where it is refused.
+   commit; then grow it less at a time, with an msync in between. A refused call changes nothing.
 
    If plain memory of the file is open, it grows or shrinks in place. What lies past the new end may not be used any
    more. FAMSYNC_SYSTEM if the system refuses that. */
@@ -176,7 +176,7 @@ int famsync_write(famsync *handle, unsigned file, uint64_t offset, const void *b
    still wait for a commit, and the next call takes them again.
 
    FAMSYNC_NOFRAME: the pages that were changed, by famsync_write and in plain memory together, are more than one commit
-   can have; no later call can commit them either. Nothing is committed then: close the plain memory, and what
+   can have; no later call can commit them either. Nothing is committed then. After you close the plain memory, what
    famsync_write wrote to other files can be committed.
 
    FAMSYNC_DEVICE: a read, a write or a sync failed, and nothing is acknowledged. errno says how, and is ENOMEM where
@@ -274,9 +274,9 @@ int famsync_backup(famsync *handle, int descriptor);
  */
 int famsync_memory_open(famsync *handle, const char *file, famsync_memory **memory);
 
-/* The same, at an address: so pointers into the memory may be kept in the file. From one page before the address to one
-   page behind the file's capacity there is no other memory. FAMSYNC_ADDRESS if there is, or if the address isn't that
-   of a page, or is below 65,536 and a page, or leaves no room for the capacity. A null pointer means any address. */
+/* The same, at an address: so pointers into the memory may be kept in the file. No other memory may lie between one
+   page before the address and one page past the file's capacity. FAMSYNC_ADDRESS if it does, or if the address isn't
+   that of a page, is below 65,536 and a page, or leaves no room for the capacity. A null pointer means any address. */
 int famsync_memory_open_at(famsync *handle, const char *file, void *address, famsync_memory **memory);
 
 /* Where it begins, which never changes, and how many bytes the file has. */

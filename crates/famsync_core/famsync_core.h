@@ -2,9 +2,9 @@
  * famsync_core: a session with one volume, as a library that makes no system call.
  *
  * The core keeps the pages that wait for a commit, and records the writes and syncs that make the commit durable. Its
- * host, a program in C or the like, reads blocks of the volume and supplies them, makes the recorded calls on the
- * volume's file, in order, and reports them to the core. The host decides how a call is made. The core decides what is
- * written, and that is proved.
+ * host is a program in C or the like. It reads blocks of the volume and supplies them. It makes the recorded calls on
+ * the volume's file, in order, and reports them to the core. The host decides how a call is made. The core decides what
+ * is written, and that is proved.
  *
  * This program writes the first page of the first file, and commits. `tests/lint/core_header` compiles and runs it.
  *
@@ -121,11 +121,11 @@ int32_t famsync_core_supply(famsync_core core, uint32_t block, const uint8_t *by
 /* Whether a block is known: 1 or 0. At any time. */
 int32_t famsync_core_is_known(famsync_core core, uint32_t block, uint8_t **at);
 
-/* Opens the volume. A commit takes at most `pages` pages; 0, or a number above what the volume's journals take, means
-   as many as they take. Opening records calls where a crash left a commit to be carried out. OK, WANTED (a block that
-   wasn't supplied: nothing is open; supply it and call again. Opening wants block 0, the gates, the lengths, and what
-   an open journal has, one block after the other), NOTAVOLUME, DAMAGED, NOMEMORY (close the handle, and begin again),
-   ORDER. */
+/* Opens the volume. A commit takes at most `pages` pages. If `pages` is 0, or above what the volume's journals take, a
+   commit takes as many as they take. Opening records calls where a crash left a commit to be carried out. OK, WANTED (a
+   block that wasn't supplied: nothing is open; supply it and call again. Opening wants block 0, the gates, the lengths,
+   and what an open journal has, one block after the other), NOTAVOLUME, DAMAGED, NOMEMORY (close the handle, and begin
+   again), ORDER. */
 int32_t famsync_core_open(famsync_core core, uint32_t pages, uint32_t *wanted, uint8_t **at);
 
 /* The number of files of the volume, which are numbered from 0; the most pages of one commit; the number of blocks
@@ -185,8 +185,8 @@ int32_t famsync_core_set_length(famsync_core core, uint32_t file, uint64_t lengt
 /* How many recorded calls wait for the host. At any time. */
 int64_t famsync_core_waiting(famsync_core core, uint8_t **at);
 
-/* A recorded call; index 0 is the oldest that waits, and they are made in this order. `*kind` is
-   FAMSYNC_CORE_CALL_WRITE for a write of the `*length` bytes at `*bytes` to `*offset` of the volume's file, or
+/* A recorded call. Index 0 is the oldest call that waits. The host makes the calls in the order of their index. `*kind`
+   is FAMSYNC_CORE_CALL_WRITE for a write of the `*length` bytes at `*bytes` to `*offset` of the volume's file, or
    FAMSYNC_CORE_CALL_SYNC for a sync of that file. OK, NONE (no call of this index waits). At any time. */
 int32_t famsync_core_call(famsync_core core, uint32_t index, uint32_t *kind, uint64_t *offset, const uint8_t **bytes,
                           uint64_t *length, uint8_t **at);
