@@ -10,8 +10,8 @@
  *   read and write   famsync_read, famsync_write, famsync_msync: any offset, any count, as with pread and pwrite
  *   plain memory     famsync_memory_open, famsync_memory_at, famsync_msync: a pointer to store through
  *
- * Whatever ends this process or the system, the next session finds the files as they were at some msync, all of it and
- * nothing else, and not before the last one that was acknowledged.
+ * Even if this process is killed or the system crashes, the next session finds the files as they were at one msync,
+ * with all of its stores and no later ones. It is the last acknowledged msync or a later one.
  *
  * Each call answers FAMSYNC_OK or one of the codes below, which are negative; famsync_strerror names them. Any number
  * of threads may call with one handle; the calls take turns. No call is a cancellation point: a thread that is
@@ -98,7 +98,7 @@ struct famsync_options {
     unsigned copies;     /* ignored; the field keeps the structure's layout */
     int foreground;      /* not 0: no thread of the library's own (see famsync_msync) */
     char *message;       /* a line about why the volume wasn't opened is put here */
-    size_t message_size; /* and how much there is room for; a message is cut off there */
+    size_t message_size; /* and its size; a longer message is cut off */
     unsigned wait_ms;    /* how long to wait for a volume that is in use, in milliseconds */
     int readonly;        /* not 0: a session that only reads */
     int resident;        /* not 0: plain memory is read in whole, and is no mapping of the volume's file */
@@ -213,7 +213,7 @@ struct famsync_stat {
     size_t size;
     uint64_t commits;       /* the number of the last commit that was acknowledged */
     uint64_t frames;        /* the most pages of one commit */
-    uint64_t staged;        /* pages that wait for a commit, those of plain memory, too */
+    uint64_t staged;        /* pages that wait for a commit, including those of plain memory */
     uint64_t unwritten;     /* pages of commits that wait to be written to their places */
     uint64_t reads;         /* reads of the volume's file */
     uint64_t writes;        /* writes to it */
@@ -232,9 +232,9 @@ int famsync_stat(famsync *handle, struct famsync_stat *stat);
    Other threads may call with the handle meanwhile, also famsync_msync. One backup is made at a time (FAMSYNC_BUSY).
    The file is locked as a volume is until the call returns; FAMSYNC_INUSE if somebody else has it locked.
 
-   FAMSYNC_SYSTEM: the file couldn't be written; errno says how. FAMSYNC_DEVICE: the volume couldn't be read, and the
-   session goes on, or it couldn't be written, and the session is over. The file is no volume then. Commits that are
-   made meanwhile don't fail because of the backup. */
+   FAMSYNC_SYSTEM: the file couldn't be written; errno says how. FAMSYNC_DEVICE: the volume couldn't be read (the
+   session goes on), or couldn't be written (the session is over). The file is no volume then. Commits that are made
+   meanwhile don't fail because of the backup. */
 int famsync_backup(famsync *handle, int descriptor);
 
 /*

@@ -110,7 +110,7 @@ enum famsync_core_code {
 enum famsync_core_kind { FAMSYNC_CORE_CALL_WRITE = 1, FAMSYNC_CORE_CALL_SYNC = 2 };
 
 /* Begins with a volume of this many blocks: its file's length divided by 4,096, which has to go up. OK, ARGUMENT
-   (0 blocks), NOMEMORY. `*at` is unchanged where it isn't OK. */
+   (0 blocks), NOMEMORY. `*at` is unchanged if the answer isn't OK. */
 int32_t famsync_core_begin(uint32_t blocks, uint8_t **at);
 
 /* The host has read a block, of which `bytes` are the 4,096 bytes: so as they are in the volume's file after the
@@ -167,14 +167,15 @@ int32_t famsync_core_is_staged(famsync_core core, uint32_t file, uint64_t page, 
 int32_t famsync_core_commit(famsync_core core, uint32_t *mark, uint8_t **at);
 
 /* The number of the last commit that is durable, 0 where there is none: the calls that waited when it was made were
-   carried out. Later ones may wait. A commit that is followed by another before that is told with the other. ORDER. */
+   carried out. Later ones may wait. If another commit follows before that, the first is reported only with the second.
+   ORDER. */
 int64_t famsync_core_acknowledged(famsync_core core, uint8_t **at);
 
 /* Makes up to `most` further steps of commits that were made, to write their pages home, and records their calls. OK
    where more are left, NONE where nothing is left, BROKEN, DEVICE, ORDER. */
 int32_t famsync_core_write_out(famsync_core core, uint32_t most, uint8_t **at);
 
-/* The number of pages that commits have to write home still. ORDER. */
+/* The number of pages that commits still have to write home. ORDER. */
 int64_t famsync_core_unwritten(famsync_core core, uint8_t **at);
 
 /* Sets the length of a file, up to its capacity; durable with the next commit. The pages that it grows by count as
@@ -195,8 +196,9 @@ int32_t famsync_core_call(famsync_core core, uint32_t index, uint32_t *kind, uin
    changed). At any time. */
 int32_t famsync_core_carried_out(famsync_core core, uint32_t count, uint8_t **at);
 
-/* Forgets a block, unless a call that waits writes to it or, once the volume is open, it comes before the files; so
-   it is wanted again where it is read. OK, NONE (it isn't forgotten), ARGUMENT (no such block). At any time. */
+/* Forgets a block, so it is wanted again if it is read. A block isn't forgotten if a waiting call writes to it or, once
+   the volume is open, if it comes before the files. OK, NONE (it isn't forgotten), ARGUMENT (no such block). At any
+   time. */
 int32_t famsync_core_forget(famsync_core core, uint32_t block, uint8_t **at);
 
 /* Frees what the session has. Calls that wait are dropped. At any time, once. */
