@@ -128,9 +128,9 @@ const char *famsync_version(void);
 int famsync_open(const char *volume, const struct famsync_options *options, famsync **handle);
 
 /* Ends a session and frees the handle; what was written since the last msync is gone. Plain memory of this handle has
-   to be closed before (FAMSYNC_ARGUMENT), and no other call with it may be under way. What was committed is written to
-   its place in the volume before. FAMSYNC_DEVICE or FAMSYNC_UNMARKED where a write or a sync failed, in this call or
-   earlier: what was acknowledged is kept. */
+   to be closed before (FAMSYNC_ARGUMENT), and no other call with it may be under way. Before the session ends, what was
+   committed is written to its place in the volume. FAMSYNC_DEVICE or FAMSYNC_UNMARKED where a write or a sync failed,
+   in this call or earlier: what was acknowledged is kept. */
 int famsync_close(famsync *handle);
 
 /* The files of the volume, numbered from 0, and their lengths as this session has set them. */
@@ -159,7 +159,7 @@ int famsync_setlength(famsync *handle, const char *file, uint64_t length);
 int famsync_read(famsync *handle, unsigned file, uint64_t offset, void *bytes, size_t count, size_t *done);
 
 /* Writes `count` bytes to a file, from `offset` on. `*done`, which may be a null pointer, is how many were written.
-   Writes wait in memory for famsync_msync, and are gone with the session without it.
+   Writes wait in memory for famsync_msync. Without it they are lost when the session ends.
 
    FAMSYNC_EINVAL: a byte of them lies past the file's end. famsync_setlength makes a file longer. FAMSYNC_NOFRAME: the
    pages, and those that wait for a commit, are more than one commit can have. Nothing is written in both cases. A page
@@ -172,8 +172,8 @@ int famsync_write(famsync *handle, unsigned file, uint64_t offset, const void *b
 
 /* Makes all changes of this session durable, all of them or none: writes, stores to plain memory and lengths. It
    returns when they are durable. `*mark`, which may be a null pointer, is the commit's number, counted from 1 in each
-   session. Threads that call it while a commit is being written share the next one. Where it is refused, all changes
-   still wait for a commit, and the next call takes them again.
+   session. Threads that call it while a commit is being written share the next one. If the call is refused, all changes
+   still wait for a commit, and the next call commits them.
 
    FAMSYNC_NOFRAME: the pages that were changed, by famsync_write and in plain memory together, are more than one commit
    can have; no later call can commit them either. Nothing is committed then. After you close the plain memory, what
@@ -268,9 +268,9 @@ int famsync_backup(famsync *handle, int descriptor);
  * FAMSYNC_TRACKING, of famsync_open or famsync_memory_open: the system can't (Linux 6.7 can). `resident` and
  * FAMSYNC_TRACK_KERNEL don't go together (FAMSYNC_ARGUMENT).
  *
- * Bytes past the file's end, in its last page, are memory that isn't kept. What lies behind may not be used, up to the
- * file's capacity, for which address space is reserved. famsync_read and famsync_write use the memory of a file as long
- * as it is open. An empty file has no memory (FAMSYNC_ARGUMENT).
+ * Bytes past the file's end, in its last page, are memory that isn't kept. The addresses behind, up to the file's
+ * capacity, are reserved and may not be used. famsync_read and famsync_write use the memory of a file as long as it is
+ * open. An empty file has no memory (FAMSYNC_ARGUMENT).
  */
 int famsync_memory_open(famsync *handle, const char *file, famsync_memory **memory);
 

@@ -122,7 +122,7 @@ int32_t famsync_core_supply(famsync_core core, uint32_t block, const uint8_t *by
 int32_t famsync_core_is_known(famsync_core core, uint32_t block, uint8_t **at);
 
 /* Opens the volume. A commit takes at most `pages` pages. If `pages` is 0, or above what the volume's journals take, a
-   commit takes as many as they take. Opening records calls where a crash left a commit to be carried out. OK, WANTED (a
+   commit takes as many as they take. Opening records calls if a crash left a commit to be carried out. OK, WANTED (a
    block that wasn't supplied: nothing is open; supply it and call again. Opening wants block 0, the gates, the lengths,
    and what an open journal has, one block after the other), NOTAVOLUME, DAMAGED, NOMEMORY (close the handle, and begin
    again), ORDER. */
@@ -160,10 +160,9 @@ int32_t famsync_core_write(famsync_core core, uint32_t file, uint64_t page, cons
 int64_t famsync_core_staged(famsync_core core, uint8_t **at);
 int32_t famsync_core_is_staged(famsync_core core, uint32_t file, uint64_t page, uint8_t **at);
 
-/* Makes a commit of all pages and lengths that were written and set, and records its calls as far as its
-   acknowledgement wants them. `*mark` is its number, counted from 1 in each session; where nothing was written since
-   the last one, it records none. It is durable once famsync_core_acknowledged answers it. OK, BROKEN, DEVICE, BUSY,
-   ORDER. */
+/* Makes a commit of all pages and lengths that were written and set, and records the calls that its acknowledgement
+   needs. `*mark` is its number, counted from 1 in each session; where nothing was written since the last one, it
+   records none. It is durable once famsync_core_acknowledged answers it. OK, BROKEN, DEVICE, BUSY, ORDER. */
 int32_t famsync_core_commit(famsync_core core, uint32_t *mark, uint8_t **at);
 
 /* The number of the last commit that is durable, 0 where there is none: the calls that waited when it was made were
