@@ -243,7 +243,7 @@ int famsync_backup(famsync *handle, int descriptor);
  * notes the page and opens it for writing. Faults elsewhere go to the handler that was there before.
  *
  * Pages that were stored to are memory of this process. Once they are committed and written to their places, the
- * library gives them back to the system where they are more than `budget` bytes, with a copy of each.
+ * library returns them to the system if they are more than `budget` bytes, including a copy of each.
  *
  * If the volume's file can't be read, or somebody cut it off, a load raises SIGBUS, as with each mapped file. In a
  * process that was forked, a page that wasn't stored to before has what is committed later. With `resident` the whole
