@@ -183,7 +183,7 @@ int famsync_write(famsync *handle, unsigned file, uint64_t offset, const void *b
    memory was refused: then the disk isn't to blame. After a read the session goes on, and the call may be made again.
    After a write or a sync it is over: each later call answers FAMSYNC_BROKEN. If that was a sync, the library flags the
    volume as suspect, as the program does: it makes the file VOLUME.suspect beside the volume's file. FAMSYNC_UNMARKED:
-   the same after a sync, and no suspect flag could be made that stays. The next session doesn't know of the failed sync
+   the same after a sync, and no lasting suspect flag could be made. The next session doesn't know of the failed sync
    then.
 
    What a commit writes after its acknowledgement is written by a thread of the library's own while nobody calls, in
