@@ -186,8 +186,9 @@ int famsync_write(famsync *handle, unsigned file, uint64_t offset, const void *b
    the same after a sync, and no lasting suspect flag could be made. The next session doesn't know of the failed sync
    then.
 
-   What a commit writes after its acknowledgement is written by a thread of the library's own while nobody calls, in
-   layout 4 once no commit has come for 10 ms, or by the next commit; with `foreground` there is no such thread. */
+   What a commit writes after its acknowledgement is written by a thread of the library's own while nobody calls, or by
+   the next commit. In layout 4 the thread begins once no commit has come for 10 ms. With `foreground` there is no such
+   thread. */
 int famsync_msync(famsync *handle, uint64_t *mark);
 
 /* Undoes all stores to plain memory since the last famsync_msync, in all memory of this handle; and with them what
@@ -226,8 +227,8 @@ int famsync_stat(famsync *handle, struct famsync_stat *stat);
 
 /* Writes a clean volume with the files of the last acknowledged commit to a file: a backup that can be opened as it is.
    `descriptor` is a regular file, other than the volume's, that is open for reading and writing, and not for appending
-   (FAMSYNC_ARGUMENT). It is emptied first. What is zeros becomes holes. The backup is synced when the call succeeds.
-   Sync the file's folder as well if its name is new.
+   (FAMSYNC_ARGUMENT). It is emptied first. Zeros become holes. The backup is synced when the call succeeds. Sync the
+   file's folder as well if its name is new.
 
    Other threads may call with the handle meanwhile, also famsync_msync. One backup is made at a time (FAMSYNC_BUSY).
    The file is locked as a volume is until the call returns; FAMSYNC_INUSE if somebody else has it locked.
@@ -247,8 +248,8 @@ int famsync_backup(famsync *handle, int descriptor);
  *
  * If the volume's file can't be read, or somebody cut it off, a load raises SIGBUS, as with each mapped file. In a
  * process that was forked, a page that wasn't stored to before has what is committed later. With `resident` the whole
- * file is read when the memory is opened, and none of this holds; so it is on a system whose pages are larger than
- * 4,096 bytes, or that can't map the volume's file.
+ * file is read when the memory is opened, and none of this holds. The same is true on a system whose pages are larger
+ * than 4,096 bytes, or that can't map the volume's file.
  *
  * Other threads may store meanwhile. A commit has, of all threads and all plain memory of the handle, each store that
  * came before some one moment within famsync_msync, and none that came after it: at that moment all pages are closed,
@@ -258,8 +259,8 @@ int famsync_backup(famsync *handle, int descriptor);
  * The kernel doesn't store through the handler: read(2) and the like into this memory fail with EFAULT where the page
  * wasn't stored to. A thread that blocks SIGSEGV can't store, and a handler of SIGSEGV that was installed later and
  * doesn't call the one before gets the library's faults. famsync_memory_touch opens pages ahead for all three.
- * famsync_memory_open installs the library's handler again where another one took its place, and passes to that one
- * what isn't the library's.
+ * famsync_memory_open installs the library's handler again if another handler took its place. Faults that aren't the
+ * library's are passed to that handler.
  *
  * With FAMSYNC_TRACK_KERNEL no handler is installed: the kernel notes stores, also those of read(2) and the like, and
  * each commit asks it which pages were stored to. Then other threads may not store during famsync_msync,
@@ -283,8 +284,8 @@ int famsync_memory_open_at(famsync *handle, const char *file, void *address, fam
 void *famsync_memory_at(const famsync_memory *memory);
 size_t famsync_memory_length(const famsync_memory *memory);
 
-/* How many pages of 4,096 bytes were stored to since the last msync; one that has the bytes that it had may count or
-   not. One commit can have famsync_frames of them. */
+/* How many pages of 4,096 bytes were stored to since the last msync. A page whose bytes didn't change may count or not.
+   One commit can have famsync_frames of them. */
 size_t famsync_memory_dirty(const famsync_memory *memory);
 
 /* Opens the pages of `count` bytes from `offset` on, as a store to each of them would: no SIGSEGV is raised for these
