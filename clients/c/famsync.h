@@ -122,7 +122,7 @@ const char *famsync_version(void);
 
    With `readonly` any number of sessions share a volume. The library opens the file for reading only, and writes
    nothing. No session that writes can begin meanwhile. FAMSYNC_NEEDSOPENING means that a crash left a commit to be
-   written to its place, or that the volume is flagged as suspect, whatever `trust` says: open it once for writing, and
+   written to its place, or that the volume is flagged as suspect, even with `trust`. Open it once for writing, and
    close it. In such a session famsync_write, famsync_setlength, famsync_msync and famsync_memory_touch answer
    FAMSYNC_READONLY, and a store to plain memory raises SIGSEGV, which goes to the program. */
 int famsync_open(const char *volume, const struct famsync_options *options, famsync **handle);

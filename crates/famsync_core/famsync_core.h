@@ -166,8 +166,8 @@ int32_t famsync_core_is_staged(famsync_core core, uint32_t file, uint64_t page, 
 int32_t famsync_core_commit(famsync_core core, uint32_t *mark, uint8_t **at);
 
 /* The number of the last commit that is durable, 0 where there is none: the calls that waited when it was made were
-   carried out. Later ones may wait. If another commit follows before that, the first is reported only with the second.
-   ORDER. */
+   carried out. Later ones may wait. If another commit is made before a commit's calls are carried out, the first is
+   reported only with the second. ORDER. */
 int64_t famsync_core_acknowledged(famsync_core core, uint8_t **at);
 
 /* Makes up to `most` further steps of commits that were made, to write their pages home, and records their calls. OK
