@@ -266,8 +266,8 @@ int famsync_backup(famsync *handle, int descriptor);
  * each commit asks it which pages were stored to. Then other threads may not store during famsync_msync,
  * famsync_rollback and famsync_setlength. A commit that finds such a store as it copies pages takes them again, up to
  * four times, and then answers FAMSYNC_BUSY; nothing is committed then. Committed pages are not given back.
- * FAMSYNC_TRACKING, of famsync_open or famsync_memory_open: the system can't (Linux 6.7 can). `resident` and
- * FAMSYNC_TRACK_KERNEL don't go together (FAMSYNC_ARGUMENT).
+ * FAMSYNC_TRACKING, of famsync_open or famsync_memory_open: the system can't track stores in this way (Linux 6.7 can).
+ * `resident` and FAMSYNC_TRACK_KERNEL don't go together (FAMSYNC_ARGUMENT).
  *
  * Bytes past the file's end, in its last page, are memory that isn't kept. The addresses behind, up to the file's
  * capacity, are reserved and may not be used. famsync_read and famsync_write use the memory of a file as long as it is
