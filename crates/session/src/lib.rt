@@ -24,7 +24,6 @@ pub use notes::Notes;
 pub use ranges::Reached;
 pub use request::{Request, read_request, read_shape};
 pub use request_fault::RequestFault;
-pub use requests::Requests;
 pub use serving::{serve_line, serve_on};
 pub use session::{Session, start};
 pub use session_fault::SessionFault;

@@ -10,19 +10,18 @@ ghost use Rattle.session.specs.Steps.{Makes};
 use crate::files::Files;
 use crate::notes::Notes;
 use device::Device;
-use machine::{Machine, Reply, Shape, Step, Tender};
+use machine::{Machine, Reply, Shape, Step};
 use page_entry::{FilePage, ProcessorNumber, Refusal};
 use recovery::opened_as_recovered;
 use std::alloc::Allocator;
 use std::marker::Model;
 
-/// A machine on which requests are carried out, whoever else tends its device between them. What a request's contract
-/// says, it says of the machine as it was before the request and as it is after it. (Of a `Session`, whose device no
-/// one else reaches, it is known besides that its machine was reached by steps from its start.)
+/// The machine of a session. A request's contract speaks of the machine before the request and after it. That steps led
+/// to this machine from its start is known of a `Session`.
 ///
 /// Contracts see the machine, what is noted of the steps that were made on it since it was started, and the files.
 #[derive(Drop)]
-pub struct Requests<D: Device, A: Allocator + Copy> {
+pub(crate) struct Requests<D: Device, A: Allocator + Copy> {
     machine: Machine<D, A>,
     // What was noted of the steps that were made.
     notes: Notes,
@@ -164,16 +163,6 @@ impl<D: Device, A: Allocator + Copy> Requests<D, A> {
         ensures { IsShootdown self.now.machine.state.hardware.shootdown }
     {
         self.machine.is_coherent();
-    }
-
-    /// Lets the machine's device be tended between two requests. Nothing but the device changes.
-    pub fn tend<T: Tender<D>>(&mut self, tender: &mut T)
-        ensures state { self.new.machine.state ≡ self.old.machine.state }
-        ensures tended { T.tends tender.old self.old.machine.device self.new.machine.device tender.new }
-        ensures notes { self.new.notes ≡ self.old.notes }
-        ensures files { self.new.files ≡ self.old.files }
-    {
-        self.machine.tend(tender);
     }
 
     /// The device, as it is.
