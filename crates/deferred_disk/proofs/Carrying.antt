@@ -4,7 +4,7 @@ use Rattle.std.proofs.Common.{◌++◌, length, take, drop, Option, Some, None, 
 use Rattle.std.proofs.lemmas.List.{take-append-drop}
 use Rattle.std.specs.Prelude.{slice_get}
 use Rattle.deferred_disk.specs.Carrying.{CarriedOut}
-use Rattle.deferred_disk.specs.Deferred.{Deferred, as_recorded, made_before, oldest}
+use Rattle.deferred_disk.specs.Deferred.{Deferred, as_memory, made_before, oldest_call}
 use Rattle.deferred_disk.specs.Deferred.{done_by, with_waiting, carried_moment, IsBehind}
 use Rattle.device.specs.Device.{written, Torn, LeavesOnly}
 use Rattle.device.specs.Did.{Did}
@@ -85,13 +85,13 @@ written_over old mid at bytes torn = λ i. torn.before i ++ bytes ++ torn.after 
 pub since_oldest : (disk : Deferred) (waiting : ℕ) (c : List ℕ) → waiting ≤ disk.waiting → waiting ≤ length disk.changes
     → AreWithin (length disk.first) disk.changes
     → TornFromWork (done_by (made_before waiting disk.changes)) (MayBeLeft disk.first (drop waiting disk.changes)) c
-    → left_since_of (as_recorded disk) (carried_moment disk) c
+    → left_since_of (as_memory disk) (carried_moment disk) c
 since_oldest disk zero c le few within left = (0, omega arith, omega arith, left)
 since_oldest disk (suc k) c le few within left = by_call (slice_get disk.changes k) refl left
   where
     by_call : (call : Option DiskChange) → slice_get disk.changes k ≡ call
         → TornFromWork (done_by call) (MayBeLeft disk.first (drop (suc k) disk.changes)) c
-        → left_since_of (as_recorded disk) (carried_moment disk) c
+        → left_since_of (as_memory disk) (carried_moment disk) c
     by_call None got now = (suc k, few, omega (arith, le, few), now)
     by_call (Some sync) got now = (suc k, few, omega (arith, le, few), now)
     by_call (Some (write at bytes)) got now = (
@@ -110,7 +110,7 @@ module _ {D : Type 0} (device : Ghosts D) (old : D) (disk : Deferred) (few : dis
       → CarriedOut device old disk true old disk.waiting
   carried_none now = record {
     fewer = omega arith;
-    behind = λ behind. behind;
+    stays_behind = λ behind. behind;
     time = λ behind. leaves_at_start
         (λ c left. since_oldest disk disk.waiting c (omega arith) few within (behind.left c (now c left)));
     honest = (λ h. h, λ h. h);
@@ -123,9 +123,9 @@ module _ {D : Type 0} (device : Ghosts D) (old : D) (disk : Deferred) (few : dis
     -- what the call that is made now may leave
     leaves_now : (call : Option DiskChange) (done : Bool) (new : D) → slice_get disk.changes k ≡ call
         → Did device mid (done_by call) done new → IsBehind device.is_honest device.seen device.may_leave old disk
-        → LeavesOnly device.moment device.left_since old new (left_since_of (as_recorded disk) (carried_moment disk))
+        → LeavesOnly device.moment device.left_since old new (left_since_of (as_memory disk) (carried_moment disk))
     leaves_now call done new got did behind =
-        let now = so_far.behind behind in
+        let now = so_far.stays_behind behind in
         leaves_then (so_far.time behind) (leaves_weaker did.time (λ c torn.
         let work = done_by (slice_get disk.changes k) in
         let here : TornFromWork work (device.may_leave mid) c =
@@ -139,8 +139,8 @@ module _ {D : Type 0} (device : Ghosts D) (old : D) (disk : Deferred) (few : dis
         → Did device mid (done_by (Some change)) false new → CarriedOut device old disk false new (suc k)
     carried_failed change new got did = record {
       fewer = so_far.fewer;
-      behind = λ behind.
-          let now = so_far.behind behind in
+      stays_behind = λ behind.
+          let now = so_far.stays_behind behind in
           let same = subst (λ o. Did device mid (done_by o) false new) (sym got) did in
           record {
             honest = did.honest.1 now.honest;
@@ -170,7 +170,7 @@ module _ {D : Type 0} (device : Ghosts D) (old : D) (disk : Deferred) (few : dis
         → Did device mid (done_by (Some change)) true new → CarriedOut device old disk true new k
     carried_more change new got did = record {
       fewer = omega (arith, so_far.fewer);
-      behind = λ behind. made change got did (so_far.behind behind);
+      stays_behind = λ behind. made change got did (so_far.stays_behind behind);
       time = leaves_now (Some change) true new got did;
       honest = (λ h. so_far.honest.0 (did.honest.0 h), λ h. did.honest.1 (so_far.honest.1 h));
       same_length = did.same_length ∙ so_far.same_length;
@@ -229,25 +229,25 @@ module _ {D : Type 0} (device : Ghosts D) (old : D) (disk : Deferred) (few : dis
 
   -- the oldest call of what waits now is made
   pub carried_step : (mid : D) (now : Deferred) (new : D) → now ≡ with_waiting disk now.waiting → 0 < now.waiting
-      → CarriedOut device old disk true mid now.waiting → Did device mid (done_by (oldest now)) true new
+      → CarriedOut device old disk true mid now.waiting → Did device mid (done_by (oldest_call now)) true new
       → CarriedOut device old disk true new (now.waiting - 1)
   carried_step mid now new same some so_far did =
       let k = now.waiting - 1 in
       let one : now.waiting ≡ suc k = omega (arith, some) in
       let got = got_below disk.changes k (omega (arith, one, few, so_far.fewer)) in
-      let is : oldest now ≡ Some got.0 = ap oldest same ∙ ap (λ n. made_before n disk.changes) one ∙ got.1 in
+      let is : oldest_call now ≡ Some got.0 = ap oldest_call same ∙ ap (λ n. made_before n disk.changes) one ∙ got.1 in
       carried_more mid k (subst (CarriedOut device old disk true mid) one so_far) got.0 new got.1
       (subst (λ o. Did device mid (done_by o) true new) is did)
 
   -- or it fails
   pub carried_stop : (mid : D) (now : Deferred) (new : D) → now ≡ with_waiting disk now.waiting → 0 < now.waiting
-      → CarriedOut device old disk true mid now.waiting → Did device mid (done_by (oldest now)) false new
+      → CarriedOut device old disk true mid now.waiting → Did device mid (done_by (oldest_call now)) false new
       → CarriedOut device old disk false new now.waiting
   carried_stop mid now new same some so_far did =
       let k = now.waiting - 1 in
       let one : now.waiting ≡ suc k = omega (arith, some) in
       let got = got_below disk.changes k (omega (arith, one, few, so_far.fewer)) in
-      let is : oldest now ≡ Some got.0 = ap oldest same ∙ ap (λ n. made_before n disk.changes) one ∙ got.1 in
+      let is : oldest_call now ≡ Some got.0 = ap oldest_call same ∙ ap (λ n. made_before n disk.changes) one ∙ got.1 in
       subst (CarriedOut device old disk false new) (sym one)
       (carried_failed mid k (subst (CarriedOut device old disk true mid) one so_far) got.0 new got.1
       (subst (λ o. Did device mid (done_by o) false new) is did))

@@ -14,7 +14,7 @@ use Rattle.device.specs.Device.{written}
 use Rattle.device.specs.Memory as memory
 use Rattle.device.specs.Memory.{DiskChange, content_after, moment_of, left_since_of}
 use Rattle.device.specs.Memory.DiskChange.{write, sync}
-use Rattle.deferred_disk.specs.Deferred.{Deferred, as_recorded, reaches}
+use Rattle.deferred_disk.specs.Deferred.{Deferred, as_memory, reaches}
 use Rattle.deferred_disk.specs.Deferred.{one_reaches, block_of, made_before, done_by, first_unknown, with_known}
 use Rattle.deferred_disk.specs.Deferred.{first_block, end_block, lacked_by_read, lacked_by_write, or_else}
 use Rattle.device.specs.Work.{TornByWork}
@@ -192,8 +192,8 @@ pub kept_at_start : (first : List ℕ) (changes : List DiskChange) (supplied : L
     (flags : List Bool) (waiting : List DiskChange) (blocks : ℕ) → length first ≡ 4096 * blocks → changes ≡ []
     → length bytes ≡ 4096 * blocks → flags ≡ replicate blocks false → waiting ≡ []
     → IsKept first changes supplied bytes flags waiting (4096 * blocks)
-kept_at_start first changes supplied bytes flags waiting blocks size none long blank idle =
-    let wide = ap length blank ∙ length-replicate blocks false in
+kept_at_start first changes supplied bytes flags waiting blocks size none long blank_room idle =
+    let wide = ap length blank_room ∙ length-replicate blocks false in
     record {
       first_length = omega (arith, size, wide);
       bytes_length = omega (arith, long, wide);
@@ -203,7 +203,7 @@ kept_at_start first changes supplied bytes flags waiting blocks size none long b
       reached = subst (AreKnown flags) (sym idle) tt;
       agrees = λ alike i known. absurd (cc (
         never (i / 4096) blocks,
-        ap (λ (l : List Bool). get_or l (i / 4096) false) blank,
+        ap (λ (l : List Bool). get_or l (i / 4096) false) blank_room,
         known,
       ));
     }
@@ -390,10 +390,10 @@ kept_as {first} {first'} {changes} {changes'} {supplied} {supplied'} {bytes} {by
 pub within_kept : {inside now : Deferred} {supplied : List (List ℕ × List ℕ)} {bytes : List ℕ} {flags : List Bool}
     {waiting : List DiskChange} {len : ℕ} (n : ℕ)
     → inside ≡ now → IsKept inside.first inside.changes supplied bytes flags waiting len
-    → n ≤ length (memory.seen_of (as_recorded now))
+    → n ≤ length (memory.seen_of (as_memory now))
     → (n ≤ length inside.first) × ((n ≤ length bytes) × (n ≤ len))
 within_kept {inside} n same kept within =
-    let room = subst (λ (d : Deferred). n ≤ length (memory.seen_of (as_recorded d))) (sym same) within in
+    let room = subst (λ (d : Deferred). n ≤ length (memory.seen_of (as_memory d))) (sym same) within in
     let whole = length-content_after inside.first inside.changes kept.within in
     let low : n ≤ length inside.first = omega (arith, room, whole) in
     (low, (omega (arith, low, kept.first_length, kept.bytes_length), omega (arith, low, whole, kept.len_is)))

@@ -13,21 +13,21 @@ use Rattle.device.specs.Device.{written}
 use Rattle.device.proofs.Public.{part_at, length-part, length-written, written_before, written_within, written_after}
 use Rattle.deferred_disk.specs.Deferred.{block_of, with_known, first_block, end_block}
 use Rattle.deferred_disk.specs.inside.Deferring.{IsKnownAt}
-use Rattle.deferred_disk.specs.inside.Blocks.{blank, bytes_in, bytes_of, flags_of, AreWhole, Enters}
+use Rattle.deferred_disk.specs.inside.Blocks.{blank_room, room_bytes, all_rooms, flags_of, AreWhole, Enters}
 use Rattle.deferred_disk.proofs.Deferring.{length-with_known, known_inside, known_outside}
 
 pub from_ok : {T E P : Type 0} (result : Result T E) → IsOk result → OnOk result P → P
 from_ok (Ok x) ok is = is
 from_ok (Err e) ok is = absurd (cc)
 
-length-blank : length blank ≡ 4096
-unfolding blank
-length-blank = length-replicate {A = ℕ} 4096 0
+length-blank_room : length blank_room ≡ 4096
+unfolding blank_room
+length-blank_room = length-replicate {A = ℕ} 4096 0
 
-pub length-bytes_in : (room : Option (List ℕ)) → IfSome room (λ bytes. length bytes ≡ 4096)
-    → length (bytes_in room) ≡ 4096
-length-bytes_in None whole = length-blank
-length-bytes_in (Some bytes) whole = whole
+pub length-room_bytes : (room : Option (List ℕ)) → IfSome room (λ bytes. length bytes ≡ 4096)
+    → length (room_bytes room) ≡ 4096
+length-room_bytes None whole = length-blank_room
+length-room_bytes (Some bytes) whole = whole
 
 module _ (rooms : ℕ → Option (List ℕ)) where
   pub length-flags_of : (n : ℕ) → length (flags_of rooms n) ≡ n
@@ -50,42 +50,42 @@ module _ (rooms : ℕ → Option (List ℕ)) where
   no_flag n b past = get_or_past (flags_of rooms n) b false (omega (arith, past, length-flags_of n))
 
   module _ (whole : AreWhole rooms) where
-    pub length-bytes_of : (n : ℕ) → length (bytes_of rooms n) ≡ 4096 * n
-    length-bytes_of zero = refl
-    length-bytes_of (suc n) =
+    pub length-all_rooms : (n : ℕ) → length (all_rooms rooms n) ≡ 4096 * n
+    length-all_rooms zero = refl
+    length-all_rooms (suc n) =
         omega (
           arith,
-          length-bytes_of n,
-          length-append (bytes_of rooms n) (bytes_in (rooms n)),
-          length-bytes_in (rooms n) (whole n),
+          length-all_rooms n,
+          length-append (all_rooms rooms n) (room_bytes (rooms n)),
+          length-room_bytes (rooms n) (whole n),
         )
 
     -- each byte is that of its block
     pub byte_at : (n i : ℕ) → i < 4096 * n
-        → get_or (bytes_of rooms n) i 0 ≡ get_or (bytes_in (rooms (i / 4096))) (i - 4096 * (i / 4096)) 0
+        → get_or (all_rooms rooms n) i 0 ≡ get_or (room_bytes (rooms (i / 4096))) (i - 4096 * (i / 4096)) 0
     byte_at zero i lt = absurd (omega (arith, lt))
     byte_at (suc n) i lt = ⊎_elim
-        (λ (before : i < 4096 * n). get_or_append_left (bytes_of rooms n) (bytes_in (rooms n)) 0 i
-        (omega (arith, before, length-bytes_of n)) ∙ byte_at n i before)
+        (λ (before : i < 4096 * n). get_or_append_left (all_rooms rooms n) (room_bytes (rooms n)) 0 i
+        (omega (arith, before, length-all_rooms n)) ∙ byte_at n i before)
         (λ (least : 4096 * n ≤ i). let same : n ≡ i / 4096 = omega (arith, lt, least) in
-        get_or-append_right (bytes_of rooms n) (bytes_in (rooms n)) (4096 * n) i 0 (length-bytes_of n) least
-        ∙ ap (λ k. get_or (bytes_in (rooms k)) (i - 4096 * k) 0) same)
+        get_or-append_right (all_rooms rooms n) (room_bytes (rooms n)) (4096 * n) i 0 (length-all_rooms n) least
+        ∙ ap (λ k. get_or (room_bytes (rooms k)) (i - 4096 * k) 0) same)
         (cases_lt i (4096 * n))
 
     -- the bytes of a block are what the map has
-    pub block_at : (n b : ℕ) → b < n → block_of (bytes_of rooms n) b ≡ bytes_in (rooms b)
+    pub block_at : (n b : ℕ) → b < n → block_of (all_rooms rooms n) b ≡ room_bytes (rooms b)
     block_at n b lt =
-        let long = length-part (bytes_of rooms n) (4096 * b) (4096 * b + 4096) (omega arith)
-        (omega (arith, lt, length-bytes_of n)) in
-        let wide = length-bytes_in (rooms b) (whole b) in
-        ext_get_or 0 (block_of (bytes_of rooms n) b) (bytes_in (rooms b)) (omega (arith, long, wide)) (λ i fits.
+        let long = length-part (all_rooms rooms n) (4096 * b) (4096 * b + 4096) (omega arith)
+        (omega (arith, lt, length-all_rooms n)) in
+        let wide = length-room_bytes (rooms b) (whole b) in
+        ext_get_or 0 (block_of (all_rooms rooms n) b) (room_bytes (rooms b)) (omega (arith, long, wide)) (λ i fits.
         let small : i < 4096 = omega (arith, fits, long) in
         let here : (4096 * b + i) / 4096 ≡ b = omega (arith, small) in
         let place : 4096 * b + i - 4096 * b ≡ i = omega arith in
-        part_at (bytes_of rooms n) (4096 * b) (4096 * b + 4096) i (omega (arith, small))
+        part_at (all_rooms rooms n) (4096 * b) (4096 * b + 4096) i (omega (arith, small))
         ∙ byte_at n (4096 * b + i) (omega (arith, small, lt))
-        ∙ ap (λ k. get_or (bytes_in (rooms k)) (4096 * b + i - 4096 * k) 0) here
-        ∙ ap (λ k. get_or (bytes_in (rooms b)) k 0) place)
+        ∙ ap (λ k. get_or (room_bytes (rooms k)) (4096 * b + i - 4096 * k) 0) here
+        ∙ ap (λ k. get_or (room_bytes (rooms b)) k 0) place)
 
 -- where a map has no block
 module _ (rooms : ℕ → Option (List ℕ)) (none : (block : ℕ) → rooms block ≡ None) where
@@ -139,7 +139,7 @@ module _ (rooms new : ℕ → Option (List ℕ)) (block count : ℕ) (gone : new
           (λ (above : block < b). omega (arith, above, same)) apart
 
   pub bytes_without : (i : ℕ) → IsKnownAt (flags_of new count) i
-      → get_or (bytes_of new count) i 0 ≡ get_or (bytes_of rooms count) i 0
+      → get_or (all_rooms new count) i 0 ≡ get_or (all_rooms rooms count) i 0
   bytes_without i known = ⊎_elim
       (λ (lt : i / 4096 < count).
       let small : i < 4096 * count = omega (arith, lt) in
@@ -147,7 +147,7 @@ module _ (rooms new : ℕ → Option (List ℕ)) (block count : ℕ) (gone : new
       ⊎_elim
       (λ (same : b ≡ block). absurd (cc (ap is_some (ap new same ∙ gone), flag_at new count b lt, known)))
       (λ apart. byte_at new whole_without count i small
-      ∙ ap (λ o. get_or (bytes_in o) (i - 4096 * b) 0) (stays b apart) ∙ sym (byte_at rooms whole count i small))
+      ∙ ap (λ o. get_or (room_bytes o) (i - 4096 * b) 0) (stays b apart) ∙ sym (byte_at rooms whole count i small))
       (one_or_other b))
       (λ (past : count ≤ i / 4096). absurd (cc (no_flag new count (i / 4096) past, known)))
       (cases_lt (i / 4096) count)
@@ -177,25 +177,25 @@ module _ (rooms new : ℕ → Option (List ℕ)) (from n count : ℕ) (run : Lis
       (λ apart. subst (λ o. IfSome o (λ bytes. length bytes ≡ 4096)) (sym (enters.outside block apart)) (whole block))
       (entered block)
 
-  pub bytes_with_run : bytes_of new count ≡ written (bytes_of rooms count) (4096 * from) run
+  pub bytes_with_run : all_rooms new count ≡ written (all_rooms rooms count) (4096 * from) run
   bytes_with_run =
-      let old = bytes_of rooms count in
-      let long = length-bytes_of new whole_with_run count in
-      let was = length-bytes_of rooms whole count in
+      let old = all_rooms rooms count in
+      let long = length-all_rooms new whole_with_run count in
+      let was = length-all_rooms rooms whole count in
       let inside : 4096 * from + length run ≤ length old = omega (arith, was, size, fits) in
-      ext_get_or 0 (bytes_of new count) (written old (4096 * from) run)
+      ext_get_or 0 (all_rooms new count) (written old (4096 * from) run)
       (omega (arith, long, was, length-written old (4096 * from) run inside)) (λ i lt.
       let block = i / 4096 in
       let small : i < 4096 * count = omega (arith, lt, long) in
       let same = λ (apart : (block < from) ⊎ (from + n ≤ block)). byte_at new whole_with_run count i small
-      ∙ ap (λ o. get_or (bytes_in o) (i - 4096 * block) 0) (enters.outside block apart)
+      ∙ ap (λ o. get_or (room_bytes o) (i - 4096 * block) 0) (enters.outside block apart)
       ∙ sym (byte_at rooms whole count i small) in
       ⊎_elim
       (λ there.
       let k = there.0 in
       let from_here : 4096 * k + (i - 4096 * block) ≡ i - 4096 * from = omega (arith, there.2) in
       byte_at new whole_with_run count i small
-      ∙ ap (λ o. get_or (bytes_in o) (i - 4096 * block) 0) (ap new there.2 ∙ enters.inside k there.1)
+      ∙ ap (λ o. get_or (room_bytes o) (i - 4096 * block) 0) (ap new there.2 ∙ enters.inside k there.1)
       ∙ part_at run (4096 * k) (4096 * k + 4096) (i - 4096 * block) (omega arith)
       ∙ ap (λ j. get_or run j 0) from_here
       ∙ sym (written_within old (4096 * from) run i inside (omega (arith, there.2))

@@ -3,7 +3,7 @@ use Rattle.std.specs.Prelude.{◌≡◌, ◌↔◌, ℕ, ◌+◌, ◌^◌, ◌<�
 use Rattle.device.specs.Count.{raised}
 use Rattle.device.specs.Device.{LeavesOnly}
 use Rattle.device.specs.Memory.{left_since_of}
-use Rattle.deferred_disk.specs.Deferred.{Deferred, as_recorded, carried_moment, with_waiting, IsBehind}
+use Rattle.deferred_disk.specs.Deferred.{Deferred, as_memory, carried_moment, with_waiting, IsBehind}
 use Rattle.device.specs.declared.device.Device.{Ghosts}
 
 -- The waiting calls of a disk were made on a device, in order, up to the end or to the first that failed; this many are
@@ -13,11 +13,11 @@ pub record CarriedOut {D : Type 0} (device : Ghosts D) (old : D) (disk : Deferre
   pub fewer : left ≤ disk.waiting
   -- An honest device that was behind the disk still is. Once no call is left it gives what the disk gives, and a crash
   -- may leave of it only what one of the disk may.
-  pub behind : IsBehind device.is_honest device.seen device.may_leave old disk
+  pub stays_behind : IsBehind device.is_honest device.seen device.may_leave old disk
       → IsBehind device.is_honest device.seen device.may_leave new (with_waiting disk left)
   -- A crash at any moment since old leaves what one of the disk might have left since its oldest waiting call.
   pub time : IsBehind device.is_honest device.seen device.may_leave old disk
-      → LeavesOnly device.moment device.left_since old new (left_since_of (as_recorded disk) (carried_moment disk))
+      → LeavesOnly device.moment device.left_since old new (left_since_of (as_memory disk) (carried_moment disk))
   pub honest : device.is_honest new ↔ device.is_honest old
   pub same_length : length (device.seen new) ≡ length (device.seen old)
   -- how many calls were made and how many failed

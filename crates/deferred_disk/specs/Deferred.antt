@@ -35,8 +35,8 @@ deferred content blocks = record {
 }
 
 -- It is a disk in memory with these writes and syncs.
-abbrev pub as_recorded : Deferred → Recorded
-as_recorded disk = record {
+abbrev pub as_memory : Deferred → Recorded
+as_memory disk = record {
   first = disk.first;
   changes = disk.changes;
   start = 0;
@@ -136,7 +136,7 @@ after_refusal disk lacked = record disk {
 abbrev pub after_supply : Deferred → ℕ → List ℕ → Deferred
 after_supply disk block bytes = if get_or disk.known block false then disk else record disk {
   known = with_known disk.known block (block + 1);
-  supplied = (bytes, block_of (seen_of (as_recorded disk)) block) ∷ disk.supplied;
+  supplied = (bytes, block_of (seen_of (as_memory disk)) block) ∷ disk.supplied;
 }
 
 -- a change writes to a block
@@ -163,8 +163,8 @@ made_before zero changes = None
 made_before (suc newer) changes = slice_get changes newer
 
 -- the oldest call that waits
-abbrev pub oldest : Deferred → Option DiskChange
-oldest disk = made_before disk.waiting disk.changes
+abbrev pub oldest_call : Deferred → Option DiskChange
+oldest_call disk = made_before disk.waiting disk.changes
 
 -- the call that waits behind so many others that wait
 abbrev pub waits_behind : ℕ → Deferred → Option DiskChange
@@ -182,13 +182,13 @@ recorded_calls disk = min (length disk.changes) (2 ^ 64 - 1)
 
 -- The moment at which the oldest waiting call was recorded: so many calls were carried out.
 abbrev pub carried_moment : Deferred → ℕ
-carried_moment disk = moment_of (as_recorded disk) - disk.waiting
+carried_moment disk = moment_of (as_memory disk) - disk.waiting
 
 -- An honest device is where this disk was before its oldest waiting call. Where that call is a write, it may have been
 -- tried on the device and have failed: its range may have any bytes.
 pub record IsBehind {D : Type 0} (is_honest : D → Type 0) (seen : D → List ℕ) (may_leave : D → List ℕ → Type 0)
     (device : D) (disk : Deferred) : Type 0 where
   pub honest : is_honest device
-  pub seen_torn : TornByWork (done_by (oldest disk)) (seen_of (carried_out disk)) (seen device)
+  pub seen_torn : TornByWork (done_by (oldest_call disk)) (seen_of (carried_out disk)) (seen device)
   pub left : (c : List ℕ) → may_leave device c
-      → TornFromWork (done_by (oldest disk)) (may_leave_of (carried_out disk)) c
+      → TornFromWork (done_by (oldest_call disk)) (may_leave_of (carried_out disk)) c

@@ -5,7 +5,7 @@ ghost use Rattle.std.specs.HashMap.{get, spare};
 ghost use Rattle.std.specs.Prelude.{nat_eq};
 ghost use Rattle.device.specs.Device.{written};
 ghost use Rattle.deferred_disk.specs.Deferred.{first_unknown, lacked_by_read, lacked_by_write, with_known, first_block, end_block, block_of};
-ghost use Rattle.deferred_disk.specs.inside.Blocks.{Known, blank, Enters};
+ghost use Rattle.deferred_disk.specs.inside.Blocks.{Known, blank_room, Enters};
 ghost use Rattle.deferred_disk.specs.inside.Deferring.{IsKnownAt};
 
 use crate::run::{Part, Run, shares_of};
@@ -33,12 +33,12 @@ pub struct Blocks<A: Allocator + Copy> {
 impl<A: Allocator + Copy> Model for Blocks<A> {
     ghost use Rattle.std.specs.Prelude.{◌*◌, ◌^◌, ◌<◌, nat_eq};
     ghost use Rattle.std.specs.HashMap.{get};
-    ghost use Rattle.deferred_disk.specs.inside.Blocks.{Known, bytes_of, flags_of, AreWhole};
+    ghost use Rattle.deferred_disk.specs.inside.Blocks.{Known, all_rooms, flags_of, AreWhole};
 
     ghost Value = { Known };
 
     ghost view = { λ blocks. record {
-      bytes = bytes_of (get nat_eq blocks.rooms) blocks.count;
+      bytes = all_rooms (get nat_eq blocks.rooms) blocks.count;
       flags = flags_of (get nat_eq blocks.rooms) blocks.count;
     } };
 
@@ -74,7 +74,7 @@ impl<A: Allocator + Copy> Blocks<A> {
         ensures known { is_some result ≡ get_or self.now.flags block false }
         ensures bytes { IfSome result (λ bytes. bytes.now ≡ block_of self.now.bytes block) }
         ensures whole { IfSome result (λ bytes. length bytes.now ≡ 4096) }
-        ensures blank { IfNone result (block < length self.now.flags → block_of self.now.bytes block ≡ blank) }
+        ensures blank { IfNone result (block < length self.now.flags → block_of self.now.bytes block ≡ blank_room) }
     {
         if block >= self.count {
             return None;

@@ -5,7 +5,7 @@ ghost use Rattle.device.specs.Device.{written};
 ghost use Rattle.device.specs.Did.{Did};
 ghost use Rattle.device.specs.Memory.{seen_of};
 ghost use Rattle.device.specs.Memory.DiskChange.{write, sync};
-ghost use Rattle.deferred_disk.specs.Deferred.{deferred, as_recorded, carried_out, block_of, lacked_by_read, lacked_by_write, IsSuppliedWell, after_read, after_write, after_sync, after_refusal, after_supply, after_forget, reaches, one_reaches, with_waiting, oldest, waits_behind, done_by, recorded_calls};
+ghost use Rattle.deferred_disk.specs.Deferred.{deferred, as_memory, carried_out, block_of, lacked_by_read, lacked_by_write, IsSuppliedWell, after_read, after_write, after_sync, after_refusal, after_supply, after_forget, reaches, one_reaches, with_waiting, oldest_call, waits_behind, done_by, recorded_calls};
 ghost use Rattle.device.specs.Work.{TornByWork};
 ghost use Rattle.deferred_disk.specs.Lent.{change_lent};
 ghost use Rattle.deferred_disk.specs.inside.Waiting.{changes_of};
@@ -98,12 +98,12 @@ impl<A: Allocator + Copy> DeferredDisk<A> {
 
     /// The host has read this block. One that is known keeps its bytes: what was written there, or supplied before.
     pub fn supply(&mut self, block: u32, bytes: &[u8; 4096]) -> Result<(), AllocError>
-        requires { 4096 * block + 4096 ≤ length (seen_of (as_recorded self.old)) }
+        requires { 4096 * block + 4096 ≤ length (seen_of (as_memory self.old)) }
         ensures ok { OnOk result (self.new ≡ after_supply self.old block bytes.now) }
         ensures err { OnErr result (self.new ≡ self.old) }
 
         // What a read gives, and what a crash may leave, stays.
-        ensures recorded { as_recorded self.new ≡ as_recorded self.old }
+        ensures recorded { as_memory self.new ≡ as_memory self.old }
     {
         let place = block as usize;
         if self.blocks.is_known(place) {
@@ -119,10 +119,10 @@ impl<A: Allocator + Copy> DeferredDisk<A> {
     /// failed.
     pub fn is_known(&self, block: u32) -> bool
         ensures known { result ≡ get_or self.now.known block false }
-        ensures there { 4096 * block + 4096 ≤ length (seen_of (as_recorded self.now)) → result ≡ false
-            → (bytes : List ℕ) → length bytes ≡ length (seen_of (as_recorded self.now))
-            → TornByWork (done_by (oldest self.now)) (seen_of (carried_out self.now)) bytes
-            → block_of bytes block ≡ block_of (seen_of (as_recorded self.now)) block }
+        ensures there { 4096 * block + 4096 ≤ length (seen_of (as_memory self.now)) → result ≡ false
+            → (bytes : List ℕ) → length bytes ≡ length (seen_of (as_memory self.now))
+            → TornByWork (done_by (oldest_call self.now)) (seen_of (carried_out self.now)) bytes
+            → block_of bytes block ≡ block_of (seen_of (as_memory self.now)) block }
     {
         self.blocks.is_known(block as usize)
     }
@@ -130,7 +130,7 @@ impl<A: Allocator + Copy> DeferredDisk<A> {
     /// Forgets a block, unless a waiting call writes to it: whether it isn't known any more. Where its bytes are needed
     /// the host supplies them again.
     pub fn forget(&mut self, block: u32) -> bool
-        requires { 4096 * block + 4096 ≤ length (seen_of (as_recorded self.old)) }
+        requires { 4096 * block + 4096 ≤ length (seen_of (as_memory self.old)) }
         ensures result { result ≡ not (one_reaches (take self.old.waiting self.old.changes) block) }
         ensures forgotten { result ≡ true → self.new ≡ after_forget self.old block }
         ensures kept { result ≡ false → self.new ≡ self.old }
@@ -182,7 +182,7 @@ impl<A: Allocator + Copy> DeferredDisk<A> {
     /// Makes the waiting calls on a device of the same length, in order, up to the first that fails: the reference for
     /// what a host does. The calls that are left are those that weren't made, in order.
     pub fn carry_out<D: Device>(&mut self, device: &mut D) -> Result<(), DeviceFault>
-        requires { length (D.seen device.old) ≡ length (seen_of (as_recorded self.old)) }
+        requires { length (D.seen device.old) ≡ length (seen_of (as_memory self.old)) }
 
         // Nothing else changes, and after an error a call is left: the one that failed.
         ensures taken { self.new ≡ with_waiting self.old self.new.waiting }
@@ -206,8 +206,8 @@ impl<A: Allocator + Copy> DeferredDisk<A> {
     // Makes the oldest waiting call.
     fn carry_one<D: Device>(&mut self, device: &mut D) -> Result<(), DeviceFault>
         requires some { 0 < self.old.waiting }
-        requires size { length (D.seen device.old) ≡ length (seen_of (as_recorded self.old)) }
-        ensures did { Did D.Device device.old (done_by (oldest self.old)) (is_ok result) device.new }
+        requires size { length (D.seen device.old) ≡ length (seen_of (as_memory self.old)) }
+        ensures did { Did D.Device device.old (done_by (oldest_call self.old)) (is_ok result) device.new }
         ensures ok { OnOk result (self.new ≡ with_waiting self.old (self.old.waiting - 1)) }
         ensures err { OnErr result (self.new ≡ self.old) }
     {
@@ -232,16 +232,16 @@ impl<A: Allocator + Copy> DeferredDisk<A> {
 
 impl<A: Allocator + Copy> Device for DeferredDisk<A> {
     ghost use Rattle.device.specs.Memory.{seen_of, may_leave_of, moment_of, left_since_of};
-    ghost use Rattle.deferred_disk.specs.Deferred.{as_recorded, carried_moment, IsSuppliedWell};
+    ghost use Rattle.deferred_disk.specs.Deferred.{as_memory, carried_moment, IsSuppliedWell};
     ghost use Rattle.device.specs.inside.Laws.{seen_is_left_of, now_is_since_of, since_now_of};
 
-    ghost seen = { λ disk. seen_of (as_recorded disk) };
+    ghost seen = { λ disk. seen_of (as_memory disk) };
 
-    ghost may_leave = { λ disk. may_leave_of (as_recorded disk) };
+    ghost may_leave = { λ disk. may_leave_of (as_memory disk) };
 
-    ghost moment = { λ disk. moment_of (as_recorded disk) };
+    ghost moment = { λ disk. moment_of (as_memory disk) };
 
-    ghost left_since = { λ disk. left_since_of (as_recorded disk) };
+    ghost left_since = { λ disk. left_since_of (as_memory disk) };
 
     ghost calls_made = { λ disk. disk.calls };
 
@@ -251,23 +251,23 @@ impl<A: Allocator + Copy> Device for DeferredDisk<A> {
 
     ghost is_honest = { IsSuppliedWell };
 
-    ghost seen_is_left = { λ disk honest. seen_is_left_of (as_recorded disk) };
+    ghost seen_is_left = { λ disk honest. seen_is_left_of (as_memory disk) };
 
     ghost left_is_whole = { λ disk c honest left. left.same_length };
 
-    ghost now_is_since = { λ disk. now_is_since_of (as_recorded disk) };
+    ghost now_is_since = { λ disk. now_is_since_of (as_memory disk) };
 
-    ghost since_now = { λ disk. since_now_of (as_recorded disk) };
+    ghost since_now = { λ disk. since_now_of (as_memory disk) };
 
     fn len(&self) -> u64 {
         self.len
     }
 
     fn read(&mut self, at: u64, buffer: &mut [u8]) -> Result<(), DeviceFault>
-        requires { at + length buffer.old ≤ length (seen_of (as_recorded self.old)) }
+        requires { at + length buffer.old ≤ length (seen_of (as_memory self.old)) }
 
         ensures bytes { IsSuppliedWell self.old → OnOk result
-            (buffer.new ≡ slice_range (seen_of (as_recorded self.old)) at (at + length buffer.old)) }
+            (buffer.new ≡ slice_range (seen_of (as_memory self.old)) at (at + length buffer.old)) }
 
         // It fails where a block that it reaches isn't known, and nowhere else.
         ensures counted { self.new
@@ -284,7 +284,7 @@ impl<A: Allocator + Copy> Device for DeferredDisk<A> {
     }
 
     fn write(&mut self, at: u64, bytes: &[u8]) -> Result<(), DeviceFault>
-        requires { at + length bytes.now ≤ length (seen_of (as_recorded self.old)) }
+        requires { at + length bytes.now ≤ length (seen_of (as_memory self.old)) }
 
         // It fails where it covers in part a block that isn't known, or where memory is refused.
         ensures lacks { IsOk result → lacked_by_write self.old.known at (length bytes.now) ≡ None }

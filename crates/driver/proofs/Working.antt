@@ -14,7 +14,7 @@ use Rattle.driver.specs.Programs.{WaitsForMark, asks_to_wait, asks_to_flush, is_
 use Rattle.driver.specs.Programs.{fix_of}
 use Rattle.driver.specs.declared.acts.Answer.{Answer}
 use Rattle.driver.specs.declared.acts.Stop.{Stop}
-use Rattle.driver.specs.inside.Working.{ComesTo, IsMade, IsWritten}
+use Rattle.driver.specs.inside.Working.{ComesTo, HasMadeAct, IsWritten}
 use Rattle.driver.proofs.Calls.{more_calls, one_call, wider, ended, attempts, no_calls}
 
 -- a reply that asks for either puts the act off
@@ -198,7 +198,7 @@ await_other va byte reply old new other (last, ends, is, same) =
 
 -- a fault was served, and then the act made again
 pub made_again : (act : Act) (result : Result Answer Stop) (old between new : CpuState)
-    → MakesCalls (IsAccessAttempt act) old between → IsMade act result between new
+    → MakesCalls (IsAccessAttempt act) old between → HasMadeAct act result between new
     → ComesTo IsAccessReply act result old new
 made_again act (Ok answer) old between new before made =
     reply_later act answer.reply old between new before (own_reply act answer.reply between new made)

@@ -3,7 +3,7 @@ ghost use Rattle.std.specs.Prelude.{◌≡◌, ◌↔◌, IsTrue, IfErr};
 ghost use Rattle.page_entry.specs.declared.refusal.Refusal.{Refusal};
 ghost use Rattle.machine.specs.declared.act.Reply.{Reply};
 ghost use Rattle.driver.specs.Programs.{IsUpkeep, MakesCalls, asks_to_wait, asks_to_flush};
-ghost use Rattle.driver.specs.inside.Working.{IsAttempted, IsCalled, IsMade};
+ghost use Rattle.driver.specs.inside.Working.{IsAttempted, IsCalled, HasMadeAct};
 
 use device::Device;
 use machine::{Act, ProcState, Reply};
@@ -35,7 +35,7 @@ pub fn made<D: Device, L: Origin<D>, R: Wait>(
     turns: u64,
     act: &Act,
 ) -> Result<Answer, Stop>
-    ensures { IsMade act.now result cpu.old cpu.new }
+    ensures { HasMadeAct act.now result cpu.old cpu.new }
 {
     for _ in rt.forever() {
         if let Some(answer) = attempted(rt, cpu, turns, act)? {

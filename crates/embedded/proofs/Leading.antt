@@ -118,7 +118,7 @@ leads_length s new file to allowed set read carried = record {
       subst (λ (t : PagerState Deferred).
           HasGone deferred_disk s (SetLength file (file_length s.lengths file) to ∷ []) t)
           (sym (set (read.honest.0 well)))
-          (ThenResized [] s file to new.device (record { allowed = allowed; other = other; read = read }) Stays),
+          (ThenResized [] s file to new.device (record { admitted = allowed; other = other; read = read }) Stays),
     )
   ];
   carried = carried;

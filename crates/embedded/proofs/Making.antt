@@ -50,7 +50,7 @@ module _ (old begun : PagerState Deferred) (mark : ℕ) (some : Bool) (it : Begi
       (begun_awaiting it.begins (some_staged it.begins.staged some it.is_some is_true)))
 
   pub whole : begun.write_outs.broken ≡ false
-  whole = ap (λ (s : PagerState Deferred). s.write_outs.broken) it.value ∙ begun_whole it.begins it.commit.allowed
+  whole = ap (λ (s : PagerState Deferred). s.write_outs.broken) it.value ∙ begun_whole it.begins it.commit.admitted
 
   pub commits_some : (new : PagerState Deferred) → some ≡ true → WritesUntil mark begun (flushed.Committed mark) new
       → Commits old mark new

@@ -1,7 +1,7 @@
 -- A disk that was tended between two requests is the same disk in memory.
 use Rattle.std.proofs.Common.{◌≡◌, ◌≤◌, ℕ, ◌+◌, ◌-◌, ◌∷◌, get_or, Bool, true, false, if◌then◌else◌, List, [], Option}
 use Rattle.std.proofs.Common.{refl, sym, ap, subst, arith, inl}
-use Rattle.deferred_disk.specs.Deferred.{Deferred, as_recorded, after_forget, after_supply, with_known, with_waiting}
+use Rattle.deferred_disk.specs.Deferred.{Deferred, as_memory, after_forget, after_supply, with_known, with_waiting}
 use Rattle.deferred_disk.specs.Deferred.{block_of, carried_moment, IsSuppliedWell}
 use Rattle.device.specs.Memory.{Recorded, seen_of, may_leave_of, moment_of, left_since_of}
 use Rattle.device.specs.inside.Laws.{since_now_of}
@@ -18,7 +18,7 @@ use Rattle.embedded.proofs.Serving.{serves_later}
 
 -- the same disk in memory, supplied well only if the other one was, of whose calls no fewer were made
 pub record IsLike (after before : Deferred) : Type 0 where
-  pub same : as_recorded after ≡ as_recorded before
+  pub same : as_memory after ≡ as_memory before
   pub well : IsSuppliedWell after → IsSuppliedWell before
   pub more : carried_moment before ≤ carried_moment after
 
@@ -42,7 +42,7 @@ like_one false after first other before is not like other_like =
 abbrev added : Deferred → ℕ → List ℕ → Deferred
 added disk block bytes = record disk {
   known = with_known disk.known block (block + 1);
-  supplied = (bytes, block_of (seen_of (as_recorded disk)) block) ∷ disk.supplied;
+  supplied = (bytes, block_of (seen_of (as_memory disk)) block) ∷ disk.supplied;
 }
 
 supplied_like : (disk : Deferred) (block : ℕ) (bytes : List ℕ) → IsLike (with_supplied disk block bytes) disk
@@ -84,8 +84,8 @@ only_read after before like well =
       keeps = λ honest c left. subst (λ (r : Recorded). may_leave_of r c) (sym same) left;
       time = record {
         later = omega (arith, ap moment_of same);
-        each = λ c left. since_now_of (as_recorded before) c
-            (subst (λ (r : Recorded). left_since_of r (moment_of (as_recorded before)) c) same left);
+        each = λ c left. since_now_of (as_memory before) c
+            (subst (λ (r : Recorded). left_since_of r (moment_of (as_memory before)) c) same left);
         before = λ t c le left. inl (subst (λ (r : Recorded). left_since_of r t c) same left);
         keeps = λ t c le left. subst (λ (r : Recorded). left_since_of r t c) (sym same) left;
       };
@@ -93,11 +93,11 @@ only_read after before like well =
     }
 
 -- what was served, is served
-pub serves_tended : (old new : PagerState Deferred) (committed : Option ℕ) (needed : ℕ) (acknowledged : Option ℕ)
+pub serves_tended : (old new : PagerState Deferred) (committed : Option ℕ) (due : ℕ) (acknowledged : Option ℕ)
     → new ≡ over_device old new.device → IsLike new.device old.device
-    → ServesWell old committed needed acknowledged → ServesWell new committed needed acknowledged
-serves_tended old new committed needed acknowledged is like =
-    serves_later old new needed committed acknowledged like.well
+    → ServesWell old committed due acknowledged → ServesWell new committed due acknowledged
+serves_tended old new committed due acknowledged is like =
+    serves_later old new due committed acknowledged like.well
     (λ well. (
       [],
       subst (λ (s : PagerState Deferred). HasGone deferred_disk old [] s) (sym is)

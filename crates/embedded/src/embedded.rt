@@ -4,7 +4,7 @@ ghost use Rattle.volume_codec.specs.Layout.{max_frames};
 ghost use Rattle.recovery.specs.Opening.{Opens};
 ghost use Rattle.recovery.specs.Volume.{IsWellFormed};
 ghost use Rattle.pager.specs.State.{newly_opened, volume_in};
-ghost use Rattle.pager.specs.Calls.{RefusesOpening};
+ghost use Rattle.pager.specs.Calls.{RefusesPagerOpening};
 ghost use Rattle.embedded.specs.Recorded.{deferred_disk};
 ghost use Rattle.embedded.specs.Embedded.{just_opened, ServesWell};
 
@@ -26,7 +26,7 @@ pub struct Embedded<A: Allocator + Copy> {
     // The mark of the last commit.
     pub(crate) committed: Option<u32>,
     // How many device calls were recorded when it was reported.
-    pub(crate) needed: u64,
+    pub(crate) due: u64,
     // The mark of the last commit whose device calls the host has made.
     pub(crate) acknowledged: Option<u32>,
 }
@@ -39,11 +39,11 @@ impl<A: Allocator + Copy> Model for Embedded<A> {
     ghost view = { λ e. record {
       pager = e.pager;
       committed = e.committed;
-      needed = e.needed;
+      due = e.due;
       acknowledged = e.acknowledged;
     } };
 
-    ghost invariant = { λ e. ServesWell e.pager e.committed e.needed e.acknowledged };
+    ghost invariant = { λ e. ServesWell e.pager e.committed e.due e.acknowledged };
 }
 
 /// Opens the volume of a disk, as `Pager::open` does: a commit takes so many pages of files at most, or as many as its
@@ -62,7 +62,7 @@ pub fn open<A: Allocator + Copy>(
     ensures just_opened { IfOk result (λ embedded. embedded ≡ just_opened (newly_opened (volume_in embedded.pager)
         (min most (max_frames embedded.pager.table.layout embedded.pager.table.slots)))) }
     ensures well_formed { IfOk result (λ embedded. IsWellFormed deferred_disk (volume_in embedded.pager)) }
-    ensures refused { IfErr result (λ e. RefusesOpening deferred_disk disk e.0 e.1) }
+    ensures refused { IfErr result (λ e. RefusesPagerOpening deferred_disk disk e.0 e.1) }
 {
     match Pager::open(alloc, disk, most) {
         Ok(pager) => {
@@ -70,7 +70,7 @@ pub fn open<A: Allocator + Copy>(
             Ok(Embedded {
                 pager,
                 committed: None,
-                needed: 0,
+                due: 0,
                 acknowledged: None,
             })
         }
@@ -99,7 +99,7 @@ impl<A: Allocator + Copy> Embedded<A> {
     /// acknowledged in their history, and needs as many device calls as were recorded then; so was the mark that is
     /// acknowledged, whose device calls the host has made.
     pub fn has_served(&self)
-        ensures { ServesWell self.now.pager self.now.committed self.now.needed self.now.acknowledged }
+        ensures { ServesWell self.now.pager self.now.committed self.now.due self.now.acknowledged }
     {
         let _pager = &self.pager;
     }

@@ -79,7 +79,7 @@ impl<A: Allocator + Copy> Embedded<A> {
     {
         self.pager.tend(&mut Carrying);
         let made = made_calls(self.pager.device());
-        let acknowledged = confirmed(made, self.needed, self.committed, self.acknowledged);
+        let acknowledged = confirmed(made, self.due, self.committed, self.acknowledged);
         self.acknowledged = acknowledged;
     }
 }

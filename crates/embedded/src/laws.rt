@@ -1,7 +1,7 @@
 // What a crash leaves of the device on which a host makes the calls.
 ghost use Rattle.std.specs.Prelude.{ℕ, Bool, ◌≤◌, List, Option, Some};
 ghost use Rattle.deferred_disk.specs.Carrying.{CarriedOut};
-ghost use Rattle.deferred_disk.specs.Deferred.{Deferred, as_recorded, carried_moment, IsBehind, IsSuppliedWell};
+ghost use Rattle.deferred_disk.specs.Deferred.{Deferred, as_memory, carried_moment, IsBehind, IsSuppliedWell};
 ghost use Rattle.device.specs.Device.{LeavesOnly};
 ghost use Rattle.device.specs.Memory.{moment_of, seen_of};
 ghost use Rattle.volume_codec.specs.Files.{File};
@@ -28,21 +28,21 @@ pub fn crashed_on_the_host<D: Device, A: Allocator + Copy>(device: &D, disk: &De
     ensures left { (files : List File) (history events : List Event) (mid pager : PagerState Deferred) (old new : D)
         (done : Bool) (left : ℕ)
         → HasCome deferred_disk files history mid → HasGone deferred_disk mid events pager
-        → moment_of (as_recorded mid.device) ≤ carried_moment pager.device
+        → moment_of (as_memory mid.device) ≤ carried_moment pager.device
         → IsBehind D.is_honest D.seen D.may_leave old pager.device
         → CarriedOut D.Device old pager.device done new left
         → LeavesOnly D.moment D.left_since old new (ReadsBackAmong files history events) }
     ensures mark { (files : List File) (mark : ℕ) (pager : PagerState Deferred) (old new : D) (done : Bool) (left : ℕ)
         (reached : HasPassedMark files mark pager)
-        → moment_of (as_recorded reached.mid.device) ≤ carried_moment pager.device
+        → moment_of (as_memory reached.mid.device) ≤ carried_moment pager.device
         → IsBehind D.is_honest D.seen D.may_leave old pager.device
         → CarriedOut D.Device old pager.device done new left
         → LeavesOnly D.moment D.left_since old new (KeepsMark files mark pager reached) }
-    ensures acknowledged { (pager : PagerState Deferred) (last : Option ℕ) (needed mark : ℕ) (old new : D) (done : Bool)
-        (left : ℕ) → IsSuppliedWell pager.device → ServesWell pager last needed (Some mark)
+    ensures acknowledged { (pager : PagerState Deferred) (last : Option ℕ) (due mark : ℕ) (old new : D) (done : Bool)
+        (left : ℕ) → IsSuppliedWell pager.device → ServesWell pager last due (Some mark)
         → IsBehind D.is_honest D.seen D.may_leave old pager.device
         → CarriedOut D.Device old pager.device done new left
-        → (before : Deferred) × (files : List File) × RecoversTo (seen_of (as_recorded before)) files
+        → (before : Deferred) × (files : List File) × RecoversTo (seen_of (as_memory before)) files
         × (reached : HasPassedMark files mark pager)
         × LeavesOnly D.moment D.left_since old new (KeepsMark files mark pager reached) }
 {

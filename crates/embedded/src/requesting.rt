@@ -1,6 +1,6 @@
 // What is asked of an embedded volume.
 ghost use Rattle.std.specs.Prelude.{◌≡◌, ◌⊎◌, None, Some, OnOk, OnErr, IfOk, IfErr};
-ghost use Rattle.deferred_disk.specs.Deferred.{as_recorded, carried_moment, recorded_calls, IsSuppliedWell};
+ghost use Rattle.deferred_disk.specs.Deferred.{as_memory, carried_moment, recorded_calls, IsSuppliedWell};
 ghost use Rattle.device.specs.Memory.{seen_of};
 ghost use Rattle.journal.specs.Pages.{home_of};
 ghost use Rattle.recovery.specs.Counts.{Rises};
@@ -27,7 +27,7 @@ impl<A: Allocator + Copy> Embedded<A> {
         ensures there { OnOk result (page_refusal self.old.pager.lengths page ≡ None) }
         ensures bytes { IsSuppliedWell self.old.pager.device
             → OnOk result (buffer.new ≡ up_to_end self.old.pager.lengths page
-            (current_in self.old.pager.staged self.old.pager.records (seen_of (as_recorded self.old.pager.device))
+            (current_in self.old.pager.staged self.old.pager.records (seen_of (as_memory self.old.pager.device))
             (home_of self.old.pager.table page))) }
         ensures refused { IfErr result (λ e. (page_refusal self.old.pager.lengths page ≡ Some (pager_refusal e))
             ⊎ ((pager_refusal e ≡ Refusal.Device) × (page_refusal self.old.pager.lengths page ≡ None))) }
@@ -65,7 +65,7 @@ impl<A: Allocator + Copy> Embedded<A> {
         ensures ok { OnOk result (set_length_refusal self.old.pager file length ≡ None) }
         ensures set { IsSuppliedWell self.old.pager.device → OnOk result (self.new.pager
             ≡ after_length self.old.pager file length (last_page self.old.pager
-            (seen_of (as_recorded self.old.pager.device)) file) self.new.pager.device) }
+            (seen_of (as_memory self.old.pager.device)) file) self.new.pager.device) }
         ensures refused { IfErr result (λ e. RefusesSetLength self.old.pager file length (pager_refusal e)) }
         ensures wanted { IfErr result (λ e. ReportsWanted self.new.pager.device.wanted e) }
         ensures unchanged { OnErr result (self.new.pager ≡ over_device self.old.pager self.new.pager.device) }
@@ -96,11 +96,11 @@ impl<A: Allocator + Copy> Embedded<A> {
         ensures carried { carried_moment self.new.pager.device ≡ carried_moment self.old.pager.device }
     {
         let mark = steps::commit(&mut self.pager)?;
-        let needed = self.pager.device().recorded();
+        let due = self.pager.device().recorded();
         let made = made_calls(self.pager.device());
-        let acknowledged = confirmed(made, needed, Some(mark), self.acknowledged);
+        let acknowledged = confirmed(made, due, Some(mark), self.acknowledged);
         self.committed = Some(mark);
-        self.needed = needed;
+        self.due = due;
         self.acknowledged = acknowledged;
         Ok(mark)
     }
@@ -130,15 +130,11 @@ pub(crate) fn made_calls<A: Allocator + Copy>(disk: &DeferredDisk<A>) -> u64
 // The mark that is acknowledged once the host has made so many calls.
 pub(crate) fn confirmed(
     made: u64,
-    needed: u64,
+    due: u64,
     committed: Option<u32>,
     acknowledged: Option<u32>,
 ) -> Option<u32>
-    ensures { result ≡ acknowledged_by_calls made needed committed acknowledged }
+    ensures { result ≡ acknowledged_by_calls made due committed acknowledged }
 {
-    if needed <= made {
-        committed
-    } else {
-        acknowledged
-    }
+    if due <= made { committed } else { acknowledged }
 }

@@ -6,7 +6,7 @@ use Rattle.std.specs.Prelude.{is_ok}
 use Rattle.page_entry.specs.declared.numbers.FilePage.{FilePage}
 use Rattle.page_entry.specs.declared.refusal.Refusal.TheVariants as refusals
 use Rattle.device.specs.Memory.{seen_of}
-use Rattle.deferred_disk.specs.Deferred.{as_recorded, IsSuppliedWell}
+use Rattle.deferred_disk.specs.Deferred.{as_memory, IsSuppliedWell}
 use Rattle.journal.specs.Pages.{home_of}
 use Rattle.pager.specs.State.{current_in, up_to_end}
 use Rattle.pager.specs.Calls.{RefusesSetLength, after_length, last_page, length_calls, page_refusal, read_calls}
@@ -36,7 +36,7 @@ copied_none (Err why) old buffer new is same = (tt, same)
 read_so : (e e' : EmbeddedState) (page : FilePage) (outcome : Result (Unit {0}) Unread) (old buffer new : List ℕ)
     → Copied outcome old buffer new → OnOk outcome (page_refusal e.pager.lengths page ≡ None)
     → (IsSuppliedWell e.pager.device → OnOk outcome (buffer ≡ up_to_end e.pager.lengths page
-    (current_in e.pager.staged e.pager.records (seen_of (as_recorded e.pager.device)) (home_of e.pager.table page))))
+    (current_in e.pager.staged e.pager.records (seen_of (as_memory e.pager.device)) (home_of e.pager.table page))))
     → IfErr outcome (λ why. (page_refusal e.pager.lengths page ≡ Some (pager_refusal why))
     ⊎ ((pager_refusal why ≡ refusals.Device) × (page_refusal e.pager.lengths page ≡ None)))
     → IfErr outcome (λ why. ReportsWanted e'.pager.device.wanted why) → ReadsPage e page outcome old new e'
@@ -49,7 +49,7 @@ pub answers_read : (e e' : EmbeddedState) (page : FilePage) (outcome : Result (U
     → told ≡ wanted_block outcome before → Copied outcome old buffer new
     → OnOk outcome (page_refusal e.pager.lengths page ≡ None)
     → (IsSuppliedWell e.pager.device → OnOk outcome (buffer ≡ up_to_end e.pager.lengths page
-    (current_in e.pager.staged e.pager.records (seen_of (as_recorded e.pager.device)) (home_of e.pager.table page))))
+    (current_in e.pager.staged e.pager.records (seen_of (as_memory e.pager.device)) (home_of e.pager.table page))))
     → IfErr outcome (λ why. (page_refusal e.pager.lengths page ≡ Some (pager_refusal why))
     ⊎ ((pager_refusal why ≡ refusals.Device) × (page_refusal e.pager.lengths page ≡ None)))
     → IfErr outcome (λ why. ReportsWanted e'.pager.device.wanted why)
@@ -69,7 +69,7 @@ answers_read e e' page outcome old buffer new code before told is same is_told c
 set_so : (e e' : EmbeddedState) (file length : ℕ) (outcome : Result (Unit {0}) Unread)
     → OnOk outcome (set_length_refusal e.pager file length ≡ None)
     → (IsSuppliedWell e.pager.device → OnOk outcome (e'.pager ≡ after_length e.pager file length
-    (last_page e.pager (seen_of (as_recorded e.pager.device)) file) e'.pager.device))
+    (last_page e.pager (seen_of (as_memory e.pager.device)) file) e'.pager.device))
     → OnErr outcome (e'.pager ≡ over_device e.pager e'.pager.device)
     → IfErr outcome (λ why. RefusesSetLength e.pager file length (pager_refusal why))
     → IfErr outcome (λ why. ReportsWanted e'.pager.device.wanted why) → SetsLength e file length outcome e'
@@ -80,7 +80,7 @@ pub answers_length : (e e' : EmbeddedState) (file length : ℕ) (outcome : Resul
     (before told : ℕ) → code ≡ reading_code outcome → told ≡ wanted_block outcome before
     → OnOk outcome (set_length_refusal e.pager file length ≡ None)
     → (IsSuppliedWell e.pager.device → OnOk outcome (e'.pager ≡ after_length e.pager file length
-    (last_page e.pager (seen_of (as_recorded e.pager.device)) file) e'.pager.device))
+    (last_page e.pager (seen_of (as_memory e.pager.device)) file) e'.pager.device))
     → OnErr outcome (e'.pager ≡ over_device e.pager e'.pager.device)
     → IfErr outcome (λ why. RefusesSetLength e.pager file length (pager_refusal why))
     → IfErr outcome (λ why. ReportsWanted e'.pager.device.wanted why)

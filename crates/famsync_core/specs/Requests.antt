@@ -9,7 +9,7 @@ use Rattle.page_entry.specs.declared.refusal.Refusal.{Refusal}
 use Rattle.page_entry.specs.declared.refusal.Refusal.TheVariants as refusals
 use Rattle.device.specs.Memory.{DiskChange, seen_of}
 use Rattle.device.specs.Memory.DiskChange.{write, sync}
-use Rattle.deferred_disk.specs.Deferred.{Deferred, as_recorded, carried_moment, IsSuppliedWell}
+use Rattle.deferred_disk.specs.Deferred.{Deferred, as_memory, carried_moment, IsSuppliedWell}
 use Rattle.volume_codec.specs.Layout.{max_frames, lengths_blocks, first_file_home, journals_of}
 use Rattle.journal.specs.Pages.{home_of}
 use Rattle.recovery.specs.Counts.{Rises}
@@ -18,7 +18,7 @@ use Rattle.recovery.specs.Reading.{IsOnlyRead}
 use Rattle.recovery.specs.Volume.{IsWellFormed}
 use Rattle.pager.specs.Blocks.{bytes_in}
 use Rattle.pager.specs.State.{current_in, newly_opened, reserved, up_to_end, volume_in}
-use Rattle.pager.specs.Calls.{RefusesOpening, RefusesPut, put_refusal, after_put, page_refusal, read_calls}
+use Rattle.pager.specs.Calls.{RefusesPagerOpening, RefusesPut, put_refusal, after_put, page_refusal, read_calls}
 use Rattle.pager.specs.Calls.{RefusesSetLength, set_length_refusal, after_length, last_page, length_calls}
 use Rattle.embedded.specs.declared.reading.Unread.{Unread}
 use Rattle.embedded.specs.Embedded.{EmbeddedState, just_opened, over_device, with_pager, with_mark}
@@ -27,7 +27,7 @@ use Rattle.embedded.specs.Recorded.{deferred_disk}
 use Rattle.embedded.specs.Steps.{Commits, RefusesCommit, WritesOut, RefusesSteps}
 use Rattle.famsync_core.specs.Codes.{ok_code, argument_code, memory_code, none_code, order_code, refusal_code}
 use Rattle.famsync_core.specs.Codes.{outcome_code, reading_code, wanted_block, lack_code, lacked_block, small_block}
-use Rattle.famsync_core.specs.Held.{Held, holding, is_block, has_block, needs_no, waiting_in}
+use Rattle.famsync_core.specs.Held.{HeldVolume, holding, is_block, has_block, needs_no, waiting_in}
 use Rattle.famsync_core.specs.Held.{after_supplied, after_forgotten, after_calls_made}
 
 -- ---- opening
@@ -45,11 +45,11 @@ OpensVolume disk most e =
     × IsWellFormed deferred_disk (volume_in e.pager)
 
 -- the volume was opened; or it was refused, and the disk is kept
-abbrev pub AnswersOpen : Held → Deferred → (most : ℕ) → ℤ → (before wanted : ℕ) → Held → Type 0
+abbrev pub AnswersOpen : HeldVolume → Deferred → (most : ℕ) → ℤ → (before wanted : ℕ) → HeldVolume → Type 0
 AnswersOpen held disk most code before wanted held' =
     ((e : EmbeddedState) × (code ≡ ok_code) × (wanted ≡ before) × OpensVolume disk most e × (held' ≡ holding e))
     ⊎ ((why : Refusal) × (left : Deferred) × (code ≡ lack_code why (small_block left.wanted))
-    × (wanted ≡ lacked_block why (small_block left.wanted) before) × RefusesOpening deferred_disk disk why left
+    × (wanted ≡ lacked_block why (small_block left.wanted) before) × RefusesPagerOpening deferred_disk disk why left
     × (held' ≡ record held { disk = Some left }))
 
 -- ---- pages and lengths
@@ -66,7 +66,7 @@ abbrev pub ReadsPage : EmbeddedState → FilePage → Result (Unit {0}) Unread �
 ReadsPage e page (Ok done) old new e' =
     (page_refusal e.pager.lengths page ≡ None)
     × (IsSuppliedWell e.pager.device → new ≡ up_to_end e.pager.lengths page (current_in e.pager.staged e.pager.records
-    (seen_of (as_recorded e.pager.device)) (home_of e.pager.table page)))
+    (seen_of (as_memory e.pager.device)) (home_of e.pager.table page)))
 ReadsPage e page (Err why) old new e' =
     (new ≡ old) × ReportsWanted e'.pager.device.wanted why
     × ((page_refusal e.pager.lengths page ≡ Some (pager_refusal why))
@@ -98,7 +98,7 @@ abbrev pub SetsLength : EmbeddedState → (file length : ℕ) → Result (Unit {
 SetsLength e file length (Ok done) e' =
     (set_length_refusal e.pager file length ≡ None)
     × (IsSuppliedWell e.pager.device → e'.pager ≡ after_length e.pager file length
-    (last_page e.pager (seen_of (as_recorded e.pager.device)) file) e'.pager.device)
+    (last_page e.pager (seen_of (as_memory e.pager.device)) file) e'.pager.device)
 SetsLength e file length (Err why) e' =
     (e'.pager ≡ over_device e.pager e'.pager.device) × ReportsWanted e'.pager.device.wanted why
     × RefusesSetLength e.pager file length (pager_refusal why)
@@ -129,13 +129,13 @@ AnswersSteps most e code e' = (e' ≡ with_pager e e'.pager)
 
 -- a block was supplied, or memory was refused for it; other than 4,096 bytes are none, and the disk may have no such
 -- block
-abbrev pub AnswersSupply : Held → ℕ → List ℕ → ℤ → Held → Type 0
+abbrev pub AnswersSupply : HeldVolume → ℕ → List ℕ → ℤ → HeldVolume → Type 0
 AnswersSupply held block bytes code held' = MatchBool (is_block bytes && has_block held block)
     (((code ≡ ok_code) × (held' ≡ after_supplied block bytes held)) ⊎ ((code ≡ memory_code) × (held' ≡ held)))
     ((code ≡ argument_code) × (held' ≡ held))
 
 -- a block was forgotten, if the host needn't keep it
-abbrev pub AnswersForget : Held → ℕ → ℤ → Held → Type 0
+abbrev pub AnswersForget : HeldVolume → ℕ → ℤ → HeldVolume → Type 0
 AnswersForget held block code held' = MatchBool (has_block held block)
     (MatchBool (needs_no held block) ((code ≡ ok_code) × (held' ≡ after_forgotten block held))
     ((code ≡ none_code) × (held' ≡ held)))
@@ -151,7 +151,7 @@ AnswersCall None code kind kind' offset offset' size size' =
     (code ≡ none_code) × (kind' ≡ kind) × (offset' ≡ offset) × (size' ≡ size)
 
 -- the oldest calls were made, if as many waited
-abbrev pub AnswersMade : Held → (count : ℕ) → ℤ → Held → Type 0
+abbrev pub AnswersMade : HeldVolume → (count : ℕ) → ℤ → HeldVolume → Type 0
 AnswersMade held count code held' = MatchBool (nat_le count (waiting_in held))
     ((code ≡ ok_code) × (held' ≡ after_calls_made count held))
     ((code ≡ argument_code) × (held' ≡ held))
@@ -159,7 +159,7 @@ AnswersMade held count code held' = MatchBool (nat_le count (waiting_in held))
 -- ---- what is told of an open volume
 
 -- a value of it, or that none is open
-abbrev pub told : (EmbeddedState → ℤ) → Held → ℤ
+abbrev pub told : (EmbeddedState → ℤ) → HeldVolume → ℤ
 told value held = option_map_or value held.volume order_code
 
 -- a count as C gets it; whether something is so

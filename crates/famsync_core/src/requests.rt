@@ -3,7 +3,7 @@ ghost use Rattle.std.specs.Prelude.{◌≡◌, ℕ, ◌-◌, ◌^◌, min, is_so
 ghost use Rattle.std.specs.Option.{option_map};
 ghost use Rattle.deferred_disk.specs.Deferred.{carried_moment};
 ghost use Rattle.famsync_core.specs.Codes.{order_code, outcome_code, reading_code, wanted_block, lack_code, lacked_block, small_block};
-ghost use Rattle.famsync_core.specs.Held.{page_at};
+ghost use Rattle.famsync_core.specs.Held.{page_numbered};
 ghost use Rattle.famsync_core.specs.Requests.{AnswersOpen, AnswersRead, AnswersWrite, AnswersLength, AnswersCommit, AnswersSteps, most_pages};
 
 use crate::codes::{ARGUMENT, NONE, OK, ORDER, WANTED, code_of_outcome, code_of_refusal};
@@ -14,8 +14,8 @@ use page_entry::{FileNumber, FilePage, Refusal};
 use std::alloc::Global;
 
 // The page of a file with these numbers. One that is too large for its type is the largest, which no volume has.
-pub(crate) fn page_at(file: u32, page: u64) -> FilePage
-    ensures { result ≡ page_at file page }
+pub(crate) fn page_numbered(file: u32, page: u64) -> FilePage
+    ensures { result ≡ page_numbered file page }
 {
     FilePage {
         file: file.min(0xFFFF) as u16,
@@ -159,12 +159,12 @@ impl State {
         ensures open { is_some self.new.volume ≡ is_some self.old.volume }
         ensures disk { self.new.disk ≡ self.old.disk }
         ensures answers { IfSome self.old.volume (λ e. IfSome self.new.volume
-            (AnswersRead e (page_at file page) to.old to.new result wanted.old wanted.new)) }
+            (AnswersRead e (page_numbered file page) to.old to.new result wanted.old wanted.new)) }
     {
         let Some(volume) = &mut self.volume else {
             return ORDER;
         };
-        read_page(volume, page_at(file, page), to, wanted)
+        read_page(volume, page_numbered(file, page), to, wanted)
     }
 
     /// Writes a page of a file.
@@ -173,12 +173,12 @@ impl State {
         ensures open { is_some self.new.volume ≡ is_some self.old.volume }
         ensures disk { self.new.disk ≡ self.old.disk }
         ensures answers { IfSome self.old.volume (λ e. IfSome self.new.volume
-            (AnswersWrite e (page_at file page) bytes.now result)) }
+            (AnswersWrite e (page_numbered file page) bytes.now result)) }
     {
         let Some(volume) = &mut self.volume else {
             return ORDER;
         };
-        write_page(volume, page_at(file, page), bytes)
+        write_page(volume, page_numbered(file, page), bytes)
     }
 
     /// Makes a commit, up to its acknowledgement by the pager.

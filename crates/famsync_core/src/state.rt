@@ -16,9 +16,9 @@ pub struct State {
 }
 
 impl Model for State {
-    ghost use Rattle.famsync_core.specs.Held.{Held};
+    ghost use Rattle.famsync_core.specs.Held.{HeldVolume};
 
-    ghost Value = { Held };
+    ghost Value = { HeldVolume };
 
     ghost view = { λ state. record { disk = state.disk; volume = state.volume } };
 }

@@ -1,10 +1,10 @@
 // What is told of an open volume.
 ghost use Rattle.std.specs.Prelude.{◌≡◌, ℕ, ◌-◌, ◌^◌, min, pos};
-ghost use Rattle.famsync_core.specs.Held.{page_at};
+ghost use Rattle.famsync_core.specs.Held.{page_numbered};
 ghost use Rattle.famsync_core.specs.Requests.{told, files_told, frames_told, head_told, shares_told, acknowledged_told, staged_told, is_staged_told, unwritten_told};
 
 use crate::codes::{ARGUMENT, OK, ORDER};
-use crate::requests::page_at;
+use crate::requests::page_numbered;
 use crate::state::State;
 use volume_codec::Super;
 
@@ -123,10 +123,10 @@ impl State {
 
     /// Whether the next commit takes a page.
     pub(crate) fn is_staged(&self, file: u32, page: u64) -> i32
-        ensures { result ≡ told (is_staged_told (page_at file page)) self.now }
+        ensures { result ≡ told (is_staged_told (page_numbered file page)) self.now }
     {
         match &self.volume {
-            Some(volume) => i32::from(volume.pager().is_staged(page_at(file, page))),
+            Some(volume) => i32::from(volume.pager().is_staged(page_numbered(file, page))),
             None => ORDER,
         }
     }

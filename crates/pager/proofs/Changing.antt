@@ -10,7 +10,7 @@ use Rattle.std.proofs.lemmas.Bool.{leb-false, both_ways}
 use Rattle.std.proofs.lemmas.Bool.Decides.{nat_tests}
 use Rattle.volume_codec.specs.Descriptor.{RiseWithin}
 use Rattle.volume_codec.specs.Text.{zeros}
-use Rattle.pager.specs.Blocks.{Blocks, homes_in, bytes_in, with_block, with_zeros, without, cut_in, cut_to}
+use Rattle.pager.specs.Blocks.{Blocks, homes_in, bytes_in, with_home, with_zeros, without_run, cut_in, cut_to}
 use Rattle.pager.proofs.Putting.{bytes_put, absent_below, rising_put, length_put}
 
 some_same : {X : Type 0} (x y : X) → Some x ≡ Some y → x ≡ y
@@ -82,7 +82,7 @@ outside_is low high home e =
     (let le : low ≤ home = grind (arith, nat_tests, parts.0) in le, leb-false high home parts.1)
 
 pub bytes_without : (low high : ℕ) (blocks : Blocks) (q : ℕ)
-    → bytes_in (without blocks low high) q ≡ (if is_outside low high q then bytes_in blocks q else None)
+    → bytes_in (without_run blocks low high) q ≡ (if is_outside low high q then bytes_in blocks q else None)
 bytes_without low high [] q = elim (cases_Bool (is_outside low high q)) [
   | inl is ↦ sym (cond-true (is_outside low high q) None None is)
   | inr is ↦ sym (cond-false (is_outside low high q) None None is)
@@ -106,17 +106,17 @@ bytes_without low high (e ∷ es) q = elim (cases_Bool (is_outside low high e.0)
 ]
 
 pub rising_without : (a b low high : ℕ) (blocks : Blocks) → RiseWithin low high (homes_in blocks)
-    → RiseWithin low high (homes_in (without blocks a b))
+    → RiseWithin low high (homes_in (without_run blocks a b))
 rising_without a b low high [] rise = tt
 rising_without a b low high (e ∷ es) rise =
     let rest = rising_without a b (e.0 + 1) high es rise.2 in
     elim (cases_Bool (is_outside a b e.0)) [
       | inl kept ↦ rw kept (rise.0, rise.1, rest)
-      | inr gone ↦ rw gone (rise_weaker (e.0 + 1) low high high (homes_in (without es a b)) (omega (arith, rise.0))
+      | inr gone ↦ rw gone (rise_weaker (e.0 + 1) low high high (homes_in (without_run es a b)) (omega (arith, rise.0))
           (omega arith) rest)
     ]
 
-pub fewer_without : (a b : ℕ) (blocks : Blocks) → length (without blocks a b) ≤ length blocks
+pub fewer_without : (a b : ℕ) (blocks : Blocks) → length (without_run blocks a b) ≤ length blocks
 fewer_without a b [] = omega arith
 fewer_without a b (e ∷ es) = let rest = fewer_without a b es in
     elim (cases_Bool (is_outside a b e.0)) [
@@ -126,7 +126,7 @@ fewer_without a b (e ∷ es) = let rest = fewer_without a b es in
 
 -- a block that is put among them goes with them
 pub without_put : (low high : ℕ) (blocks : Blocks) (k : ℕ) (v : List ℕ) → low ≤ k → k < high
-    → without (with_block blocks k v) low high ≡ without blocks low high
+    → without_run (with_home blocks k v) low high ≡ without_run blocks low high
 without_put low high [] k v le lt = let inside = inside_of low high k le lt in rw inside refl
 without_put low high (e ∷ es) k v le lt =
     let inside = inside_of low high k le lt in
@@ -147,7 +147,7 @@ without_put low high (e ∷ es) k v le lt =
     ]
 
 pub without_zeros : (low high : ℕ) (blocks : Blocks) (home n : ℕ) → low ≤ home → home + n ≤ high
-    → without (with_zeros blocks home n) low high ≡ without blocks low high
+    → without_run (with_zeros blocks home n) low high ≡ without_run blocks low high
 without_zeros low high blocks home zero le fits = refl
 without_zeros low high blocks home (suc n) le fits =
     without_put low high (with_zeros blocks home n) (home + n) (zeros 4096) (omega arith) (omega arith)
@@ -155,7 +155,7 @@ without_zeros low high blocks home (suc n) le fits =
 
 -- where none of them are there, nothing is taken away
 pub without_absent : (low high : ℕ) (blocks : Blocks)
-    → ((q : ℕ) → low ≤ q → q < high → bytes_in blocks q ≡ None) → without blocks low high ≡ blocks
+    → ((q : ℕ) → low ≤ q → q < high → bytes_in blocks q ≡ None) → without_run blocks low high ≡ blocks
 without_absent low high [] none = refl
 without_absent low high (e ∷ es) none = elim (cases_Bool (is_outside low high e.0)) [
   | inl kept ↦ rw kept (ap (λ (l : Blocks). e ∷ l) (without_absent low high es (λ q le lt. later q (none q le lt))))
@@ -254,8 +254,8 @@ module _ (blocks : Blocks) (first high home : ℕ) (text : List ℕ) (rise : Ris
     (before : first < home) where
   -- the last page is put first with zeros, as one of those that are added
   pub grown_blocks : (low end : ℕ) (last : List ℕ) → (low ≡ home) ⊎ (low ≡ home + 1) → home < end → end ≤ high
-      → with_block (with_block (with_zeros blocks low (end - low)) first text) home last
-      ≡ with_block (with_block (with_zeros blocks (home + 1) (end - (home + 1))) home last) first text
+      → with_home (with_home (with_zeros blocks low (end - low)) first text) home last
+      ≡ with_home (with_home (with_zeros blocks (home + 1) (end - (home + 1))) home last) first text
   grown_blocks low end last is lt fits =
       same_blocks first high _ _
       (rising_put _ first high home last (rising_put _ first high first text
@@ -265,11 +265,11 @@ module _ (blocks : Blocks) (first high home : ℕ) (text : List ℕ) (rise : Ris
       (rising_zeros blocks first high (home + 1) (end - (home + 1)) rise (omega arith) (omega arith))
       (omega arith) (omega arith)) (omega arith) (omega arith))
       (λ q.
-      bytes_put (with_block (with_zeros blocks low (end - low)) first text) home last q
+      bytes_put (with_home (with_zeros blocks low (end - low)) first text) home last q
       ∙ ap (λ o. if eqb q home then Some last else o) (bytes_put (with_zeros blocks low (end - low)) first text q
       ∙ ap (λ o. if eqb q first then Some text else o) (bytes_zeros blocks low (end - low) q))
       ∙ by q
-      ∙ sym (bytes_put (with_block (with_zeros blocks (home + 1) (end - (home + 1))) home last) first text q
+      ∙ sym (bytes_put (with_home (with_zeros blocks (home + 1) (end - (home + 1))) home last) first text q
       ∙ ap (λ o. if eqb q first then Some text else o)
       (bytes_put (with_zeros blocks (home + 1) (end - (home + 1))) home last q
       ∙ ap (λ o. if eqb q home then Some last else o) (bytes_zeros blocks (home + 1) (end - (home + 1)) q))))
@@ -295,26 +295,26 @@ module _ (blocks : Blocks) (first high home : ℕ) (text : List ℕ) (rise : Ris
 
   -- the text of the lengths is put first
   pub shrunk_blocks : (low end n : ℕ) → first < low → first < high
-      → cut_in (without (with_block blocks first text) low end) home n
-      ≡ with_block (cut_in (without blocks low end) home n) first text
+      → cut_in (without_run (with_home blocks first text) low end) home n
+      ≡ with_home (cut_in (without_run blocks low end) home n) first text
   shrunk_blocks low end n below fits =
       same_blocks first high _ _
-      (subst (RiseWithin first high) (sym (homes_cut (without (with_block blocks first text) low end) home n))
-      (rising_without low end first high (with_block blocks first text)
+      (subst (RiseWithin first high) (sym (homes_cut (without_run (with_home blocks first text) low end) home n))
+      (rising_without low end first high (with_home blocks first text)
       (rising_put blocks first high first text rise (omega arith) fits)))
-      (rising_put (cut_in (without blocks low end) home n) first high first text
-      (subst (RiseWithin first high) (sym (homes_cut (without blocks low end) home n))
+      (rising_put (cut_in (without_run blocks low end) home n) first high first text
+      (subst (RiseWithin first high) (sym (homes_cut (without_run blocks low end) home n))
       (rising_without low end first high blocks rise)) (omega arith) fits)
       (λ q.
-      bytes_cut (without (with_block blocks first text) low end) home n q
+      bytes_cut (without_run (with_home blocks first text) low end) home n q
       ∙ ap (option_map (λ (x : List ℕ). if eqb q home then cut_to n x else x))
-      (bytes_without low end (with_block blocks first text) q
+      (bytes_without low end (with_home blocks first text) q
       ∙ ap (λ o. if is_outside low end q then o else None) (bytes_put blocks first text q))
       ∙ by q
       ∙ ap (λ o. if eqb q first then Some text else o)
-      (sym (bytes_cut (without blocks low end) home n q
+      (sym (bytes_cut (without_run blocks low end) home n q
       ∙ ap (option_map (λ (x : List ℕ). if eqb q home then cut_to n x else x)) (bytes_without low end blocks q)))
-      ∙ sym (bytes_put (cut_in (without blocks low end) home n) first text q))
+      ∙ sym (bytes_put (cut_in (without_run blocks low end) home n) first text q))
     where
       by : (q : ℕ) → option_map (λ (x : List ℕ). if eqb q home then cut_to n x else x)
           (if is_outside low end q then (if eqb q first then Some text else bytes_in blocks q) else None)
@@ -348,7 +348,7 @@ put_present (Err e) P o there ok absent = absurd (both_ways (is_some o) (ap is_s
 -- the last page is there once zeros were put
 pub present_after : (blocks : Blocks) (home low high first : ℕ) (text : List ℕ) → first < home → home < high
     → (low ≡ home) ⊎ ((low ≡ home + 1) × (is_some (bytes_in blocks home) ≡ true))
-    → is_some (bytes_in (with_block (with_zeros blocks low (high - low)) first text) home) ≡ true
+    → is_some (bytes_in (with_home (with_zeros blocks low (high - low)) first text) home) ≡ true
 present_after blocks home low high first text before lt is =
     ap is_some (bytes_put (with_zeros blocks low (high - low)) first text home
     ∙ cond-false (eqb home first) (Some text) (bytes_in (with_zeros blocks low (high - low)) home)

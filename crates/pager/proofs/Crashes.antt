@@ -17,7 +17,7 @@ use Rattle.history.specs.inside.Contents.{AreContentsOf}
 use Rattle.history.proofs.Public.{prefix_has}
 use Rattle.pager.specs.State.{PagerState, newly_opened, up_to_end, current_in}
 use Rattle.pager.specs.Calls.{page_refusal}
-use Rattle.pager.specs.Histories.{IsStep, HasCome, HasGone, Stays, ThenPut, ThenCommitted, ThenStepped, ThenRead}
+use Rattle.pager.specs.Histories.{IsPagerStep, HasCome, HasGone, Stays, ThenPut, ThenCommitted, ThenStepped, ThenRead}
 use Rattle.pager.specs.Histories.{ThenResized}
 use Rattle.pager.proofs.Histories.{Keeps, keeps_committed, keeps_stepped, keeps_read, durable_left, step_within}
 use Rattle.pager.proofs.Histories.{IsDurable}
@@ -74,7 +74,7 @@ module _ {D : Type 0} (disk : Ghosts D) (files : List File) (history : List Even
       (consistent_left s.table k.old k.new s.write_outs (disk.seen s.device) (disk.may_leave s.device) k.consistent
       c left))
 
-  pub within_durable : (answer : Flushed) (after : D) → IsStep disk s answer after
+  pub within_durable : (answer : Flushed) (after : D) → IsPagerStep disk s answer after
       → LeavesOnly disk.moment disk.left_since s.device after (ReadsBack files history)
   within_durable answer after step = leaves_weaker step.did.time
       (λ c torn. read_back c (durable_left disk files history s k c

@@ -28,7 +28,7 @@ use Rattle.history.proofs.Public.{capacity_at, total_pages-before, total_pages-w
 use Rattle.history.proofs.Public.{length-page_of, named_from, lengths_from, file_bytes-from, page_in_blocks}
 use Rattle.history.proofs.Public.{after_store, stored_there, stored_elsewhere, length-stored, lengths_store}
 use Rattle.history.proofs.Public.{begins_more}
-use Rattle.pager.specs.Blocks.{bytes_in, newest_in, with_block}
+use Rattle.pager.specs.Blocks.{bytes_in, newest_in, with_home}
 use Rattle.pager.specs.State.{PagerState, newly_opened, up_to_end, current_in}
 use Rattle.pager.specs.Calls.{reason_if, page_refusal, after_put}
 use Rattle.pager.specs.Histories.{IsPut}
@@ -234,7 +234,7 @@ module _ {D : Type 0} (disk : Ghosts D) (files : List File) (history : List Even
     before = after (memory_of files) history
 
     is_page : (owner.file < length s.lengths) × (4096 * owner.page < get_or s.lengths owner.file 0)
-    is_page = page_allowed s.lengths owner (first_none (page_refusal s.lengths owner) _ put.allowed)
+    is_page = page_allowed s.lengths owner (first_none (page_refusal s.lengths owner) _ put.admitted)
 
     in_file : IsInFile s.table s.lengths owner
     in_file = record { there = omega (arith, is_page.0, are.count); inside = is_page.1 }
@@ -248,7 +248,7 @@ module _ {D : Type 0} (disk : Ghosts D) (files : List File) (history : List Even
         ∙ ap (λ n. stored before owner.file n bytes) (sym at_zero)
 
     abbrev contents : ℕ → List ℕ
-    contents = written_over (with_block s.staged home (up_to_end s.lengths owner bytes)) k.new
+    contents = written_over (with_home s.staged home (up_to_end s.lengths owner bytes)) k.new
 
     contents_at : (b : ℕ) → contents b
         ≡ (if eqb b home then up_to_end s.lengths owner bytes else written_over s.staged k.new b)

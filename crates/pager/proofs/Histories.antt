@@ -50,7 +50,7 @@ use Rattle.std.proofs.lemmas.List.Sums.{fold-append}
 use Rattle.volume_codec.specs.Files.{File}
 use Rattle.volume_codec.specs.Super.{Fits}
 use Rattle.pager.specs.inside.Contents.{written_over, HaveFiles}
-use Rattle.pager.specs.Histories.{marked_with, acknowledged_by, IsStep, IsBegunCommit}
+use Rattle.pager.specs.Histories.{marked_with, acknowledged_by, IsPagerStep, IsBegunCommit}
 use Rattle.pager.proofs.Putting.{newest_push}
 use Rattle.pager.proofs.Stepping.{batch_homes, tied_after, AllOf, all_after}
 use Rattle.pager.proofs.Beginning.{map_push}
@@ -264,7 +264,7 @@ keeps_committed disk files history s commit k = by s.staged refl
     by [] is = keeps_empty disk files history s k
         (free_of s.write_outs.broken (has_uncommitted s.write_outs.batches)
         (nat_eq (length s.write_outs.batches) (journals_of s.write_outs.geometry.layout))
-        (nat_le (2 ^ 32 - 1) s.marks) Refused.Broken Refused.Busy commit.allowed) is
+        (nat_le (2 ^ 32 - 1) s.marks) Refused.Broken Refused.Busy commit.admitted) is
     by (block ∷ blocks) is = keeps_some disk files history s k (block ∷ blocks) is
         (commit.may (λ e. no_block block blocks (sym is ∙ e)))
 
@@ -373,7 +373,7 @@ done_unless Device other = absurd (other refl)
 done_unless Broken other = refl
 
 module _ {D : Type 0} (disk : Ghosts D) (files : List File) (history : List Event) (s : PagerState D)
-    (answer : Flushed) (after : D) (step : IsStep disk s answer after) (k : Keeps disk files history s) where
+    (answer : Flushed) (after : D) (step : IsPagerStep disk s answer after) (k : Keeps disk files history s) where
   abbrev old : ℕ → List ℕ
   old = k.old
 

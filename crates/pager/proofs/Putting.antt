@@ -11,7 +11,7 @@ use Rattle.std.specs.Map.{lookup}
 use Rattle.std.proofs.lemmas.Bool.{eqb-true, eq-eqb, ne_eqb, cases_eq, cases_lt, cases_Bool}
 use Rattle.std.proofs.lemmas.Bool.Decides.{nat_tests}
 use Rattle.volume_codec.specs.Descriptor.{RiseWithin}
-use Rattle.pager.specs.Blocks.{Blocks, homes_in, bytes_in, with_block, newest_in, without, cut_in, cut_to}
+use Rattle.pager.specs.Blocks.{Blocks, homes_in, bytes_in, with_home, newest_in, without_run, cut_in, cut_to}
 
 -- ---- the tree that keeps them
 
@@ -20,18 +20,18 @@ seen_as f entries = map (λ entry. (entry.0, f entry.1)) entries
 
 module _ {X : Type 0} (f : X → List ℕ) where
   put_step : (e : ℕ × X) (es : List (ℕ × X)) (k : ℕ) (v : X) (less same : Bool) → (same ≡ true → k ≡ e.0)
-      → seen_as f (insert_entry nat_cmp es k v) ≡ with_block (seen_as f es) k (f v)
+      → seen_as f (insert_entry nat_cmp es k v) ≡ with_home (seen_as f es) k (f v)
       → seen_as f (match_ordering (if less then Less else (if same then Equal else Greater)) ((k, v) ∷ e ∷ es)
       ((e.0, v) ∷ es) (e ∷ insert_entry nat_cmp es k v))
       ≡ (if less then (k, f v) ∷ (e.0, f e.1) ∷ seen_as f es
-      else (if same then (k, f v) ∷ seen_as f es else (e.0, f e.1) ∷ with_block (seen_as f es) k (f v)))
+      else (if same then (k, f v) ∷ seen_as f es else (e.0, f e.1) ∷ with_home (seen_as f es) k (f v)))
   put_step e es k v true same is rest = refl
   put_step e es k v false true is rest = ap (λ n. (n, f v) ∷ seen_as f es) (sym (is refl))
   put_step e es k v false false is rest = ap (λ (l : Blocks). (e.0, f e.1) ∷ l) rest
 
   -- to insert an entry is to put its block
   pub seen_put : (es : List (ℕ × X)) (k : ℕ) (v : X)
-      → seen_as f (insert_entry nat_cmp es k v) ≡ with_block (seen_as f es) k (f v)
+      → seen_as f (insert_entry nat_cmp es k v) ≡ with_home (seen_as f es) k (f v)
   seen_put [] k v = refl
   seen_put (e ∷ es) k v = put_step e es k v (ltb k e.0) (eqb k e.0) (eqb-true k e.0) (seen_put es k v)
 
@@ -53,7 +53,7 @@ module _ {X : Type 0} (f : X → List ℕ) where
 
   -- to filter entries by their keys is to filter blocks
   pub seen_without : (low high : ℕ) (es : List (ℕ × X))
-      → seen_as f (filter (λ e. nat_lt e.0 low || nat_le high e.0) es) ≡ without (seen_as f es) low high
+      → seen_as f (filter (λ e. nat_lt e.0 low || nat_le high e.0) es) ≡ without_run (seen_as f es) low high
   seen_without low high [] = refl
   seen_without low high (e ∷ es) = elim (cases_Bool (nat_lt e.0 low || nat_le high e.0)) [
     | inl kept ↦ rw kept (ap (λ (l : Blocks). (e.0, f e.1) ∷ l) (seen_without low high es))
@@ -75,7 +75,7 @@ module _ {X : Type 0} (f : X → List ℕ) where
 -- ---- what is found
 
 pub bytes_put : (blocks : Blocks) (k : ℕ) (v : List ℕ) (q : ℕ)
-    → bytes_in (with_block blocks k v) q ≡ (if eqb q k then Some v else bytes_in blocks q)
+    → bytes_in (with_home blocks k v) q ≡ (if eqb q k then Some v else bytes_in blocks q)
 bytes_put [] k v q = refl
 bytes_put (e ∷ es) k v q = grind (arith, nat_tests, bytes_put es k v q)
 
@@ -90,7 +90,7 @@ absent_below (e ∷ es) low high k rising below =
 -- ---- order and number
 
 pub rising_put : (blocks : Blocks) (low high k : ℕ) (v : List ℕ) → RiseWithin low high (homes_in blocks) → low ≤ k
-    → k < high → RiseWithin low high (homes_in (with_block blocks k v))
+    → k < high → RiseWithin low high (homes_in (with_home blocks k v))
 rising_put [] low high k v rising le lt = (le, lt, tt)
 rising_put (e ∷ es) low high k v rising le lt = elim (cases_lt k e.0) [
   | inl less ↦ (let is : ltb k e.0 ≡ true = grind (arith, nat_tests) in
@@ -106,7 +106,7 @@ rising_put (e ∷ es) low high k v rising le lt = elim (cases_lt k e.0) [
 ]
 
 pub length_put : (blocks : Blocks) (low high k : ℕ) (v : List ℕ) → RiseWithin low high (homes_in blocks)
-    → length (with_block blocks k v) ≡ (if is_some (bytes_in blocks k) then length blocks else length blocks + 1)
+    → length (with_home blocks k v) ≡ (if is_some (bytes_in blocks k) then length blocks else length blocks + 1)
 length_put [] low high k v rising = refl
 length_put (e ∷ es) low high k v rising = elim (cases_lt k e.0) [
   | inl less ↦ (let is : ltb k e.0 ≡ true = grind (arith, nat_tests) in

@@ -22,9 +22,9 @@ use Rattle.history.specs.History.{Event, SetLength, Memory, memory_of, after, le
 use Rattle.history.specs.inside.Contents.{HasParts}
 use Rattle.history.proofs.Public.{total_pages-within, begins_more, cut, length-cut, cut-whole, cut-none, take-cut}
 use Rattle.history.proofs.Public.{cut_file-there, cut_file-other, length-cut_file, after_set_length, lengths_set_length}
-use Rattle.pager.specs.Blocks.{Blocks, bytes_in, with_zeros, without, cut_to}
+use Rattle.pager.specs.Blocks.{Blocks, bytes_in, with_zeros, without_run, cut_to}
 use Rattle.pager.specs.State.{PagerState, file_length}
-use Rattle.pager.specs.Calls.{first_reason, reason_if, end_page, grown, shrunk, resized}
+use Rattle.pager.specs.Calls.{first_reason, reason_if, end_page, grown, shrunk, restaged}
 use Rattle.pager.specs.Calls.{is_overfull, last_page, resized_to, after_length}
 use Rattle.pager.specs.Histories.{IsResize}
 use Rattle.pager.specs.inside.Contents.{written_over, HaveFiles}
@@ -93,14 +93,14 @@ module _ {D : Type 0} (disk : Ghosts D) (files : List File) (history : List Even
   home = home_of table (end_page file from)
 
   abbrev contents : ℕ → List ℕ
-  contents = written_over (resized table s.lengths file to last s.staged) k.new
+  contents = written_over (restaged table s.lengths file to last s.staged) k.new
 
   free : IsFree (eqb (lengths_blocks table.layout) 0) (nat_le (length s.lengths) file)
       (nat_lt (get_or (capacities_in table) file 0) to) s.write_outs.broken
   free = free_of (eqb (lengths_blocks table.layout) 0) (nat_le (length s.lengths) file)
       (nat_lt (get_or (capacities_in table) file 0) to) s.write_outs.broken
-      (is_overfull table s.most (resized table s.lengths file to [] s.staged)) (eqb to from)
-      (ne_eqb to from resize.other) resize.allowed
+      (is_overfull table s.most (restaged table s.lengths file to [] s.staged)) (eqb to from)
+      (ne_eqb to from resize.other) resize.admitted
 
   some_block : 0 < lengths_blocks table.layout
   some_block = let other = eqb-false (lengths_blocks table.layout) 0 free.block in omega (arith, other)
@@ -346,7 +346,7 @@ module _ {D : Type 0} (disk : Ghosts D) (files : List File) (history : List Even
         ∙ ap (λ (m : Blocks). written_over m k.new b)
         (cond-false (ltb from to) (grown table file from to last s.staged) (shrunk table file from to s.staged)
         (let test : ltb from to ≡ false = grind (arith, nat_tests, shrinks) in test))
-        ∙ ap (λ o. unwrap_or o (k.new b)) (bytes_cut (without s.staged low_end high_end) cut_home (to % 4096) b
+        ∙ ap (λ o. unwrap_or o (k.new b)) (bytes_cut (without_run s.staged low_end high_end) cut_home (to % 4096) b
         ∙ ap (option_map (cut_at b)) (bytes_without low_end high_end s.staged b))
 
     -- a block that isn't taken away is as it was, or cut

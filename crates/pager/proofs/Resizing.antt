@@ -15,9 +15,9 @@ use Rattle.volume_codec.specs.Descriptor.{RiseWithin}
 use Rattle.volume_codec.specs.Text.{zeros}
 use Rattle.volume_codec.proofs.Public.{first_home_of-next, first_home_of-le, total_pages-take_le}
 use Rattle.journal.specs.Pages.{home_of}
-use Rattle.pager.specs.Blocks.{Blocks, homes_in, bytes_in, with_block, with_zeros, without, cut_in, cut_to}
+use Rattle.pager.specs.Blocks.{Blocks, homes_in, bytes_in, with_home, with_zeros, without_run, cut_in, cut_to}
 use Rattle.pager.specs.State.{PagerState, file_length, reserved}
-use Rattle.pager.specs.Calls.{end_page, grown, shrunk, resized, is_overfull, resized_to}
+use Rattle.pager.specs.Calls.{end_page, grown, shrunk, restaged, is_overfull, resized_to}
 use Rattle.pager.specs.inside.Sound.{IsSound}
 use Rattle.pager.specs.inside.Resizing.{MayHaveLength}
 use Rattle.pager.proofs.Capacities.{end_within, last_within, are_set}
@@ -82,13 +82,13 @@ module _ {D : Type 0} (seen : D → List ℕ) (s : PagerState D) (sound : IsSoun
   block = may.block
 
   -- the lengths' block is put, so none is reserved
-  none_reserved : (last : List ℕ) → reserved table (resized table s.lengths file to last s.staged) ≡ 0
+  none_reserved : (last : List ℕ) → reserved table (restaged table s.lengths file to last s.staged) ≡ 0
   none_reserved last = ap (λ (o : Option (List ℕ)). if is_some o then 0 else lengths_blocks table.layout)
       (bytes_put (body last) first text first
       ∙ cond-true (eqb first first) (Some text) (bytes_in (body last) first) (eq-eqb first first refl))
 
   at_other : (last : List ℕ) (q : ℕ) → first < q
-      → bytes_in (resized table s.lengths file to last s.staged) q ≡ bytes_in (body last) q
+      → bytes_in (restaged table s.lengths file to last s.staged) q ≡ bytes_in (body last) q
   at_other last q above = bytes_put (body last) first text q
       ∙ cond-false (eqb q first) (Some text) (bytes_in (body last) q) (ne_eqb q first (λ e. omega (arith, e, above)))
 
@@ -150,7 +150,7 @@ module _ {D : Type 0} (seen : D → List ℕ) (s : PagerState D) (sound : IsSoun
         let out : is_among (home + 1) many first ≡ false = grind (arith, nat_tests, below) in out)
 
     -- how many blocks are put then
-    pub grown_size : (last : List ℕ) → length (resized table s.lengths file to last s.staged)
+    pub grown_size : (last : List ℕ) → length (restaged table s.lengths file to last s.staged)
         ≡ length s.staged + added_to (bytes_in s.staged home) many + reserved table s.staged
     grown_size last =
         let zero_blocks = length_zeros s.staged first (block_count table) (home + 1) many sound.rising (omega arith)
@@ -166,16 +166,16 @@ module _ {D : Type 0} (seen : D → List ℕ) (s : PagerState D) (sound : IsSoun
         ∙ one_more (bytes_in s.staged first) (length (grown table file from to last s.staged))
         (lengths_blocks table.layout) block in
         let added = one_more (bytes_in s.staged home) many 1 refl in
-        let same = ap (λ (m : Blocks). length (with_block m first text)) (body_grown last) in
+        let same = ap (λ (m : Blocks). length (with_home m first text)) (body_grown last) in
         omega (arith, zero_blocks, page, lengths, added, same)
 
-    pub overfull_grown : is_overfull table s.most (resized table s.lengths file to [] s.staged)
+    pub overfull_grown : is_overfull table s.most (restaged table s.lengths file to [] s.staged)
         ≡ nat_lt (s.most + lengths_blocks table.layout)
         (length s.staged + added_to (bytes_in s.staged home) many + reserved table s.staged)
     overfull_grown = ap (nat_lt (s.most + lengths_blocks table.layout))
         (let size = grown_size [] in let none = none_reserved [] in
-        let sum : length (resized table s.lengths file to [] s.staged)
-        + reserved table (resized table s.lengths file to [] s.staged)
+        let sum : length (restaged table s.lengths file to [] s.staged)
+        + reserved table (restaged table s.lengths file to [] s.staged)
         ≡ length s.staged + added_to (bytes_in s.staged home) many + reserved table s.staged =
         omega (arith, size, none) in sum)
 
@@ -209,14 +209,14 @@ module _ {D : Type 0} (seen : D → List ℕ) (s : PagerState D) (sound : IsSoun
     -- what the code puts
     pub resized_grown : (at high start : ℕ) (page spelled last : List ℕ) → at ≡ home
         → high ≡ first_home_of table file + pages_of to → start ≡ first → page ≡ cut_to (from % 4096) last
-        → spelled ≡ text → with_block (with_block (with_zeros s.staged (at + 1) (high - (at + 1))) at page) start
+        → spelled ≡ text → with_home (with_home (with_zeros s.staged (at + 1) (high - (at + 1))) at page) start
         spelled
-        ≡ resized table s.lengths file to last s.staged
+        ≡ restaged table s.lengths file to last s.staged
     resized_grown at high start page spelled last at_is high_is start_is page_is spelled_is =
         let count : high - (at + 1) ≡ many = omega (arith, at_is, high_is) in
-        (λ i. with_block (with_block (with_zeros s.staged (at_is i + 1) (count i)) (at_is i) (page_is i)) (start_is i)
+        (λ i. with_home (with_home (with_zeros s.staged (at_is i + 1) (count i)) (at_is i) (page_is i)) (start_is i)
         (spelled_is i))
-        ∙ ap (λ (m : Blocks). with_block m first text) (sym (body_grown last))
+        ∙ ap (λ (m : Blocks). with_home m first text) (sym (body_grown last))
 
   -- ---- a shrink
 
@@ -228,7 +228,7 @@ module _ {D : Type 0} (seen : D → List ℕ) (s : PagerState D) (sound : IsSoun
     high_end = first_home_of table file + pages_of from
 
     abbrev kept : Blocks
-    kept = without s.staged low_end high_end
+    kept = without_run s.staged low_end high_end
 
     abbrev at_end : ℕ → List ℕ → List ℕ
     at_end q x = if eqb q (home_of table (end_page file to)) then cut_to (to % 4096) x else x
@@ -248,7 +248,7 @@ module _ {D : Type 0} (seen : D → List ℕ) (s : PagerState D) (sound : IsSoun
         (sym (homes_cut kept (home_of table (end_page file to)) (to % 4096)))
         (rising_without low_end high_end first (block_count table) s.staged sound.rising)
 
-    pub shrunk_size : (last : List ℕ) → length (resized table s.lengths file to last s.staged)
+    pub shrunk_size : (last : List ℕ) → length (restaged table s.lengths file to last s.staged)
         ≤ length s.staged + reserved table s.staged
     shrunk_size last =
         let first_there : is_some (bytes_in (shrunk table file from to s.staged) first)
@@ -262,7 +262,7 @@ module _ {D : Type 0} (seen : D → List ℕ) (s : PagerState D) (sound : IsSoun
         else length (shrunk table file from to s.staged) + 1) first_there
         ∙ one_more (bytes_in s.staged first) (length (shrunk table file from to s.staged))
         (lengths_blocks table.layout) block in
-        let same = ap (λ (m : Blocks). length (with_block m first text)) (body_shrunk last) in
+        let same = ap (λ (m : Blocks). length (with_home m first text)) (body_shrunk last) in
         omega (
           arith,
           lengths,
@@ -271,10 +271,10 @@ module _ {D : Type 0} (seen : D → List ℕ) (s : PagerState D) (sound : IsSoun
           fewer_without low_end high_end s.staged,
         )
 
-    pub shrunk_room : is_overfull table s.most (resized table s.lengths file to [] s.staged) ≡ false
+    pub shrunk_room : is_overfull table s.most (restaged table s.lengths file to [] s.staged) ≡ false
     shrunk_room =
-        let few : length (resized table s.lengths file to [] s.staged)
-        + reserved table (resized table s.lengths file to [] s.staged) ≤ s.most + lengths_blocks table.layout =
+        let few : length (restaged table s.lengths file to [] s.staged)
+        + reserved table (restaged table s.lengths file to [] s.staged) ≤ s.most + lengths_blocks table.layout =
         omega (arith, shrunk_size [], none_reserved [], sound.few) in
         grind (arith, nat_tests, few)
 
@@ -301,19 +301,19 @@ module _ {D : Type 0} (seen : D → List ℕ) (s : PagerState D) (sound : IsSoun
 
     pub resized_shrunk : (low high at start n : ℕ) (spelled last : List ℕ) → low ≡ low_end → high ≡ high_end
         → at ≡ home_of table (end_page file to) → start ≡ first → n ≡ to % 4096 → spelled ≡ text
-        → with_block (cut_in (without s.staged low high) at n) start spelled
-        ≡ resized table s.lengths file to last s.staged
+        → with_home (cut_in (without_run s.staged low high) at n) start spelled
+        ≡ restaged table s.lengths file to last s.staged
     resized_shrunk low high at start n spelled last low_is high_is at_is start_is n_is spelled_is =
-        (λ i. with_block (cut_in (without s.staged (low_is i) (high_is i)) (at_is i) (n_is i)) (start_is i)
+        (λ i. with_home (cut_in (without_run s.staged (low_is i) (high_is i)) (at_is i) (n_is i)) (start_is i)
         (spelled_is i))
-        ∙ ap (λ (m : Blocks). with_block m first text) (sym (body_shrunk last))
+        ∙ ap (λ (m : Blocks). with_home m first text) (sym (body_shrunk last))
 
   -- ---- either
 
   sound_with : (last : List ℕ) → RiseWithin first (block_count table) (homes_in (body last))
       → ((f q : ℕ) → first_home_of table f + pages_of (get_or (set s.lengths file to) f 0) ≤ q
       → q < first_home_of table (f + 1) → bytes_in (body last) q ≡ None)
-      → length (resized table s.lengths file to last s.staged) ≤ s.most + lengths_blocks table.layout
+      → length (restaged table s.lengths file to last s.staged) ≤ s.most + lengths_blocks table.layout
       → IsSound seen (resized_to s file to last s.device)
   sound_with last rising ends few = record {
     fits = sound.fits;
@@ -331,11 +331,11 @@ module _ {D : Type 0} (seen : D → List ℕ) (s : PagerState D) (sound : IsSoun
   }
 
   pub sound_grown : (last : List ℕ) → from < to
-      → is_overfull table s.most (resized table s.lengths file to [] s.staged) ≡ false
+      → is_overfull table s.most (restaged table s.lengths file to [] s.staged) ≡ false
       → IsSound seen (resized_to s file to last s.device)
   sound_grown last grows room =
-      let fits : length (resized table s.lengths file to [] s.staged)
-      + reserved table (resized table s.lengths file to [] s.staged) ≤ s.most + lengths_blocks table.layout =
+      let fits : length (restaged table s.lengths file to [] s.staged)
+      + reserved table (restaged table s.lengths file to [] s.staged) ≤ s.most + lengths_blocks table.layout =
       grind (arith, nat_tests, room) in
       sound_with last
       (subst (λ (m : Blocks). RiseWithin first (block_count table) (homes_in m)) (sym (body_grown grows last))

@@ -6,7 +6,7 @@ use Rattle.std.proofs.lemmas.Bool.{leb-false, and_cases}
 use Rattle.volume_codec.specs.Layout.{lengths_blocks, first_home}
 use Rattle.volume_codec.specs.Descriptor.{RiseWithin}
 use Rattle.volume_codec.specs.Super.{SuperValue}
-use Rattle.pager.specs.Blocks.{Blocks, homes_in, bytes_in, with_block}
+use Rattle.pager.specs.Blocks.{Blocks, homes_in, bytes_in, with_home}
 use Rattle.pager.specs.State.{reserved, is_full}
 use Rattle.pager.proofs.Putting.{bytes_put, length_put}
 
@@ -18,7 +18,7 @@ some_after false o v n = omega arith
 
 -- fewer blocks are reserved once one more is put
 pub reserved_put : (table : SuperValue) (staged : Blocks) (k : ℕ) (v : List ℕ)
-    → reserved table (with_block staged k v) ≤ reserved table staged
+    → reserved table (with_home staged k v) ≤ reserved table staged
 reserved_put table staged k v =
     let first = first_home table.layout table.slots in
     subst (λ (o : Option (List ℕ)). (if is_some o then 0 else lengths_blocks table.layout) ≤ reserved table staged)
@@ -38,7 +38,7 @@ pub few_put : (table : SuperValue) (most : ℕ) (staged : Blocks) (low high k : 
     → RiseWithin low high (homes_in staged)
     → length staged + reserved table staged ≤ most + lengths_blocks table.layout
     → is_full table most staged k ≡ false
-    → length (with_block staged k v) + reserved table (with_block staged k v) ≤ most + lengths_blocks table.layout
+    → length (with_home staged k v) + reserved table (with_home staged k v) ≤ most + lengths_blocks table.layout
 few_put table most staged low high k v rising few room =
     let less = reserved_put table staged k v in
     let size = length_put staged low high k v rising in

@@ -14,7 +14,7 @@ use Rattle.history.specs.Reading.{ReadsBack}
 use Rattle.pager.specs.Blocks.{Blocks}
 use Rattle.pager.specs.State.{PagerState, newly_opened, file_length}
 use Rattle.pager.specs.Calls.{after_put, after_commit, committed_with, after_step, after_length, resized_to, last_page}
-use Rattle.pager.specs.Histories.{marked_with, acknowledged_by, IsStep, HasCome}
+use Rattle.pager.specs.Histories.{marked_with, acknowledged_by, IsPagerStep, HasCome}
 use Rattle.pager.specs.Histories.{HasGone, Stays, ThenPut, ThenCommitted, ThenStepped, ThenRead, ThenResized}
 use Rattle.pager.specs.Runs.{ReadsBackAmong}
 use Rattle.pager.proofs.Crashes.{keeps, left_durable, within_durable}
@@ -136,7 +136,7 @@ module _ {D : Type 0} (disk : Ghosts D)
 
   -- also at any moment within the next step
   pub left_within : {events : List Event} {t : PagerState D} → HasGone disk s events t → (answer : Flushed) (next : D)
-      → IsStep disk t answer next
+      → IsPagerStep disk t answer next
       → LeavesOnly disk.moment disk.left_since s.device next (ReadsBackAmong files history events)
   left_within {events} {t} gone answer next step =
       leaves_then (left_since gone)

@@ -10,7 +10,7 @@ use Rattle.recovery.specs.Reading.{IsOnlyRead}
 use Rattle.page_entry.specs.declared.refusal.Refusal.{Refusal}
 use Rattle.page_entry.specs.declared.refusal.Refusal.TheVariants as refusals
 use Rattle.pager.specs.State.{PagerState, file_length}
-use Rattle.pager.specs.Calls.{first_reason, reason_if, set_length_refusal, new_length_refusal, is_overfull, resized}
+use Rattle.pager.specs.Calls.{first_reason, reason_if, set_length_refusal, new_length_refusal, is_overfull, restaged}
 use Rattle.pager.specs.Calls.{length_calls, resized_to, after_length, RefusesSetLength}
 
 -- ---- results
@@ -105,10 +105,10 @@ module _ {D : Type 0} (s : PagerState D) (file to : ℕ) where
       sym (cond-false (eqb to from) s (resized_to s file to last device) (ne_eqb to from other))
 
   pub changed_reason : IsLeft → to ≢ from → s.write_outs.broken ≡ false → set_length_refusal s file to
-      ≡ first_reason (reason_if (is_overfull s.table s.most (resized s.table s.lengths file to [] s.staged))
+      ≡ first_reason (reason_if (is_overfull s.table s.most (restaged s.table s.lengths file to [] s.staged))
       refusals.NoFrame ∷ [])
   changed_reason left other whole = left ∙ other_reason (eqb to from) s.write_outs.broken
-      (is_overfull s.table s.most (resized s.table s.lengths file to [] s.staged)) (ne_eqb to from other) whole
+      (is_overfull s.table s.most (restaged s.table s.lengths file to [] s.staged)) (ne_eqb to from other) whole
 
   pub no_calls : to ≤ from → length_calls s file to ≡ 0
   no_calls le = no_call (is_none (set_length_refusal s file to)) (ltb from to) _ _

@@ -18,11 +18,11 @@ bytes_in [] home = None
 bytes_in (block ∷ blocks) home = if home == block.0 then Some block.1 else bytes_in blocks home
 
 -- with these bytes of a home block, in the place of those that it had
-abbrev pub with_block : Blocks → ℕ → List ℕ → Blocks
-with_block [] home bytes = (home, bytes) ∷ []
-with_block (block ∷ blocks) home bytes =
+abbrev pub with_home : Blocks → ℕ → List ℕ → Blocks
+with_home [] home bytes = (home, bytes) ∷ []
+with_home (block ∷ blocks) home bytes =
     if nat_lt home block.0 then (home, bytes) ∷ block ∷ blocks
-    else (if home == block.0 then (home, bytes) ∷ blocks else block ∷ with_block blocks home bytes)
+    else (if home == block.0 then (home, bytes) ∷ blocks else block ∷ with_home blocks home bytes)
 
 -- the bytes of a home block in the newest list that has it, where the oldest list comes first
 abbrev pub newest_in : List Blocks → ℕ → Option (List ℕ)
@@ -36,11 +36,11 @@ cut_to n bytes = padded 4096 (take n bytes)
 -- with zeros in n home blocks from this one on
 abbrev pub with_zeros : Blocks → ℕ → ℕ → Blocks
 with_zeros blocks home zero = blocks
-with_zeros blocks home (suc n) = with_block (with_zeros blocks home n) (home + n) (zeros 4096)
+with_zeros blocks home (suc n) = with_home (with_zeros blocks home n) (home + n) (zeros 4096)
 
 -- without the home blocks from low on that come before high
-abbrev pub without : Blocks → ℕ → ℕ → Blocks
-without blocks low high = filter (λ block. nat_lt block.0 low || nat_le high block.0) blocks
+abbrev pub without_run : Blocks → ℕ → ℕ → Blocks
+without_run blocks low high = filter (λ block. nat_lt block.0 low || nat_le high block.0) blocks
 
 -- with zeros after the first n bytes of a home block, if it is one of these
 abbrev pub cut_in : Blocks → ℕ → ℕ → Blocks

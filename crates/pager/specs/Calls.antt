@@ -15,13 +15,13 @@ use Rattle.journal.specs.Pages.{home_of}
 use Rattle.journal.specs.declared.flushed.Flushed.{Flushed}
 use Rattle.journal.specs.declared.flushed.Flushed.TheVariants.{Done}
 use Rattle.journal.specs.WriteOuts.{begun, is_busy, outs_home, outs_after}
-use Rattle.pager.specs.Blocks.{Blocks, homes_in, with_block, with_zeros, without, cut_in, cut_to}
-use Rattle.pager.specs.State.{PagerState, file_length, up_to_end, is_full, reserved, kept_in, current_in, record_for}
+use Rattle.pager.specs.Blocks.{Blocks, homes_in, with_home, with_zeros, without_run, cut_in, cut_to}
+use Rattle.pager.specs.State.{PagerState, file_length, up_to_end, is_full, reserved, kept_bytes, current_in, record_for}
 
 -- why a device isn't opened, and what becomes of it: as an opening of its volume is refused; or for want of memory
 -- after one that wasn't
-abbrev pub RefusesOpening : {D : Type 0} → Ghosts D → D → Refusal → D → Type 0
-RefusesOpening disk before why after = Opens disk before (Err why) after
+abbrev pub RefusesPagerOpening : {D : Type 0} → Ghosts D → D → Refusal → D → Type 0
+RefusesPagerOpening disk before why after = Opens disk before (Err why) after
     ⊎ ((why ≡ refusals.OutOfMemory) × ((table : SuperValue) × Opens disk before (Ok table) after))
 
 -- this reason, if this holds
@@ -55,7 +55,7 @@ RefusesPut s owner why = put_refusal s owner ≡ Some why
 -- the page has these bytes, up to its file's end
 abbrev pub after_put : {D : Type 0} → PagerState D → FilePage → List ℕ → PagerState D
 after_put s owner bytes = record s {
-  staged = with_block s.staged (home_of s.table owner) (up_to_end s.lengths owner bytes);
+  staged = with_home s.staged (home_of s.table owner) (up_to_end s.lengths owner bytes);
 }
 
 -- against a commit: a device call of an earlier one failed; no further batch may begin, or the marks' numbers are used
@@ -98,7 +98,7 @@ after_step s answer device = record s {
 -- how many device calls it takes to read a page: one, where it is there and none of its bytes are kept in memory
 abbrev pub read_calls : {D : Type 0} → PagerState D → FilePage → ℕ
 read_calls s owner =
-    if is_none (page_refusal s.lengths owner) && is_none (kept_in s.staged s.records (home_of s.table owner))
+    if is_none (page_refusal s.lengths owner) && is_none (kept_bytes s.staged s.records (home_of s.table owner))
     then 1 else 0
 
 -- ---- lengths
@@ -111,21 +111,21 @@ end_page file end = record { file = file; page = end / 4096 }
 -- after it. All of them are put.
 abbrev pub grown : SuperValue → ℕ → ℕ → ℕ → List ℕ → Blocks → Blocks
 grown table file from to last staged =
-    with_block (with_zeros staged (home_of table (end_page file from) + 1) (pages_of to - (from / 4096 + 1)))
+    with_home (with_zeros staged (home_of table (end_page file from) + 1) (pages_of to - (from / 4096 + 1)))
     (home_of table (end_page file from)) (cut_to (from % 4096) last)
 
 -- A file shrinks: its pages past the new end are no longer put, and the one in which it ends, if it is put, has zeros
 -- from there on.
 abbrev pub shrunk : SuperValue → ℕ → ℕ → ℕ → Blocks → Blocks
 shrunk table file from to staged =
-    cut_in (without staged (first_home_of table file + pages_of to) (first_home_of table file + pages_of from))
+    cut_in (without_run staged (first_home_of table file + pages_of to) (first_home_of table file + pages_of from))
     (home_of table (end_page file to)) (to % 4096)
 
 -- what is put after a file's length became another, where the page in which it ended has these bytes: the block of the
 -- lengths, too
-abbrev pub resized : SuperValue → List ℕ → ℕ → ℕ → List ℕ → Blocks → Blocks
-resized table lengths file to last staged =
-    with_block (if nat_lt (file_length lengths file) to then grown table file (file_length lengths file) to last staged
+abbrev pub restaged : SuperValue → List ℕ → ℕ → ℕ → List ℕ → Blocks → Blocks
+restaged table lengths file to last staged =
+    with_home (if nat_lt (file_length lengths file) to then grown table file (file_length lengths file) to last staged
     else shrunk table file (file_length lengths file) to staged)
     (first_home table.layout table.slots) (lengths_text (slice_set lengths file to))
 
@@ -139,7 +139,7 @@ is_overfull table most staged =
 abbrev pub new_length_refusal : {D : Type 0} → PagerState D → ℕ → ℕ → Option Refusal
 new_length_refusal s file to =
     first_reason (reason_if s.write_outs.broken refusals.Broken
-    ∷ reason_if (is_overfull s.table s.most (resized s.table s.lengths file to [] s.staged)) refusals.NoFrame ∷ [])
+    ∷ reason_if (is_overfull s.table s.most (restaged s.table s.lengths file to [] s.staged)) refusals.NoFrame ∷ [])
 
 -- against a file's length: the layout has no block for lengths; no such file; the file's home blocks don't reach so
 -- far; and those of a change, where it isn't the file's length already
@@ -154,7 +154,7 @@ set_length_refusal s file to =
 abbrev pub reads_last : {D : Type 0} → PagerState D → ℕ → ℕ → Bool
 reads_last s file to =
     nat_lt (file_length s.lengths file) to && not (file_length s.lengths file % 4096 == 0)
-    && is_none (kept_in s.staged s.records (home_of s.table (end_page file (file_length s.lengths file))))
+    && is_none (kept_bytes s.staged s.records (home_of s.table (end_page file (file_length s.lengths file))))
 
 -- why a length isn't set: for the first reason against it; where there is none and it is another, memory may be
 -- refused, or the device call may fail
@@ -177,7 +177,7 @@ last_page s disk file =
 abbrev pub resized_to : {D : Type 0} → PagerState D → ℕ → ℕ → List ℕ → D → PagerState D
 resized_to s file to last device = record s {
   lengths = slice_set s.lengths file to;
-  staged = resized s.table s.lengths file to last s.staged;
+  staged = restaged s.table s.lengths file to last s.staged;
   device = device;
 }
 

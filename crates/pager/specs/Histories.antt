@@ -31,11 +31,11 @@ acknowledged_by answer = []
 
 -- a page of these bytes is put: what `put` ensures
 pub record IsPut {D : Type 0} (s : PagerState D) (owner : FilePage) (bytes : List ℕ) : Type 0 where
-  pub allowed : put_refusal s owner ≡ None
+  pub admitted : put_refusal s owner ≡ None
   pub a_page : length bytes ≡ 4096
 
 -- A step of a pager over an honest device, which answers so and leaves the device so: what `step` ensures.
-pub record IsStep {D : Type 0} (disk : Ghosts D) (s : PagerState D) (answer : Flushed) (after : D) : Type 0 where
+pub record IsPagerStep {D : Type 0} (disk : Ghosts D) (s : PagerState D) (answer : Flushed) (after : D) : Type 0 where
   pub whole : s.write_outs.broken ≡ false
   pub some : s.write_outs.batches ≢ []
   pub a_block : length (next_bytes s) ≡ 4096
@@ -45,12 +45,12 @@ pub record IsStep {D : Type 0} (disk : Ghosts D) (s : PagerState D) (answer : Fl
 
 -- a commit of what was put: what `commit` ensures
 pub record IsBegunCommit {D : Type 0} (s : PagerState D) : Type 0 where
-  pub allowed : commit_refusal s ≡ None
+  pub admitted : commit_refusal s ≡ None
   pub may : s.staged ≢ [] → MayBegin s.write_outs (s.marks + 1) (homes_in s.staged)
 
 -- a file's length becomes another, over an honest device that this leaves so: what `set_length` ensures
 pub record IsResize {D : Type 0} (disk : Ghosts D) (s : PagerState D) (file to : ℕ) (after : D) : Type 0 where
-  pub allowed : set_length_refusal s file to ≡ None
+  pub admitted : set_length_refusal s file to ≡ None
   pub other : to ≢ file_length s.lengths file
   pub read : IsOnlyRead disk s.device after
 
@@ -62,8 +62,8 @@ pub data HasGone {D : Type 0} (disk : Ghosts D) (start : PagerState D) : List Ev
       → HasGone disk start (events ++ Store owner.file (4096 * owner.page) bytes ∷ []) (after_put s owner bytes)
   ThenCommitted : (events : List Event) (s : PagerState D) → IsBegunCommit s → HasGone disk start events s
       → HasGone disk start (events ++ marked_with (s.marks + 1) s.staged) (after_commit s)
-  ThenStepped : (events : List Event) (s : PagerState D) (answer : Flushed) (after : D) → IsStep disk s answer after
-      → HasGone disk start events s
+  ThenStepped : (events : List Event) (s : PagerState D) (answer : Flushed) (after : D)
+      → IsPagerStep disk s answer after → HasGone disk start events s
       → HasGone disk start (events ++ acknowledged_by answer) (after_step s answer after)
   ThenRead : (events : List Event) (s : PagerState D) (after : D) → IsOnlyRead disk s.device after
       → HasGone disk start events s → HasGone disk start events (record s { device = after })

@@ -50,12 +50,12 @@ up_to_end lengths owner bytes = padded 4096 (take (file_length lengths owner.fil
 
 -- the bytes of a home block that are kept in memory: the latest that were put, else those of the newest commit that has
 -- it and isn't done
-abbrev pub kept_in : Blocks → List Blocks → ℕ → Option (List ℕ)
-kept_in staged records home = option_or (bytes_in staged home) (newest_in records home)
+abbrev pub kept_bytes : Blocks → List Blocks → ℕ → Option (List ℕ)
+kept_bytes staged records home = option_or (bytes_in staged home) (newest_in records home)
 
 -- the bytes that a home block has for callers, where a read of the disk gives these
 abbrev pub current_in : Blocks → List Blocks → List ℕ → ℕ → List ℕ
-current_in staged records disk home = unwrap_or (kept_in staged records home) (block_at disk home)
+current_in staged records disk home = unwrap_or (kept_bytes staged records home) (block_at disk home)
 
 -- how many blocks of the next commit are reserved for the lengths: one, where the layout has a block for them that
 -- isn't put yet

@@ -3,7 +3,7 @@ ghost use Rattle.std.specs.Prelude.{◌≡◌, ◌↔◌, ◌+◌, ◌-◌, ◌<
 ghost use Rattle.std.specs.Option.{option_copied};
 ghost use Rattle.std.specs.Vec.{vec_capacity};
 ghost use Rattle.volume_codec.specs.Descriptor.{RiseWithin};
-ghost use Rattle.pager.specs.Blocks.{homes_in, bytes_in, with_block, with_zeros, without, cut_in};
+ghost use Rattle.pager.specs.Blocks.{homes_in, bytes_in, with_home, with_zeros, without_run, cut_in};
 
 use crate::pages::cut_off;
 use std::alloc::{AllocError, Allocator};
@@ -61,7 +61,7 @@ impl<A: Allocator + Copy> Blocks<A> {
 
     /// These are the bytes of a home block from now on. An `Err` changes nothing.
     pub(crate) fn put(&mut self, home: u32, bytes: Box<[u8; 4096], A>) -> Result<(), AllocError>
-        ensures ok { OnOk result (self.new ≡ with_block self.old home bytes.value) }
+        ensures ok { OnOk result (self.new ≡ with_home self.old home bytes.value) }
         ensures err { OnErr result (self.new ≡ self.old) }
         ensures absent { OnErr result (bytes_in self.old home ≡ None) }
     {
@@ -71,7 +71,7 @@ impl<A: Allocator + Copy> Blocks<A> {
 
     /// The home blocks from `low` on that come before `high` go.
     pub(crate) fn remove(&mut self, low: u32, high: u32)
-        ensures { self.new ≡ without self.old low high }
+        ensures { self.new ≡ without_run self.old low high }
     {
         self.tree.retain(|home, _| *home < low || high <= *home);
     }
@@ -92,7 +92,7 @@ impl<A: Allocator + Copy> Blocks<A> {
     fn put_zeros(&mut self, alloc: A, low: u32, high: u32) -> Result<(), AllocError>
         requires { low ≤ high }
         ensures ok { OnOk result (self.new ≡ with_zeros self.old low (high - low)) }
-        ensures err { OnErr result (without self.new low high ≡ without self.old low high) }
+        ensures err { OnErr result (without_run self.new low high ≡ without_run self.old low high) }
     {
         for home in low..high {
             let block = Box::new(alloc, [0; 4096])?;
@@ -112,8 +112,8 @@ impl<A: Allocator + Copy> Blocks<A> {
     ) -> Result<(), AllocError>
         requires { low ≤ high }
         ensures ok { OnOk result
-            (self.new ≡ with_block (with_zeros self.old low (high - low)) first text.now) }
-        ensures err { OnErr result (without self.new low high ≡ without self.old low high) }
+            (self.new ≡ with_home (with_zeros self.old low (high - low)) first text.now) }
+        ensures err { OnErr result (without_run self.new low high ≡ without_run self.old low high) }
     {
         self.put_zeros(alloc, low, high)?;
         let block = Box::new(alloc, *text)?;
@@ -134,8 +134,8 @@ impl<A: Allocator + Copy> Blocks<A> {
         requires order { (first < home) × (home < high) }
         requires rising { (end : ℕ) × (high ≤ end) × RiseWithin first end (homes_in self.old) }
         requires none { (q : ℕ) → home < q → q < high → bytes_in self.old q ≡ None }
-        ensures ok { OnOk result (self.new ≡ with_block
-            (with_block (with_zeros self.old (home + 1) (high - (home + 1))) home last.now) first text.now) }
+        ensures ok { OnOk result (self.new ≡ with_home
+            (with_home (with_zeros self.old (home + 1) (high - (home + 1))) home last.now) first text.now) }
         ensures err { OnErr result (self.new ≡ self.old) }
     {
         let block = Box::new(alloc, *last)?;
@@ -172,7 +172,7 @@ impl<A: Allocator + Copy> Blocks<A> {
         requires order { (first < low) × (first < home) }
         requires rising { (end : ℕ) × RiseWithin first end (homes_in self.old) }
         ensures ok { OnOk result
-            (self.new ≡ with_block (cut_in (without self.old low high) home left) first text.now) }
+            (self.new ≡ with_home (cut_in (without_run self.old low high) home left) first text.now) }
         ensures err { OnErr result (self.new ≡ self.old) }
     {
         let block = Box::new(alloc, *text)?;

@@ -9,7 +9,7 @@ ghost use Rattle.history.specs.History.{Event, memory_of, after};
 ghost use Rattle.history.specs.Reading.{ReadsBack};
 ghost use Rattle.pager.specs.State.{PagerState, current_in, up_to_end};
 ghost use Rattle.pager.specs.Calls.{page_refusal};
-ghost use Rattle.pager.specs.Histories.{IsStep, HasCome, HasGone};
+ghost use Rattle.pager.specs.Histories.{IsPagerStep, HasCome, HasGone};
 ghost use Rattle.pager.specs.Runs.{ReadsBackAmong};
 
 use device::Device;
@@ -23,7 +23,7 @@ pub fn what_pagers_leave<D: Device>(device: &D)
     ensures left { (files : List File) (history : List Event) (s : PagerState D)
         → HasCome D.Device files history s → (c : List ℕ) → D.may_leave s.device c → ReadsBack files history c }
     ensures within { (files : List File) (history : List Event) (s : PagerState D) (answer : Flushed) (next : D)
-        → HasCome D.Device files history s → IsStep D.Device s answer next
+        → HasCome D.Device files history s → IsPagerStep D.Device s answer next
         → LeavesOnly D.moment D.left_since s.device next (ReadsBack files history) }
     ensures reads { (files : List File) (history : List Event) (s : PagerState D) (owner : FilePage)
         → HasCome D.Device files history s → s.write_outs.broken ≡ false → page_refusal s.lengths owner ≡ None
@@ -46,6 +46,6 @@ pub fn what_runs_leave<D: Device>(device: &D)
         → HasCome D.Device files history s → HasGone D.Device s events t
         → LeavesOnly D.moment D.left_since s.device t.device (ReadsBackAmong files history events) }
     ensures within { (files : List File) (history events : List Event) (s t : PagerState D) (answer : Flushed)
-        (next : D) → HasCome D.Device files history s → HasGone D.Device s events t → IsStep D.Device t answer next
+        (next : D) → HasCome D.Device files history s → HasGone D.Device s events t → IsPagerStep D.Device t answer next
         → LeavesOnly D.moment D.left_since s.device next (ReadsBackAmong files history events) }
 {}

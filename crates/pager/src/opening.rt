@@ -4,7 +4,7 @@ ghost use Rattle.volume_codec.specs.Layout.{max_frames};
 ghost use Rattle.recovery.specs.Opening.{Opens};
 ghost use Rattle.recovery.specs.Volume.{IsWellFormed};
 ghost use Rattle.pager.specs.State.{newly_opened, volume_in};
-ghost use Rattle.pager.specs.Calls.{RefusesOpening};
+ghost use Rattle.pager.specs.Calls.{RefusesPagerOpening};
 ghost use Rattle.pager.specs.inside.Opening.{IsRoom};
 
 use crate::Pager;
@@ -58,7 +58,7 @@ impl<D: Device, A: Allocator + Copy> Pager<D, A> {
         ensures fresh { IfOk result (λ pager. pager ≡ newly_opened (volume_in pager)
             (min most (max_frames pager.table.layout pager.table.slots))) }
         ensures well_formed { IfOk result (λ pager. IsWellFormed D.Device (volume_in pager)) }
-        ensures refused { IfErr result (λ e. RefusesOpening D.Device device e.0 e.1) }
+        ensures refused { IfErr result (λ e. RefusesPagerOpening D.Device device e.0 e.1) }
     {
         match recovery::open(alloc, device) {
             Ok(volume) => match room_for(alloc, &volume) {

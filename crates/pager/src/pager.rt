@@ -12,10 +12,10 @@ ghost use Rattle.journal.specs.WriteOuts.{is_busy, next_work, next_answer, outs_
 ghost use Rattle.recovery.specs.Counts.{Rises, IsAccounted};
 ghost use Rattle.recovery.specs.Reading.{IsOnlyRead};
 ghost use Rattle.journal.specs.LedTo.{MayBegin};
-ghost use Rattle.pager.specs.Blocks.{homes_in, with_block, newest_in, cut_to, bytes_in};
-ghost use Rattle.pager.specs.State.{newly_opened, kept_in, current_in, up_to_end, file_length, is_full, reserved, record_for};
+ghost use Rattle.pager.specs.Blocks.{homes_in, with_home, newest_in, cut_to, bytes_in};
+ghost use Rattle.pager.specs.State.{newly_opened, kept_bytes, current_in, up_to_end, file_length, is_full, reserved, record_for};
 ghost use Rattle.pager.specs.Calls.{page_refusal, put_refusal, RefusesPut, after_put, commit_refusal, after_commit, read_calls, next_bytes, records_after, after_step};
-ghost use Rattle.pager.specs.Calls.{first_reason, reason_if, end_page, resized, is_overfull, new_length_refusal, set_length_refusal, reads_last, RefusesSetLength, length_calls, last_page, resized_to, after_length};
+ghost use Rattle.pager.specs.Calls.{first_reason, reason_if, end_page, restaged, is_overfull, new_length_refusal, set_length_refusal, reads_last, RefusesSetLength, length_calls, last_page, resized_to, after_length};
 ghost use Rattle.recovery.specs.Volume.{IsWellFormed};
 ghost use Rattle.pager.specs.inside.Sound.{IsSound, IsBeforeEnd};
 ghost use Rattle.pager.specs.inside.Opening.{IsRoom};
@@ -252,7 +252,7 @@ impl<D: Device, A: Allocator + Copy> Pager<D, A> {
         requires before { IsBeforeEnd self.old.table self.old.lengths home }
         requires room { is_full self.old.table self.old.most self.old.staged home ≡ false }
         ensures ok { OnOk result
-            (self.new ≡ record self.old { staged = with_block self.old.staged home (cut_to left bytes.now) }) }
+            (self.new ≡ record self.old { staged = with_home self.old.staged home (cut_to left bytes.now) }) }
         ensures err { OnErr result (self.new ≡ self.old) }
         ensures memory { IfErr result (λ why. why ≡ Refusal.OutOfMemory) }
     {
@@ -377,7 +377,7 @@ impl<D: Device, A: Allocator + Copy> Pager<D, A> {
 
     // Copies the bytes of a home block that are kept in memory; false where none are, and then nothing is copied.
     fn copy_kept(&self, home: u32, buffer: &mut [u8; 4096]) -> bool
-        ensures { kept_in self.now.staged self.now.records home ≡ (if result then Some buffer.new else None) }
+        ensures { kept_bytes self.now.staged self.now.records home ≡ (if result then Some buffer.new else None) }
     {
         match self.staged.get(home) {
             Some(bytes) => {
@@ -456,7 +456,7 @@ impl<D: Device, A: Allocator + Copy> Pager<D, A> {
         requires from { from ≡ file_length self.now.lengths file }
         requires more { from < to }
         ensures { result ≡ is_overfull self.now.table self.now.most
-            (resized self.now.table self.now.lengths file to [] self.now.staged) }
+            (restaged self.now.table self.now.lengths file to [] self.now.staged) }
     {
         let home = last_block(&self.table, file, from);
         let pages = (block_after(&self.table, file, to) - home) as usize;
@@ -479,10 +479,10 @@ impl<D: Device, A: Allocator + Copy> Pager<D, A> {
         ensures read { IsOnlyRead D.Device self.old.device self.new.device }
         ensures carried { D.carried self.new.device ≡ D.carried self.old.device }
         ensures fault { IfErr result (λ why. (why ≡ Refusal.Device) × ((not (from % 4096 == 0)
-            && is_none (kept_in self.old.staged self.old.records (home_of self.old.table (end_page file from))))
+            && is_none (kept_bytes self.old.staged self.old.records (home_of self.old.table (end_page file from))))
             ≡ true)) }
         ensures calls { Rises (if not (from % 4096 == 0)
-            && is_none (kept_in self.old.staged self.old.records (home_of self.old.table (end_page file from)))
+            && is_none (kept_bytes self.old.staged self.old.records (home_of self.old.table (end_page file from)))
             then 1 else 0) (D.calls_made self.old.device) (D.calls_made self.new.device) }
     {
         let mut last = [0; 4096];
@@ -507,7 +507,7 @@ impl<D: Device, A: Allocator + Copy> Pager<D, A> {
         requires from { from ≡ file_length self.old.lengths file }
         requires more { from < to }
         requires room { is_overfull self.old.table self.old.most
-            (resized self.old.table self.old.lengths file to [] self.old.staged) ≡ false }
+            (restaged self.old.table self.old.lengths file to [] self.old.staged) ≡ false }
         ensures ok { OnOk result (self.new ≡ resized_to self.old file to last.now self.old.device) }
         ensures err { OnErr result (self.new ≡ self.old) }
         ensures memory { IfErr result (λ why. why ≡ Refusal.OutOfMemory) }
@@ -536,7 +536,7 @@ impl<D: Device, A: Allocator + Copy> Pager<D, A> {
         requires from { from ≡ file_length self.old.lengths file }
         requires more { from < to }
         requires reason { set_length_refusal self.old file to ≡ first_reason (reason_if (is_overfull self.old.table
-            self.old.most (resized self.old.table self.old.lengths file to [] self.old.staged)) NoFrame ∷ []) }
+            self.old.most (restaged self.old.table self.old.lengths file to [] self.old.staged)) NoFrame ∷ []) }
         ensures ok { OnOk result (set_length_refusal self.old file to ≡ None) }
         ensures set { D.is_honest self.old.device → OnOk result (self.new ≡ resized_to self.old file to
             (last_page self.old (D.seen self.old.device) file) self.new.device) }
@@ -561,7 +561,7 @@ impl<D: Device, A: Allocator + Copy> Pager<D, A> {
         requires from { from ≡ file_length self.old.lengths file }
         requires less { to < from }
         ensures room { is_overfull self.old.table self.old.most
-            (resized self.old.table self.old.lengths file to [] self.old.staged) ≡ false }
+            (restaged self.old.table self.old.lengths file to [] self.old.staged) ≡ false }
         ensures ok { (last : List ℕ) → OnOk result (self.new ≡ resized_to self.old file to last self.old.device) }
         ensures device { self.new.device ≡ self.old.device }
         ensures err { OnErr result (self.new ≡ self.old) }

@@ -8,18 +8,18 @@ pub record Known : Type 0 where
   pub flags : List Bool
 
 -- what stands in place of a block that isn't known
-unfoldable pub blank : List ℕ
-blank = replicate 4096 0
+unfoldable pub blank_room : List ℕ
+blank_room = replicate 4096 0
 
 -- the bytes of a block, where a map has it
-abbrev pub bytes_in : Option (List ℕ) → List ℕ
-bytes_in None = blank
-bytes_in (Some bytes) = bytes
+abbrev pub room_bytes : Option (List ℕ) → List ℕ
+room_bytes None = blank_room
+room_bytes (Some bytes) = bytes
 
 -- the bytes of n blocks, one after another
-abbrev pub bytes_of : (ℕ → Option (List ℕ)) → ℕ → List ℕ
-bytes_of rooms zero = []
-bytes_of rooms (suc n) = bytes_of rooms n ++ bytes_in (rooms n)
+abbrev pub all_rooms : (ℕ → Option (List ℕ)) → ℕ → List ℕ
+all_rooms rooms zero = []
+all_rooms rooms (suc n) = all_rooms rooms n ++ room_bytes (rooms n)
 
 -- whether each of n blocks is known
 abbrev pub flags_of : (ℕ → Option (List ℕ)) → ℕ → List Bool

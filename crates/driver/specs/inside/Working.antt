@@ -21,9 +21,9 @@ IsAttempted act (Ok None) old new = MakesCalls (IsAttempt act) old new
 IsAttempted act (Err why) old new = MakesCalls (IsAttempt act) old new
 
 -- an act, until it isn't put off
-abbrev pub IsMade : Act → Result Answer Stop → CpuState → CpuState → Type 0
-IsMade act (Ok answer) old new = MakesAct act answer.reply old new
-IsMade act (Err why) old new = MakesCalls (IsAttempt act) old new
+abbrev pub HasMadeAct : Act → Result Answer Stop → CpuState → CpuState → Type 0
+HasMadeAct act (Ok answer) old new = MakesAct act answer.reply old new
+HasMadeAct act (Err why) old new = MakesCalls (IsAttempt act) old new
 
 -- an access, whose answer is of this kind
 abbrev pub ComesTo : (Act → CpuCall → Type 0) → Act → Result Answer Stop → CpuState → CpuState → Type 0

@@ -1,4 +1,4 @@
-use Rattle.deferred_disk.specs.Deferred.{as_recorded}
+use Rattle.deferred_disk.specs.Deferred.{as_memory}
 use Rattle.device.specs.Memory.{moment_of}
 use Rattle.device.proofs.Public.{leaves_weaker}
 use Rattle.embedded.proofs.Hosted.{sooner, kept}
@@ -9,7 +9,7 @@ returns-clause-left g c =
     λ files history events mid pager old new done left came gone made behind carried.
     leaves_weaker (carried.time behind)
     (λ list since. (c.what_runs_leave.ensures.since files history events mid pager came gone).each list
-    (sooner pager.device (moment_of (as_recorded mid.device)) list made since))
+    (sooner pager.device (moment_of (as_memory mid.device)) list made since))
 
 pub returns-clause-mark : goal.returns-clause-mark
 returns-clause-mark g c = λ files mark pager old new done left reached made behind carried.
@@ -17,7 +17,7 @@ returns-clause-mark g c = λ files mark pager old new done left reached made beh
     reached.came reached.gone made behind carried) (kept files mark pager reached)
 
 pub returns-clause-acknowledged : goal.returns-clause-acknowledged
-returns-clause-acknowledged g c = λ pager last needed mark old new done left well served behind carried.
+returns-clause-acknowledged g c = λ pager last due mark old new done left well served behind carried.
     let had = served well in
     let it = had.durable in (
       had.before,

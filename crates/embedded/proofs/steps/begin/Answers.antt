@@ -53,7 +53,7 @@ returns-in-Ok-clause-begun g c =
       waits = it.0;
       begins = c.loop-pager.pager;
       earlier = it.1;
-      commit = record { allowed = c.in-Ok.ensures.ok; may = c.in-Ok.ensures.begins };
+      commit = record { admitted = c.in-Ok.ensures.ok; may = c.in-Ok.ensures.begins };
       mark_is = c.in-Ok.ensures.mark;
       is_some = ap (λ n. nat_lt 0 n) c.staged-some.ensures;
       value = c.in-Ok.ensures.committed;

@@ -2,7 +2,7 @@ use Rattle.std.proofs.Common.{length, ap, arith}
 use Rattle.std.specs.Prelude.{nat_eq}
 use Rattle.std.specs.HashMap.{get}
 use Rattle.deferred_disk.specs.inside.Blocks.{Known}
-use Rattle.deferred_disk.proofs.Rooms.{length-bytes_of}
+use Rattle.deferred_disk.proofs.Rooms.{length-all_rooms}
 use Rattle.deferred_disk.proofs.blocks.Blocks.end_of.Goals as goal
 
 pub overflow_add-result : goal.overflow_add-result
@@ -12,6 +12,6 @@ overflow_add-result g c =
       arith,
       c.requires,
       c.self.invariant.1,
-      length-bytes_of (get nat_eq blocks.rooms) c.self.invariant.0 blocks.count,
+      length-all_rooms (get nat_eq blocks.rooms) c.self.invariant.0 blocks.count,
       ap (λ (k : Known). length k.bytes) c.self.view_is,
     )

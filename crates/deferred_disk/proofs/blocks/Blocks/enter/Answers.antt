@@ -4,7 +4,7 @@ use Rattle.std.specs.HashMap.{get}
 use Rattle.device.specs.Device.{written}
 use Rattle.deferred_disk.specs.Deferred.{with_known}
 use Rattle.deferred_disk.specs.inside.Blocks.{Known, flags_of, Enters}
-use Rattle.deferred_disk.proofs.Rooms.{length-bytes_of, whole_with_run, bytes_with_run, flags_with_run}
+use Rattle.deferred_disk.proofs.Rooms.{length-all_rooms, whole_with_run, bytes_with_run, flags_with_run}
 use Rattle.deferred_disk.proofs.blocks.Blocks.enter.Goals.{After-enter_rooms}
 use Rattle.deferred_disk.proofs.blocks.Blocks.enter.Goals as goal
 
@@ -17,7 +17,7 @@ enter_rooms-requires-clause-fits g c =
       c.len-count.ensures,
       ap (λ v. length v.items) c.deref.ensures,
       c.requires.fits,
-      length-bytes_of (get nat_eq blocks.rooms) c.self.invariant.0 blocks.count,
+      length-all_rooms (get nat_eq blocks.rooms) c.self.invariant.0 blocks.count,
       ap (λ (k : Known). length k.bytes) c.self.view_is,
       c.self.invariant.1,
     )
@@ -38,7 +38,7 @@ inside g c =
       counted g c,
       c.requires.whole,
       c.requires.fits,
-      length-bytes_of (get nat_eq blocks.rooms) c.self.invariant.0 blocks.count,
+      length-all_rooms (get nat_eq blocks.rooms) c.self.invariant.0 blocks.count,
       ap (λ (k : Known). length k.bytes) c.self.view_is,
     )
 

@@ -2,7 +2,7 @@ use Rattle.std.proofs.Common.{◌≡◌, ◌<◌, ◌⊎◌, ℕ, length, get_or
 use Rattle.std.specs.Prelude.{nat_eq}
 use Rattle.std.specs.HashMap.{get}
 use Rattle.deferred_disk.specs.inside.Blocks.{Known}
-use Rattle.deferred_disk.proofs.Rooms.{length-flags_of, length-bytes_of, whole_without, flags_without, bytes_without}
+use Rattle.deferred_disk.proofs.Rooms.{length-flags_of, length-all_rooms, whole_without, flags_without, bytes_without}
 use Rattle.deferred_disk.proofs.Rooms.{other_key}
 use Rattle.deferred_disk.proofs.blocks.Blocks.forget.Goals.{After-drop}
 use Rattle.deferred_disk.proofs.blocks.Blocks.forget.Goals as goal
@@ -17,9 +17,9 @@ returns-clause-size g c =
     let at = (goal.at.returns-clause-size g c).After-drop in
     let rooms = get nat_eq c.self.inside.rooms in
     let new = get nat_eq c.remove.new.self in
-    length-bytes_of new (whole_without rooms new c.args.block c.self.inside.count c.remove.ensures.updates.1
+    length-all_rooms new (whole_without rooms new c.args.block c.self.inside.count c.remove.ensures.updates.1
     (stays g at) c.self.invariant.0) c.self.inside.count
-    ∙ sym (length-bytes_of rooms c.self.invariant.0 c.self.inside.count)
+    ∙ sym (length-all_rooms rooms c.self.invariant.0 c.self.inside.count)
     ∙ ap (λ (k : Known). length k.bytes) c.self.view_is
 
 pub returns-clause-bytes : goal.returns-clause-bytes

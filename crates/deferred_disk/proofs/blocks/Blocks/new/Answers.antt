@@ -2,7 +2,7 @@ use Rattle.std.proofs.Common.{ap}
 use Rattle.std.specs.Prelude.{nat_eq}
 use Rattle.std.specs.HashMap.{get}
 use Rattle.std.specs.Map.{lookup}
-use Rattle.deferred_disk.proofs.Rooms.{flags_where_none, whole_where_none, length-bytes_of}
+use Rattle.deferred_disk.proofs.Rooms.{flags_where_none, whole_where_none, length-all_rooms}
 use Rattle.deferred_disk.proofs.blocks.Blocks.new.Goals as goal
 
 pub returns-clause-flags : goal.returns-clause-flags
@@ -11,5 +11,5 @@ returns-clause-flags g c =
 
 pub returns-clause-bytes : goal.returns-clause-bytes
 returns-clause-bytes g c =
-    length-bytes_of (get nat_eq c.new.result)
+    length-all_rooms (get nat_eq c.new.result)
     (whole_where_none (get nat_eq c.new.result) (λ block. ap (lookup (nat_eq block)) c.new.ensures.empty)) c.args.count

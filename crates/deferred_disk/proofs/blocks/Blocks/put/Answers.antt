@@ -3,7 +3,7 @@ use Rattle.std.specs.Prelude.{nat_eq}
 use Rattle.std.specs.HashMap.{get}
 use Rattle.deferred_disk.specs.Deferred.{first_block, with_known}
 use Rattle.deferred_disk.specs.inside.Blocks.{Known}
-use Rattle.deferred_disk.proofs.Rooms.{length-bytes_of, run_whole, run_end, run_part, run_written}
+use Rattle.deferred_disk.proofs.Rooms.{length-all_rooms, run_whole, run_end, run_part, run_written}
 use Rattle.deferred_disk.proofs.blocks.Blocks.put.Goals.{After-self}
 use Rattle.deferred_disk.proofs.blocks.Blocks.put.Goals as goal
 
@@ -11,7 +11,7 @@ use Rattle.deferred_disk.proofs.blocks.Blocks.put.Goals as goal
 whole : (g : _) (c : After-self g) → length c.args.self.now.bytes ≡ 4096 * c.self.inside.count
 whole g c =
     sym (ap (λ (k : Known). length k.bytes) c.self.view_is)
-    ∙ length-bytes_of (get nat_eq c.self.inside.rooms) c.self.invariant.0 c.self.inside.count
+    ∙ length-all_rooms (get nat_eq c.self.inside.rooms) c.self.invariant.0 c.self.inside.count
 
 pub enter-requires-clause-whole : goal.enter-requires-clause-whole
 enter-requires-clause-whole g c =

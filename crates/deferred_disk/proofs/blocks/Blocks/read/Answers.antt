@@ -3,7 +3,7 @@ use Rattle.std.specs.Prelude.{nat_eq, slice_range}
 use Rattle.std.specs.HashMap.{get}
 use Rattle.deferred_disk.specs.inside.Blocks.{Known}
 use Rattle.deferred_disk.proofs.Deferring.{scan_on}
-use Rattle.deferred_disk.proofs.Rooms.{length-bytes_of, copied_more, copied_all, length-copied}
+use Rattle.deferred_disk.proofs.Rooms.{length-all_rooms, copied_more, copied_all, length-copied}
 use Rattle.deferred_disk.proofs.blocks.Blocks.read.Goals as goal
 
 pub copy_part-requires-clause-start : goal.copy_part-requires-clause-start
@@ -16,7 +16,7 @@ copy_part-requires-clause-start g c =
       c.end_of-end.ensures,
       c.requires,
       c.self.invariant.1,
-      length-bytes_of (get nat_eq blocks.rooms) c.self.invariant.0 blocks.count,
+      length-all_rooms (get nat_eq blocks.rooms) c.self.invariant.0 blocks.count,
       ap (λ (k : Known). length k.bytes) c.self.view_is,
     )
 
@@ -28,7 +28,7 @@ loop-block-preserved g c =
     let block = c.loop-block.block in
     let at = c.args.at in
     let long = ap (λ (k : Known). length k.bytes) c.self.view_is in
-    let size = length-bytes_of (get nat_eq blocks.rooms) c.self.invariant.0 blocks.count in
+    let size = length-all_rooms (get nat_eq blocks.rooms) c.self.invariant.0 blocks.count in
     let fits : at + length c.loop-block.buffer ≤ length bytes = omega (arith, so_far.1, c.requires) in
     let inside : 4096 * block + 4096 ≤ length bytes =
     omega (arith, c.loop-block-test.true, c.div_ceil-block-end.ensures, c.end_of-end.ensures, c.requires, long, size) in

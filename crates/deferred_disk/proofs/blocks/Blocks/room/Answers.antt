@@ -2,7 +2,7 @@ use Rattle.std.proofs.Common.{◌≡◌, false, get_or, length, sym, ◌∙◌, 
 use Rattle.std.specs.Prelude.{is_some, nat_eq, IfSome}
 use Rattle.std.specs.HashMap.{get}
 use Rattle.deferred_disk.specs.Deferred.{block_of}
-use Rattle.deferred_disk.specs.inside.Blocks.{Known, bytes_in}
+use Rattle.deferred_disk.specs.inside.Blocks.{Known, room_bytes}
 use Rattle.deferred_disk.proofs.Rooms.{flag_at, no_flag, block_at, length-flags_of}
 use Rattle.deferred_disk.proofs.blocks.Blocks.room.Goals as goal
 
@@ -21,7 +21,7 @@ returns-in-Some-clause-known g c =
 
 pub returns-in-Some-clause-bytes : goal.returns-in-Some-clause-bytes
 returns-in-Some-clause-bytes g c =
-    c.bytes.ensures ∙ ap bytes_in c.in-Some.ensures.value
+    c.bytes.ensures ∙ ap room_bytes c.in-Some.ensures.value
     ∙ sym (block_at (get nat_eq c.self.inside.rooms) c.self.invariant.0 c.self.inside.count c.args.block
     (omega (arith, c.if-block-self.false)))
     ∙ ap (λ (k : Known). block_of k.bytes c.args.block) c.self.view_is
@@ -53,4 +53,4 @@ returns-in-None-clause-blank g c = λ lt.
     sym (ap (λ (k : Known). block_of k.bytes c.args.block) c.self.view_is)
     ∙ block_at (get nat_eq c.self.inside.rooms) c.self.invariant.0 c.self.inside.count c.args.block
     (omega (arith, c.if-block-self.false))
-    ∙ sym (ap bytes_in c.in-None.ensures.value)
+    ∙ sym (ap room_bytes c.in-None.ensures.value)

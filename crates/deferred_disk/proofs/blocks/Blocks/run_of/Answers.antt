@@ -2,7 +2,7 @@ use Rattle.std.proofs.Common.{ℕ, ◌*◌, List, ◌++◌, length, ◌∙◌, a
 use Rattle.std.specs.Prelude.{nat_eq, slice_range}
 use Rattle.std.specs.HashMap.{get}
 use Rattle.deferred_disk.specs.inside.Blocks.{Known}
-use Rattle.deferred_disk.proofs.Rooms.{length-flags_of, length-bytes_of, part_more}
+use Rattle.deferred_disk.proofs.Rooms.{length-flags_of, length-all_rooms, part_more}
 use Rattle.deferred_disk.proofs.blocks.Blocks.run_of.Goals as goal
 
 pub overflow_mul-to : goal.overflow_mul-to
@@ -30,7 +30,7 @@ loop-block-preserved g c =
       c.loop-block-test.true,
       c.requires.to,
       length-flags_of (get nat_eq blocks.rooms) blocks.count,
-      length-bytes_of (get nat_eq blocks.rooms) c.self.invariant.0 blocks.count,
+      length-all_rooms (get nat_eq blocks.rooms) c.self.invariant.0 blocks.count,
       ap (λ (k : Known). length k.flags) c.self.view_is,
       ap (λ (k : Known). length k.bytes) c.self.view_is,
     ))

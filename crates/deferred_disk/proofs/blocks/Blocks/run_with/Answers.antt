@@ -5,7 +5,7 @@ use Rattle.std.specs.HashMap.{get}
 use Rattle.device.specs.Device.{written}
 use Rattle.deferred_disk.specs.Deferred.{first_block, end_block}
 use Rattle.deferred_disk.specs.inside.Blocks.{Known}
-use Rattle.deferred_disk.proofs.Rooms.{length-flags_of, length-bytes_of, written_in_part}
+use Rattle.deferred_disk.proofs.Rooms.{length-flags_of, length-all_rooms, written_in_part}
 use Rattle.deferred_disk.proofs.blocks.Blocks.run_with.Goals as goal
 
 pub run_of-requires-clause-to : goal.run_of-requires-clause-to
@@ -17,7 +17,7 @@ run_of-requires-clause-to g c =
       c.end_of-end.ensures,
       c.requires,
       length-flags_of (get nat_eq blocks.rooms) blocks.count,
-      length-bytes_of (get nat_eq blocks.rooms) c.self.invariant.0 blocks.count,
+      length-all_rooms (get nat_eq blocks.rooms) c.self.invariant.0 blocks.count,
       ap (λ (k : Known). length k.flags) c.self.view_is,
       ap (λ (k : Known). length k.bytes) c.self.view_is,
     )
@@ -43,6 +43,6 @@ returns g c =
     ∙ written_in_part bytes new at low high (omega arith) (omega arith) (omega (
       arith,
       c.requires,
-      length-bytes_of (get nat_eq blocks.rooms) c.self.invariant.0 blocks.count,
+      length-all_rooms (get nat_eq blocks.rooms) c.self.invariant.0 blocks.count,
       ap (λ (k : Known). length k.bytes) c.self.view_is,
     ))

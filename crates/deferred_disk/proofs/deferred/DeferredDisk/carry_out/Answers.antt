@@ -1,6 +1,6 @@
 use Rattle.std.proofs.Common.{◌≡◌, ◌<◌, ◌-◌, true, false, refl, sym, ◌∙◌, ap, subst, length, arith}
 use Rattle.deferred_disk.specs.Carrying.{CarriedOut}
-use Rattle.deferred_disk.specs.Deferred.{Deferred, as_recorded, with_waiting}
+use Rattle.deferred_disk.specs.Deferred.{Deferred, as_memory, with_waiting}
 use Rattle.device.specs.Memory.{seen_of}
 use Rattle.deferred_disk.proofs.Carrying.{carried_none, carried_step, carried_stop}
 use Rattle.deferred_disk.proofs.deferred.DeferredDisk.carry_out.Goals as goal
@@ -19,7 +19,7 @@ carry_one-requires-clause-some g c = omega (arith, c.loop-left.invariant.count, 
 pub carry_one-requires-clause-size : goal.carry_one-requires-clause-size
 carry_one-requires-clause-size g c =
     c.loop-left.invariant.carried.same_length ∙ c.requires
-    ∙ ap (λ (d : Deferred). length (seen_of (as_recorded d))) (sym c.loop-left.invariant.taken)
+    ∙ ap (λ (d : Deferred). length (seen_of (as_memory d))) (sym c.loop-left.invariant.taken)
 
 pub loop-left-preserved : goal.loop-left-preserved
 loop-left-preserved g c =

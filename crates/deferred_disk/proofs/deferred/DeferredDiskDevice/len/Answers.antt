@@ -1,5 +1,5 @@
 use Rattle.std.proofs.Common.{length, sym, ◌∙◌, ap}
-use Rattle.deferred_disk.specs.Deferred.{Deferred, as_recorded}
+use Rattle.deferred_disk.specs.Deferred.{Deferred, as_memory}
 use Rattle.device.specs.Memory.{seen_of}
 use Rattle.device.proofs.Public.{length-content_after}
 use Rattle.deferred_disk.proofs.deferred.DeferredDiskDevice.len.Goals as goal
@@ -8,4 +8,4 @@ pub returns : goal.returns
 returns g c =
     let past = c.self.inside.past in
     c.self.invariant.0.len_is ∙ sym (length-content_after past.first past.changes c.self.invariant.0.within)
-    ∙ ap (λ (d : Deferred). length (seen_of (as_recorded d))) c.self.view_is
+    ∙ ap (λ (d : Deferred). length (seen_of (as_memory d))) c.self.view_is

@@ -1,6 +1,6 @@
 use Rattle.std.proofs.Common.{◌≤◌, ◌≡◌, ◌+◌, sym, ◌∙◌, ap, subst, length, arith}
 use Rattle.std.specs.Prelude.{slice_range}
-use Rattle.deferred_disk.specs.Deferred.{Deferred, AreAlike, as_recorded}
+use Rattle.deferred_disk.specs.Deferred.{Deferred, AreAlike, as_memory}
 use Rattle.device.specs.Memory.{seen_of, content_after}
 use Rattle.deferred_disk.proofs.Deferring.{agrees_for_read, none_of, within_kept}
 use Rattle.device.proofs.Public.{length-content_after}
@@ -16,7 +16,7 @@ returns-clause-bytes g c = λ well.
     let n = length c.args.buffer.now in
     let content = content_after disk.past.first disk.past.changes in
     let room : c.args.at + n ≤ length content =
-    subst (λ (d : Deferred). c.args.at + n ≤ length (seen_of (as_recorded d))) (sym c.self.view_is) c.requires in
+    subst (λ (d : Deferred). c.args.at + n ≤ length (seen_of (as_memory d))) (sym c.self.view_is) c.requires in
     let same : length disk.blocks.bytes ≡ length content = omega (
       arith,
       length-content_after disk.past.first disk.past.changes c.self.invariant.0.within,
@@ -27,4 +27,4 @@ returns-clause-bytes g c = λ well.
     let none = none_of c.read-self-inside.result (sym c.is_some.ensures ∙ c.if-is_some.false) in
     c.read-self-inside.ensures.bytes none ∙ agrees_for_read disk.blocks.flags disk.blocks.bytes content c.args.at n
     (c.self.invariant.0.agrees alike) same room (sym c.read-self-inside.ensures.lacked ∙ none)
-    ∙ ap (λ (d : Deferred). slice_range (seen_of (as_recorded d)) c.args.at (c.args.at + n)) c.self.view_is
+    ∙ ap (λ (d : Deferred). slice_range (seen_of (as_memory d)) c.args.at (c.args.at + n)) c.self.view_is

@@ -9,8 +9,8 @@ pub invariant_of-self : goal.invariant_of-self
 invariant_of-self g c =
     let inside = c.self.inside in
     let pager = c.tend.new.self in
-    serves_noted pager inside.needed c.made_calls-made.result inside.committed inside.acknowledged
+    serves_noted pager inside.due c.made_calls-made.result inside.committed inside.acknowledged
     c.confirmed-acknowledged.result (c.made_calls-made.ensures ∙ ap (λ (d : Deferred). made_calls d) c.device.ensures)
     c.confirmed-acknowledged.ensures
-    (serves_tended inside.pager pager inside.committed inside.needed inside.acknowledged c.tend.ensures.state
+    (serves_tended inside.pager pager inside.committed inside.due inside.acknowledged c.tend.ensures.state
     (tended_call inside.pager.device pager.device c.tend.ensures.tended) c.self.invariant)

@@ -16,9 +16,9 @@ returns-in_err-mark-clause-carried g c = (leads_refused c.self.inside.pager c.in
 pub invariant_of-self-2 : goal.invariant_of-self-2
 invariant_of-self-2 g c =
     let inside = c.self.inside in
-    serves_marked inside.pager c.commit.new.pager inside.needed inside.committed inside.acknowledged c.in_ok-mark.mark
-    c.recorded-needed.result c.made_calls-made.result c.confirmed-acknowledged.result c.in_ok-mark.ensures.commits
-    (c.recorded-needed.ensures ∙ ap (λ (d : Deferred). recorded_calls d) c.device.ensures)
+    serves_marked inside.pager c.commit.new.pager inside.due inside.committed inside.acknowledged c.in_ok-mark.mark
+    c.recorded-due.result c.made_calls-made.result c.confirmed-acknowledged.result c.in_ok-mark.ensures.commits
+    (c.recorded-due.ensures ∙ ap (λ (d : Deferred). recorded_calls d) c.device.ensures)
     (c.made_calls-made.ensures ∙ ap (λ (d : Deferred). made_calls d) c.device-2.ensures)
     c.confirmed-acknowledged.ensures c.self.invariant
 

@@ -2,6 +2,6 @@ use Rattle.embedded.proofs.Serving.{serves_put}
 use Rattle.embedded.proofs.embedded.Embedded.put.Goals as goal
 
 pub invariant_of-self : goal.invariant_of-self
-invariant_of-self g c = serves_put c.self.inside.pager c.put.new.self c.self.inside.needed c.self.inside.committed
+invariant_of-self g c = serves_put c.self.inside.pager c.put.new.self c.self.inside.due c.self.inside.committed
     c.self.inside.acknowledged c.args.page c.args.bytes.now c.put.result c.told-bytes c.put.ensures.ok c.put.ensures.put
     c.put.ensures.unchanged c.self.invariant

@@ -3,7 +3,7 @@ use Rattle.std.proofs.Common.{arith, inl, inr, Bor, refl}
 use Rattle.std.specs.Prelude.{is_some}
 use Rattle.std.specs.Option.{option_copied}
 use Rattle.std.proofs.lemmas.Bool.{cases_eq}
-use Rattle.pager.specs.Blocks.{Blocks, bytes_in, with_block}
+use Rattle.pager.specs.Blocks.{Blocks, bytes_in, with_home}
 use Rattle.pager.proofs.Changing.{without_absent, grown_blocks, present_after, put_present}
 use Rattle.pager.proofs.Setting.{none_of}
 use Rattle.pager.proofs.blocks.Blocks.grow.Goals.{then-is_some, else-is_some, Joined-is_some}
@@ -45,7 +45,7 @@ returns-in-Ok-clause-ok g c =
     ∙ present_after c.args.self.now c.args.home c.if-is_some.low c.args.high c.args.first c.args.text.now before
     c.requires.order.1 (low_is g j) in
     put_present c.put.result _ (bytes_in c.fill.new.self c.args.home) there c.put.ensures.ok c.put.ensures.absent
-    ∙ (λ i. with_block (c.in-Ok.ensures.ok i) c.args.home (c.in_ok-block.ensures.ok i))
+    ∙ (λ i. with_home (c.in-Ok.ensures.ok i) c.args.home (c.in_ok-block.ensures.ok i))
     ∙ grown_blocks c.args.self.now c.args.first c.requires.rising.0 c.args.home c.args.text.now c.requires.rising.2
     before c.if-is_some.low c.args.high c.args.last.now (low_or g j) c.requires.order.1 c.requires.rising.1
 

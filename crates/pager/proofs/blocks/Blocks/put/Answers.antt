@@ -1,7 +1,7 @@
 use Rattle.std.proofs.Common.{ap, sym, ◌∙◌, Result, Ok, Err}
 use Rattle.std.specs.Prelude.{OnErr}
 use Rattle.std.specs.Option.{option_map}
-use Rattle.pager.specs.Blocks.{Blocks, with_block, bytes_in}
+use Rattle.pager.specs.Blocks.{Blocks, with_home, bytes_in}
 use Rattle.pager.proofs.Putting.{seen_as, seen_put, seen_get}
 use Rattle.pager.proofs.blocks.Blocks.put.Goals as goal
 
@@ -9,7 +9,7 @@ pub returns-clause-ok : goal.returns-clause-ok
 returns-clause-ok g c =
     ap (seen_as (λ b. b.value)) c.in_ok-insert.ensures.entries
     ∙ seen_put (λ b. b.value) c.self.inside.tree.entries c.args.home c.args.bytes
-    ∙ ap (λ (m : Blocks). with_block m c.args.home c.args.bytes.value) c.self.view_is
+    ∙ ap (λ (m : Blocks). with_home m c.args.home c.args.bytes.value) c.self.view_is
 
 err_as : {X E : Type 0} (r : Result X E) (P : Type 0) → P → OnErr r P
 err_as (Ok x) P p = tt

@@ -1,6 +1,6 @@
 use Rattle.std.proofs.Common.{◌≡◌, ◌+◌, ◌-◌, suc, ap, ◌∙◌, arith}
 use Rattle.volume_codec.specs.Text.{zeros}
-use Rattle.pager.specs.Blocks.{Blocks, with_block, with_zeros, without}
+use Rattle.pager.specs.Blocks.{Blocks, with_home, with_zeros, without_run}
 use Rattle.pager.proofs.Changing.{without_zeros, err_as}
 use Rattle.pager.proofs.blocks.Blocks.put_zeros.Goals as goal
 
@@ -15,7 +15,7 @@ pub returns-in_err-block-clause-err : goal.returns-in_err-block-clause-err
 returns-in_err-block-clause-err g c =
     let i = c.loop-home.invariant in
     err_as c.from_residual.result _
-    (ap (λ (b : Blocks). without b c.args.low c.args.high) i.blocks
+    (ap (λ (b : Blocks). without_run b c.args.low c.args.high) i.blocks
     ∙ without_zeros c.args.low c.args.high c.args.self.now c.args.low (c.loop-home.home - c.args.low)
     (omega arith) (omega (arith, i.low, i.high)))
 
@@ -23,7 +23,7 @@ pub returns-in_err-put-clause-err : goal.returns-in_err-put-clause-err
 returns-in_err-put-clause-err g c =
     let i = c.loop-home.invariant in
     err_as c.from_residual-in_err-put.result _
-    (ap (λ (b : Blocks). without b c.args.low c.args.high) (c.in_err-put.ensures.err ∙ i.blocks)
+    (ap (λ (b : Blocks). without_run b c.args.low c.args.high) (c.in_err-put.ensures.err ∙ i.blocks)
     ∙ without_zeros c.args.low c.args.high c.args.self.now c.args.low (c.loop-home.home - c.args.low)
     (omega arith) (omega (arith, i.low, i.high)))
 
@@ -37,7 +37,7 @@ loop-home-preserved g c =
     record {
       low = omega (arith, i.low);
       high = omega (arith, c.loop-home-test.true);
-      blocks = c.in_ok-put.ensures.ok ∙ (λ k. with_block (i.blocks k) (place k) (bytes k))
+      blocks = c.in_ok-put.ensures.ok ∙ (λ k. with_home (i.blocks k) (place k) (bytes k))
           ∙ ap (with_zeros c.args.self.now c.args.low) more;
     }
 

@@ -1,5 +1,5 @@
 use Rattle.std.proofs.Common.{◌+◌, ap, ◌∙◌, arith}
-use Rattle.pager.specs.Blocks.{Blocks, with_block, without, cut_in, homes_in}
+use Rattle.pager.specs.Blocks.{Blocks, with_home, without_run, cut_in, homes_in}
 use Rattle.pager.proofs.Changing.{shrunk_blocks, rise_weaker}
 use Rattle.pager.proofs.blocks.Blocks.shrink.Goals as goal
 
@@ -10,7 +10,7 @@ returns-clause-ok g c =
     (omega arith) (omega arith) c.requires.rising.1 in
     c.cut.ensures
     ∙ ap (λ (m : Blocks). cut_in m c.args.home c.args.left) (c.remove.ensures
-    ∙ ap (λ (m : Blocks). without m c.args.low c.args.high) (c.in_ok-put.ensures.ok
-    ∙ ap (with_block c.args.self.now c.args.first) c.in_ok-block.ensures.ok))
+    ∙ ap (λ (m : Blocks). without_run m c.args.low c.args.high) (c.in_ok-put.ensures.ok
+    ∙ ap (with_home c.args.self.now c.args.first) c.in_ok-block.ensures.ok))
     ∙ shrunk_blocks c.args.self.now c.args.first (end + c.args.first + 1) c.args.home c.args.text.now rise
     c.requires.order.1 c.args.low c.args.high c.args.left c.requires.order.0 (omega arith)

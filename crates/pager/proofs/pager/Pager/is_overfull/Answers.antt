@@ -8,7 +8,7 @@ use Rattle.volume_codec.specs.Super.{pages_of}
 use Rattle.journal.specs.Pages.{home_of}
 use Rattle.pager.specs.Blocks.{bytes_in}
 use Rattle.pager.specs.State.{PagerState, file_length, reserved}
-use Rattle.pager.specs.Calls.{is_overfull, resized, end_page}
+use Rattle.pager.specs.Calls.{is_overfull, restaged, end_page}
 use Rattle.pager.specs.inside.Resizing.{MayHaveLength}
 use Rattle.pager.proofs.Inside.{state_of}
 use Rattle.pager.proofs.Resizing.{overfull_grown, added_to}
@@ -54,4 +54,4 @@ returns g c =
     (λ i. nat_lt (s.most + blocks i) (c.len.ensures i + more i + kept i))
     ∙ sym (overfull_grown g.D.Device.seen s c.self.invariant.sound c.args.file c.args.to may grows)
     ∙ ap (λ (p : PagerState g.row.D.Denot). is_overfull p.table p.most
-    (resized p.table p.lengths c.args.file c.args.to [] p.staged)) c.self.view_is
+    (restaged p.table p.lengths c.args.file c.args.to [] p.staged)) c.self.view_is

@@ -3,7 +3,7 @@ use Rattle.volume_codec.specs.Layout.{first_home}
 use Rattle.journal.specs.Pages.{home_of}
 use Rattle.pager.specs.Blocks.{cut_to}
 use Rattle.pager.specs.State.{PagerState, file_length}
-use Rattle.pager.specs.Calls.{is_overfull, resized, resized_to, end_page}
+use Rattle.pager.specs.Calls.{is_overfull, restaged, resized_to, end_page}
 use Rattle.pager.specs.inside.Sound.{IsSound}
 use Rattle.pager.specs.inside.Resizing.{MayHaveLength}
 use Rattle.pager.proofs.Inside.{state_of}
@@ -51,7 +51,7 @@ module _ (g : _) (c : After-self-1 g) where
   grows_to : file_length t.lengths c.args.file < c.args.to
   grows_to = omega (arith, from_to, c.requires.more)
 
-  staged_is : c.grow.new.self ≡ resized t.table t.lengths c.args.file c.args.to c.args.last.now t.staged
+  staged_is : c.grow.new.self ≡ restaged t.table t.lengths c.args.file c.args.to c.args.last.now t.staged
   staged_is = c.in-Ok.ensures.ok
       ∙ resized_grown g.D.Device.seen t c.self.invariant.sound c.args.file c.args.to may_to grows_to
       c.last_block-home.result c.block_after-high.result c.first_home-first.result c.cut_off.new.page
@@ -76,7 +76,7 @@ invariant_of-self g c = record {
   sound = subst (IsSound g.D.Device.seen) (sym (new_is g c))
       (sound_grown g.D.Device.seen (t g c) c.self.invariant.sound c.args.file c.args.to (may_to g c) c.args.last.now
       (grows_to g c) (back_to g c (λ p. is_overfull p.table p.most
-      (resized p.table p.lengths c.args.file c.args.to [] p.staged) ≡ false) c.requires.room));
+      (restaged p.table p.lengths c.args.file c.args.to [] p.staged) ≡ false) c.requires.room));
   lists = c.self.invariant.lists;
   homes = c.self.invariant.homes;
 }

@@ -2,7 +2,7 @@ use Rattle.std.proofs.Common.{◌≡◌, ℕ, ◌+◌, ◌%◌, ◌<◌, false, 
 use Rattle.volume_codec.specs.Layout.{first_home}
 use Rattle.volume_codec.specs.Super.{first_home_of, pages_of}
 use Rattle.pager.specs.State.{PagerState, file_length}
-use Rattle.pager.specs.Calls.{is_overfull, resized, resized_to}
+use Rattle.pager.specs.Calls.{is_overfull, restaged, resized_to}
 use Rattle.pager.specs.inside.Sound.{IsSound}
 use Rattle.pager.specs.inside.Resizing.{MayHaveLength}
 use Rattle.pager.proofs.Capacities.{length_fits}
@@ -27,10 +27,10 @@ module _ (g : _) (c : After-block_after-low g) where
   shrinks : c.args.to < file_length s.lengths c.args.file
   shrinks = omega (arith, from_is, c.requires.less)
 
-  room : is_overfull c.args.self.now.table c.args.self.now.most (resized c.args.self.now.table c.args.self.now.lengths
+  room : is_overfull c.args.self.now.table c.args.self.now.most (restaged c.args.self.now.table c.args.self.now.lengths
       c.args.file c.args.to [] c.args.self.now.staged) ≡ false
   room = subst (λ (p : PagerState g.row.D.Denot). is_overfull p.table p.most
-      (resized p.table p.lengths c.args.file c.args.to [] p.staged) ≡ false) c.self.view_is
+      (restaged p.table p.lengths c.args.file c.args.to [] p.staged) ≡ false) c.self.view_is
       (shrunk_room g.D.Device.seen s c.self.invariant.sound c.args.file c.args.to may shrinks)
 
 pub block_after-high-requires-clause-fits : goal.block_after-high-requires-clause-fits
@@ -66,7 +66,7 @@ module _ (g : _) (c : After-self-1 g) where
   shrinks_to : c.args.to < file_length t.lengths c.args.file
   shrinks_to = omega (arith, from_to, c.requires.less)
 
-  staged_is : (last : List ℕ) → c.shrink.new.self ≡ resized t.table t.lengths c.args.file c.args.to last t.staged
+  staged_is : (last : List ℕ) → c.shrink.new.self ≡ restaged t.table t.lengths c.args.file c.args.to last t.staged
   staged_is last = c.in-Ok.ensures.ok
       ∙ resized_shrunk g.D.Device.seen t c.self.invariant.sound c.args.file c.args.to may_to shrinks_to
       c.block_after-low.result c.block_after-high.result c.last_block-home.result c.first_home-first.result

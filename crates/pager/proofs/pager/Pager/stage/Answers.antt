@@ -3,7 +3,7 @@ use Rattle.std.specs.Prelude.{OnOk, OnErr}
 use Rattle.std.specs.Vec.{vec_capacity}
 use Rattle.volume_codec.specs.Layout.{first_home}
 use Rattle.volume_codec.specs.Super.{block_count}
-use Rattle.pager.specs.Blocks.{Blocks, with_block, bytes_in}
+use Rattle.pager.specs.Blocks.{Blocks, with_home, bytes_in}
 use Rattle.pager.specs.State.{PagerState, is_full}
 use Rattle.pager.specs.inside.Sound.{IsPager, IsBeforeEnd}
 use Rattle.pager.proofs.Putting.{rising_put, bytes_put}
@@ -21,7 +21,7 @@ pub staged_more : {D : Type 0} (seen : D → List ℕ) (s : PagerState D) (list_
     → IsPager seen s list_room home_room → first_home s.table.layout s.table.slots ≤ home
     → home < block_count s.table → IsBeforeEnd s.table s.lengths home
     → is_full s.table s.most s.staged home ≡ false
-    → IsPager seen (record s { staged = with_block s.staged home v }) list_room home_room
+    → IsPager seen (record s { staged = with_home s.staged home v }) list_room home_room
 staged_more seen s list_room home_room home v p low within before room = record {
   sound = record {
     fits = p.sound.fits;
