@@ -16,12 +16,12 @@
 #define PAGE 4096u
 #define MOST_FILES 64u
 #define MOST_NAME 32u
-/* The most blocks that are read of the volume at once. */
+/* The most blocks of the volume that are read at once. */
 #define MOST_READ 64u
-/* How many such reads are kept in the core until the oldest is forgotten. */
+/* The number of such reads whose blocks stay in the core. A further read makes it forget those of the oldest. */
 #define READS_KEPT 4u
 
-/* Where a line about a fault is put; its text may be a null pointer. */
+/* Room for a line about a fault; `text` may be a null pointer. */
 struct message {
     char *text;
     size_t room;
@@ -32,21 +32,21 @@ __attribute__((format(printf, 2, 3))) void say(struct message *message, const ch
 /* The file of a volume, open and locked. */
 struct volume {
     int file;         /* the file's descriptor; -1 if it isn't open */
-    int unlocked;     /* another one of the file, by which it is mapped: a mapping keeps a lock of its descriptor */
+    int unlocked;     /* another descriptor of the file, for mappings, which would keep the lock of `file` */
     int folder;       /* the descriptor of its folder; -1 if that isn't open */
     const char *name; /* the file's name in the folder: the end of `place` */
     char *flag;       /* the suspect flag's name in the folder */
-    char *place;      /* the file's path, for messages; a link is followed to its file */
-    bool readonly;    /* it is open for reading, and others may read it, too */
+    char *place;      /* the file's path, for messages; of a link, the path of its target */
+    bool readonly;    /* the file is open for reading, and others may read it, too */
     uint64_t bytes;   /* the file's length */
 };
 
-/* Some pages, from one up to before another. */
+/* The pages from `begin` to before `end`. */
 struct span {
     size_t begin, end;
 };
 
-/* Makes a span have these pages, too. */
+/* Makes a span contain these pages, too. */
 static inline void widen(struct span *span, size_t begin, size_t end)
 {
     if (span->begin == span->end)
@@ -55,7 +55,7 @@ static inline void widen(struct span *span, size_t begin, size_t end)
     span->end = end > span->end ? end : span->end;
 }
 
-/* By what the kernel tracks stores: the descriptors of a userfaultfd and of this process's page map. */
+/* The descriptors with which the kernel tracks stores: a userfaultfd, and this process's page map. */
 struct tracker {
     int faults, pages;
 };
@@ -63,13 +63,13 @@ struct tracker {
 struct file {
     char name[MOST_NAME + 1];
     _Atomic uint64_t length; /* in bytes; set under `turn`, read by any thread */
-    uint64_t pages;          /* the most that it can have */
+    uint64_t pages;          /* the most pages that it can have */
     uint64_t home;           /* the block of its first page */
-    struct span staged;      /* all of its pages that wait for a commit in the core lie in it */
+    struct span staged;      /* contains each page that waits in the core for a commit */
 };
 
-/* Writes that are made together, in rising order of their offsets; none overlaps another. Their bytes are where the
-   core has them, up to the next call of it that isn't famsync_core_call. */
+/* A write, one of several that are made together, ordered by their offsets. None overlaps another. The bytes belong to
+   the core. They are valid until its next call other than famsync_core_call. */
 struct piece {
     uint64_t offset; /* in the volume's file */
     size_t length;
@@ -87,14 +87,13 @@ struct reading {
     uint32_t first, count;
 };
 
-/* What was supplied to open a volume: at last, and up to before which block. */
+/* The blocks that were supplied to open a volume: the last ones, and the end of all of them. */
 struct opening {
     struct reading last;
     uint32_t end;
 };
 
-/* The calls of the system that were made on the volume's file since the session began, and the bytes that they wrote.
- */
+/* The system calls on the volume's file since the session began, and the bytes that they wrote. */
 struct counts {
     uint64_t reads, writes, syncs, bytes_written;
 };
@@ -102,48 +101,48 @@ struct counts {
 /* A backup that is being made: backup.c. */
 struct backup;
 
-/* A thread that waits for a commit; it is on that thread's stack. */
+/* A thread that waits for a commit. It lies on that thread's stack. */
 struct waiter {
     struct waiter *next;
     bool done;
-    int code, error; /* what it is answered, and errno */
+    int code, error; /* the code that its call returns, and errno */
     uint64_t mark;
 };
 
 struct famsync {
-    pthread_mutex_t turn; /* whoever has it may call the core, and uses what isn't said to be of another lock */
-    uint64_t process;     /* the number of the process that began the session; and the system's number of it */
+    pthread_mutex_t turn; /* its holder may call the core. It guards each field that names no other lock */
+    uint64_t process;     /* the library's number of the process that began the session; `pid` is the system's */
     pid_t pid;
     int cancel;          /* whether the thread that has the turn could be cancelled before */
-    _Atomic int callers; /* how many calls have the turn or wait for it */
-    famsync_core core;   /* the handle; it never leaves the library */
+    _Atomic int callers; /* the number of calls that have the turn or wait for it */
+    famsync_core core;   /* the core's handle; it never leaves the library */
     struct volume volume;
     int ended;     /* FAMSYNC_DEVICE or FAMSYNC_UNMARKED once a write or a sync has failed */
-    int error;     /* and errno then */
-    bool reported; /* a call has answered that */
-    bool torn;     /* memory was closed of which a refused msync had stored a part */
+    int error;     /* errno of that failure */
+    bool reported; /* a call has returned that failure */
+    bool torn;     /* a failed msync took a part of some memory, which was then closed: no further commit */
     unsigned files;
     struct file file[MOST_FILES];
     unsigned frames;
-    uint32_t blocks;   /* of the volume */
-    uint32_t head;     /* the first of them that is a file's; 0 until the core has opened the volume */
-    bool shares_syncs; /* it has four journals: the syncs of a commit serve those before, too */
+    uint32_t blocks;   /* the number of blocks of the volume */
+    uint32_t head;     /* the first block of a file; 0 until the core has opened the volume */
+    bool shares_syncs; /* the volume has four journals: the syncs of a commit serve earlier commits, too */
     struct gathered gathered;
     struct counts counts;
-    struct backup *backup; /* a null pointer where none is being made */
+    struct backup *backup; /* the backup that is being made; null if there is none */
     unsigned char *read;   /* room for MOST_READ blocks */
     struct reading reading[READS_KEPT];
-    unsigned readings; /* how many were made */
+    unsigned readings; /* the number of readings so far */
     _Atomic uint64_t acknowledged;
-    bool resized;      /* a length was set that waits for a commit */
-    uint32_t numbered; /* how many commits there were that had pages */
-    bool is_tracked;   /* the kernel notes stores to plain memory, and not the handler of SIGSEGV */
+    bool resized;      /* a new length waits for a commit */
+    uint32_t numbered; /* the number of commits that had pages */
+    bool is_tracked;   /* the kernel notes stores to plain memory, instead of the handler of SIGSEGV */
     struct tracker tracker;
-    bool resident;            /* plain memory is read in, and isn't the volume's file */
+    bool resident;            /* plain memory is read whole, instead of mapping the volume's file */
     uint64_t budget;          /* the most bytes of committed pages that plain memory keeps */
-    famsync_memory *memories; /* open ones, linked by `next_one` */
-    atomic_uint closing; /* taken by the handler of SIGSEGV, too: plain memory's pages are opened and closed under it */
-    /* commits: who waits for one, and whether one is being made; under `queue` */
+    famsync_memory *memories; /* open memories, linked by `next_one` */
+    atomic_uint closing;      /* a lock to open and close pages of plain memory; the handler of SIGSEGV takes it, too */
+    /* commits: the waiting threads, and whether a commit is being made; under `queue` */
     pthread_mutex_t queue;
     pthread_cond_t answered;
     struct waiter *waiters;
@@ -152,13 +151,13 @@ struct famsync {
     pthread_t thread;
     pthread_cond_t work;
     bool threaded, stopping;
-    bool pausing;          /* it waits for another commit, and is not to be woken by calls */
-    bool left;             /* something is left to be written of a commit */
-    famsync *next, **link; /* among the handles of this process */
+    bool pausing;          /* the thread waits for another commit; calls don't wake it */
+    bool left;             /* a part of a commit is still to be written */
+    famsync *next, **link; /* in the list of this process's handles */
 };
 
-/* codes.c: the code of the library for one of the core; and for one that a request of the session was answered: where
-   the core had no memory to record a call, now or earlier, the session is over, and errno is ENOMEM. */
+/* codes.c: the library's code for a code of the core. `answer_of` is for the answer to a request of the session. If the
+   core had no memory to record a call, now or earlier, it ends the session with errno ENOMEM. */
 int code_of(int64_t core_code);
 int answer_of(famsync *handle, int64_t core_code);
 
@@ -176,73 +175,76 @@ static inline void allow_cancel(int before)
     pthread_setcancelstate(before, &now);
 }
 
-/* api.c: turns. If `enter` returns FAMSYNC_OK, the caller has the turn until `leave`. A forked process gets
-   FAMSYNC_FORKED, even if its call lacks the arguments that it needs; else such a call gets FAMSYNC_ARGUMENT. */
+/* api.c: turns. If `enter` returns FAMSYNC_OK, the caller has the turn until `leave`. In a forked process it returns
+   FAMSYNC_FORKED, even if the call lacks arguments. Otherwise a call that lacks arguments gets FAMSYNC_ARGUMENT. */
 int enter(famsync *handle, bool has_arguments);
 int leave(famsync *handle, int code);
-/* The number of the file with this name; that of all files where there is none. */
+/* The number of the file with this name; the number of files if there is none. */
 unsigned number_of(const famsync *handle, const char *name);
 
-/* volume_file.c: a file under a descriptor above 2, that no program which is started gets: where a standard stream was
-   closed, a file that is opened gets its number, and what is meant for the stream would land in the file. */
+/* volume_file.c: moves a file to a descriptor above 2, and opens one there. The descriptor is close-on-exec. If a
+   program closed a standard stream, the next opened file gets its number. Then output to the stream would go into the
+   file. */
 int above_streams(int file);
 int open_above_streams(int folder, const char *name, int flags);
 /* Closes a descriptor that is open, and keeps errno. */
 void close_descriptor(int *descriptor);
-/* Opens, locks and judges the file of a volume, and syncs it; nothing is open where it is refused. */
+/* Opens and locks the file of a volume, checks its kind and its suspect flag, and syncs it. If the file is refused,
+   nothing stays open. */
 int open_volume_file(const char *path, const struct famsync_options *options, struct volume *volume,
                      struct message *message);
 void close_volume_file(struct volume *volume);
-/* Closes the descriptors alone, in a process that was forked. */
+/* Closes the descriptors in a forked process. It doesn't unlock the file. */
 void let_volume_go(struct volume *volume);
-/* Unlocks the file, and closes it: a process that was forked, and is about to be another program, may have it open. */
+/* Unlocks the file and closes it. Closing isn't enough: a forked process may still have it open before it starts
+   another program. */
 void unlock_volume(struct volume *volume);
 /* Flags a volume as suspect, and makes the flag durable; FAMSYNC_SYSTEM if that can't be done. */
 int flag_suspect(const struct volume *volume);
 
-/* drain.c: makes the calls that the core has recorded, unless the newest of them is a write: writes that aren't to be
-   synced yet wait. An error ends the session. */
+/* drain.c: makes the calls that the core has recorded. It makes none if the newest of them is a write: such writes wait
+   for their sync. An error ends the session. */
 int drain(famsync *handle);
-/* Whether the newest of the calls that wait is a sync; whether any of them is a write. */
+/* Whether the newest waiting call is a sync; whether any waiting call is a write. */
 bool ends_with_sync(famsync *handle);
 bool has_write(famsync *handle);
 int begin_gathering(struct gathered *gathered, unsigned pieces);
 void end_gathering(struct gathered *gathered);
 
-/* supply.c: reads blocks of the volume, and supplies them to the core. To open the volume, each block that the core
-   wants, with those behind it if it wanted the block after the last ones. `*opening` begins as zeros. Once the volume
-   is open, those of them that are the files' are forgotten. */
+/* supply.c: reads blocks of the volume, and supplies them to the core. `supply_to_open` supplies a block that the core
+   wants to open the volume. If that is the block after the last supplied ones, it supplies the next blocks as well.
+   `*opening` begins as zeros. `forget_supplied` makes the core forget the files' blocks among them, once the volume is
+   open. */
 int supply_to_open(famsync *handle, uint32_t block, struct opening *opening);
 void forget_supplied(famsync *handle, const struct opening *opening);
-/* Reads blocks of the volume to `bytes`, whole. */
+/* Reads whole blocks of the volume into `bytes`. */
 int read_blocks(famsync *handle, uint32_t block, uint32_t count, unsigned char *bytes);
-/* The block that the core wants, and those behind it: so many in all, or MOST_READ where these are more. */
+/* Supplies the block that the core wants, and those after it: `pages` in all, but at most MOST_READ. */
 int supply(famsync *handle, uint32_t block, uint64_t pages);
 
-/* ranges.c: ranges of bytes of a file, in the core's pages; the caller has its turn, and the range is within the file.
-   `*done` is how many bytes were read or written, whatever the code. */
+/* ranges.c: reads and writes a range of a file, in the core's pages. The caller has the turn, and the range is within
+   the file. `*done` is the number of bytes that were read or written, also after a failure. */
 int read_range(famsync *handle, unsigned file, uint64_t offset, unsigned char *bytes, size_t count, size_t *done);
 int write_range(famsync *handle, unsigned file, uint64_t offset, const unsigned char *bytes, size_t count,
                 size_t *done);
 /* Sets a file's length, up to its capacity. */
 int set_length(famsync *handle, unsigned file, uint64_t length);
-/* How many of some pages of a file the next commit has already. */
+/* The number of pages of this range of a file that the next commit has already. */
 uint64_t staged_among(famsync *handle, unsigned file, uint64_t first, uint64_t count);
 
-/* stores.c: the stores to plain memory, for a commit; the caller has its turn. */
+/* stores.c: the stores to plain memory, for a commit. The caller has the turn. */
 int take_stores(famsync *handle);
 void put_stores_back(famsync *handle);
 void stores_are_committed(famsync *handle);
-/* Gives committed pages back to the system where plain memory keeps more of them than its budget has. */
+/* Gives committed pages back to the system if plain memory keeps more of them than its budget allows. */
 void keep_to_budget(famsync *handle);
-/* memory.c: */
-/* How many pages of plain memory were stored to that the core doesn't have for the next commit. */
+/* memory.c: the number of pages of plain memory that were stored to and that the core doesn't yet have. */
 uint64_t stored_pages(famsync *handle);
-/* The plain memory of a file that is open; a null pointer where none is. */
+/* The open plain memory of a file; a null pointer if there is none. */
 famsync_memory *memory_of_file(const famsync *handle, unsigned file);
 /* Sets the length of a file by its plain memory. */
 int resize_memory(famsync_memory *memory, uint64_t length);
-/* Reads and writes a range of a file by its plain memory; the same as with the core's pages. */
+/* Read and write a range of a file by its plain memory. */
 void read_memory(const famsync_memory *memory, uint64_t offset, unsigned char *bytes, size_t count);
 int write_memory(famsync_memory *memory, uint64_t offset, const unsigned char *bytes, size_t count);
 
@@ -250,29 +252,30 @@ int write_memory(famsync_memory *memory, uint64_t offset, const unsigned char *b
 int begin_tracking(struct tracker *tracker);
 void end_tracking(struct tracker *tracker);
 
-/* backup.c: copies the blocks that are about to be overwritten to the backup that is being made, if any. */
+/* backup.c: copies blocks that the next calls overwrite to the backup that is being made, if there is one. */
 void save_for_backup(famsync *handle);
 
-/* heap.c: the bytes that the cores of all sessions of this process have of its memory. */
+/* heap.c: the bytes of memory that the cores of all sessions of this process have. */
 uint64_t memory_in_use(void);
 
-/* background.c: the thread that writes what is left of a commit. */
+/* background.c: the thread that writes the remaining part of a commit. */
 void begin_background(famsync *handle);
 void end_background(famsync *handle);
-/* Makes what is left of a commit, up to its next sync, or until another call comes; the caller has its turn. */
+/* Writes the remaining part of a commit, up to its next sync. With `gives_way` it ends early if another call comes. The
+   caller has the turn. */
 int write_out(famsync *handle, bool gives_way);
-/* Makes all that is left of commits. */
+/* Writes the remaining parts of all commits. */
 int write_all_out(famsync *handle);
-/* The newest of the numbered commits of which all pages are in their home blocks, and so are those before it. */
+/* The newest numbered commit such that its pages and those of all earlier commits are in their home blocks. */
 uint32_t newest_home(famsync *handle);
 
-/* forks.c: the handles of this process, so that a forked one lets their volumes go. */
+/* forks.c: the list of this process's handles, so that a forked process closes their volumes. */
 int enter_handle(famsync *handle);
 void leave_handle(famsync *handle);
-/* Whether this process is a copy of the one that began the session. One that shares its memory isn't. */
+/* Whether this process is a copy of the one that began the session. A process that shares its memory isn't a copy. */
 bool is_forked(const famsync *handle);
 
-/* faults.c: the lock of the table in which the handler of SIGSEGV finds plain memory. */
+/* faults.c: the lock of the table by which the handler of SIGSEGV finds plain memory. */
 void lock_table(void);
 void unlock_table(void);
 
