@@ -4,13 +4,13 @@
         bank = volume.memory("bank")
         bank[0:8] = (93).to_bytes(8, "little")
         bank[8:16] = (7).to_bytes(8, "little")
-        volume.commit()                             # both or neither, whatever happens to the machine
+        volume.commit()                             # both or neither
 
-Whatever ends this process or the system, the next session finds the files as they were at some commit, all of it and
-nothing else, and not before the last one that `commit` returned from. A volume has one session at a time.
+Even if this process is killed or the system crashes, the next session finds the files as they were at one commit: the
+last one that `commit` returned from, or a later one. A volume has one session that writes.
 
-There are two ways to the bytes of a file: `Volume.memory`, a buffer to store through, and `Volume.read` and
-`Volume.write`. Where a call is refused or something fails an `Error` is raised.
+A program can access the bytes of a file in two ways: by `Volume.memory`, a buffer to store through, and by
+`Volume.read` and `Volume.write`. A call that fails raises an `Error`.
 """
 
 from __future__ import annotations
@@ -99,7 +99,7 @@ def open(
     budget: int = 0,
     kernel_tracking: bool = False,
 ) -> Volume:
-    """Begins a session with a volume; `Volume` says what the arguments are."""
+    """Begins a session with a volume; `Volume` describes the arguments."""
     return Volume(
         path,
         trust=trust,

@@ -11,8 +11,8 @@ from ._library import words
 class Error(Exception):
     """A call was refused, or something failed.
 
-    `code` is that of famsync.h. Of a read or a write that ended on its way, `done` is how many bytes were read or
-    written before, and `read` has those that were read.
+    `code` is that of famsync.h. If a read or a write failed on the way, `done` is the number of bytes that were read or
+    written before, and `read` has the bytes read.
     """
 
     code = 0
@@ -23,31 +23,31 @@ class Error(Exception):
 
 
 class Argument(Error, ValueError):
-    """An argument isn't one that this call takes."""
+    """An argument is invalid."""
 
     code = -1
 
 
 class NoMemory(Error, MemoryError):
-    """This process was refused memory."""
+    """Memory was refused."""
 
     code = -2
 
 
 class System(Error, OSError):
-    """A call of the system failed; `errno` says how."""
+    """A system call failed; `errno` has the cause."""
 
     code = -3
 
 
 class InUse(Error):
-    """The volume is open already: in another process, or in this one."""
+    """The volume is open already, in another process or in this one."""
 
     code = -6
 
 
 class Suspect(Error):
-    """A sync of the volume failed once: it opens with trust=True."""
+    """An earlier sync of the volume failed; it opens only with trust=True."""
 
     code = -7
 
@@ -59,25 +59,25 @@ class Forked(Error):
 
 
 class Torn(Error):
-    """A part of what belongs together was stored or undone, and nothing can be committed."""
+    """Only a part of the stores was taken or undone: the session can't commit any more."""
 
     code = -12
 
 
 class NotRegular(Error):
-    """The path names a folder, a device, a pipe or a socket, and no regular file."""
+    """The path names no regular file, but a folder, a device, a pipe or a socket."""
 
     code = -13
 
 
 class SeveralNames(Error):
-    """The volume's file has several names, by which others may use it."""
+    """The volume's file has several names, so others could use it by another name."""
 
     code = -14
 
 
 class Replaced(Error):
-    """Whenever the volume's file was locked, the path named another one."""
+    """Each time that the volume's file was locked, the path named another file by then."""
 
     code = -15
 
@@ -89,13 +89,13 @@ class NotAVolume(Error):
 
 
 class Damaged(Error):
-    """The file begins as a volume, and its bytes or its length break the format."""
+    """The file begins as a volume, but its bytes or its length break the format."""
 
     code = -17
 
 
 class BadShape(Error):
-    """A commit to this volume can't have so many pages as `frames` says."""
+    """`frames` is more than a commit of this volume can have."""
 
     code = -18
 
@@ -107,19 +107,19 @@ class NoFrame(Error):
 
 
 class Device(Error, OSError):
-    """A read, a write or a sync of the volume failed, or was refused memory; `errno` says how: ENOSPC, EIO, ENOMEM."""
+    """A read, a write or a sync of the volume failed; `errno` has the cause: ENOSPC, EIO, ENOMEM."""
 
     code = -28
 
 
 class Broken(Error, OSError):
-    """A write or a sync failed earlier, and the session is over; `errno` says how that one failed."""
+    """A write or a sync failed earlier, so the session is over; `errno` has the cause."""
 
     code = -29
 
 
 class Invalid(Error):
-    """The bytes of a write aren't within the file; or a length is above the file's capacity, or in layout 1 or 2."""
+    """The bytes aren't within the file; or a length is above the capacity, or the volume has layout 1 or 2."""
 
     code = -30
 
@@ -137,14 +137,14 @@ class NoFile(Error):
 
 
 class Busy(Error):
-    """Plain memory of the file is open; a backup is being made; a thread stored during a commit, with kernel tracking; or
-    the session has made 2^32 - 1 commits."""
+    """Plain memory of the file is open; or another backup is being made; or, with kernel tracking, a thread stored
+    during a commit; or the session has made 2^32 - 1 commits."""
 
     code = -35
 
 
 class Unmarked(Error, OSError):
-    """A sync failed, and the volume's suspect flag couldn't be made; `errno` says how the sync failed."""
+    """A sync failed, and the volume's suspect flag couldn't be made; `errno` has the cause of the sync's failure."""
 
     code = -39
 
@@ -168,13 +168,13 @@ class Address(Error):
 
 
 class Staged(Error):
-    """A write, a length or a part of a refused commit waits, which can't be undone."""
+    """A change that can't be undone waits for a commit."""
 
     code = -43
 
 
 class Tracking(Error):
-    """The system can't track stores to plain memory in the way that was asked for."""
+    """The system can't track stores to plain memory in the requested way."""
 
     code = -44
 

@@ -54,8 +54,8 @@ class Once:
 class Session:
     """A handle of the library's. Who ends it waits for the calls of other threads.
 
-    Nothing is noted of a call: a handler of a signal that raises could leave it wrong, and a lock taken. The interpreter
-    is asked which threads are in one.
+    No variable counts the calls, and no lock guards them: a signal handler that raises could leave both wrong. Instead
+    the interpreter is asked which threads are in a call.
     """
 
     def __init__(self, what: str) -> None:

@@ -56,7 +56,9 @@ _BITS = {"frames": 32, "copies": 32, "wait_ms": 32, "budget": 8 * ctypes.sizeof(
 
 def _options(said: Any, **given: Any) -> Options:
     """The options of a session, with room for what is said where it doesn't begin."""
-    fields = {name: _number(value, _BITS[name], name) if name in _BITS else bool(value) for name, value in given.items()}
+    fields = {
+        name: _number(value, _BITS[name], name) if name in _BITS else bool(value) for name, value in given.items()
+    }
     return Options(
         size=ctypes.sizeof(Options), message=ctypes.addressof(said), message_size=ctypes.sizeof(said), **fields
     )
@@ -98,18 +100,18 @@ def _sync_folder(path: Path) -> None:
 class Volume:
     """A session with the volume at `path`; `famsync.open` begins one.
 
-    - `trust`: a volume whose sync failed once is opened all the same.
-    - `frames`: the most pages that one commit can have; 0 is as many as the volume allows.
+    - `trust`: opens a volume even if an earlier sync of it failed.
+    - `frames`: the most pages of one commit; 0 means as many as the volume allows.
     - `copies`: ignored.
-    - `foreground`: no thread of the library's own, which writes what is left of a commit while nobody calls.
-    - `wait_ms`: how many milliseconds to wait for a volume that is in use.
+    - `foreground`: no thread of the library's own. Otherwise it writes a part of each commit after its acknowledgement.
+    - `wait_ms`: how long to wait for a volume that is in use, in milliseconds.
     - `readonly`: a session that only reads. Any number of them share a volume.
-    - `resident`: plain memory is read in whole, and is no mapping of the volume's file.
-    - `budget`: the most bytes of committed pages that plain memory keeps, with a copy of each; 0 is 64 MB.
-    - `kernel_tracking`: the kernel notes stores to plain memory, also its own, without a handler of SIGSEGV; Tracking if
-      it can't. Other threads may not store during a commit then: Busy. It doesn't go together with `resident`.
+    - `resident`: a file is read whole to open its plain memory, instead of mapping the volume's file.
+    - `budget`: the most bytes of committed pages that plain memory keeps, with a copy of each; 0 means 64 MB.
+    - `kernel_tracking`: the kernel notes stores to plain memory, including its own, without a handler of SIGSEGV. If it
+      can't, Tracking. Other threads may not store during a commit: Busy. It excludes `resident`.
 
-    Threads may share it, and their commits. At the end of a `with` it is closed.
+    Threads may share it, and share commits. At the end of a `with` it is closed.
     """
 
     def __init__(
@@ -161,13 +163,13 @@ class Volume:
 
     @property
     def frames(self) -> int:
-        """How many pages of 4,096 bytes one commit can have."""
+        """The most pages of 4,096 bytes that one commit can have."""
         frames: int = self._session.call(library.famsync_frames)
         return frames
 
     @property
     def acknowledged(self) -> int:
-        """The number of the last commit that was acknowledged, 0 where none was."""
+        """The number of the last acknowledged commit; 0 if there is none."""
         mark: int = self._session.call(library.famsync_acknowledged)
         return mark
 

@@ -37,58 +37,59 @@ macro_rules! codes {
 }
 
 codes! {
-    /// An argument isn't one that this call takes.
+    /// An argument is invalid.
     Argument = -1,
-    /// This process was refused memory.
+    /// Memory was refused.
     NoMemory = -2,
-    /// A call of the system failed; [`Error::system`] says how.
+    /// A system call failed; [`Error::system`] has the cause.
     System = -3,
-    /// The volume is open already: in another process, or in this one.
+    /// The volume is open already, in another process or in this one.
     InUse = -6,
-    /// A sync of the volume failed once; it opens where it is trusted.
+    /// An earlier sync of the volume failed; it opens only with [`Options::trust`](crate::Options::trust).
     Suspect = -7,
     /// The volume was opened by the process from which this one was forked.
     Forked = -11,
-    /// A part of what belongs together was stored or undone: nothing more can be committed.
+    /// Only a part of the stores was taken or undone: the session can't commit any more.
     Torn = -12,
-    /// It is a folder, a device, a pipe or a socket, and no regular file.
+    /// The path names no regular file, but a folder, a device, a pipe or a socket.
     NotRegular = -13,
-    /// The volume's file has several names, by which others may use it.
+    /// The volume's file has several names, so others could use it by another name.
     Names = -14,
-    /// Whenever the volume's file was locked, the path named another one.
+    /// Each time that the volume's file was locked, the path named another file by then.
     Replaced = -15,
     /// The file doesn't begin as a volume.
     NotAVolume = -16,
-    /// The file begins as a volume, and its bytes or its length break the format.
+    /// The file begins as a volume, but its bytes or its length break the format.
     Damaged = -17,
-    /// A commit to this volume can't have so many pages as [`Options::frames`](crate::Options::frames) says.
+    /// [`Options::frames`](crate::Options::frames) is more than a commit of this volume can have.
     Shape = -18,
     /// More pages were written, or added to a file, than one commit can have.
     NoFrame = -27,
-    /// A read, a write or a sync of the volume failed, or was refused memory; [`Error::system`] says how.
+    /// A read, a write or a sync of the volume failed; [`Error::system`] has the cause.
     Device = -28,
-    /// A write or a sync failed earlier, and the session is over; [`Error::system`] says how that one failed.
+    /// A write or a sync failed earlier, so the session is over; [`Error::system`] has the cause.
     Broken = -29,
-    /// The bytes or the length are outside the range that the file has.
+    /// The bytes or the length are outside the file's range.
     Einval = -30,
-    /// Memory of the file is open already in another way, or is asked for twice.
+    /// Memory of the file is open already in another way, or the call names the file twice.
     Overlap = -33,
     /// The volume has no such file.
     NoFile = -34,
     /// Memory of the file is open; a backup is being made; a thread stored during a commit, with
     /// [`kernel_tracking`](crate::Options::kernel_tracking); or the session has made 2^32 - 1 commits.
     Busy = -35,
-    /// A sync failed, and the volume's suspect flag couldn't be made; [`Error::system`] says how the sync failed.
+    /// A sync failed, and the volume's suspect flag couldn't be made; [`Error::system`] has the cause of the sync's
+    /// failure.
     Unmarked = -39,
-    /// A crash or a failed sync left work for a writer: open the volume once for writing.
+    /// A crash or a failed sync left work for a writer: open the volume for writing once.
     NeedsOpening = -40,
     /// The session only reads.
     ReadOnly = -41,
     /// There can't be memory at this address.
     Address = -42,
-    /// A write, a length or a part of a refused commit waits, which can't be undone.
+    /// A change that can't be undone waits for a commit.
     Staged = -43,
-    /// The system can't track stores to plain memory in the way that was asked for.
+    /// The system can't track stores to plain memory in the requested way.
     Tracking = -44,
 }
 
@@ -133,13 +134,13 @@ impl Error {
         self.code
     }
 
-    /// Of [`Code::System`], [`Code::Device`], [`Code::Broken`] and [`Code::Unmarked`], what the system answered: a full
-    /// disk, a broken one and want of memory are told apart by it.
+    /// The system's error, for [`Code::System`], [`Code::Device`], [`Code::Broken`] and [`Code::Unmarked`]. It
+    /// distinguishes a full disk, a broken disk and a lack of memory.
     pub fn system(&self) -> Option<&io::Error> {
         self.system.as_ref()
     }
 
-    /// How many bytes a read or a write had done before it was refused; 0 of all other calls.
+    /// The number of bytes that a read or a write had done before it failed; 0 for all other calls.
     pub fn done(&self) -> usize {
         self.done
     }

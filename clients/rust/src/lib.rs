@@ -1,7 +1,7 @@
 //! Files whose changes become durable together: keep your data in memory, and make it durable with one call.
 //!
-//! After a crash at any moment the files of a [`Volume`] are as they were at some [`commit`](Volume::commit), all of it
-//! and nothing else, and not before the last one that was acknowledged.
+//! After a crash at any moment the files of a [`Volume`] are as they were at one [`commit`](Volume::commit): the last
+//! acknowledged one, or a later one.
 //!
 //! ```
 //! # include!(concat!(env!("CARGO_MANIFEST_DIR"), "/tests/volumes/mod.rs"));
@@ -12,7 +12,7 @@
 //! let bank = volume.memory_mut("bank")?;
 //! bank[3] = 93;
 //! bank[9] = 7;
-//! volume.commit()?; // both or neither, whatever happens to the machine
+//! volume.commit()?; // both or neither
 //! # Ok(())
 //! # }
 //! ```

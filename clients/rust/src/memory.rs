@@ -30,8 +30,8 @@
 //! to stores. The page is closed by `mprotect`, which returns once no processor has it open any more, so that all
 //! earlier stores come before the read. A later store raises SIGSEGV, whose handler waits for a lock that the commit
 //! gives back when it has read: so the read comes before that store. `famsync_memory_dirty` and `famsync_stat` read
-//! pages that are open, and are asked only by who has the volume alone. `famsync_read` reads them, too, and only if they
-//! are bytes to those who share the volume.
+//! pages that are open. So they are called only through a `&mut Volume`. `famsync_read` reads them, too, and is called
+//! only while the memory isn't shared as words.
 //!
 //! Words and slices of the same bytes would be in each other's way, so a file that is shared has one view.
 //!

@@ -36,18 +36,19 @@ pub struct Options {
 }
 
 impl Options {
-    /// What [`Volume::open`] takes: no trust, as many pages in a commit as the volume takes, a thread in the background, no waiting, and a session that writes.
+    /// The options of [`Volume::open`]: no trust, as many pages in a commit as the volume allows, a thread in the
+    /// background, no waiting, and a session that writes.
     pub fn new() -> Options {
         Options::default()
     }
 
-    /// Whether a volume that is flagged as suspect is opened; its flag is removed then.
+    /// Whether to open a volume that is flagged as suspect, and remove the flag.
     pub fn trust(&mut self, trust: bool) -> &mut Options {
         self.trust = trust;
         self
     }
 
-    /// The most pages of one commit; 0 is as many as the volume takes.
+    /// The most pages of one commit; 0 means as many as the volume allows.
     pub fn frames(&mut self, frames: u32) -> &mut Options {
         self.frames = frames;
         self
@@ -59,8 +60,8 @@ impl Options {
         self
     }
 
-    /// Whether the library goes without a thread of its own. What a commit writes after its acknowledgement is then
-    /// written by the next one, and else while nobody calls.
+    /// Whether the library has no thread of its own. A part of a commit's writes comes after its acknowledgement.
+    /// Without a thread the next commit makes them; otherwise the thread does while no call is in progress.
     pub fn foreground(&mut self, foreground: bool) -> &mut Options {
         self.foreground = foreground;
         self
@@ -80,22 +81,22 @@ impl Options {
         self
     }
 
-    /// Whether plain memory is read in whole, and is no mapping of the volume's file. Without it a load may raise SIGBUS
-    /// if that file can't be read or was cut off, and a forked process may see later commits.
+    /// Whether a file is read whole to open its plain memory, instead of mapping the volume's file. Otherwise a load
+    /// raises SIGBUS if that file can't be read or was truncated, and a forked process may see later commits.
     pub fn resident(&mut self, resident: bool) -> &mut Options {
         self.resident = resident;
         self
     }
 
-    /// The most bytes of committed pages that plain memory keeps, with a copy of each; 0 is 64 MB.
+    /// The most bytes of committed pages that plain memory keeps, with a copy of each; 0 means 64 MB.
     pub fn budget(&mut self, bytes: usize) -> &mut Options {
         self.budget = bytes;
         self
     }
 
-    /// Whether the kernel notes stores to plain memory, also its own, without a handler of SIGSEGV; [`Code::Tracking`]
-    /// where it can't. Threads may not store to [`words`](Volume::words) during a commit then: [`Code::Busy`]. It
-    /// doesn't go together with [`resident`](Options::resident).
+    /// Whether the kernel notes stores to plain memory, including its own, without a handler of SIGSEGV. If it can't,
+    /// [`Code::Tracking`]. Threads may not store to [`words`](Volume::words) during a commit then: [`Code::Busy`]. It
+    /// excludes [`resident`](Options::resident).
     pub fn kernel_tracking(&mut self, kernel_tracking: bool) -> &mut Options {
         self.kernel_tracking = kernel_tracking;
         self

@@ -65,9 +65,8 @@ pub struct File<'a> {
 
 /// A session with a volume, which is locked until this is dropped or [closed](Volume::close).
 ///
-/// Its changes become durable together, by [`commit`](Volume::commit). Whatever ends this process or the system, the
-/// next session finds the files as they were at some commit, all of it and nothing else, and not before the last one
-/// that was acknowledged.
+/// Its changes become durable together, by [`commit`](Volume::commit). Even if this process is killed or the system
+/// crashes, the next session finds the files as they were at one commit: the last acknowledged one, or a later one.
 ///
 /// There are two ways to the bytes of a file: plain memory ([`memory_mut`](Volume::memory_mut),
 /// [`words`](Volume::words)), and calls ([`read`](Volume::read), [`write`](Volume::write)).
@@ -99,8 +98,8 @@ impl Volume {
         Volume { slots, session, opening: Mutex::new(()), readonly, process: process::id() }
     }
 
-    /// Ends the session, as dropping it does, and says whether that went well. Changes since the last commit are gone.
-    /// [`Code::Device`] where a write or a sync failed, now or earlier: what was acknowledged is kept.
+    /// Ends the session, as dropping it does, and returns whether that succeeded. Changes since the last commit are
+    /// lost. [`Code::Device`]: a write or a sync failed, now or earlier. What was acknowledged is durable.
     pub fn close(self) -> Result<(), Error> {
         let Volume { slots, session, .. } = self;
         drop(slots);
@@ -115,19 +114,19 @@ impl Volume {
         })
     }
 
-    /// How many pages of 4,096 bytes a commit of this session can have.
+    /// The most pages of 4,096 bytes that a commit of this session can have.
     pub fn frames(&self) -> usize {
         // Safety: the session is open.
         unsafe { ffi::famsync_frames(self.session.handle()) as usize }
     }
 
-    /// Makes all changes of this session durable, all of them or none, and returns when they are. The answer is the
-    /// commit's number, counted from 1 in each session.
+    /// Makes all changes of this session durable, all of them or none. It returns when they are durable. The result is
+    /// the commit's number, counted from 1 in each session.
     ///
-    /// Threads that call it while a commit is being written share the next one. Where it is refused, all changes still
-    /// wait for a commit, and the next call takes them again. [`Code::NoFrame`]: the pages that were changed are more
-    /// than one commit can have; no later call can commit them either. [`Code::Device`]: a write or a sync failed, and
-    /// the session is over; each later call answers [`Code::Broken`].
+    /// Threads that call it during a commit share the next one. If it is refused, all changes still wait, and the next
+    /// call commits them. [`Code::NoFrame`]: the changed pages are more than one commit can have, and no later call can
+    /// commit them either. [`Code::Device`]: a write or a sync failed, and the session is over. Each later call returns
+    /// [`Code::Broken`].
     ///
     /// No slice of [`memory_mut`](Volume::memory_mut) may live meanwhile, which the compiler checks:
     ///
@@ -147,15 +146,15 @@ impl Volume {
         Ok(mark)
     }
 
-    /// Undoes all stores to plain memory since the last commit, in all files. [`Code::Staged`] where something else waits
-    /// for a commit, as what was written to a file without memory, or a length: then nothing is undone.
+    /// Undoes all stores to plain memory since the last commit, in all files. [`Code::Staged`]: a change that can't be
+    /// undone waits for a commit, such as a write to a file without memory, or a length. Then nothing is undone.
     pub fn rollback(&mut self) -> Result<(), Error> {
         // Safety: the session is open, and nobody has a slice of plain memory.
         check(unsafe { ffi::famsync_rollback(self.session.handle()) })
     }
 
-    /// Makes changes and commits them. Where `change` answers an error or panics, or the commit is refused, what it
-    /// stored to plain memory is rolled back. If that is refused, the answer says so.
+    /// Makes changes and commits them. If `change` returns an error or panics, or the commit is refused, its stores to
+    /// plain memory are rolled back. If the rollback is refused, its error is returned.
     ///
     /// ```
     /// # include!(concat!(env!("CARGO_MANIFEST_DIR"), "/tests/volumes/mod.rs"));
@@ -183,19 +182,18 @@ impl Volume {
         }
     }
 
-    /// The number of the last commit that was acknowledged, 0 where none was.
+    /// The number of the last acknowledged commit; 0 if there is none.
     pub fn acknowledged(&self) -> u64 {
         // Safety: the session is open.
         unsafe { ffi::famsync_acknowledged(self.session.handle()) }
     }
 
-    /// Sets the length of a file, as `ftruncate` does: up to its capacity, in a volume of layout 3 or 4; else
-    /// [`Code::Einval`]. Bytes past a new end are gone, and what a file grows by is zeros. Like a write it is durable
-    /// after the next commit. The pages that a file grows by, and the one in which it ended, count as written:
-    /// [`Code::NoFrame`] where they and those that were written don't go into one commit.
+    /// Sets the length of a file, as `ftruncate` does. [`Code::Einval`]: the length is more than the file's capacity,
+    /// or the volume has layout 1 or 2. Bytes past a new end are lost, and the bytes that a file grows by are zeros.
+    /// The length is durable after the next commit. The pages that a file grows by, and the page in which it ended,
+    /// count as written. [`Code::NoFrame`]: they and the other waiting pages are more than one commit can have.
     ///
-    /// [`Code::Busy`] as long as plain memory of the file is open, which somebody may have a slice of: see
-    /// [`resize`](Volume::resize).
+    /// [`Code::Busy`]: plain memory of the file is open, so a slice of it may exist. See [`resize`](Volume::resize).
     pub fn set_length(&self, file: &str, length: u64) -> Result<(), Error> {
         let (_, slot) = self.slot(file)?;
         let _closed = self.hold_off_opening();
@@ -341,9 +339,9 @@ impl Volume {
         Ok(bytes)
     }
 
-    /// Opens the memory of a file at an address, so that the file may have pointers into itself. Up to the file's
-    /// capacity, and one page before and behind, there is no other memory: else [`Code::Address`]. [`Code::Overlap`]
-    /// where the memory of the file is open.
+    /// Opens the memory of a file at an address, so that the file can contain pointers into itself. [`Code::Address`]:
+    /// other memory is between one page before the address and one page past the file's capacity. [`Code::Overlap`]:
+    /// the memory of the file is open.
     ///
     /// ```
     /// # include!(concat!(env!("CARGO_MANIFEST_DIR"), "/tests/volumes/mod.rs"));
@@ -364,10 +362,10 @@ impl Volume {
     /// The whole words of a file, in this machine's order of bytes: those who share the volume may store to them, also
     /// while others commit.
     ///
-    /// A commit has, of all threads and all words of the volume, each store that came before some one moment within
-    /// [`commit`](Volume::commit), and none that came after it. Stores by `Ordering::Release` come in the order in
-    /// which a thread makes them. What belongs together and is several stores may be parted by a commit; where it
-    /// mustn't, have the volume in an `RwLock` and use [`memory_mut`](Volume::memory_mut).
+    /// There is one moment within [`commit`](Volume::commit), and the commit has exactly the stores before it, by all
+    /// threads, to all words of the volume. Stores by `Ordering::Release` keep the order in which a thread makes them.
+    /// A commit may separate several stores that belong together. To prevent that, keep the volume in an `RwLock` and
+    /// use [`memory_mut`](Volume::memory_mut).
     ///
     /// ```
     /// # include!(concat!(env!("CARGO_MANIFEST_DIR"), "/tests/volumes/mod.rs"));
@@ -398,16 +396,16 @@ impl Volume {
         Ok(self.slot_mut(file)?.plain_mut().map(Plain::dirty).unwrap_or_default())
     }
 
-    /// Gives the memory of a file back, if it is open. Its stores since the last commit are gone; but where a commit
-    /// was refused after some pages had been stored, nothing more can be committed ([`Code::Torn`]).
+    /// Closes the memory of a file, if it is open. Its stores since the last commit are lost. If a refused commit had
+    /// already taken a part of them, the session can't commit any more ([`Code::Torn`]).
     pub fn close_memory(&mut self, file: &str) -> Result<(), Error> {
         self.slot_mut(file)?.close();
         Ok(())
     }
 
-    /// Opens pages of a file's memory ahead, those of a range of its bytes, as a store to each of them would. Until the
-    /// next commit the kernel can store to them, as by [`std::io::Read::read`], and no fault is raised for them. All of
-    /// them count as stored to; [`Code::NoFrame`] where they are more than one commit can have.
+    /// Opens the pages of a range of a file ahead, as a store to each of them would. Until the next commit the kernel
+    /// can store to them, as by [`std::io::Read::read`], and stores raise no fault. All of them count as stored to.
+    /// [`Code::NoFrame`]: they are more than one commit can have.
     ///
     /// ```
     /// # include!(concat!(env!("CARGO_MANIFEST_DIR"), "/tests/volumes/mod.rs"));
@@ -469,11 +467,11 @@ impl Volume {
 /// # }
 /// ```
 impl Volume {
-    /// Reads bytes of a file from an offset on, as they were written last, and returns how many: fewer where the file
-    /// ends before. Where it is refused on its way, [`Error::done`] says how many bytes were read.
+    /// Reads bytes of a file from an offset on, as they were written last, and returns their number. At the file's end
+    /// it reads fewer bytes. If it fails on the way, [`Error::done`] is the number of bytes read.
     ///
-    /// If memory of the file is open, its bytes are read, as by [`memory`](Volume::memory): [`Code::Overlap`] where they
-    /// are [`words`](Volume::words) to somebody who shares the volume.
+    /// If memory of the file is open, it is read, as by [`memory`](Volume::memory). [`Code::Overlap`]: the memory is
+    /// shared as [`words`](Volume::words).
     pub fn read(&self, file: &str, offset: u64, bytes: &mut [u8]) -> Result<usize, Error> {
         let (number, slot) = self.slot(file)?;
         self.check_process()?;
@@ -487,12 +485,12 @@ impl Volume {
         read.map(|()| done).map_err(|error| error.after(done))
     }
 
-    /// Writes bytes to a file from an offset on; they wait for [`commit`](Volume::commit). [`Code::Einval`] where one of
-    /// them lies past the file's end, and [`Code::NoFrame`] where the next commit has no room for their pages: then
-    /// nothing is written. Where it is refused on its way, [`Error::done`] says how many bytes were written.
+    /// Writes bytes to a file from an offset on. They wait for [`commit`](Volume::commit). [`Code::Einval`]: a byte
+    /// lies past the file's end. [`Code::NoFrame`]: the next commit has no room for their pages. In both cases nothing
+    /// is written. If it fails on the way, [`Error::done`] is the number of bytes written.
     ///
-    /// [`Code::Overlap`] where memory of the file is open, which others may share: use
-    /// [`memory_mut`](Volume::memory_mut) then, or [`close_memory`](Volume::close_memory) before.
+    /// [`Code::Overlap`]: memory of the file is open, and others may share it. Use
+    /// [`memory_mut`](Volume::memory_mut), or call [`close_memory`](Volume::close_memory) before.
     pub fn write(&self, file: &str, offset: u64, bytes: &[u8]) -> Result<(), Error> {
         let (number, slot) = self.slot(file)?;
         self.check_process()?;
@@ -515,8 +513,8 @@ impl Volume {
     }
 }
 
-/// Numbers of a session, which [`Volume::stat`] returns. Calls of the system count from the opening on, those that
-/// failed or were interrupted, too.
+/// Numbers of a session, which [`Volume::stat`] returns. System calls are counted since the opening, including those
+/// that failed or were interrupted.
 #[derive(Clone, Copy, Debug, PartialEq, Eq)]
 #[non_exhaustive]
 pub struct Stat {
@@ -524,7 +522,7 @@ pub struct Stat {
     pub commits: u64,
     /// The most pages of one commit.
     pub frames: u64,
-    /// Pages that wait for a commit, those of plain memory, too.
+    /// Pages that wait for a commit, including those of plain memory.
     pub staged: u64,
     /// Pages of commits that wait to be written to their places.
     pub unwritten: u64,
@@ -553,12 +551,13 @@ impl Volume {
         Ok(Stat { commits, frames, staged, unwritten, reads, writes, syncs, bytes_written, memory })
     }
 
-    /// Writes a clean volume with the files of the last acknowledged commit to a file: a backup that can be opened as it
+    /// Writes a clean volume with the files of the last acknowledged commit to a file. This backup can be opened as it
     /// is. Other threads may commit meanwhile.
     ///
-    /// The file is a regular one, other than the volume's, and open for reading and writing, not for appending
-    /// ([`Code::Argument`]). It is emptied first, and synced at the end; sync its folder as well if its name is new.
-    /// [`Code::Busy`] if another backup is being made. [`Code::InUse`] if somebody else has the file locked.
+    /// The file is a regular one, other than the volume's, open for reading and writing, and not for appending
+    /// ([`Code::Argument`]). The library empties it first, and syncs it at the end. If its name is new, sync its
+    /// folder, too. [`Code::Busy`] if another backup is being made. [`Code::InUse`] if somebody else has the file
+    /// locked.
     ///
     /// ```
     /// # include!(concat!(env!("CARGO_MANIFEST_DIR"), "/tests/volumes/mod.rs"));
