@@ -50,6 +50,8 @@ static bool take_room_for_notes(famsync_memory *memory)
     memory->copy = anonymous(memory->room);
     if (!memory->since || !memory->copy)
         return false;
+    if (memory->home) /* only pages that are kept are to have memory */
+        (void)madvise(memory->copy, memory->room, MADV_NOHUGEPAGE);
     memory->dirty = (unsigned char *)(memory->since + memory->most);
     memory->taken = memory->dirty + memory->most;
     return true;

@@ -179,6 +179,20 @@ static inline void make_volume_of(unsigned layout, unsigned slots, const char *f
     WANT(close(file) == 0);
 }
 
+/* The same, and all that is zeros is a hole. */
+static inline void make_hole_of(unsigned layout, unsigned slots, const char *files)
+{
+    unsigned char super[4096] = {0}, lengths[4096] = {0};
+    uint32_t lengths_at, blocks = lay_out(layout, slots, files, super, lengths, &lengths_at);
+    make_folder();
+    int file = open(volume, O_RDWR | O_CREAT | O_TRUNC | O_CLOEXEC, 0600);
+    WANT(file >= 0 && ftruncate(file, (off_t)blocks * 4096) == 0);
+    WANT(pwrite(file, super, 4096, 0) == 4096);
+    if (lengths_at)
+        WANT(pwrite(file, lengths, 4096, (off_t)lengths_at * 4096) == 4096);
+    WANT(close(file) == 0);
+}
+
 static inline void make_volume(unsigned slots, const char *files)
 {
     make_volume_of(1, slots, files);
