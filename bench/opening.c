@@ -2,15 +2,11 @@
 
    usage: opening VOLUME [resident]
 
-   It prints one line: the file's bytes, the microseconds of famsync_open and of famsync_memory_open, and the kilobytes
-   that the process's memory grew by; then the microseconds of 16 stores apart and a commit of them. */
+   It prints one line: the microseconds of famsync_open and of famsync_memory_open, and the kilobytes that the process's
+   memory grew by and had at most; then the microseconds of 16 stores apart and a commit of them. */
 #include "famsync.h"
 
-#include <stdint.h>
-#include <stdio.h>
-#include <stdlib.h>
-#include <string.h>
-#include <time.h>
+#include "opening.h"
 
 static void want(int code, const char *what)
 {
@@ -20,23 +16,6 @@ static void want(int code, const char *what)
     exit(1);
 }
 
-static double now(void)
-{
-    struct timespec time;
-    clock_gettime(CLOCK_MONOTONIC, &time);
-    return (double)time.tv_sec * 1e6 + (double)time.tv_nsec / 1e3;
-}
-
-static long resident_kilobytes(void)
-{
-    long all = 0, pages = 0;
-    FILE *file = fopen("/proc/self/statm", "r");
-    if (!file || fscanf(file, "%ld %ld", &all, &pages) != 2)
-        exit(1);
-    fclose(file);
-    return pages * 4;
-}
-
 int main(int count, char **words)
 {
     struct famsync_options options = {.size = sizeof options, .foreground = 1, .resident = count > 2};
@@ -44,20 +23,20 @@ int main(int count, char **words)
     famsync_memory *memory;
     if (count < 2)
         return 2;
-    long before = resident_kilobytes();
+    long before = kilobytes("VmRSS");
     double began = now();
     want(famsync_open(words[1], &options, &handle), "famsync_open");
     double opened = now();
     want(famsync_memory_open(handle, famsync_file_name(handle, 0), &memory), "famsync_memory_open");
     double mapped = now();
-    long grown = resident_kilobytes() - before;
+    long grown = kilobytes("VmRSS") - before, most = kilobytes("VmHWM");
     unsigned char *at = famsync_memory_at(memory);
     size_t length = famsync_memory_length(memory);
     double begins = now();
     for (size_t i = 0; i < 16; i++)
         at[length / 16 * i]++;
     want(famsync_msync(handle, NULL), "famsync_msync");
-    printf("%zu %.0f %.0f %ld %.0f\n", length, opened - began, mapped - opened, grown, now() - begins);
+    printf("%.0f %.0f %ld %ld %.0f\n", opened - began, mapped - opened, grown, most, now() - begins);
     want(famsync_memory_close(memory), "famsync_memory_close");
     want(famsync_close(handle), "famsync_close");
     return 0;

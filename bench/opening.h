@@ -1,0 +1,33 @@
+/* What bench/opening.c and bench/opening_lmdb.c share: the time, and the memory of this process. */
+#ifndef OPENING_H
+#define OPENING_H
+
+#include <stdio.h>
+#include <stdlib.h>
+#include <string.h>
+#include <time.h>
+
+/* In microseconds. */
+static inline double now(void)
+{
+    struct timespec time;
+    clock_gettime(CLOCK_MONOTONIC, &time);
+    return (double)time.tv_sec * 1e6 + (double)time.tv_nsec / 1e3;
+}
+
+/* A line of /proc/self/status: VmRSS, the memory that the process has, or VmHWM, the most that it had. */
+static inline long kilobytes(const char *name)
+{
+    char line[200];
+    long found = -1;
+    size_t count = strlen(name);
+    FILE *file = fopen("/proc/self/status", "r");
+    while (file && fgets(line, sizeof line, file))
+        if (strncmp(line, name, count) == 0 && line[count] == ':')
+            found = atol(line + count + 1);
+    if (file)
+        fclose(file);
+    return found;
+}
+
+#endif
