@@ -15,7 +15,7 @@
  *           prints the same of so many commits in a row; and the first three in all, of these, of the two before them,
  *           and of what is left after the last until the store is closed. With counted.c before it
  *
- * ways.c and by_hand.c have the ways. Stores are made in the folder from which it is called.
+ * ways.c, by_hand.c and tracked.c have the ways. Stores are made in the folder from which it is called.
  */
 #include "peers.h"
 
@@ -55,6 +55,20 @@ void make_volume_file(const char *path)
     make_volume_of(volumes.layout, volumes.slots, files);
 }
 
+void make_hole(const char *path)
+{
+    unsigned char super[PAGE] = {0}, lengths[PAGE] = {0};
+    char files[40];
+    uint32_t lengths_at, blocks;
+    snprintf(files, sizeof files, "a=%zu", bytes_of_file());
+    blocks = lay_out(volumes.layout, volumes.slots, files, super, lengths, &lengths_at);
+    int file = open(path, O_RDWR | O_CREAT | O_TRUNC, 0666);
+    must(file >= 0 && ftruncate(file, (off_t)blocks * PAGE) == 0, path);
+    must(pwrite(file, super, PAGE, 0) == PAGE, path);
+    must(lengths_at == 0 || pwrite(file, lengths, PAGE, (off_t)lengths_at * PAGE) == PAGE, path);
+    must(close(file) == 0, path);
+}
+
 static bool has_open_gate(int file)
 {
     for (unsigned journal = 0; journal < journals_of(volumes.layout); journal++) {
@@ -78,12 +92,11 @@ void wait_until_home(const char *path)
 
 static const struct way *way_of(const char *name)
 {
-    for (const struct way *way = ways; way->name; way++)
-        if (strcmp(way->name, name) == 0)
-            return way;
-    for (const struct way *way = ways_by_hand; way->name; way++)
-        if (strcmp(way->name, name) == 0)
-            return way;
+    const struct way *const lists[] = {ways, ways_by_hand, ways_tracked};
+    for (size_t i = 0; i < sizeof lists / sizeof *lists; i++)
+        for (const struct way *way = lists[i]; way->name; way++)
+            if (strcmp(way->name, name) == 0)
+                return way;
     must(false, name);
     return NULL;
 }

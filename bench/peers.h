@@ -36,11 +36,13 @@ void must(bool holds, const char *what);
 /* Makes a volume of one file, `a`, with all pages. */
 void make_volume_file(const char *path);
 size_t bytes_of_file(void);
+/* The same as a hole: nothing of it is written but what makes it a volume. */
+void make_hole(const char *path);
 
 /* Waits until all commits of a volume are written home: its gates are closed then. By calls that nobody counts. */
 void wait_until_home(const char *path);
 
-/* ways.c, by_hand.c: the ways that there are, up to one without a name. */
-extern const struct way ways[], ways_by_hand[];
+/* ways.c, by_hand.c, tracked.c: the ways that there are, up to one without a name. */
+extern const struct way ways[], ways_by_hand[], ways_tracked[];
 
 #endif
