@@ -50,7 +50,7 @@ enum famsync_code {
     FAMSYNC_INUSE = -6,    /* the volume is open already, in another process or in this one */
     FAMSYNC_SUSPECT = -7,  /* an earlier sync of the volume failed; it opens only with `trust` */
     FAMSYNC_FORKED = -11,  /* the handle belongs to the process from which this one was forked */
-    FAMSYNC_TORN = -12,    /* only a part of the stores was taken or undone: the session can't commit any more */
+    FAMSYNC_TORN = -12,    /* only a part of the changes was taken or undone: call famsync_rollback first */
 
     /* why a volume isn't opened */
     FAMSYNC_NOTREGULAR = -13, /* the path names no regular file, but a folder, a device, a pipe or a socket */
@@ -77,7 +77,6 @@ enum famsync_code {
 
     /* plain memory */
     FAMSYNC_ADDRESS = -42, /* there can't be memory at this address */
-    FAMSYNC_STAGED = -43,  /* something that can't be undone waits for a commit */
     FAMSYNC_TRACKING = -44 /* the system can't track stores in the requested way */
 };
 
@@ -194,14 +193,15 @@ int famsync_write(famsync *handle, unsigned file, uint64_t offset, const void *b
    there is no thread. */
 int famsync_msync(famsync *handle, uint64_t *mark);
 
-/* Undoes all stores to plain memory since the last famsync_msync, in all memory of this handle. This includes what
-   famsync_write wrote to a file with open memory. Other threads may store meanwhile: there is one moment within the
-   call, and exactly the stores before it are undone. First the library writes earlier commits to their places. It also
-   copies memory that was read whole.
+/* Undoes all changes of this session since the last famsync_msync: writes, lengths and stores to plain memory. Other
+   threads may store meanwhile: there is one moment within the call, and exactly the stores before it are undone. If a
+   length is undone, the memory of its file grows or shrinks in place, as with famsync_setlength. First the library
+   writes earlier commits to their places. If a write or a length waits for a commit, it also opens the volume again.
+   Meanwhile that takes the memory of a second session.
 
-   FAMSYNC_STAGED: a change that can't be undone waits for a commit, and nothing was undone. Such a change is a length,
-   what famsync_write wrote to a file without open memory, or a part that a refused famsync_msync took. FAMSYNC_SYSTEM:
-   the system refused the rollback. If a part was undone by then, the session can't commit any more (FAMSYNC_TORN). */
+   If the call is refused, all changes still wait for a commit. FAMSYNC_DEVICE: a read, a write or a sync failed, as
+   with famsync_msync. FAMSYNC_SYSTEM: the system refused the rollback. If a part was undone by then, commits are refused
+   until a rollback succeeds (FAMSYNC_TORN). */
 int famsync_rollback(famsync *handle);
 
 /* The number of the last acknowledged commit; 0 if there is none. */
@@ -302,7 +302,7 @@ size_t famsync_memory_dirty(const famsync_memory *memory);
 int famsync_memory_touch(famsync_memory *memory, size_t offset, size_t count);
 
 /* Closes the memory. Stores since the last msync are lost, and no thread may use the memory any more. If a refused
-   msync had already taken a part of the stores, the session can't commit any more (FAMSYNC_TORN). */
+   msync had already taken a part of the stores, commits are refused until a rollback (FAMSYNC_TORN). */
 int famsync_memory_close(famsync_memory *memory);
 
 #ifdef __cplusplus

@@ -130,7 +130,7 @@ static int open_with_blocks(famsync *handle, unsigned frames)
             continue;
         if (answer == FAMSYNC_CORE_DEVICE) /* there was no memory for a call that it would record */
             code = FAMSYNC_NOMEMORY;
-        if (code == FAMSYNC_OK)
+        if (code == FAMSYNC_OK && handle->head == 0)
             code = read_volume(handle, frames);
         if (code == FAMSYNC_OK)
             forget_supplied(handle, &opening);
@@ -138,18 +138,36 @@ static int open_with_blocks(famsync *handle, unsigned frames)
     }
 }
 
+/* Begins a core, and opens the volume in it. */
+static int begin_core(famsync *handle, unsigned frames)
+{
+    int code = code_of(famsync_core_begin(handle->blocks, &handle->core.at));
+    return code == FAMSYNC_OK ? open_with_blocks(handle, frames) : code;
+}
+
 /* Opens the volume in the core, and makes what that records: what a crash left of a commit is carried out. Between two
    syncs no more is written than two journals have, or one where there aren't four, before the files. */
 static int open_core(famsync *handle, const struct famsync_options *options)
 {
-    int code = code_of(famsync_core_begin(handle->blocks, &handle->core.at));
-    if (code == FAMSYNC_OK)
-        code = open_with_blocks(handle, options->frames);
+    int code = begin_core(handle, options->frames);
     if (code == FAMSYNC_OK)
         code = begin_gathering(&handle->gathered, handle->head);
     if (code != FAMSYNC_OK)
         return code;
     return handle->volume.readonly ? judge_recovery(handle) : drain(handle);
+}
+
+int open_other_core(famsync *handle, famsync_core *other)
+{
+    famsync_core own = handle->core;
+    int code;
+    handle->core = (famsync_core){0};
+    code = begin_core(handle, handle->frames);
+    if (code == FAMSYNC_OK)
+        code = drain(handle);
+    *other = handle->core;
+    handle->core = own;
+    return code;
 }
 
 static int open_session(famsync *handle, const char *path, const struct famsync_options *options)

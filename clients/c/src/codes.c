@@ -16,7 +16,7 @@ static const struct {
     {FAMSYNC_INUSE, "the volume is open already"},
     {FAMSYNC_SUSPECT, "a sync of the volume failed once, and it isn't trusted"},
     {FAMSYNC_FORKED, "the session is of the process from which this one was forked"},
-    {FAMSYNC_TORN, "a part of what belongs together was stored or undone, and nothing can be committed"},
+    {FAMSYNC_TORN, "a part of what belongs together was stored or undone, and a rollback has to come first"},
     {FAMSYNC_NOTREGULAR, "a volume is a regular file, and this is none"},
     {FAMSYNC_NAMES, "the volume's file has several names"},
     {FAMSYNC_REPLACED, "the volume's file is replaced again and again"},
@@ -34,7 +34,6 @@ static const struct {
     {FAMSYNC_NEEDSOPENING, "a crash or a failed sync left work for a writer: open the volume once for writing"},
     {FAMSYNC_READONLY, "the session only reads"},
     {FAMSYNC_ADDRESS, "there can't be plain memory at this address"},
-    {FAMSYNC_STAGED, "a write, a length or a part of a refused commit waits, which can't be undone"},
     {FAMSYNC_TRACKING, "the system can't track stores to plain memory in this way"},
 };
 

@@ -10,8 +10,7 @@ static int end_write_out(famsync *handle)
     return famsync_core_waiting(handle->core, &handle->core.at) > 0 ? write_out(handle, false) : FAMSYNC_OK;
 }
 
-/* Nothing waits for a commit any more. */
-static void forget_staged(famsync *handle)
+void forget_staged(famsync *handle)
 {
     for (unsigned i = 0; i < handle->files; i++)
         handle->file[i].staged = (struct span){0, 0};
@@ -39,11 +38,11 @@ static int commit(famsync *handle, uint64_t *mark)
     int64_t acknowledged = famsync_core_acknowledged(handle->core, &handle->core.at);
     if (acknowledged < 0 || (uint64_t)acknowledged < number)
         return FAMSYNC_BROKEN;
-    atomic_store(&handle->acknowledged, number);
+    *mark = handle->earlier + number;
+    atomic_store(&handle->acknowledged, *mark);
     forget_staged(handle);
     handle->numbered += has_pages;
     handle->left = true;
-    *mark = number;
     return FAMSYNC_OK;
 }
 

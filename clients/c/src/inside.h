@@ -120,7 +120,7 @@ struct famsync {
     int ended;     /* FAMSYNC_DEVICE or FAMSYNC_UNMARKED once a write or a sync has failed */
     int error;     /* errno of that failure */
     bool reported; /* a call has returned that failure */
-    bool torn;     /* a failed msync took a part of some memory, which was then closed: no further commit */
+    bool torn;     /* only a part of the changes was taken or undone: a rollback has to come first */
     unsigned files;
     struct file file[MOST_FILES];
     unsigned frames;
@@ -134,6 +134,7 @@ struct famsync {
     struct reading reading[READS_KEPT];
     unsigned readings; /* the number of readings so far */
     _Atomic uint64_t acknowledged;
+    uint64_t earlier;  /* the number of those commits that were made before the core began; a rollback begins another */
     bool resized;      /* a new length waits for a commit */
     uint32_t numbered; /* the number of commits that had pages */
     bool is_tracked;   /* the kernel notes stores to plain memory, instead of the handler of SIGSEGV */
@@ -181,6 +182,9 @@ int enter(famsync *handle, bool has_arguments);
 int leave(famsync *handle, int code);
 /* The number of the file with this name; the number of files if there is none. */
 unsigned number_of(const famsync *handle, const char *name);
+/* Opens the volume in another core, which has the last commit and nothing that waits; all commits are written out. The
+   handle keeps its own core. */
+int open_other_core(famsync *handle, famsync_core *other);
 
 /* volume_file.c: moves a file to a descriptor above 2, and opens one there. The descriptor is close-on-exec. If a
    program closed a standard stream, the next opened file gets its number. Then output to the stream would go into the
@@ -257,6 +261,9 @@ void save_for_backup(famsync *handle);
 
 /* heap.c: the bytes of memory that the cores of all sessions of this process have. */
 uint64_t memory_in_use(void);
+
+/* commit.c: nothing in the core waits for a commit any more. */
+void forget_staged(famsync *handle);
 
 /* background.c: the thread that writes the remaining part of a commit. */
 void begin_background(famsync *handle);

@@ -297,6 +297,58 @@ static void set_end(famsync_memory *memory, size_t from, size_t length)
     memory->pages = pages;
 }
 
+void clear_closed_end(famsync_memory *memory)
+{
+    if (!is_end_clear(memory) && (memory->handle->is_tracked || open_unstored(memory, memory->pages - 1)))
+        clear_end(memory);
+}
+
+/* Behind the process's own pages, which are given back, are the home blocks. What is noted becomes zeros. */
+static int begin_home_again(famsync_memory *memory, size_t pages)
+{
+    if (mprotect(memory->at, pages * memory->grain, protection(memory)) != 0 ||
+        madvise(memory->at, memory->room, MADV_DONTNEED) != 0 ||
+        madvise(memory->since, room_of_notes(memory), MADV_DONTNEED) != 0)
+        return FAMSYNC_SYSTEM;
+    (void)madvise(memory->copy, memory->room, MADV_DONTNEED);
+    memory->keeps = (struct span){0, 0};
+    memory->kept = 0;
+    return FAMSYNC_OK;
+}
+
+/* Puts another memory in its place, `fresh` or the copy, and `spare` in that of the copy. */
+static int replace_memory(famsync_memory *memory, size_t pages)
+{
+    unsigned char **from = memory->fresh ? &memory->fresh : &memory->copy;
+    size_t count = pages * memory->grain;
+    if (count > 0 && (mprotect(*from, count, PROT_READ) != 0 ||
+                      mremap(*from, count, count, MREMAP_MAYMOVE | MREMAP_FIXED, memory->at) == MAP_FAILED))
+        return FAMSYNC_SYSTEM;
+    if (count < memory->room)
+        munmap(*from + count, memory->room - count);
+    if (memory->fresh)
+        munmap(memory->copy, memory->room);
+    memory->copy = memory->spare;
+    memory->spare = memory->fresh = NULL;
+    memset(memory->dirty + memory->open.begin, CLOSED, memory->open.end - memory->open.begin);
+    return FAMSYNC_OK;
+}
+
+int begin_memory_again(famsync_memory *memory, size_t length)
+{
+    size_t pages = pages_for(memory, length);
+    int code = memory->home ? begin_home_again(memory, pages) : replace_memory(memory, pages);
+    if (code != FAMSYNC_OK)
+        return code;
+    remove_pages(memory, pages, memory->pages);
+    memory->open = (struct span){0, 0};
+    memory->length = length;
+    memory->pages = pages;
+    if (memory->home)
+        clear_closed_end(memory);
+    return FAMSYNC_OK;
+}
+
 /* Opens the page of the end from which on bytes become zeros, if that lies within one. */
 static bool open_end(famsync_memory *memory, size_t from)
 {

@@ -31,7 +31,8 @@ struct famsync_memory {
     struct span keeps;         /* contains each kept page; `closing` */
     struct span open;          /* contains each page that isn't CLOSED; `closing` */
     struct span takes;         /* contains each taken page; `turn` */
-    unsigned char *spare;      /* a copy of `copy`, during a rollback; `turn` */
+    unsigned char *fresh;      /* replaces the memory in a rollback, if the file was read whole; `turn` */
+    unsigned char *spare;      /* replaces `copy` in a rollback; `turn` */
     size_t next, ahead;        /* the page after the last opened ones, and their number; `closing` */
 };
 
@@ -57,12 +58,17 @@ int map_memory(famsync_memory *memory, void *address);
 void unmap_memory(famsync_memory *memory);
 /* Grows or shrinks the memory. */
 int resize_memory(famsync_memory *memory, uint64_t length);
+/* Makes the memory what the last commit left, with this file length: from the home blocks or from `fresh`. All pages
+   are closed. The caller has the lock. */
+int begin_memory_again(famsync_memory *memory, size_t length);
 /* Anonymous memory of this size; a null pointer if the system refuses it. */
 void *anonymous(size_t room);
 /* The bytes past the file's end in its last page, which may be other than zeros in its home block. `is_end_clear`
    returns whether they are zeros. `clear_end` makes them zeros if the page is open. */
 bool is_end_clear(const famsync_memory *memory);
 void clear_end(famsync_memory *memory);
+/* The same if the page is closed; the caller has the lock. */
+void clear_closed_end(famsync_memory *memory);
 
 /* stores.c: takes `closing` with all signals blocked, and gives it back. */
 void lock_pages(famsync *handle, sigset_t *blocked);

@@ -1,39 +1,89 @@
-/* Undoes what was stored to plain memory since the last commit.
+/* Undoes what was changed since the last commit.
 
-   At one moment all pages are closed. Those that were stored to get their committed bytes again while they are, so that
-   a store which comes later waits, and isn't undone. No page is written through its own address for that: of a mapping
-   of the volume's file the process's own pages are given back, and behind them are the home blocks; in place of memory
-   that was read in a copy of it is put. */
+   At one moment all pages of plain memory are closed. Those that were stored to get their committed bytes again while
+   they are, so that a store which comes later waits, and isn't undone. No page is written through its own address for
+   that: of a mapping of the volume's file the process's own pages are given back, and behind them are the home blocks;
+   in place of memory that was read in another one is put, which has the committed bytes.
+
+   The core doesn't undo a write or a length. If one waits there, another core opens the same volume, and takes the
+   place of the first. All that may fail of that comes before the moment. */
 #include "memory.h"
 
 #include <string.h>
 #include <sys/mman.h>
 
-/* What waits for a commit in the core stays there: a write, a length, or what a refused msync has stored. */
+/* Another core, which has the lengths of the last commit; a null pointer if the handle's own has no more than that. */
+struct other {
+    famsync_core core;
+    size_t length[MOST_FILES];
+};
+
+/* Whether something waits for a commit in the core: a write, a length, or what a refused msync has stored there. */
 static bool has_staged(famsync *handle)
 {
-    bool stored = false;
+    bool stored = handle->torn;
     for (const famsync_memory *memory = handle->memories; memory; memory = memory->next_one)
         stored |= memory->stored;
     return stored || handle->resized || famsync_core_staged(handle->core, &handle->core.at) != 0;
 }
 
-/* Makes a copy that can take the place of the memory. */
-static int make_spare(famsync_memory *memory)
+static int open_other(famsync *handle, struct other *other)
 {
+    int code = open_other_core(handle, &other->core);
+    for (unsigned i = 0; i < handle->files && code == FAMSYNC_OK; i++) {
+        uint64_t length = 0, pages;
+        code = code_of(famsync_core_file(other->core, i, &length, &pages, &other->core.at));
+        other->length[i] = (size_t)length;
+    }
+    return code;
+}
+
+static void exchange(famsync *handle, struct other *other)
+{
+    famsync_core core = handle->core;
+    handle->core = other->core;
+    other->core = core;
+}
+
+/* Reads what the last commit left of a file. */
+static int read_committed(famsync_memory *memory, struct other *other, unsigned char *bytes)
+{
+    size_t done;
+    int code;
+    exchange(memory->handle, other);
+    code = read_range(memory->handle, memory->file, 0, bytes, other->length[memory->file], &done);
+    exchange(memory->handle, other);
+    return code;
+}
+
+/* Makes what takes the place of memory that was read in, and of its copy: the copy itself is the first, unless it has
+   what waits in the core. */
+static int make_spares(famsync_memory *memory, struct other *other)
+{
+    int code = FAMSYNC_OK;
     memory->spare = anonymous(memory->room);
     if (!memory->spare)
         return FAMSYNC_NOMEMORY;
-    memcpy(memory->spare, memory->copy, memory->pages * memory->grain);
-    return FAMSYNC_OK;
+    if (!other->core.at) {
+        memcpy(memory->spare, memory->copy, memory->pages * memory->grain);
+        return FAMSYNC_OK;
+    }
+    memory->fresh = anonymous(memory->room);
+    code = memory->fresh ? read_committed(memory, other, memory->fresh) : FAMSYNC_NOMEMORY;
+    if (code == FAMSYNC_OK)
+        memcpy(memory->spare, memory->fresh, other->length[memory->file]);
+    return code;
 }
 
 /* What may fail, and takes long. The home blocks have the committed bytes once commits are written out. */
-static int prepare(famsync *handle)
+static int prepare(famsync *handle, struct other *other)
 {
-    int code = FAMSYNC_OK;
+    bool staged = has_staged(handle);
+    int code = staged ? write_all_out(handle) : FAMSYNC_OK;
+    if (staged && code == FAMSYNC_OK)
+        code = open_other(handle, other);
     for (famsync_memory *memory = handle->memories; memory && code == FAMSYNC_OK; memory = memory->next_one)
-        code = memory->home ? write_all_out(handle) : make_spare(memory);
+        code = memory->home ? write_all_out(handle) : make_spares(memory, other);
     return code;
 }
 
@@ -42,7 +92,9 @@ static void drop_spares(famsync *handle)
     for (famsync_memory *memory = handle->memories; memory; memory = memory->next_one) {
         if (memory->spare)
             munmap(memory->spare, memory->room);
-        memory->spare = NULL;
+        if (memory->fresh)
+            munmap(memory->fresh, memory->room);
+        memory->spare = memory->fresh = NULL;
     }
 }
 
@@ -56,63 +108,67 @@ static int undo_run(famsync_memory *memory, size_t first, size_t end)
     return FAMSYNC_OK;
 }
 
-/* Of the last page the home block may have bytes past the file's end, which nobody is to see. */
 static int undo_mapped(famsync_memory *memory)
 {
     int code = for_runs(memory, memory->dirty, memory->open, undo_run);
     memory->open = (struct span){0, 0};
-    if (code == FAMSYNC_OK && !is_end_clear(memory) &&
-        (memory->handle->is_tracked || open_unstored(memory, memory->pages - 1)))
-        clear_end(memory);
+    if (code == FAMSYNC_OK)
+        clear_closed_end(memory);
     return code;
 }
 
-/* Puts the copy in place of the memory, and the copy of that in its own. */
-static int undo_resident(famsync_memory *memory)
+/* Pages that were stored to are those of the last commit again; if lengths or pages of the core are undone, all are. */
+static int undo_memory(famsync_memory *memory, const struct other *other)
 {
-    size_t count = memory->pages * memory->grain;
-    if (mprotect(memory->copy, count, PROT_READ) != 0 ||
-        mremap(memory->copy, count, count, MREMAP_MAYMOVE | MREMAP_FIXED, memory->at) == MAP_FAILED)
-        return FAMSYNC_SYSTEM;
-    if (count < memory->room)
-        munmap(memory->copy + count, memory->room - count);
-    memory->copy = memory->spare;
-    memory->spare = NULL;
-    memset(memory->dirty + memory->open.begin, CLOSED, memory->open.end - memory->open.begin);
-    memory->open = (struct span){0, 0};
-    return FAMSYNC_OK;
+    if (other->core.at)
+        return begin_memory_again(memory, other->length[memory->file]);
+    if (memory->open.begin == memory->open.end)
+        return FAMSYNC_OK;
+    return memory->home ? undo_mapped(memory) : begin_memory_again(memory, memory->length);
 }
 
-static int undo(famsync *handle)
+/* From here on the handle has the other core, in which nothing waits. */
+static void use_other(famsync *handle, struct other *other)
+{
+    exchange(handle, other);
+    handle->earlier = handle->acknowledged;
+    forget_staged(handle);
+    for (famsync_memory *memory = handle->memories; memory; memory = memory->next_one)
+        memory->stored = false;
+    for (unsigned i = 0; i < handle->files; i++)
+        atomic_store(&handle->file[i].length, other->length[i]);
+}
+
+static int undo(famsync *handle, struct other *other)
 {
     uint64_t pages;
     int code = close_stores(handle, &pages);
     if (code != FAMSYNC_OK)
         return code;
+    if (other->core.at)
+        use_other(handle, other);
     for (famsync_memory *memory = handle->memories; memory && code == FAMSYNC_OK; memory = memory->next_one)
-        if (memory->open.begin < memory->open.end)
-            code = memory->home ? undo_mapped(memory) : undo_resident(memory);
-    handle->torn |= code != FAMSYNC_OK; /* a part is undone, and the rest mustn't be committed */
+        code = undo_memory(memory, other);
+    handle->torn = code != FAMSYNC_OK; /* a part is undone, and the rest mustn't be committed */
     return code;
 }
 
 static int roll_back(famsync *handle)
 {
+    struct other other = {.core = {NULL}};
     sigset_t blocked;
     int code;
     if (handle->volume.readonly)
         return FAMSYNC_READONLY;
-    if (handle->torn)
-        return FAMSYNC_TORN;
-    if (has_staged(handle))
-        return FAMSYNC_STAGED;
-    code = prepare(handle);
+    code = prepare(handle, &other);
     if (code == FAMSYNC_OK) {
         lock_pages(handle, &blocked);
-        code = undo(handle);
+        code = undo(handle, &other);
         unlock_pages(handle, &blocked);
     }
     drop_spares(handle);
+    if (other.core.at)
+        famsync_core_close(other.core);
     return code;
 }
 

@@ -14,8 +14,7 @@ struct file {
 
 static struct file now[FILES], committed[FILES];
 static unsigned layout, seed, commits;
-static bool has_tracking;               /* the system can track stores */
-static bool is_written[FILES], resized; /* by a call since the last commit: a file without memory, a length */
+static bool has_tracking; /* the system can track stores */
 static struct famsync_options options;
 static famsync *handle;
 static famsync_memory *memory[FILES];
@@ -55,17 +54,9 @@ static void judge(void)
     }
 }
 
-/* Nothing waits for a commit. */
-static void begin_commit(void)
-{
-    memset(is_written, 0, sizeof is_written);
-    resized = false;
-}
-
 static void begin(void)
 {
     handle = opened_with(options);
-    begin_commit();
     memcpy(now, committed, sizeof now);
     for (unsigned file = 0; file < FILES; file++)
         if (below(4))
@@ -96,7 +87,6 @@ static void store(unsigned file)
     } else {
         int code = famsync_write(handle, file, from, bytes, count, &done);
         check(code == FAMSYNC_OK ? done == count : code == FAMSYNC_NOFRAME && done == 0, "a write is refused");
-        is_written[file] |= !memory[file] && done > 0;
     }
     memcpy(now[file].bytes + from, bytes, done);
 }
@@ -113,7 +103,6 @@ static void set_length(unsigned file)
           "a length isn't set");
     if (code != FAMSYNC_OK)
         return;
-    resized |= length != now[file].length;
     if (length > now[file].length)
         memset(now[file].bytes + now[file].length, 0, length - now[file].length);
     now[file].length = length;
@@ -137,7 +126,6 @@ static void open_again(unsigned file)
     }
     check(code == FAMSYNC_OK, "a commit is refused");
     memcpy(committed, now, sizeof now);
-    begin_commit();
     commits++;
     if (memory[file] && below(3) == 0) {
         WANT_CODE(famsync_memory_close(memory[file]), FAMSYNC_OK);
@@ -156,23 +144,9 @@ static void open_beside_writes(unsigned file)
     open_memory(file);
 }
 
-/* Whether something waits for a commit that can't be undone: a length, or a write to a file without memory. */
-static bool cant_be_undone(void)
-{
-    for (unsigned file = 0; file < FILES; file++)
-        if (now[file].length != committed[file].length || is_written[file])
-            return true;
-    return resized;
-}
-
 static void roll_back(void)
 {
-    int code = famsync_rollback(handle);
-    if (cant_be_undone()) {
-        check(code == FAMSYNC_STAGED, "what can't be undone isn't refused");
-        return;
-    }
-    check(code == FAMSYNC_OK, "a rollback is refused");
+    check(famsync_rollback(handle) == FAMSYNC_OK, "a rollback is refused");
     memcpy(now, committed, sizeof now);
 }
 

@@ -1,7 +1,8 @@
 /*
  * A session for tests that cut it off or make a call of it fail. The first ten pages have one number in each, the same
  * in all, that is raised by one and committed, round by round: the even ones are of the file `a`, in plain memory, and
- * the odd ones of `c`, by famsync_write. `b` has the last number as its length that four divides.
+ * the odd ones of `c`, by famsync_write. `b` has the last number as its length that four divides. Before some rounds,
+ * and after one that failed, other changes are made and undone.
  *
  *   session VOLUME make [FILES [LAYOUT]]      makes a volume; of layout 3 where that isn't said
  *   session VOLUME work ROUNDS [foreground|few]
@@ -44,6 +45,27 @@ static int read_another(famsync *handle, uint64_t number)
     return report("read", famsync_read(handle, C, (PAGES + number % PAGES) * 4096, &byte, 1, NULL));
 }
 
+/* Changes all that a round changes, and undoes it. */
+static int undone(famsync *handle, famsync_memory *memory, uint64_t number)
+{
+    static const unsigned char junk[100] = {0xEE};
+    unsigned char *at = famsync_memory_at(memory), found = 0;
+    int failed = 0;
+    for (unsigned page = 0; page < PAGES; page += 2) {
+        memcpy(at + page * 4096 + 3000, junk, sizeof junk);
+        failed |= report("write", famsync_write(handle, C, (page + 1) * 4096 + 3000, junk, sizeof junk, NULL));
+    }
+    failed |= report("setlength", famsync_setlength(handle, "b", 4999));
+    if (report("rollback", famsync_rollback(handle)))
+        return 1;
+    for (unsigned page = 0; page < PAGES; page += 2) {
+        failed |= report("read", famsync_read(handle, C, (page + 1) * 4096 + 3000, &found, 1, NULL));
+        WANT(found == 0 && at[page * 4096 + 3000] == 0);
+    }
+    WANT(famsync_file_length(handle, B) == (number - 1) / 4 * 4);
+    return failed;
+}
+
 static int one_round(famsync *handle, famsync_memory *memory, uint64_t number)
 {
     uint64_t mark;
@@ -65,8 +87,11 @@ static void make_rounds(famsync *handle, famsync_memory *memory, uint64_t first,
 {
     bool few = famsync_frames(handle) == FEW;
     int left = 3; /* a call that failed may be tried again */
+    bool failed = false;
     for (uint64_t round = first; round < end && left > 0;) {
-        if (one_round(handle, memory, round)) {
+        failed = (round % 3 == 2 || failed) && undone(handle, memory, round);
+        failed = failed || one_round(handle, memory, round);
+        if (failed) {
             left--;
             continue;
         }

@@ -59,7 +59,7 @@ class Forked(Error):
 
 
 class Torn(Error):
-    """Only a part of the stores was taken or undone: the session can't commit any more."""
+    """Only a part of the changes was taken or undone: nothing can be committed before a rollback."""
 
     code = -12
 
@@ -165,12 +165,6 @@ class Address(Error):
     """There can't be memory at this address."""
 
     code = -42
-
-
-class Staged(Error):
-    """A change that can't be undone waits for a commit."""
-
-    code = -43
 
 
 class Tracking(Error):

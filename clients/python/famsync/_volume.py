@@ -130,6 +130,7 @@ class Volume:
     ) -> None:
         self._memories: weakref.WeakSet[Memory] = weakref.WeakSet()
         self._lent: List[Tuple[Once, weakref.ref[Lent]]] = []
+        self._lengths: Dict[str, List[int]] = {}
         self.path = path
         said = ctypes.create_string_buffer(MESSAGE)
         options = _options(
@@ -268,9 +269,17 @@ class Volume:
 
     def _set_length(self, handle: ctypes.c_void_p, name: str, length: int) -> None:
         encoded = _name(name)
-        if not self._is_readonly and self._has_memory(os.fsdecode(encoded)):
+        file = os.fsdecode(encoded)
+        if not self._is_readonly and self._has_memory(file):
             raise Busy(f"memory of {name!r} is open")
+        self._lengths[file] = []
         check(library.famsync_setlength(handle, encoded, length))
+        self._lengths[file] = [library.famsync_acknowledged(handle)]
+
+    def _may_change_length(self, name: str) -> bool:
+        """Whether a rollback may change the length of a file: for each that was set, there is the number of the last
+        commit before it, once that is known."""
+        return name in self._lengths and self._lengths[name] in ([], [self.acknowledged])
 
     def _has_memory(self, name: str) -> bool:
         self._take_back()
@@ -284,14 +293,29 @@ class Volume:
         return mark.value
 
     def rollback(self) -> None:
-        """Undoes all stores to plain memory since the last commit, in all memory of this session. Staged if something
-        else waits for a commit: what was written to a file without memory, or a length. Then nothing is undone."""
+        """Undoes all changes since the last commit: stores to plain memory, writes and lengths. If it fails, all
+        changes still wait for a commit.
+
+        Memory of a file whose length was set since the last commit is closed first; BufferError if somebody has a
+        buffer of it."""
+        lengths = dict(self._lengths)
+        for name in filter(self._may_change_length, lengths):
+            self._close_memory_of(name)
         check(self._session.call(library.famsync_rollback))
+        for name, length in lengths.items():
+            if self._lengths.get(name) is length:
+                del self._lengths[name]
+
+    def _close_memory_of(self, name: str) -> None:
+        for memory in [memory for memory in self._memories if memory.name == name]:
+            memory.close()
+        if self._has_memory(name):
+            raise BufferError(f"the length of {name!r} can't be undone while somebody has a buffer of its memory")
 
     @contextmanager
     def transaction(self) -> Iterator[None]:
-        """Commits at the end of the `with`. If an exception comes before, or the commit is refused, what was stored to
-        plain memory is rolled back, and the exception goes on.
+        """Commits at the end of the `with`. If an exception comes before, or the commit is refused, all changes are
+        rolled back, and the exception goes on.
 
             with volume.transaction():
                 bank[0:8] = (93).to_bytes(8, "little")

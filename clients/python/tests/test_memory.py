@@ -294,19 +294,51 @@ class Rollbacks(InAFolder):
                 volume.rollback()
                 self.assertEqual((a[0:6], a[19999], b[0], b[4999], a.dirty), (b"hello\0", 0, 0, 7, 0))
 
-    def test_what_cant_be_undone(self):
+    def test_writes_and_lengths_are_undone(self):
         with self.opened() as volume:
             a = volume.memory("a")
             a[0] = 1
             volume.write("b", 0, b"x")
-            self.assertRaises(famsync.Staged, volume.rollback)
-            volume.commit()
+            volume.rollback()
+            self.assertEqual((a[0], volume.read("b", 0, 1), volume.stat().staged), (0, b"\0", 0))
             a.close()
-            volume.set_length("a", 10)
-            self.assertRaises(famsync.Staged, volume.rollback)
+            length = volume.files["a"]
+            for other in (10, 0, length + 5):
+                volume.set_length("a", other)
+                volume.rollback()
+                self.assertEqual(volume.files["a"], length)
+                with volume.memory("a") as a:
+                    a[length - 1] = 7
+                    volume.rollback()
+                    self.assertEqual(a[length - 1], 0)
         self.assertRaises(ValueError, volume.rollback)
         with self.opened(readonly=True) as volume:
             self.assertRaises(famsync.ReadOnly, volume.rollback)
+
+    def test_memory_of_a_length_that_is_undone(self):
+        with self.opened() as volume:
+            length = volume.files["a"]
+            volume.set_length("a", length + 5000)
+            a, b = volume.memory("a"), volume.memory("b")
+            a[length + 4999] = b[0] = 7
+            with a.view() as view:
+                self.assertRaises(BufferError, volume.rollback)
+                self.assertEqual((view[length + 4999], b[0]), (7, 7))
+            left = memoryview(a)
+            del a
+            self.assertRaises(BufferError, volume.rollback)
+            self.assertEqual(left[length + 4999], 7)
+            left.release()
+            a = volume.memory("a")
+            volume.rollback()
+            self.assertRaises(ValueError, lambda: a[0])
+            self.assertEqual((volume.files["a"], b[0]), (length, 0))
+            volume.set_length("a", length + 5000)
+            volume.commit()
+            a = volume.memory("a")
+            a[0] = 1
+            volume.rollback()
+            self.assertEqual((len(a), a[0]), (length + 5000, 0))
 
     def test_transactions(self):
         volume = self.opened()
@@ -322,10 +354,17 @@ class Rollbacks(InAFolder):
         with self.assertRaises(famsync.NoFrame), volume.transaction():
             a[:] = b"x" * 20000
         self.assertEqual((volume.acknowledged, a[0:2], a.dirty), (1, b"\1\0", 0))
-        with self.assertRaises(famsync.Staged) as raised, volume.transaction():
+        with self.assertRaises(ZeroDivisionError), volume.transaction():
             volume.write("b", 0, b"x")
             raise ZeroDivisionError
+        self.assertEqual((volume.acknowledged, volume.read("b", 0, 1)), (1, b"\0"))
+        volume.set_length("b", 5000)
+        grown = volume.memory("b").view()
+        with self.assertRaises(BufferError) as raised, volume.transaction():
+            raise ZeroDivisionError
         self.assertIsInstance(raised.exception.__context__, ZeroDivisionError)
+        self.assertEqual(grown[4999], 0)
+        grown.release()
 
 
 class KernelTracking(InAFolder):

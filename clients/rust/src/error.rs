@@ -49,7 +49,7 @@ codes! {
     Suspect = -7,
     /// The volume was opened by the process from which this one was forked.
     Forked = -11,
-    /// Only a part of the stores was taken or undone: the session can't commit any more.
+    /// Only a part of the changes was taken or undone: nothing can be committed before a rollback.
     Torn = -12,
     /// The path names no regular file, but a folder, a device, a pipe or a socket.
     NotRegular = -13,
@@ -87,8 +87,6 @@ codes! {
     ReadOnly = -41,
     /// There can't be memory at this address.
     Address = -42,
-    /// A change that can't be undone waits for a commit.
-    Staged = -43,
     /// The system can't track stores to plain memory in the requested way.
     Tracking = -44,
 }

@@ -146,15 +146,17 @@ impl Volume {
         Ok(mark)
     }
 
-    /// Undoes all stores to plain memory since the last commit, in all files. [`Code::Staged`]: a change that can't be
-    /// undone waits for a commit, such as a write to a file without memory, or a length. Then nothing is undone.
+    /// Undoes all changes since the last commit: stores to plain memory, writes and lengths. If it fails, nothing is
+    /// undone. After [`Code::System`] a part may be; then commits are refused until a rollback succeeds.
     pub fn rollback(&mut self) -> Result<(), Error> {
         // Safety: the session is open, and nobody has a slice of plain memory.
-        check(unsafe { ffi::famsync_rollback(self.session.handle()) })
+        let undone = check(unsafe { ffi::famsync_rollback(self.session.handle()) });
+        self.slots.iter_mut().filter_map(Slot::plain_mut).for_each(Plain::measure);
+        undone
     }
 
-    /// Makes changes and commits them. If `change` returns an error or panics, or the commit is refused, its stores to
-    /// plain memory are rolled back. If the rollback is refused, its error is returned.
+    /// Makes changes and commits them. If `change` returns an error or panics, or the commit is refused, all changes are
+    /// rolled back. If the rollback is refused, its error is returned.
     ///
     /// ```
     /// # include!(concat!(env!("CARGO_MANIFEST_DIR"), "/tests/volumes/mod.rs"));
@@ -397,7 +399,7 @@ impl Volume {
     }
 
     /// Closes the memory of a file, if it is open. Its stores since the last commit are lost. If a refused commit had
-    /// already taken a part of them, the session can't commit any more ([`Code::Torn`]).
+    /// already taken a part of them, commits are refused until a rollback ([`Code::Torn`]).
     pub fn close_memory(&mut self, file: &str) -> Result<(), Error> {
         self.slot_mut(file)?.close();
         Ok(())

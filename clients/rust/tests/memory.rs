@@ -101,12 +101,16 @@ fn rollbacks() {
         assert!(a[..5000].iter().all(|byte| *byte == 7) && a[5000..].iter().all(|byte| *byte == 0));
         volume.write("b", 0, b"other").unwrap();
         volume.memory_mut("a").unwrap()[0] = 9;
-        assert_eq!(volume.rollback().unwrap_err().code(), Code::Staged);
-        assert_eq!(volume.memory("a").unwrap()[0], 9);
-        volume.commit().unwrap();
-        volume.resize("a", 30000).unwrap();
-        assert_eq!(volume.rollback().unwrap_err().code(), Code::Staged);
-        volume.resize("a", 20000).unwrap();
+        volume.rollback().unwrap();
+        let mut found = [1; 5];
+        volume.read("b", 0, &mut found).unwrap();
+        assert_eq!((volume.memory("a").unwrap()[0], found), (7, [0; 5]));
+        for length in [30000, 10, 0] {
+            volume.resize("a", length).unwrap();
+            volume.rollback().unwrap();
+            assert_eq!((volume.memory("a").unwrap().len(), volume.memory("a").unwrap()[4999]), (20000, 7));
+        }
+        volume.memory_mut("a").unwrap()[..5000].fill(0);
         volume.commit().unwrap();
     }
     let mut volume = Options::new().readonly(true).open(made.path()).unwrap();
@@ -146,12 +150,14 @@ fn transactions() {
         })
     }));
     assert!(panicked.is_err() && volume.memory("a").unwrap()[..2] == [2, 0]);
-    // what can't be rolled back
+    // what was written by a call
     let mixed = volume.transaction(|volume| -> Result<(), Error> {
         volume.write("b", 0, b"other")?;
         volume.memory("c").map(|_| ())
     });
-    assert_eq!(mixed.unwrap_err().code(), Code::Staged);
+    let mut found = [1; 5];
+    volume.read("b", 0, &mut found).unwrap();
+    assert_eq!((mixed.unwrap_err().code(), found), (Code::NoFile, [0; 5]));
 }
 
 #[test]
