@@ -1,9 +1,9 @@
-/* Sessions that commit no more (FAMSYNC_TORN): an msync was refused memory after a part of the stores was taken, and
-   the memory with the rest was closed then. Nothing of it may be committed by itself, and the next session finds what
-   was committed before. If the memory stays open, the next msync has all stores.
+/* Sessions that commit nothing before a rollback (FAMSYNC_TORN): an msync was refused memory after a part of the stores
+   was taken, and then the memory with the rest was closed. No part of it may be committed. The next session finds the
+   last commit. If the memory stays open, the next msync has all stores.
 
-   Memory is refused by a limit of the process's addresses, which sanitizers and valgrind don't stand: there nothing is
-   tried. */
+   A limit of the process's addresses refuses memory. Sanitizers and valgrind can't run with it, so the test does
+   nothing there. */
 #include "test.h"
 
 #include <sys/resource.h>
@@ -88,7 +88,7 @@ static void end(void)
     WANT_CODE(famsync_close(handle), FAMSYNC_OK);
 }
 
-/* The memory stays open: nothing is lost, and a part can't be undone. */
+/* The memory stays open: the next msync has all stores, or a rollback undoes them all. */
 static void kept_open(void)
 {
     begin(0);
@@ -97,14 +97,20 @@ static void kept_open(void)
     end();
     begin(1);
     store_and_be_refused(2);
-    WANT_CODE(famsync_rollback(handle), FAMSYNC_STAGED);
+    WANT_CODE(famsync_msync(handle, NULL), FAMSYNC_OK);
+    end();
+    begin(2);
+    store_and_be_refused(3);
+    WANT_CODE(famsync_rollback(handle), FAMSYNC_OK);
+    const unsigned char *at = famsync_memory_at(memory);
+    WANT(at[0] == 2 && memcmp(at, at + 1, LENGTH - 1) == 0);
     WANT_CODE(famsync_msync(handle, NULL), FAMSYNC_OK);
     end();
     begin(2);
     end();
 }
 
-/* The memory is closed: no later call commits, whatever is stored, and the session still reads. */
+/* The memory is closed: no call commits before a rollback, whatever is stored, and the session still reads. */
 static void closed(void)
 {
     unsigned char byte = 9;
@@ -113,7 +119,6 @@ static void closed(void)
     uint64_t before = famsync_acknowledged(handle);
     WANT_CODE(famsync_memory_close(memory), FAMSYNC_OK);
     WANT_CODE(famsync_msync(handle, NULL), FAMSYNC_TORN);
-    WANT_CODE(famsync_rollback(handle), FAMSYNC_TORN);
     WANT_CODE(famsync_write(handle, 1, 0, &byte, 1, NULL), FAMSYNC_OK);
     WANT_CODE(famsync_msync(handle, NULL), FAMSYNC_TORN);
     WANT_CODE(famsync_memory_open(handle, "b", &memory), FAMSYNC_OK);
@@ -124,6 +129,24 @@ static void closed(void)
     begin(2);
     WANT_CODE(famsync_read(handle, 1, 0, &byte, 1, NULL), FAMSYNC_OK);
     WANT(byte == 0);
+    end();
+}
+
+/* After a rollback the session commits again, and nothing of the refused msync is there. */
+static void rolled_back(void)
+{
+    unsigned char byte = 9;
+    begin(2);
+    store_and_be_refused(3);
+    WANT_CODE(famsync_memory_close(memory), FAMSYNC_OK);
+    WANT_CODE(famsync_msync(handle, NULL), FAMSYNC_TORN);
+    WANT_CODE(famsync_rollback(handle), FAMSYNC_OK);
+    WANT_CODE(famsync_write(handle, 1, 0, &byte, 1, NULL), FAMSYNC_OK);
+    WANT_CODE(famsync_msync(handle, NULL), FAMSYNC_OK);
+    WANT_CODE(famsync_close(handle), FAMSYNC_OK);
+    begin(2);
+    WANT_CODE(famsync_read(handle, 1, 0, &byte, 1, NULL), FAMSYNC_OK);
+    WANT(byte == 9);
     memset(famsync_memory_at(memory), 4, LENGTH);
     WANT_CODE(famsync_msync(handle, NULL), FAMSYNC_OK);
     end();
@@ -139,6 +162,7 @@ static void in_layout(unsigned layout, int resident)
     options = (struct famsync_options){.size = sizeof options, .foreground = 1, .resident = resident};
     kept_open();
     closed();
+    rolled_back();
 }
 
 int main(void)

@@ -1,5 +1,5 @@
-"""Sessions that commit no more (`Torn`): a commit was refused memory after it had taken a part of the stores, and the
-memory with the rest was closed. The next session finds what was committed before."""
+"""Sessions that commit nothing before a rollback (`Torn`): a commit was refused memory after it had taken a part of the
+stores, and the memory with the rest was closed. The next session finds what was committed before."""
 
 import unittest
 
@@ -56,10 +56,20 @@ memory.close()
 torn(volume.commit)
 volume.write("b", 0, b"x")
 torn(volume.commit)
-torn(volume.rollback)
 volume.close()
 """
-        self.assertEqual(self.after(calls), (["refused", "torn", "torn", "torn"], [0, 0, 0]))
+        self.assertEqual(self.after(calls), (["refused", "torn", "torn"], [0, 0, 0]))
+
+    def test_a_rollback_follows(self):
+        calls = """
+memory.close()
+torn(volume.commit)
+volume.rollback()
+volume.write("b", 0, b"x")
+volume.commit()
+volume.close()
+"""
+        self.assertEqual(self.after(calls), (["refused", "torn"], [0, 0, ord("x")]))
 
     def test_memory_stays_open(self):
         self.assertEqual(self.after("volume.commit()\nmemory.close()\nvolume.close()\n"), (["refused"], [1, 1, 0]))
