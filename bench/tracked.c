@@ -272,10 +272,14 @@ static void on_fault(int number, siginfo_t *info, void *context)
     before.sa_sigaction(number, info, context);
 }
 
+/* A page is stored to while all are one mapping, so that pages which are opened apart become one mapping again as they
+   are closed: else a process soon has as many mappings as the system allows. */
 static void begin_protected(struct hand *hand)
 {
     struct sigaction ours = {.sa_flags = SA_SIGINFO | SA_ONSTACK};
-    begin_hand(hand, PROT_READ);
+    begin_hand(hand, PROT_READ | PROT_WRITE);
+    *(volatile unsigned char *)hand->memory = 0;
+    must(mprotect(hand->memory, bytes_of_file(), PROT_READ) == 0, "mprotect");
     ours.sa_sigaction = on_fault;
     sigfillset(&ours.sa_mask);
     if (handlers++ == 0)
