@@ -350,7 +350,6 @@ static void end_singles(void)
 #define USER_FAULTS 1
 #define FEATURES (1ull << 0 | 1ull << 13 | 1ull << 15)
 #define WRITTEN (1ull << 1)
-#define OF_FILE (1ull << 2)
 
 struct region {
     uint64_t begin, end, categories;
@@ -369,8 +368,14 @@ static void scan(struct hand *hand)
     static struct region region[REGIONS];
     uint64_t begin = (uintptr_t)hand->memory, end = begin + bytes_of_file();
     while (begin < end) {
-        struct scan scan = {sizeof scan,       3, begin,  end, 0, (uintptr_t)region, REGIONS, 0, OF_FILE,
-                            WRITTEN | OF_FILE, 0, WRITTEN};
+        struct scan scan = {.size = sizeof scan,
+                            .flags = 3,
+                            .begin = begin,
+                            .end = end,
+                            .regions = (uintptr_t)region,
+                            .most_regions = REGIONS,
+                            .mask = WRITTEN,
+                            .answered = WRITTEN};
         int count = ioctl(hand->map, SCAN, &scan);
         must(count >= 0, "PAGEMAP_SCAN");
         for (int i = 0; i < count; i++)

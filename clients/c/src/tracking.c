@@ -16,7 +16,6 @@
 #define UNPOPULATED (1ull << 13)
 #define ASYNCHRONOUS (1ull << 15)
 #define WRITTEN (1ull << 1)
-#define OF_FILE (1ull << 2)
 #define PROTECT_MATCHING (1ull << 0)
 #define CHECK_PROTECTED (1ull << 1)
 
@@ -56,8 +55,9 @@ void end_tracking(struct tracker *tracker)
     close_descriptor(&tracker->pages);
 }
 
-/* Lists and protects what was stored to in a part of a memory, and notes it; `*begin` is where the next part begins. A
-   page of the file was only loaded from. */
+/* Lists and protects what was stored to in a part of a memory, and notes it; `*begin` is where the next part begins.
+   All pages are protected from the opening on, also those that aren't in memory, so nothing else is asked of a page:
+   the kernel looks at the entries of its tables alone then, and at 1 GB that is loaded 30 times as fast. */
 static int collect_part(famsync_memory *memory, uint64_t *begin, uint64_t end, bool notes)
 {
     struct region region[REGIONS];
@@ -67,8 +67,7 @@ static int collect_part(famsync_memory *memory, uint64_t *begin, uint64_t end, b
                         .end = end,
                         .regions = (uintptr_t)region,
                         .most_regions = REGIONS,
-                        .inverted = OF_FILE,
-                        .mask = WRITTEN | OF_FILE,
+                        .mask = WRITTEN,
                         .answered = WRITTEN};
     int count = ioctl(memory->handle->tracker.pages, SCAN, &scan);
     if (count < 0)
