@@ -1,8 +1,8 @@
 /*
  * libfamsync: files in a volume whose changes become durable together. It runs in the caller's process.
  *
- * A handle is a session with one volume. The program's command `famsync format` makes volumes. The library opens and
- * locks the volume's file itself. A volume has one session that writes, or any number of sessions that only read.
+ * A handle is a session with one volume, which famsync_format or the command `famsync format` made. The library opens
+ * and locks the volume's file itself. A volume has one session that writes, or any number of sessions that only read.
  * Sessions of the program `famsync` count, too.
  *
  * A program can access the bytes of a file in two ways. It may use both in one session, also for the same file:
@@ -111,6 +111,38 @@ enum famsync_tracking { FAMSYNC_TRACK_SIGNALS = 0, FAMSYNC_TRACK_KERNEL = 1 };
 
 /* The version of the library that this program runs with. */
 const char *famsync_version(void);
+
+/* A file of a new volume: its name, 1 to 32 characters from '!' to '~'; its length in bytes; and its capacity, the
+   greatest length that it may get. A capacity of 0 means the length. In layouts 1 and 2 they are the same. */
+struct famsync_new_file {
+    const char *name;
+    uint64_t length;
+    uint64_t capacity;
+};
+
+/* A new volume. Set `size` to the size of this structure: a later version of the library adds fields at the end. */
+struct famsync_plan {
+    size_t size;
+    unsigned layout; /* 1 to 4; 0: 4 */
+    unsigned slots;  /* of each journal: 1 to 1,020; in layout 3 from 2; in layout 4 2 to 65,535; 0: 1,024 */
+    unsigned files;  /* the number of files, 1 to 64 */
+    const struct famsync_new_file *file; /* the files */
+    int preallocate;                     /* not 0: takes the disk's blocks now; 0: when they are written */
+    char *message;                       /* receives a line with the reason if the volume isn't made */
+    size_t message_size;                 /* its size in bytes; a longer line is cut off */
+};
+
+/* Makes a volume in a new file. Its files contain zeros. When the call returns, the volume is durable. Its bytes are
+   those that `famsync format` writes. If the call fails or the process is killed, the file of this name is the whole
+   volume, or doesn't exist. On a file system without unnamed files (O_TMPFILE) the library makes the volume in a file
+   with a name that ends in `.new`. A crash may leave that file.
+
+   A commit has at most as many pages as there are slots, or one less in layouts 3 and 4. Without `preallocate` a full
+   disk ends a session that writes to a block for the first time (FAMSYNC_DEVICE).
+
+   FAMSYNC_ARGUMENT: there is no such volume; `message` has the reason. FAMSYNC_SYSTEM: errno has the cause. It is
+   EEXIST if a file has this name already, or the name with `.new`. */
+int famsync_format(const char *volume, const struct famsync_plan *plan);
 
 /* Begins a session with a volume: a regular file with one name. If the path is a link, the library opens its target.
    The file is locked until the session ends. The session takes memory for the pages of its commits. On failure

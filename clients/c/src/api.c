@@ -138,8 +138,7 @@ static int open_with_blocks(famsync *handle, unsigned frames)
     }
 }
 
-/* Begins a core, and opens the volume in it. */
-static int begin_core(famsync *handle, unsigned frames)
+int begin_core(famsync *handle, unsigned frames)
 {
     int code = code_of(famsync_core_begin(handle->blocks, &handle->core.at));
     return code == FAMSYNC_OK ? open_with_blocks(handle, frames) : code;

@@ -32,7 +32,7 @@ static bool is_zeros(const unsigned char *block)
     return block[0] == 0 && memcmp(block, block + 1, PAGE - 1) == 0;
 }
 
-static int write_whole(int file, const unsigned char *bytes, size_t count, uint64_t offset)
+int write_whole(int file, const unsigned char *bytes, size_t count, uint64_t offset)
 {
     while (count > 0) {
         ssize_t written = pwrite(file, bytes, count, (off_t)offset);

@@ -182,6 +182,8 @@ int enter(famsync *handle, bool has_arguments);
 int leave(famsync *handle, int code);
 /* The number of the file with this name; the number of files if there is none. */
 unsigned number_of(const famsync *handle, const char *name);
+/* Begins a core, and opens the volume of a handle in it. The first time the handle gets what the core says of it. */
+int begin_core(famsync *handle, unsigned frames);
 /* Opens the volume in another core, which has the last commit and nothing that waits; all commits are written out. The
    handle keeps its own core. */
 int open_other_core(famsync *handle, famsync_core *other);
@@ -193,6 +195,13 @@ int above_streams(int file);
 int open_above_streams(int folder, const char *name, int flags);
 /* Closes a descriptor that is open, and keeps errno. */
 void close_descriptor(int *descriptor);
+/* Finds the folder of a volume, which it opens, and the name of the suspect flag. */
+int find_places(const char *path, struct volume *volume);
+int sync_file(int file);
+/* Makes the names in the volume's folder durable. It can't sync a folder that this process may not read. */
+int sync_folder(const struct volume *volume);
+/* Removes the suspect flag, if there is one. */
+int remove_flag(const struct volume *volume);
 /* Opens and locks the file of a volume, checks its kind and its suspect flag, and syncs it. If the file is refused,
    nothing stays open. */
 int open_volume_file(const char *path, const struct famsync_options *options, struct volume *volume,
@@ -256,7 +265,9 @@ int write_memory(famsync_memory *memory, uint64_t offset, const unsigned char *b
 int begin_tracking(struct tracker *tracker);
 void end_tracking(struct tracker *tracker);
 
-/* backup.c: copies blocks that the next calls overwrite to the backup that is being made, if there is one. */
+/* backup.c: writes all the bytes to a file. */
+int write_whole(int file, const unsigned char *bytes, size_t count, uint64_t offset);
+/* Copies blocks that the next calls overwrite to the backup that is being made, if there is one. */
 void save_for_backup(famsync *handle);
 
 /* heap.c: the bytes of memory that the cores of all sessions of this process have. */

@@ -42,7 +42,7 @@ int open_above_streams(int folder, const char *name, int flags)
     return above_streams(file);
 }
 
-static int sync_file(int file)
+int sync_file(int file)
 {
     int synced;
     do
@@ -51,8 +51,7 @@ static int sync_file(int file)
     return synced;
 }
 
-/* Makes the names in the volume's folder durable. A folder that this process may not read can't be synced. */
-static int sync_folder(const struct volume *volume)
+int sync_folder(const struct volume *volume)
 {
     int synced = sync_file(volume->folder);
     if (synced != 0 && errno == EBADF)
@@ -118,7 +117,7 @@ static int look_for_flag(const struct volume *volume, bool *flagged)
     return *flagged || errno == ENOENT ? FAMSYNC_OK : FAMSYNC_SYSTEM;
 }
 
-static int remove_flag(const struct volume *volume)
+int remove_flag(const struct volume *volume)
 {
     if (unlinkat(volume->folder, volume->flag, 0) == 0)
         return sync_folder(volume) == 0 ? FAMSYNC_OK : FAMSYNC_SYSTEM;
@@ -159,8 +158,7 @@ static int enter_folder(struct volume *volume)
     return volume->folder >= 0 ? FAMSYNC_OK : FAMSYNC_SYSTEM;
 }
 
-/* Where the file of a volume is, and the name of its suspect flag. */
-static int find_places(const char *path, struct volume *volume)
+int find_places(const char *path, struct volume *volume)
 {
     struct stat found;
     size_t room;

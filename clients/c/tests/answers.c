@@ -67,6 +67,20 @@ static void unknown_answer(int answer)
     WANT(unsetenv("MOCK_ANSWER") == 0);
 }
 
+/* No file gets its name in which the core doesn't find what was asked for. */
+static void is_not_made(int answer, int code)
+{
+    struct famsync_new_file file = {"a", 4096, 0};
+    WANT(unlink(volume) == 0 || errno == ENOENT);
+    tell_core(answer);
+    WANT_CODE(
+        famsync_format(volume, &(struct famsync_plan){.size = sizeof(struct famsync_plan), .files = 1, .file = &file}),
+        code);
+    WANT(code != FAMSYNC_SYSTEM || errno == EPROTO);
+    WANT(unsetenv("MOCK_ANSWER") == 0);
+    WANT(access(volume, F_OK) != 0);
+}
+
 int main(void)
 {
     make_volume_of(3, 16, "a=4096");
@@ -77,6 +91,11 @@ int main(void)
     unknown_answer(3);
     unknown_answer(INT_MIN);
     unknown_answer(INT_MAX);
+    is_not_made(-11, FAMSYNC_SYSTEM);
+    is_not_made(-12, FAMSYNC_SYSTEM);
+    is_not_made(-99, FAMSYNC_SYSTEM);
+    is_not_made(-2, FAMSYNC_NOMEMORY);
+    is_not_made(0, FAMSYNC_SYSTEM);
     printf("clients/c: answers: as it should be\n");
     return 0;
 }

@@ -106,7 +106,7 @@ int openat(int folder, const char *path, int flags, ...)
 {
     va_list more;
     va_start(more, flags);
-    int mode = flags & O_CREAT ? va_arg(more, int) : 0;
+    int mode = flags & (O_CREAT | O_TMPFILE) ? va_arg(more, int) : 0;
     va_end(more);
     return FAIL_OR(openat, NEXT(openat)(folder, path, flags, mode));
 }
@@ -147,6 +147,22 @@ ssize_t write(int file, const void *bytes, size_t count)
     if (file <= 2) /* what is printed isn't a file's */
         return NEXT(write)(file, bytes, count);
     return FAIL_OR(write, NEXT(write)(file, bytes, count));
+}
+
+ssize_t pwrite(int file, const void *bytes, size_t count, off_t at)
+{
+    enum outcome outcome = counted("pwrite");
+    return outcome == FAILED ? -1 : NEXT(pwrite)(file, bytes, outcome == SHORT ? (count + 2) / 3 : count, at);
+}
+
+int ftruncate(int file, off_t length)
+{
+    return FAIL_OR(ftruncate, NEXT(ftruncate)(file, length));
+}
+
+int linkat(int from, const char *path, int to, const char *name, int flags)
+{
+    return FAIL_OR(linkat, NEXT(linkat)(from, path, to, name, flags));
 }
 
 ssize_t pwritev(int file, const struct iovec *range, int count, off_t at)

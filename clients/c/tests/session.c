@@ -5,6 +5,7 @@
  * and after one that failed, other changes are made and undone.
  *
  *   session VOLUME make [FILES [LAYOUT]]      makes a volume; of layout 3 where that isn't said
+ *   session VOLUME format [LAYOUT]            the same by famsync_format, and prints the call if it fails
  *   session VOLUME work ROUNDS [foreground|few]
  *                                             prints each call that fails, and the number of each round that is done;
  *                                             `few`: in the foreground, with no more pages in a commit than a round
@@ -195,6 +196,18 @@ static int find(bool trust)
     return 0;
 }
 
+static int formats(unsigned layout)
+{
+    struct famsync_new_file file[] = {{"a", 163840, 0}, {"b", 0, 5000}, {"c", 163840, 0}};
+    if (layout == 1 || layout == 2)
+        file[B].length = file[B].capacity;
+    return report(
+        "format",
+        famsync_format(
+            volume, &(struct famsync_plan){
+                        .size = sizeof(struct famsync_plan), .layout = layout, .slots = 48, .files = 3, .file = file}));
+}
+
 static int reads(void)
 {
     famsync *handle;
@@ -227,6 +240,8 @@ int main(int count, char **words)
         make_volume_of(count > 4 ? (unsigned)atoi(words[4]) : 3, 48, count > 3 ? words[3] : FILES);
         return 0;
     }
+    if (strcmp(words[2], "format") == 0)
+        return formats(count > 3 ? (unsigned)atoi(words[3]) : 0);
     if (strcmp(words[2], "work") == 0)
         return work((uint64_t)atoi(words[3]), count > 4 ? words[4] : "");
     if (strcmp(words[2], "load") == 0 || strcmp(words[2], "children") == 0)

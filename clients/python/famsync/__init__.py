@@ -15,6 +15,7 @@ A program can access the bytes of a file in two ways: by `Volume.memory`, a buff
 
 from __future__ import annotations
 
+from ._creating import create
 from ._errors import (
     Address,
     Argument,
@@ -79,6 +80,7 @@ __all__ = [
     "Tracking",
     "Unmarked",
     "Volume",
+    "create",
     "open",
     "version",
 ]

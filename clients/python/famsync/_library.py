@@ -28,6 +28,27 @@ class Options(ctypes.Structure):
     ]
 
 
+class NewFile(ctypes.Structure):
+    """struct famsync_new_file"""
+
+    _fields_ = [("name", c_char_p), ("length", c_uint64), ("capacity", c_uint64)]
+
+
+class Plan(ctypes.Structure):
+    """struct famsync_plan"""
+
+    _fields_ = [
+        ("size", c_size_t),
+        ("layout", c_uint),
+        ("slots", c_uint),
+        ("files", c_uint),
+        ("file", POINTER(NewFile)),
+        ("preallocate", c_int),
+        ("message", c_void_p),
+        ("message_size", c_size_t),
+    ]
+
+
 class Stat(ctypes.Structure):
     """struct famsync_stat"""
 
@@ -48,6 +69,7 @@ class Stat(ctypes.Structure):
 # Of each call what it answers, and what it takes.
 CALLS = {
     "famsync_version": (c_char_p,),
+    "famsync_format": (c_int, c_char_p, POINTER(Plan)),
     "famsync_open": (c_int, c_char_p, POINTER(Options), POINTER(c_void_p)),
     "famsync_close": (c_int, c_void_p),
     "famsync_files": (c_uint, c_void_p),

@@ -31,6 +31,25 @@ pub struct FamsyncOptions {
 }
 
 #[repr(C)]
+pub struct FamsyncNewFile {
+    pub name: *const c_char,
+    pub length: u64,
+    pub capacity: u64,
+}
+
+#[repr(C)]
+pub struct FamsyncPlan {
+    pub size: usize,
+    pub layout: c_uint,
+    pub slots: c_uint,
+    pub files: c_uint,
+    pub file: *const FamsyncNewFile,
+    pub preallocate: c_int,
+    pub message: *mut c_char,
+    pub message_size: usize,
+}
+
+#[repr(C)]
 #[derive(Default)]
 pub struct FamsyncStat {
     pub size: usize,
@@ -51,6 +70,7 @@ pub const FAMSYNC_TRACK_KERNEL: c_int = 1;
 
 extern "C" {
     pub fn famsync_version() -> *const c_char;
+    pub fn famsync_format(volume: *const c_char, plan: *const FamsyncPlan) -> c_int;
     pub fn famsync_open(volume: *const c_char, options: *const FamsyncOptions, handle: *mut *mut Famsync) -> c_int;
     pub fn famsync_close(handle: *mut Famsync) -> c_int;
     pub fn famsync_files(handle: *const Famsync) -> c_uint;

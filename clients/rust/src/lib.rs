@@ -26,10 +26,12 @@ mod error;
 mod ffi;
 mod memory;
 mod options;
+mod plan;
 mod volume;
 
 pub use error::{Code, Error};
 pub use options::Options;
+pub use plan::Plan;
 pub use volume::{File, Stat, Volume};
 
 /// The version of the library that this program runs with.

@@ -8,7 +8,7 @@ use std::ptr::{self, NonNull};
 use std::time::Duration;
 
 /// `FAMSYNC_MESSAGE_SIZE` of famsync.h.
-const MESSAGE: usize = 9000;
+pub(crate) const MESSAGE: usize = 9000;
 
 /// How a volume is opened.
 ///

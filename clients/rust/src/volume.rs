@@ -1,6 +1,6 @@
 use crate::error::{check, Code, Error};
 use crate::memory::{Plain, Slot};
-use crate::{ffi, Options};
+use crate::{ffi, Options, Plan};
 use std::array;
 use std::ffi::{c_int, CStr};
 use std::mem::{self, ManuallyDrop};
@@ -89,6 +89,12 @@ impl Volume {
     /// Opens a volume with the usual [`Options`].
     pub fn open(path: impl AsRef<Path>) -> Result<Volume, Error> {
         Options::new().open(path)
+    }
+
+    /// Makes a volume where no file is yet, and opens it. [`Plan::make`] makes it alone.
+    pub fn create(path: impl AsRef<Path>, plan: &Plan) -> Result<Volume, Error> {
+        plan.make(path.as_ref())?;
+        Volume::open(path)
     }
 
     /// Takes over the handle of a session.

@@ -1,0 +1,51 @@
+"""Making a volume."""
+
+from __future__ import annotations
+
+import ctypes
+from typing import Mapping, Tuple, Union
+
+from . import _library
+from ._errors import Argument, check
+from ._library import library
+from ._volume import MESSAGE, Path, _name, _number, _path
+
+Length = Union[int, Tuple[int, int]]
+
+
+def _new_file(name: str, length: Length) -> _library.NewFile:
+    begins, grows = length if isinstance(length, tuple) else (length, 0)
+    return _library.NewFile(_name(name), _number(begins, 64, "a length"), _number(grows, 64, "a capacity"))
+
+
+def create(
+    path: Path, files: Mapping[str, Length], *, layout: int = 4, slots: int = 1024, preallocate: bool = False
+) -> None:
+    """Makes a volume at `path`, where no file is yet: else System, whose errno is EEXIST. `files` has the length of
+    each file, or a pair of its length and its capacity, the length up to which it may grow. A commit has at most as
+    many pages as there are slots, or one less in layouts 3 and 4.
+
+        famsync.create("bank.vol", {"bank": 8192, "log": (0, 1 << 40)})
+
+    With `preallocate` the disk's blocks are taken now; else as they are written. Argument if no volume is like that."""
+    made = [_new_file(name, length) for name, length in files.items()]
+    said = ctypes.create_string_buffer(MESSAGE)
+    plan = _library.Plan(
+        size=ctypes.sizeof(_library.Plan),
+        layout=_at_least_one(layout, "the layout"),
+        slots=_at_least_one(slots, "the number of slots"),
+        files=len(made),
+        file=(_library.NewFile * len(made))(*made),
+        preallocate=bool(preallocate),
+        message=ctypes.addressof(said),
+        message_size=ctypes.sizeof(said),
+    )
+    check(library.famsync_format(_path(path), ctypes.byref(plan)), said.value.decode("utf-8", "replace"))
+
+
+def _at_least_one(value: int, what: str) -> int:
+    """A number that isn't 0, which the library takes for its own choice."""
+    number = _number(value, 32, what)
+    if number == 0:
+        raise Argument(f"{what} is 0")
+    return number

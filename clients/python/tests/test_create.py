@@ -1,0 +1,59 @@
+"""Volumes that are made: their bytes, what is refused, and that what has the name stays."""
+
+import errno
+import os
+import unittest
+
+from support import InAFolder, famsync, make_volume
+
+
+class Creating(InAFolder):
+    def test_same_bytes(self):
+        for layout in (1, 2, 3, 4):
+            log, given = ("log=5000", 5000) if layout < 3 else ("log=0/5000", (0, 5000))
+            make_volume("theirs.img", 20, "bank=8192", log, layout=layout)
+            famsync.create(f"{layout}.img", {"bank": 8192, "log": given}, layout=layout, slots=20)
+            with open("theirs.img", "rb") as theirs, open(f"{layout}.img", "rb") as ours:
+                self.assertEqual(ours.read(), theirs.read())
+
+    def test_is_used(self):
+        famsync.create("new.img", {"bank": 8192, "log": (0, 100000)}, preallocate=True)
+        with famsync.open("new.img") as volume:
+            self.assertEqual((volume.files, volume.frames), ({"bank": 8192, "log": 0}, 1023))
+            volume.set_length("log", 100000)
+            volume.write("log", 99999, b"x")
+            volume.commit()
+        with famsync.open("new.img") as volume:
+            self.assertEqual(volume.read("log", 99999), b"x")
+            with self.assertRaises(famsync.System) as raised:
+                famsync.create("new.img", {"a": 1})
+            self.assertEqual(raised.exception.errno, errno.EEXIST)
+            self.assertEqual(volume.read("log", 99999), b"x")
+
+    def test_is_refused(self):
+        for files, how, why in (
+            ({}, {}, "1 to 64 files"),
+            ({"a": 0}, {}, "byte"),
+            ({"a b": 1}, {}, "name"),
+            ({"a": (2, 1)}, {}, "capacity"),
+            ({"a": 1 << 63}, {}, "blocks"),
+            ({"a": 1}, {"layout": 5}, "layouts"),
+            ({"a": (1, 2)}, {"layout": 1, "slots": 2}, "layout"),
+            ({"a": 1}, {"slots": 65536}, "slots"),
+            ({"a": 1}, {"slots": 0}, "slots"),
+            ({"a": 1}, {"layout": 0}, "layout"),
+            ({"a": -1}, {}, "length"),
+            ({"a": (1, 1 << 64)}, {}, "capacity"),
+            ({"a\0": 1}, {}, "null byte"),
+        ):
+            with self.assertRaisesRegex(famsync.Argument, why):
+                famsync.create("new.img", files, **how)
+            self.assertFalse(os.path.exists("new.img"))
+        self.assertRaises(TypeError, famsync.create, "new.img", {"a": "1"})
+        with self.assertRaises(famsync.System) as raised:
+            famsync.create("no/new.img", {"a": 1})
+        self.assertEqual(raised.exception.errno, errno.ENOENT)
+
+
+if __name__ == "__main__":
+    unittest.main()

@@ -1,0 +1,98 @@
+use crate::error::{check, Code, Error};
+use crate::ffi;
+use crate::options::MESSAGE;
+use std::ffi::{c_int, c_uint, CString};
+use std::mem;
+use std::os::unix::ffi::OsStrExt;
+use std::path::Path;
+
+/// A volume that is to be made: its files, all zeros, and how large commits may be.
+///
+/// ```
+/// # fn main() -> Result<(), famsync::Error> {
+/// # let path = &std::env::temp_dir().join(format!("plan-{}.vol", std::process::id()));
+/// famsync::Plan::new().file("bank", 8192).growing("log", 0, 1 << 40).make(path)?;
+/// let volume = famsync::Volume::open(path)?;
+/// assert_eq!((volume.frames(), volume.files().count()), (1023, 2));
+/// # std::fs::remove_file(path).unwrap();
+/// # Ok(())
+/// # }
+/// ```
+#[derive(Clone, Debug)]
+pub struct Plan {
+    layout: u32,
+    slots: u32,
+    files: Vec<(String, u64, u64)>,
+    preallocate: bool,
+}
+
+impl Default for Plan {
+    fn default() -> Plan {
+        Plan { layout: 4, slots: 1024, files: Vec::new(), preallocate: false }
+    }
+}
+
+impl Plan {
+    /// A volume of layout 4, with 1,024 slots and no files yet.
+    pub fn new() -> Plan {
+        Plan::default()
+    }
+
+    /// The layout, 1 to 4.
+    pub fn layout(&mut self, layout: u32) -> &mut Plan {
+        self.layout = layout;
+        self
+    }
+
+    /// The slots of each journal. A commit has at most as many pages, or one less in layouts 3 and 4.
+    pub fn slots(&mut self, slots: u32) -> &mut Plan {
+        self.slots = slots;
+        self
+    }
+
+    /// One more file, of this length, which it keeps.
+    pub fn file(&mut self, name: impl Into<String>, length: u64) -> &mut Plan {
+        self.growing(name, length, length)
+    }
+
+    /// One more file, which may grow up to a capacity, in layouts 3 and 4.
+    pub fn growing(&mut self, name: impl Into<String>, length: u64, capacity: u64) -> &mut Plan {
+        self.files.push((name.into(), length, capacity));
+        self
+    }
+
+    /// Whether the disk's blocks are taken now; else as they are written.
+    pub fn preallocate(&mut self, preallocate: bool) -> &mut Plan {
+        self.preallocate = preallocate;
+        self
+    }
+
+    /// Makes the volume in a new file. [`Code::System`], with `AlreadyExists`, if there is one of this name;
+    /// [`Code::Argument`] if no volume is like that. The error says in words what is wrong.
+    pub fn make(&self, path: impl AsRef<Path>) -> Result<(), Error> {
+        if self.layout == 0 || self.slots == 0 {
+            return Err(Error::with_message(Code::Argument, "a volume has a layout and slots".to_string()));
+        }
+        let text = |bytes: &[u8]| CString::new(bytes).map_err(|_| Error::new(Code::Argument));
+        let path = text(path.as_ref().as_os_str().as_bytes())?;
+        let names = self.files.iter().map(|(name, ..)| text(name.as_bytes())).collect::<Result<Vec<_>, _>>()?;
+        let files: Vec<_> = names
+            .iter()
+            .zip(&self.files)
+            .map(|(name, &(_, length, capacity))| ffi::FamsyncNewFile { name: name.as_ptr(), length, capacity })
+            .collect();
+        let mut message = vec![0u8; MESSAGE];
+        let plan = ffi::FamsyncPlan {
+            size: mem::size_of::<ffi::FamsyncPlan>(),
+            layout: c_uint::from(self.layout),
+            slots: c_uint::from(self.slots),
+            files: c_uint::try_from(files.len()).unwrap_or(c_uint::MAX),
+            file: files.as_ptr(),
+            preallocate: c_int::from(self.preallocate),
+            message: message.as_mut_ptr().cast(),
+            message_size: message.len(),
+        };
+        // Safety: the path and the names end with null bytes, and the plan has the files and the room that it says.
+        check(unsafe { ffi::famsync_format(path.as_ptr(), &plan) }).map_err(|error| error.saying(&message))
+    }
+}
