@@ -304,9 +304,9 @@ int famsync_backup(famsync *handle, int descriptor);
  * With FAMSYNC_TRACK_KERNEL there is no handler: the kernel notes stores, including those of read(2) and the like. Each
  * commit asks it which pages were stored to. Other threads may not store during famsync_msync, famsync_rollback and
  * famsync_setlength. If a commit finds such a store while it copies pages, it copies them again, up to four times. Then
- * it returns FAMSYNC_BUSY, and nothing is committed. Committed pages aren't given back. FAMSYNC_TRACKING, of
- * famsync_open or famsync_memory_open: the system can't do this (Linux can from 6.7 on). With `resident` it is
- * FAMSYNC_ARGUMENT.
+ * it returns FAMSYNC_BUSY, and nothing is committed. The end of a commit gives committed pages back. A store to them by
+ * another thread meanwhile may be lost. FAMSYNC_TRACKING, of famsync_open or famsync_memory_open: the system can't do
+ * this (Linux can from 6.7 on). With `resident` it is FAMSYNC_ARGUMENT.
  *
  * Bytes past the file's end, in its last page, are memory that isn't kept. The addresses after this page, up to the
  * file's capacity, are reserved and may not be used. While memory of a file is open, famsync_read and famsync_write use

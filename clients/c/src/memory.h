@@ -91,6 +91,8 @@ void keep_no_more(famsync_memory *memory, size_t first, size_t end);
 /* tracking.c: `track` makes the kernel track stores to a memory. `collect` notes those since it was last called. */
 int track(famsync_memory *memory);
 int collect(famsync_memory *memory);
+/* The same for some pages. */
+int collect_among(famsync_memory *memory, size_t first, size_t end);
 
 /* faults.c: the lock `closing`, to open and close pages. Its holder blocks all signals and waits for nothing, so the
    handler of SIGSEGV may wait for it. */

@@ -142,11 +142,26 @@ static bool is_spare(const famsync_memory *memory, size_t page, uint32_t newest)
            (page + 1) * memory->grain <= memory->length;
 }
 
-/* Gives a run of pages back: what is loaded from there is the home blocks again. */
-static void give_back(famsync_memory *memory, size_t first, size_t end)
+/* The most pages that are given back at once. */
+#define MOST_GIVEN 512u
+
+/* Whether nobody has stored to pages that are closed, as far as is noted. Of those that the kernel tracks it notes it
+   now: in a commit no thread stores, and so none does between this and the giving back. */
+static bool are_unstored(famsync_memory *memory, size_t first, size_t end)
 {
+    if (!memory->handle->is_tracked)
+        return true;
+    return collect_among(memory, first, end) == FAMSYNC_OK && first_noted(memory->dirty, first, end) == end;
+}
+
+/* Gives a run of pages back: what is loaded from there is the home blocks again. */
+static bool give_back(famsync_memory *memory, size_t first, size_t end)
+{
+    if (!are_unstored(memory, first, end))
+        return false;
     (void)madvise(memory->at + first * memory->grain, (end - first) * memory->grain, MADV_DONTNEED);
     keep_no_more(memory, first, end);
+    return true;
 }
 
 /* The first page of a span, from one on, that is kept; the end of the span if none is. */
@@ -162,25 +177,21 @@ static void give_back_spare(famsync_memory *memory, uint32_t newest)
     size_t end = memory->keeps.end, page = first_kept(memory, memory->keeps.begin, end);
     memory->keeps = (struct span){0, 0};
     for (size_t first; page < end; page = first_kept(memory, page, end)) {
-        for (first = page; page < end && is_spare(memory, page, newest); page++)
+        for (first = page; page < end && page - first < MOST_GIVEN && is_spare(memory, page, newest); page++)
             continue;
-        if (first < page) {
-            give_back(memory, first, page);
+        if (first < page && give_back(memory, first, page))
             continue;
-        }
-        widen(&memory->keeps, page, page + 1);
-        page++;
+        page += first == page;
+        widen(&memory->keeps, first, page);
     }
 }
 
 /* A page that is kept is there twice: as the program has it, and as it was committed. */
-void keep_to_budget(famsync *handle)
+static void give_back_above_budget(famsync *handle)
 {
     famsync_memory *memory;
     sigset_t blocked;
     uint64_t bytes = 0;
-    if (handle->is_tracked) /* nothing keeps a thread from storing to a page as it is given back */
-        return;
     for (memory = handle->memories; memory; memory = memory->next_one)
         bytes += 2 * memory->kept * memory->grain;
     if (bytes <= handle->budget)
@@ -190,6 +201,12 @@ void keep_to_budget(famsync *handle)
         give_back_spare(memory, newest_home(handle));
         unlock_pages(handle, &blocked);
     }
+}
+
+void keep_to_budget(famsync *handle)
+{
+    if (!handle->is_tracked) /* nothing keeps a thread from storing to a page as it is given back */
+        give_back_above_budget(handle);
 }
 
 /* Closes all pages that are open, by one call from the first to the last of them: those between are closed. Then those
@@ -348,5 +365,5 @@ void stores_are_committed(famsync *handle)
         memory->stored = false;
         end_taking(memory);
     }
-    keep_to_budget(handle);
+    give_back_above_budget(handle);
 }

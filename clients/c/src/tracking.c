@@ -82,9 +82,9 @@ static int collect_part(famsync_memory *memory, uint64_t *begin, uint64_t end, b
     return FAMSYNC_OK;
 }
 
-static int collect_all(famsync_memory *memory, bool notes)
+static int collect_span(famsync_memory *memory, size_t first, size_t stop, bool notes)
 {
-    uint64_t begin = (uintptr_t)memory->at, end = begin + memory->pages * memory->grain;
+    uint64_t begin = (uintptr_t)memory->at + first * memory->grain, end = (uintptr_t)memory->at + stop * memory->grain;
     int code = FAMSYNC_OK;
     while (begin < end && code == FAMSYNC_OK)
         code = collect_part(memory, &begin, end, notes);
@@ -93,7 +93,12 @@ static int collect_all(famsync_memory *memory, bool notes)
 
 int collect(famsync_memory *memory)
 {
-    return collect_all(memory, true);
+    return collect_span(memory, 0, memory->pages, true);
+}
+
+int collect_among(famsync_memory *memory, size_t first, size_t end)
+{
+    return collect_span(memory, first, end, true);
 }
 
 /* What the library stored to the memory before doesn't count. */
@@ -102,5 +107,5 @@ int track(famsync_memory *memory)
     struct uffdio_register range = {.range = {(uintptr_t)memory->at, memory->room}, .mode = UFFDIO_REGISTER_MODE_WP};
     if (ioctl(memory->handle->tracker.faults, UFFDIO_REGISTER, &range) != 0)
         return FAMSYNC_TRACKING;
-    return collect_all(memory, false) == FAMSYNC_OK ? FAMSYNC_OK : FAMSYNC_TRACKING;
+    return collect_span(memory, 0, memory->pages, false) == FAMSYNC_OK ? FAMSYNC_OK : FAMSYNC_TRACKING;
 }
