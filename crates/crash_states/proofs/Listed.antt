@@ -2,9 +2,9 @@
 use Rattle.std.proofs.Common.{◌≡◌, ℕ, ◌+◌, ◌-◌, ◌^◌, ◌<◌, ◌≤◌, List, [], ◌∷◌, ◌++◌, length, Bool, true, false}
 use Rattle.std.proofs.Common.{cond, take, drop, append_assoc, length-take}
 use Rattle.std.proofs.Common.{refl, sym, ap, subst, ◌∙◌, arith}
-use Rattle.std.specs.Prelude.{not, ◌||◌, if◌then◌else◌, Result, Ok, Err, is_ok, is_err, OnOk, OnErr, IfOk, IfErr}
+use Rattle.std.specs.Prelude.{Vec, not, ◌||◌, if◌then◌else◌, Result, Ok, Err, is_ok, is_err, OnOk, OnErr, IfOk, IfErr}
 use Rattle.std.specs.List.{count_by, AllByRecursion}
-use Rattle.std.proofs.lemmas.List.{length-append, take_at, drop_at}
+use Rattle.std.proofs.lemmas.List.{length-append, length-map, take_at, drop_at}
 use Rattle.std.proofs.lemmas.Bool.{false≢true}
 use Rattle.std.proofs.lemmas.List.Sums.{count_by-le-length, sum_by-append}
 use Rattle.device.specs.Count.{raised}
@@ -16,7 +16,7 @@ use Rattle.crash_states.specs.declared.call.Call.{Call}
 use Rattle.crash_states.specs.declared.call.CallKind.{CallKind}
 use Rattle.crash_states.specs.declared.call.CallKind.TheVariants.{Read, Write, Sync}
 use Rattle.crash_states.specs.Calls.{DeviceCall, ListedDisk, ListsCall, ListsItsCalls, HasItsLength, is_due, changed_as}
-use Rattle.crash_states.specs.Calls.{call_of, change_by, changes_by, is_passed_on}
+use Rattle.crash_states.specs.Calls.{call_of, device_calls_of, change_by, changes_by, is_passed_on}
 
 -- ---- one call at the end of a list
 
@@ -77,7 +77,7 @@ changed_faults Sync disk call = by call.failed
 
 -- ---- the list is that of the calls, also with one more
 
-pub lists_more : (old new : ListedDisk) (call : DeviceCall) → ListsCall call old new → new.refused ≡ false
+lists_more : (old new : ListedDisk) (call : DeviceCall) → ListsCall call old new → new.refused ≡ false
     → ListsItsCalls old → HasItsLength call.kind call → length new.calls < 2 ^ 64 → ListsItsCalls new
 lists_more old new call made complete lists formed small =
     let more : new.calls ≡ old.calls ++ call ∷ [] = made.more complete in
@@ -122,15 +122,6 @@ if_done (Ok x) false false outcome done = done refl refl
 if_done (Ok x) true is_refused outcome done = absurd (false≢true (sym outcome))
 if_done (Ok x) false true outcome done = absurd (false≢true (sym outcome))
 
--- the call that was to be listed, where memory wasn't refused for it
-pub noted_call : {A E : Type 0} (call : Result (Call A) E) (refused : Bool) (new old : List DeviceCall)
-    (is : DeviceCall) → IfOk call (λ c. call_of c ≡ is)
-    → IfOk call (λ c. refused ≡ false → new ≡ old ++ call_of c ∷ []) → IfErr call (λ e. refused ≡ true)
-    → refused ≡ false → new ≡ old ++ is ∷ []
-noted_call (Ok c) refused new old is named listed lost complete =
-    listed complete ∙ ap (λ (k : DeviceCall). old ++ k ∷ []) named
-noted_call (Err e) refused new old is named listed lost complete = absurd (false≢true (sym complete ∙ lost))
-
 -- a write changes no more than its range, whether it succeeds or is refused memory
 pub torn_by : {T E : Type 0} (result : Result T E) (old new : Recorded) (at : ℕ) (bytes : List ℕ)
     → at + length bytes ≤ length (seen_of old) → OnOk result (seen_of new ≡ written (seen_of old) at bytes)
@@ -151,30 +142,31 @@ torn_by (Ok x) old new at bytes fits done refused =
 
 -- ---- a call that was listed and counted
 
--- what is known where memory wasn't refused
-abbrev pub IsNoted : ListedDisk → DeviceCall → Bool → ListedDisk → Type 0
-IsNoted old call is_refused new = new.refused ≡ false → (old.refused ≡ false) × (is_refused ≡ false)
-    × (new.calls ≡ old.calls ++ call ∷ []) × (new.inner ≡ changed_as call.kind old.inner call)
-
-pub lists_call : {T E : Type 0} (call : Bool → DeviceCall) (old new : ListedDisk) (due is_refused : Bool)
-    (result : Result T E) → ((failed : Bool) → (call failed).failed ≡ failed) → due ≡ is_due old
-    → is_ok result ≡ not (due || is_refused) → new.fails_at ≡ old.fails_at → new.made ≡ raised old.made
-    → new.faults ≡ (if due || is_refused then raised old.faults else old.faults)
-    → IsNoted old (call due) is_refused new → ListsCall (call (not (is_ok result))) old new
-lists_call call old new due is_refused result named is_due_now outcome at made faults noted =
+-- A call was entered, and counted: it failed exactly if it was due to, or memory was refused.
+lists_call : {A T E F : Type 0} (call : Bool → DeviceCall) (entered : Result (Call A) F) (old new : ListedDisk)
+    (due is_refused : Bool) (result : Result T E) → ((failed : Bool) → (call failed).failed ≡ failed)
+    → due ≡ is_due old → is_ok result ≡ not (due || is_refused) → new.fails_at ≡ old.fails_at
+    → new.made ≡ raised old.made → new.faults ≡ (if due || is_refused then raised old.faults else old.faults)
+    → (new.refused ≡ false → (old.refused ≡ false) × (is_refused ≡ false)) → IfOk entered (λ c. call_of c ≡ call due)
+    → IfOk entered (λ c. new.refused ≡ false → new.calls ≡ old.calls ++ call_of c ∷ [])
+    → IfErr entered (λ e. new.refused ≡ true)
+    → (is_refused ≡ false → new.inner ≡ changed_as (call due).kind old.inner (call due))
+    → ListsCall (call (not (is_ok result))) old new
+lists_call {A} {T} {E} {F} call entered old new due is_refused result named due_now outcome at made faults
+    before is listed lost inner =
     let failed : not (is_ok result) ≡ (due || is_refused) = ap not outcome ∙ twice (due || is_refused) in
     let same = λ (complete : new.refused ≡ false).
-    failed ∙ ap (λ (b : Bool). due || b) (noted complete).1 ∙ nothing_more due in
+    failed ∙ ap (λ (b : Bool). due || b) (before complete).1 ∙ nothing_more due in
     record {
       fails_at = at;
       made = made;
       faults = faults ∙ sym (ap (λ (b : Bool). if b then raised old.faults else old.faults)
           (named (not (is_ok result)) ∙ failed));
-      before = λ complete. (noted complete).0;
-      more = λ complete. (noted complete).2
+      before = λ complete. (before complete).0;
+      more = λ complete. entry entered is listed lost complete
           ∙ sym (ap (λ (b : Bool). old.calls ++ call b ∷ []) (same complete));
-      due = λ complete. named (not (is_ok result)) ∙ same complete ∙ is_due_now;
-      inner = λ complete. (noted complete).3
+      due = λ complete. named (not (is_ok result)) ∙ same complete ∙ due_now;
+      inner = λ complete. inner (before complete).1
           ∙ sym (ap (λ (b : Bool). changed_as (call b).kind old.inner (call b)) (same complete));
     }
   where
@@ -185,3 +177,44 @@ lists_call call old new due is_refused result named is_due_now outcome at made f
     nothing_more : (b : Bool) → (b || false) ≡ b
     nothing_more true = refl
     nothing_more false = refl
+
+    entry : (entered : Result (Call A) F) → IfOk entered (λ c. call_of c ≡ call due)
+        → IfOk entered (λ c. new.refused ≡ false → new.calls ≡ old.calls ++ call_of c ∷ [])
+        → IfErr entered (λ e. new.refused ≡ true) → new.refused ≡ false → new.calls ≡ old.calls ++ call due ∷ []
+    entry (Ok c) is listed lost complete = listed complete ∙ ap (λ (k : DeviceCall). old.calls ++ k ∷ []) is
+    entry (Err e) is listed lost complete = absurd (false≢true (sym complete ∙ lost))
+
+-- the list is that of the calls afterwards
+still_lists : {A Z : Type 0} (calls : Vec (Call A) Z) (old new : ListedDisk) (call : DeviceCall)
+    → new.calls ≡ device_calls_of calls.items → HasItsLength call.kind call → ListsCall call old new
+    → (old.refused ≡ false → ListsItsCalls old) → new.refused ≡ false → ListsItsCalls new
+still_lists {A} {Z} calls old new call are formed made lists complete =
+    let few : length new.calls < 2 ^ 64 = omega (
+      arith,
+      ap length are,
+      length-map calls.items (λ (c : Call A). call_of c),
+      calls.ok.0,
+      calls.ok.1,
+      calls.small,
+    ) in
+    lists_more old new call made complete (lists (made.before complete)) formed few
+
+-- The call is listed of the disk as contracts see it, and the list is still that of its calls.
+pub lists_next : {A Z T E F : Type 0} {old seen : ListedDisk} (calls : Vec (Call A) Z) (call : Bool → DeviceCall)
+    (entered : Result (Call A) F) (new : ListedDisk) (due is_refused : Bool) (result : Result T E)
+    → ((failed : Bool) → ((call failed).failed ≡ failed) × HasItsLength (call failed).kind (call failed))
+    → new.calls ≡ device_calls_of calls.items → old ≡ seen → (old.refused ≡ false → ListsItsCalls old)
+    → new.fails_at ≡ old.fails_at → due ≡ is_due seen → is_ok result ≡ not (due || is_refused)
+    → new.made ≡ raised old.made → new.faults ≡ (if due || is_refused then raised old.faults else old.faults)
+    → (new.refused ≡ false → (old.refused ≡ false) × (is_refused ≡ false)) → IfOk entered (λ c. call_of c ≡ call due)
+    → IfOk entered (λ c. new.refused ≡ false → new.calls ≡ old.calls ++ call_of c ∷ [])
+    → IfErr entered (λ e. new.refused ≡ true)
+    → (is_refused ≡ false → new.inner ≡ changed_as (call due).kind old.inner (call due))
+    → ListsCall (call (not (is_ok result))) seen new × (new.refused ≡ false → ListsItsCalls new)
+lists_next {A} {Z} {T} {E} {F} {old} {seen} calls call entered new due is_refused result formed are is lists at due_now
+    outcome made faults before named listed lost inner =
+    let it = lists_call call entered old new due is_refused result (λ failed. (formed failed).0)
+    (due_now ∙ ap is_due (sym is)) outcome at made faults before named listed lost inner in (
+      subst (λ (d : ListedDisk). ListsCall (call (not (is_ok result))) d new) is it,
+      still_lists calls old new (call (not (is_ok result))) are (formed (not (is_ok result))).1 it lists,
+    )

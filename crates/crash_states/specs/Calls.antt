@@ -61,6 +61,17 @@ pub record ListedDisk : Type 0 where
   pub made : ℕ
   pub faults : ℕ
 
+-- the same, by the fields of one
+abbrev pub listed_as : {A : Type 0} → Recorded → ℕ → List (Call A) → Bool → ℕ → ℕ → ListedDisk
+listed_as inner fails_at calls refused made faults = record {
+  inner = inner;
+  fails_at = fails_at;
+  calls = device_calls_of calls;
+  refused = refused;
+  made = made;
+  faults = faults;
+}
+
 -- none of its calls made yet
 abbrev pub listing : Recorded → ℕ → ListedDisk
 listing inner fails_at = record {

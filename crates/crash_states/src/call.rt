@@ -98,27 +98,14 @@ pub struct Listing<A: Allocator + Copy> {
 
 impl<A: Allocator + Copy> Model for Listing<A> {
     ghost use Rattle.std.specs.Prelude.{◌≡◌, false};
-    ghost use Rattle.crash_states.specs.Calls.{ListedDisk, ListsItsCalls, device_calls_of};
+    ghost use Rattle.crash_states.specs.Calls.{ListedDisk, ListsItsCalls, listed_as};
 
     ghost Value = { ListedDisk };
 
-    ghost view = { λ d. record {
-      inner = d.inner;
-      fails_at = d.fails_at;
-      calls = device_calls_of d.calls.items;
-      refused = d.refused;
-      made = d.made;
-      faults = d.faults;
-    } };
+    ghost view = { λ d. listed_as d.inner d.fails_at d.calls.items d.refused d.made d.faults };
 
-    ghost invariant = { λ d. d.refused ≡ false → ListsItsCalls record {
-      inner = d.inner;
-      fails_at = d.fails_at;
-      calls = device_calls_of d.calls.items;
-      refused = d.refused;
-      made = d.made;
-      faults = d.faults;
-    } };
+    ghost invariant = { λ d. d.refused ≡ false
+        → ListsItsCalls (listed_as d.inner d.fails_at d.calls.items d.refused d.made d.faults) };
 }
 
 impl<A: Allocator + Copy> Listing<A> {
