@@ -232,8 +232,8 @@ int famsync_msync(famsync *handle, uint64_t *mark);
    Meanwhile that takes the memory of a second session.
 
    If the call is refused, all changes still wait for a commit. FAMSYNC_DEVICE: a read, a write or a sync failed, as
-   with famsync_msync. FAMSYNC_SYSTEM: the system refused the rollback. If a part was undone by then, commits are refused
-   until a rollback succeeds (FAMSYNC_TORN). */
+   with famsync_msync. FAMSYNC_SYSTEM: the system refused the rollback. If a part was undone by then, no commit is
+   possible until a rollback succeeds (FAMSYNC_TORN). */
 int famsync_rollback(famsync *handle);
 
 /* The number of the last acknowledged commit; 0 if there is none. */

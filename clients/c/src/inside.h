@@ -249,8 +249,8 @@ uint64_t staged_among(famsync *handle, unsigned file, uint64_t first, uint64_t c
 int take_stores(famsync *handle);
 void put_stores_back(famsync *handle);
 void stores_are_committed(famsync *handle);
-/* Gives committed pages back to the system if plain memory keeps more of them than its budget allows. It may be called at
-   any time. Memory that the kernel tracks gives them back only in a commit, when no thread stores. */
+/* Gives committed pages back to the system if plain memory keeps more of them than its budget allows. It may be called
+   at any time. Memory that the kernel tracks gives them back only in a commit, when no thread stores. */
 void keep_to_budget(famsync *handle);
 /* memory.c: the number of pages of plain memory that were stored to and that the core doesn't yet have. */
 uint64_t stored_pages(famsync *handle);
