@@ -1,14 +1,16 @@
 -- Steps after steps, with what they leave of the lock and of the processors' phases.
-use Rattle.std.proofs.Common.{◌≡◌, ℕ, true, List, [], ◌∷◌, ◌++◌, subst}
+use Rattle.std.proofs.Common.{◌≡◌, ◌⊎◌, ℕ, true, List, [], ◌∷◌, ◌++◌, refl, subst}
 use Rattle.device.specs.declared.device.Device.{Ghosts}
+use Rattle.page_entry.specs.declared.refusal.Refusal.TheVariants.{Busy}
 use Rattle.spaces.specs.declared.change.Change.{Change}
 use Rattle.shootdown.specs.Shootdown.{IsShootdown}
 use Rattle.machine.specs.declared.act.Reply.{Reply}
+use Rattle.machine.specs.declared.act.Reply.TheVariants.{Nothing, Refused}
 use Rattle.machine.specs.declared.act.Step.{Step}
 use Rattle.machine.specs.State.{Whole}
 use Rattle.session.specs.declared.notes.Notes.{Notes}
 use Rattle.session.specs.CarriedOut.{CarriesOut}
-use Rattle.session.specs.Lengths.{reports_begun}
+use Rattle.session.specs.Lengths.{EndsWaiting, flush_by, reports_begun, reports_refused}
 use Rattle.session.specs.Ranges.{MakesStepsThat}
 use Rattle.session.specs.Steps.{Makes}
 use Rattle.session.specs.inside.Changing.{BeginsChange, IsOver}
@@ -30,6 +32,13 @@ module _ {D : Type 0} (disk : Ghosts D) where
       makes = does_one disk old new before after what step reply holds makes;
       phases = step_keeps disk old new before after step reply makes quiet;
     }
+
+    -- a step of the write-outs after which no other attempt is made
+    pub carries_end : (p : ℕ) (answer reply : Reply) → Makes disk old before (flush_by p ∷ []) (reply ∷ []) new after
+        → ((reply ≡ Nothing) × (answer ≡ Refused Busy)) ⊎ ((reply ≡ answer) × (reports_refused answer ≡ true))
+        → CarriesOut disk old before (EndsWaiting p answer) new after
+    carries_end p answer reply makes why = carries_one (EndsWaiting p answer) (flush_by p) reply makes tt
+        (record { reply = reply; why = why; steps_are = refl; replies_are = refl })
 
     -- what was done is more than was asked
     pub carries_more : (what more : List Step → List Reply → Type 0)
