@@ -109,46 +109,42 @@ answers_nothing act = ((refl, inl refl), λ fault. absurd (false≢true fault))
 
 -- what was cut off in its calls
 
+-- an act that was tried, as if it were answered Nothing then
+answered_nothing : (act : Act) (old new : CpuState) → MakesCalls (IsAttempt act) old new
+    → MakesAct act replies.Nothing old (called_for (act, replies.Nothing) new)
+answered_nothing act old new made = (ends_calling (IsAttempt act) (act, replies.Nothing) old new made, refl)
+
 pub cut_in_sleep_flush : (old new : CpuState) → MakesCalls IsUpkeep old new → BeginsTo GoesToSleep old new
 cut_in_sleep_flush old new made =
     let flush : CpuCall = (acts.Flush, replies.Nothing) in
     let idle : CpuCall = (acts.Idle, replies.Nothing) in
     let flushed : CpuState = called_for flush new in
-    let slept : CpuState = called_for idle flushed in
-    let idles : MakesAct acts.Idle replies.Nothing flushed slept =
-    (ends_calling (IsAttempt acts.Idle) idle flushed flushed (stays (IsAttempt acts.Idle) flushed), refl) in
-    let flushes : Flushes old flushed = (replies.Nothing, ends_calling IsUpkeep flush old new made, tt) in (
-      slept,
+    let flushes : Flushes old flushed = (replies.Nothing, ends_calling IsUpkeep flush old new made, tt) in
+    let idles = answered_nothing acts.Idle flushed flushed (stays (IsAttempt acts.Idle) flushed) in (
+      called_for idle flushed,
       (flushed, replies.Nothing, flushes, idles),
       on_calls IsUpkeep old new made,
-      on_further new flushed slept (on_calling flush new) (on_calling idle flushed),
+      on_further new flushed (called_for idle flushed) (on_calling flush new) (on_calling idle flushed),
     )
 
 pub cut_in_sleep_idle : (old between new : CpuState) → Flushes old between
     → MakesCalls (IsAttempt acts.Idle) between new → BeginsTo GoesToSleep old new
-cut_in_sleep_idle old between new flushed made =
-    let idle : CpuCall = (acts.Idle, replies.Nothing) in
-    let slept : CpuState = called_for idle new in
-    let idles : MakesAct acts.Idle replies.Nothing between slept =
-    (ends_calling (IsAttempt acts.Idle) idle between new made, refl) in (
-      slept,
-      (between, replies.Nothing, flushed, idles),
-      on_further old between new (on_ends IsUpkeep (acts.Flush, flushed.0) old between flushed.1)
-          (on_calls (IsAttempt acts.Idle) between new made),
-      on_calling idle new,
-    )
+cut_in_sleep_idle old between new flushed made = (
+  called_for (acts.Idle, replies.Nothing) new,
+  (between, replies.Nothing, flushed, answered_nothing acts.Idle between new made),
+  on_further old between new (on_ends IsUpkeep (acts.Flush, flushed.0) old between flushed.1)
+      (on_calls (IsAttempt acts.Idle) between new made),
+  on_calling (acts.Idle, replies.Nothing) new,
+)
 
 pub cut_in_change : (act : Act) (old new : CpuState) → MakesCalls (IsAttempt acts.Change) old new
     → BeginsTo (MakesChange true act) old new
 cut_in_change act old new made =
-    let change : CpuCall = (acts.Change, replies.Nothing) in
-    let changed : CpuState = called_for change new in
-    let changes : MakesAct acts.Change replies.Nothing old changed =
-    (ends_calling (IsAttempt acts.Change) change old new made, refl) in (
+    let changed : CpuState = called_for (acts.Change, replies.Nothing) new in (
       changed,
-      (changed, replies.Nothing, changes, refl),
+      (changed, replies.Nothing, answered_nothing acts.Change old new made, refl),
       on_calls (IsAttempt acts.Change) old new made,
-      on_calling change new,
+      on_calling (acts.Change, replies.Nothing) new,
     )
 
 cut_in_wait : (act : Act) (mark : ℕ) (changed : Reply) (old between new : CpuState)

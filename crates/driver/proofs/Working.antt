@@ -18,7 +18,7 @@ use Rattle.driver.specs.inside.Working.{ComesTo, HasMadeAct, IsWritten}
 use Rattle.driver.proofs.Calls.{more_calls, one_call, wider, ended, attempts, no_calls}
 
 -- a reply that asks for either puts the act off
-pub off_to_wait : (reply : Reply) → asks_to_wait reply ≡ true → is_put_off reply ≡ true
+off_to_wait : (reply : Reply) → asks_to_wait reply ≡ true → is_put_off reply ≡ true
 off_to_wait reply waits = ap (λ (b : Bool). b || asks_to_flush reply) waits
 
 pub off_to_flush : (reply : Reply) (b : Bool) → asks_to_wait reply ≡ false → asks_to_flush reply ≡ b
@@ -31,11 +31,22 @@ pub none_more : (P : CpuCall → Type 0) (old between new : CpuState) → MakesC
     → MakesCalls P old new
 none_more P old between new made same = subst (λ (c : CpuState). MakesCalls P old c) (sym same) made
 
-pub put_off_once : (act : Act) (reply : Reply) (old between new : CpuState) → MakesCalls IsUpkeep old between
+put_off_once : (act : Act) (reply : Reply) (old between new : CpuState) → MakesCalls IsUpkeep old between
     → MakesCall (act, reply) between new → is_put_off reply ≡ true → MakesCalls (IsAttempt act) old new
 put_off_once act reply old between new ready made off =
     more_calls (IsAttempt act) old between new (attempts act old between ready)
     (one_call (IsAttempt act) (act, reply) between new (inr (refl, off)) made)
+
+pub put_off_to_wait : (act : Act) (reply : Reply) (old between new : CpuState) → MakesCalls IsUpkeep old between
+    → MakesCall (act, reply) between new → asks_to_wait reply ≡ true → MakesCalls (IsAttempt act) old new
+put_off_to_wait act reply old between new ready made waits =
+    put_off_once act reply old between new ready made (off_to_wait reply waits)
+
+pub put_off_to_flush : (act : Act) (reply : Reply) (old between new : CpuState) → MakesCalls IsUpkeep old between
+    → MakesCall (act, reply) between new → asks_to_wait reply ≡ false → asks_to_flush reply ≡ true
+    → MakesCalls (IsAttempt act) old new
+put_off_to_flush act reply old between new ready made waits flushes =
+    put_off_once act reply old between new ready made (off_to_flush reply true waits flushes)
 
 pub flushed_after : (act : Act) (reply : Reply) (old between new : CpuState) → MakesCalls (IsAttempt act) old between
     → MakesCall (acts.Flush, reply) between new → MakesCalls (IsAttempt act) old new
@@ -78,31 +89,7 @@ flush_made reply old new made =
 -- a reply that is a refusal has a cause
 why_refused : (reply : Reply) → is_refusal reply ≡ true → (why : Refusal) × (reply ≡ replies.Refused why)
 why_refused (replies.Refused why) is = (why, refl)
-why_refused (replies.Bytes bytes) is = absurd (false≢true is)
-why_refused replies.Stored is = absurd (false≢true is)
-why_refused replies.Filled is = absurd (false≢true is)
-why_refused replies.Evicted is = absurd (false≢true is)
-why_refused replies.Switched is = absurd (false≢true is)
-why_refused replies.Idled is = absurd (false≢true is)
-why_refused replies.Woken is = absurd (false≢true is)
-why_refused replies.Fixed is = absurd (false≢true is)
-why_refused (replies.Space space) is = absurd (false≢true is)
-why_refused replies.Destroyed is = absurd (false≢true is)
-why_refused replies.Mapped is = absurd (false≢true is)
-why_refused replies.Begun is = absurd (false≢true is)
-why_refused replies.Fine is = absurd (false≢true is)
-why_refused replies.Unmapped is = absurd (false≢true is)
-why_refused replies.Protected is = absurd (false≢true is)
-why_refused replies.Resized is = absurd (false≢true is)
-why_refused replies.Reclaimed is = absurd (false≢true is)
-why_refused replies.Kept is = absurd (false≢true is)
-why_refused (replies.Marked mark) is = absurd (false≢true is)
-why_refused replies.Acked is = absurd (false≢true is)
-why_refused replies.Resumed is = absurd (false≢true is)
-why_refused replies.Going is = absurd (false≢true is)
-why_refused (replies.Committed mark) is = absurd (false≢true is)
-why_refused (replies.Done mark) is = absurd (false≢true is)
-why_refused replies.Nothing is = absurd (false≢true is)
+why_refused reply is = absurd (false≢true is)
 
 -- a step of the write-outs was refused
 seen_refused : (mark : ℕ) (reply : Reply) (old new : CpuState) → MakesAct acts.Flush reply old new
