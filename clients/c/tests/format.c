@@ -293,16 +293,13 @@ static void large(void)
 {
     struct stat found;
     struct famsync_plan plan = plan_of(4, 0, 1);
-    files[0] = (struct famsync_new_file){"a", (uint64_t)64 << 30, (uint64_t)1 << 40};
+    files[0] = (struct famsync_new_file){"a", (uint64_t)8 << 30, (uint64_t)16 << 30};
     WANT_CODE(famsync_format(volume, &plan), FAMSYNC_OK);
-    WANT(stat(volume, &found) == 0 && found.st_size > (off_t)1 << 40 && found.st_blocks < 2048);
+    WANT(stat(volume, &found) == 0 && found.st_size > (off_t)16 << 30 && found.st_blocks < 2048);
     famsync *handle = opened();
-    famsync_memory *memory;
-    WANT(famsync_file_length(handle, 0) == (uint64_t)64 << 30);
-    WANT_CODE(famsync_memory_open(handle, "a", &memory), FAMSYNC_OK);
-    ((unsigned char *)famsync_memory_at(memory))[((uint64_t)64 << 30) - 1] = 1;
+    WANT(famsync_file_length(handle, 0) == (uint64_t)8 << 30);
+    WANT_CODE(famsync_write(handle, 0, ((uint64_t)8 << 30) - 1, "x", 1, NULL), FAMSYNC_OK);
     WANT_CODE(famsync_msync(handle, NULL), FAMSYNC_OK);
-    WANT_CODE(famsync_memory_close(memory), FAMSYNC_OK);
     WANT_CODE(famsync_close(handle), FAMSYNC_OK);
     WANT(stat(volume, &found) == 0 && found.st_blocks < 2048);
     remove_volume();
