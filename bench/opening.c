@@ -1,6 +1,8 @@
 /* How long it takes to open a volume and plain memory of its first file, and how much memory the process has then.
 
    usage: opening VOLUME [resident]
+          opening VOLUME format BYTES     makes a volume with a file of so many bytes, if HAVE_FORMAT is defined, and
+                                          prints the microseconds
 
    It prints one line: the microseconds of famsync_open and of famsync_memory_open, and the kilobytes that the process's
    memory grew by and had at most; then the microseconds of 16 stores apart and a commit of them. */
@@ -16,8 +18,24 @@ static void want(int code, const char *what)
     exit(1);
 }
 
+#ifdef HAVE_FORMAT
+static int format(const char *volume, uint64_t bytes)
+{
+    struct famsync_new_file file = {.name = "a", .length = bytes};
+    struct famsync_plan plan = {.size = sizeof plan, .layout = 4, .slots = 256, .files = 1, .file = &file};
+    double began = now();
+    want(famsync_format(volume, &plan), "famsync_format");
+    printf("%.0f\n", now() - began);
+    return 0;
+}
+#endif
+
 int main(int count, char **words)
 {
+#ifdef HAVE_FORMAT
+    if (count == 4)
+        return format(words[1], strtoull(words[3], NULL, 10));
+#endif
     struct famsync_options options = {.size = sizeof options, .foreground = 1, .resident = count > 2};
     famsync *handle;
     famsync_memory *memory;
