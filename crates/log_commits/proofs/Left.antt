@@ -1,0 +1,388 @@
+-- What the calls of a commit leave.
+use Rattle.std.proofs.Common.{◌≡◌, ◌≢◌, ℕ, ◌+◌, ◌-◌, ◌*◌, ◌/◌, ◌%◌, ◌<◌, ◌≤◌, Bool, true, false}
+use Rattle.std.proofs.Common.{List, [], ◌∷◌, ◌++◌, length, get_or, inl, inr, refl, sym, ap, subst, ◌∙◌, arith}
+use Rattle.std.proofs.Common.{length-append}
+use Rattle.std.proofs.lemmas.Bool.{cases_lt, cases_eq, false≢true}
+use Rattle.device.specs.Device.{Torn, TornFrom, Only, LeavesOnly}
+use Rattle.device.specs.Work.{WriteAt, Sync}
+use Rattle.device.specs.Did.{Did}
+use Rattle.device.specs.declared.device.Device.{Ghosts}
+use Rattle.device.proofs.Public.{leaves_weaker, leaves_then, done_seen, torn_before, torn_after, written_within}
+use Rattle.log_codec.specs.declared.sealing.Sealing.{Sealing}
+use Rattle.log_codec.specs.declared.sealing.Sealing.TheVariants.{ByByte, ByDigest}
+use Rattle.volume_codec.specs.Layout.{block_at}
+use Rattle.log_codec.specs.declared.start.LogStart.{LogStart}
+use Rattle.log_codec.specs.Log.{LogValue, IsLog, ring_block, log_descriptor_blocks, log_commit_blocks}
+use Rattle.log_codec.specs.Commit.{LogDescriptor, log_body, log_seal}
+use Rattle.log_codec.specs.Chain.{LogRecovers, HasLog, spare_blocks}
+use Rattle.log_commits.specs.Calls.{DidAll}
+use Rattle.log_commits.specs.Ring.{ring_works}
+use Rattle.log_commits.specs.Tail.{TailValue, HoldsLog, tail_at}
+use Rattle.log_commits.specs.Commit.{MayCommit, LeftByCommit, TellsTorn, TellsTornBy, TellsTornByDigest}
+use Rattle.log_commits.specs.Commit.{committed_to, next_logged, commit_bytes, works_by, commit_works, tail_after}
+use Rattle.log_commits.specs.Commit.{CommitLeaves}
+use Rattle.log_commits.proofs.Places.{ring_place, places_apart, block_low}
+use Rattle.log_commits.proofs.Ranges.{RingTorn, RingHas, torn_within}
+use Rattle.log_commits.proofs.Held.{KeepsLog, keeps_of_torn}
+use Rattle.log_commits.proofs.UnderWay.{closed_by_byte, open_by_byte, whole_by_digest, torn_by_digest, closed_before}
+use Rattle.log_commits.proofs.Works.{RingFrom, WentRound, went_round, did_split, one_did}
+
+-- bytes that hold a log recover to its contents
+pub recovers : (t : TailValue) (contents : ℕ → List ℕ) (bytes : List ℕ) → HoldsLog t contents bytes
+    → LogRecovers t.log contents bytes
+recovers t contents bytes held = record {
+  start = t.start;
+  chain = held.chain;
+  log = held.log;
+  contents_are = held.contents_are;
+}
+
+module _ {D : Type 0} (disk : Ghosts D) (t : TailValue) (contents : ℕ → List ℕ) (homes records : List ℕ) (room : ℕ)
+    (log : IsLog t.log) (may : MayCommit t homes room)
+    (head_size : length (log_seal t.log.sealing t.start.epoch (next_logged t homes) records
+    ++ log_body (next_logged t homes)) ≡ 4096 * log_descriptor_blocks (length homes))
+    (records_size : length records ≡ 4096 * length homes) (old : D) (honest : disk.is_honest old)
+    (long : 4096 * t.log.blocks ≤ length (disk.seen old))
+    (held : (c : List ℕ) → disk.may_leave old c → HoldsLog t contents c)
+    (seen_is_left : (device : D) → disk.is_honest device → disk.may_leave device (disk.seen device)) where
+  abbrev ring : ℕ
+  ring = t.log.ring
+
+  abbrev n : ℕ
+  n = log_commit_blocks (length homes)
+
+  abbrev bytes : List ℕ
+  bytes = commit_bytes t homes records
+
+  abbrev after : TailValue
+  after = tail_after t homes
+
+  abbrev newer : ℕ → List ℕ
+  newer = committed_to contents homes records
+
+  abbrev Left : List ℕ → Type 0
+  Left = LeftByCommit t contents homes records
+
+  abbrev Leaves : D → Bool → Type 0
+  Leaves new done = CommitLeaves disk t contents homes records done old new
+
+  pub some : 0 < ring
+  some = omega (arith, log.some_ring)
+
+  log_long : 4096 * (4 + ring) ≤ length (disk.seen old)
+  log_long = omega (arith, log.some_homes)
+
+  size : length bytes ≡ 4096 * n
+  size = omega (
+    arith,
+    length-append (log_seal t.log.sealing t.start.epoch (next_logged t homes) records
+        ++ log_body (next_logged t homes)) records,
+    head_size,
+    records_size,
+  )
+
+  seen_held : HoldsLog t contents (disk.seen old)
+  seen_held = held (disk.seen old) (seen_is_left old honest)
+
+  -- a sync that was made sure of
+  durable_by : {mid new : D} (done : Bool) → disk.is_honest mid → Did disk mid Sync done new → done ≡ true
+      → Only (disk.may_leave new) (disk.seen new)
+  durable_by {mid} {new} done is did made = λ c may.
+      did.durable is made refl c may ∙ sym (done_seen did is made)
+
+  -- ---- where a digest seals
+
+  module _ (key : ℕ) (digest : t.log.sealing ≡ ByDigest key) where
+    tells_by : (c : List ℕ) → TellsTorn t homes records c → TellsTornByDigest t homes records c
+    tells_by c tells =
+        let P : Sealing → Type 0 = λ s. TellsTornBy s t homes records c in subst P digest tells
+
+    keeps : (b c : List ℕ) → HoldsLog t contents b → RingTorn ring t.position 0 (length bytes) b c → KeepsLog t b c
+    keeps b c is torn =
+        keeps_of_torn t contents b c (length bytes) n log is torn (omega (arith, size)) (omega (arith, may.free))
+
+    left_by : (c : List ℕ) → RingFrom ring t.position 0 (length bytes) (disk.may_leave old) c → Left c
+    left_by c from tells =
+        let before = held from.0 from.1 in
+        elim (torn_by_digest t contents from.0 c homes records room log before may head_size records_size
+        (keeps from.0 c before from.2) key digest (tells_by c tells)) [
+          | inl is ↦ inl (recovers t contents c is)
+          | inr is ↦ inr (recovers after newer c is)
+        ]
+
+    pub leaves_by_digest : {new : D} (done : Bool)
+        → DidAll disk old (ring_works ring t.position 0 bytes ++ Sync ∷ []) done new → Leaves new done
+    leaves_by_digest {new} done did =
+        elim (did_split disk (ring_works ring t.position 0 bytes) (Sync ∷ []) old new done did) [
+          | inl failed ↦
+              let went = went_round ring t.position some disk 0 bytes (omega arith) (omega arith)
+              (omega (arith, size, may.free)) false log_long failed.0 in
+              record {
+                crash = leaves_weaker went.has.time left_by;
+                durable = λ made. absurd (false≢true (sym failed.1 ∙ made));
+                committed = λ made. absurd (false≢true (sym failed.1 ∙ made));
+              }
+          | inr both ↦
+              let went = went_round ring t.position some disk 0 bytes (omega arith) (omega arith)
+              (omega (arith, size, may.free)) true log_long both.1 in
+              let sync = one_did disk Sync both.2 in
+              let is = went.has.honest.1 honest in
+              record {
+                crash = leaves_then {P = Left} (leaves_weaker went.has.time left_by)
+                    (leaves_weaker sync.time (λ c may. left_by c (went.has.left c may)));
+                durable = durable_by done is sync;
+                committed = λ made tells.
+                    let same : disk.seen new ≡ disk.seen both.0 = done_seen sync is made in
+                    let P : List ℕ → Type 0 = λ l. HoldsLog after newer l in
+                    let Q : List ℕ → Type 0 = λ l. TellsTorn t homes records l in
+                    let c : List ℕ = disk.seen both.0 in
+                    let has : RingHas ring t.position 0 (4096 * n) bytes c = λ k least most.
+                    went.is refl honest k least (omega (arith, size)) in
+                    subst P (sym same) (whole_by_digest t contents (disk.seen old) c homes records room log seen_held
+                    may head_size records_size (keeps (disk.seen old) c seen_held (went.has.torn honest)) key digest
+                    (tells_by c (subst Q same tells)) has);
+              }
+        ]
+
+  -- ---- where a byte seals
+
+  module _ (byte : t.log.sealing ≡ ByByte) where
+    abbrev image : List ℕ
+    image = bytes ++ 0 ∷ []
+
+    image_size : length image ≡ 4096 * n + 1
+    image_size = omega (arith, length-append bytes (0 ∷ []), size)
+
+    room_for : n + 1 ≤ ring
+    room_for =
+        let P : Sealing → Type 0 = λ s. t.used + n + spare_blocks s ≤ ring in
+        let free = subst P byte may.free in omega arith
+
+    near : 4096 * n + 1 ≤ 4096 * ring
+    near = omega (arith, room_for)
+
+    byte_keeps : (b c : List ℕ) → HoldsLog t contents b → RingTorn ring t.position 0 (4096 * n + 1) b c
+        → KeepsLog t b c
+    byte_keeps b c is torn =
+        let P : Sealing → Type 0 = λ s. t.used + n + spare_blocks s ≤ ring in
+        keeps_of_torn t contents b c (4096 * n + 1) (n + 1) log is torn (omega arith)
+        (let free = subst P byte may.free in omega arith)
+
+    widened : (b c : List ℕ) → RingTorn ring t.position 1 (length image) b c
+        → RingTorn ring t.position 0 (4096 * n + 1) b c
+    widened b c torn = torn_within torn 0 (4096 * n + 1) (omega arith) (omega (arith, image_size))
+
+    -- before the seal's byte is written
+    unsealed : (b c : List ℕ) → HoldsLog t contents b → RingTorn ring t.position 1 (length image) b c
+        → HoldsLog t contents c
+    unsealed b c is torn =
+        let stays : get_or c (ring_place ring t.position 0) 0 ≡ get_or b (ring_place ring t.position 0) 0 =
+        torn.elsewhere (ring_place ring t.position 0)
+        (λ k least most. places_apart ring t.position 0 k some (omega arith) (omega (arith, image_size, near))) in
+        closed_by_byte t contents b c homes records room log is may head_size records_size
+        (byte_keeps b c is (widened b c torn)) byte
+        (λ opened. closed_before t contents b is byte (sym stays ∙ opened))
+
+    left_unsealed : (c : List ℕ) → RingFrom ring t.position 1 (length image) (disk.may_leave old) c → Left c
+    left_unsealed c from tells = inl (recovers t contents c (unsealed from.0 c (held from.0 from.1) from.2))
+
+    abbrev place : ℕ
+    place = 4096 * ring_block ring t.position
+
+    place_is : ring_place ring t.position 0 ≡ place
+    place_is =
+        let block : t.position + 0 / 4096 ≡ t.position = omega arith in
+        let first : place + 0 % 4096 ≡ place = omega arith in
+        ap (λ x. 4096 * ring_block ring x + 0 % 4096) block ∙ first
+
+    opens : get_or image 0 0 ≡ 0xA7
+    opens =
+        let d : LogDescriptor = next_logged t homes in
+        let P : Sealing → Type 0 =
+        λ s. get_or (log_seal s t.start.epoch d records ++ log_body d ++ records ++ 0 ∷ []) 0 0 ≡ 0xA7 in
+        subst P (sym byte) refl
+
+    module _ (m : List ℕ) (torn : RingTorn ring t.position 1 (length image) (disk.seen old) m)
+        (has : RingHas ring t.position 1 (length image) image m) (c : List ℕ) (seal : Torn place 1 m c) where
+      seal_torn : RingTorn ring t.position 0 (4096 * n + 1) (disk.seen old) c
+      seal_torn = record {
+        same_length = seal.same_length ∙ torn.same_length;
+        elsewhere = λ i other.
+            let not : i ≢ place = λ is. other 0 (omega arith) (omega arith) (is ∙ sym place_is) in
+            let stays : get_or c i 0 ≡ get_or m i 0 = elim (cases_lt i place) [
+              | inl less ↦ torn_before seal i less
+              | inr more ↦ torn_after seal i (omega arith)
+            ] in
+            stays ∙ (widened (disk.seen old) m torn).elsewhere i other;
+      }
+
+      seal_keeps : KeepsLog t (disk.seen old) c
+      seal_keeps = byte_keeps (disk.seen old) c seen_held seal_torn
+
+      pub sealed : get_or c place 0 ≡ 0xA7 → HoldsLog after newer c
+      sealed is =
+          open_by_byte t contents (disk.seen old) c homes records room log seen_held may head_size records_size
+          seal_keeps byte (λ k least most. elim (cases_eq k 0) [
+            | inl first ↦
+                ap (λ x. get_or c (ring_place ring t.position x) 0) first ∙ ap (λ x. get_or c x 0) place_is ∙ is
+                ∙ sym opens ∙ ap (λ x. get_or image x 0) (sym first)
+            | inr further ↦
+                let there : ring_place ring t.position k ≢ place = λ same.
+                places_apart ring t.position 0 k some (omega arith) (omega (arith, near)) (place_is ∙ sym same) in
+                let stays : get_or c (ring_place ring t.position k) 0 ≡ get_or m (ring_place ring t.position k) 0 =
+                elim (cases_lt (ring_place ring t.position k) place) [
+                  | inl less ↦ torn_before seal (ring_place ring t.position k) less
+                  | inr more ↦ torn_after seal (ring_place ring t.position k) (omega arith)
+                ] in
+                stays ∙ has k (omega arith) (omega (arith, image_size))
+          ])
+
+      pub left_sealing : Left c
+      left_sealing tells = elim (cases_eq (get_or c place 0) 0xA7) [
+        | inl is ↦ inr (recovers after newer c (sealed is))
+        | inr other ↦ inl (recovers t contents c
+            (closed_by_byte t contents (disk.seen old) c homes records room log seen_held may head_size records_size
+            seal_keeps byte (λ opened. other (ap (λ x. get_or c x 0) (sym place_is) ∙ opened))))
+      ]
+
+    pub few : 1 < 4096
+    few = omega arith
+
+    pub low : 1 ≤ length image
+    low = omega (arith, image_size)
+
+    pub near_image : length image ≤ 4096 * ring
+    near_image = omega (arith, image_size, near)
+
+    module _ (one two : D) (went : WentRound ring t.position some disk 1 image few low near_image old one true)
+        (sync : Did disk one Sync true two) where
+      one_honest : disk.is_honest one
+      one_honest = went.has.honest.1 honest
+
+      two_honest : disk.is_honest two
+      two_honest = sync.honest.1 one_honest
+
+      crash_synced : LeavesOnly disk.moment disk.left_since old two Left
+      crash_synced =
+          leaves_then {P = Left} (leaves_weaker went.has.time left_unsealed)
+          (leaves_weaker sync.time (λ c may. left_unsealed c (went.has.left c may)))
+
+      -- what the write of the seal's byte leaves
+      torn_seal : (c : List ℕ) → TornFrom place 1 (disk.may_leave two) c → Torn place 1 (disk.seen one) c
+      torn_seal c from =
+          let is : from.0 ≡ disk.seen one = sync.durable one_honest refl refl from.0 from.1 in
+          let P : List ℕ → Type 0 = λ l. Torn place 1 l c in subst P is from.2
+
+      left_seal : (c : List ℕ) → TornFrom place 1 (disk.may_leave two) c → Left c
+      left_seal c from =
+          left_sealing (disk.seen one) (went.has.torn honest) (went.is refl honest) c (torn_seal c from)
+
+      pub seal_failed : {new : D} → Did disk two (WriteAt place (0xA7 ∷ [])) false new → Leaves new false
+      seal_failed did = record {
+        crash = leaves_then {P = Left} crash_synced (leaves_weaker did.time left_seal);
+        durable = λ made. absurd (false≢true made);
+        committed = λ made. absurd (false≢true made);
+      }
+
+      pub seal_done : {three new : D} (done : Bool) → Did disk two (WriteAt place (0xA7 ∷ [])) true three
+          → Did disk three Sync done new → Leaves new done
+      seal_done {three} {new} done did last =
+          let is = did.honest.1 two_honest in
+          let c : List ℕ = disk.seen three in
+          record {
+            crash = leaves_then {P = Left} (leaves_then {P = Left} crash_synced (leaves_weaker did.time left_seal))
+                (leaves_weaker last.time (λ x may. left_seal x (did.left x may)));
+            durable = durable_by done is last;
+            committed = λ made tells.
+                let same : disk.seen new ≡ c = done_seen last is made in
+                let P : List ℕ → Type 0 = λ l. HoldsLog after newer l in
+                let room_two : place + 1 ≤ length (disk.seen two) =
+                omega (arith, block_low ring t.position some, log_long, went.has.same_length, sync.same_length) in
+                let opened : get_or c place 0 ≡ 0xA7 =
+                ap (λ (l : List ℕ). get_or l place 0) (done_seen did two_honest refl)
+                ∙ written_within (disk.seen two) place (0xA7 ∷ []) place room_two (omega arith) (omega arith)
+                ∙ ap (λ i. get_or (0xA7 ∷ []) i 0) here in
+                subst P (sym same) (sealed (disk.seen one) (went.has.torn honest) (went.is refl honest) c
+                (torn_seal c (did.left c (seen_is_left three is))) opened);
+          }
+        where
+          here : place - place ≡ 0
+          here = omega arith
+
+    pub leaves_by_byte : {new : D} (done : Bool)
+        → DidAll disk old (ring_works ring t.position 1 image
+        ++ (Sync ∷ WriteAt place (0xA7 ∷ []) ∷ Sync ∷ [])) done new → Leaves new done
+    leaves_by_byte {new} done did =
+        elim (did_split disk (ring_works ring t.position 1 image)
+        (Sync ∷ WriteAt place (0xA7 ∷ []) ∷ Sync ∷ []) old new done did) [
+          | inl failed ↦
+              let went = went_round ring t.position some disk 1 image few low near_image false log_long failed.0 in
+              failed_as (sym failed.1) (record {
+                crash = leaves_weaker went.has.time left_unsealed;
+                durable = λ made. absurd (false≢true made);
+                committed = λ made. absurd (false≢true made);
+              })
+          | inr both ↦
+              behind both.0 (went_round ring t.position some disk 1 image few low near_image true log_long both.1)
+              both.2
+        ]
+      where
+        failed_as : false ≡ done → Leaves new false → Leaves new done
+        failed_as is leaves = let P : Bool → Type 0 = λ b. Leaves new b in subst P is leaves
+
+        behind : (one : D) → WentRound ring t.position some disk 1 image few low near_image old one true
+            → DidAll disk one (Sync ∷ WriteAt place (0xA7 ∷ []) ∷ Sync ∷ []) done new → Leaves new done
+        behind one went (inl failed) =
+            failed_as (sym failed.1) (record {
+              crash = leaves_then {P = Left} (leaves_weaker went.has.time left_unsealed)
+                  (leaves_weaker failed.0.time (λ c may. left_unsealed c (went.has.left c may)));
+              durable = λ made. absurd (false≢true made);
+              committed = λ made. absurd (false≢true made);
+            })
+        behind one went (inr (two, sync, inl failed)) =
+            failed_as (sym failed.1) (seal_failed one two went sync failed.0)
+        behind one went (inr (two, sync, inr (three, did, rest))) =
+            seal_done one two went sync done did (one_did disk Sync rest)
+
+-- a commit, sealed as the log is
+module _ {D : Type 0} (disk : Ghosts D) (t : TailValue) (contents : ℕ → List ℕ) (homes records : List ℕ) (room : ℕ)
+    (log : IsLog t.log) (may : MayCommit t homes room)
+    (head_size : length (log_seal t.log.sealing t.start.epoch (next_logged t homes) records
+    ++ log_body (next_logged t homes)) ≡ 4096 * log_descriptor_blocks (length homes))
+    (records_size : length records ≡ 4096 * length homes) (old : D) (honest : disk.is_honest old)
+    (long : 4096 * t.log.blocks ≤ length (disk.seen old))
+    (held : (c : List ℕ) → disk.may_leave old c → HoldsLog t contents c)
+    (seen_is_left : (device : D) → disk.is_honest device → disk.may_leave device (disk.seen device)) where
+  pub leaves : {new : D} (done : Bool) → DidAll disk old (commit_works t homes records) done new
+      → CommitLeaves disk t contents homes records done old new
+  leaves {new} done did = by_sealing t.log.sealing refl did
+    where
+      by_sealing : (s : Sealing) → t.log.sealing ≡ s
+          → DidAll disk old (works_by s t.log.ring t.position (commit_bytes t homes records)) done new
+          → CommitLeaves disk t contents homes records done old new
+      by_sealing ByByte is did =
+          leaves_by_byte disk t contents homes records room log may head_size records_size old honest long held
+          seen_is_left is done did
+      by_sealing (ByDigest key) is did =
+          leaves_by_digest disk t contents homes records room log may head_size records_size old honest long held
+          seen_is_left key is done did
+
+-- a log without commits
+pub held_at_start : (g : LogValue) (s : LogStart) (spent : Bool) (bytes : List ℕ) → HasLog g s [] bytes
+    → HoldsLog (tail_at g s spent) (block_at bytes) bytes
+held_at_start g s spent bytes has =
+    let place : s.position + 0 ≡ s.position = omega arith in
+    record {
+      chain = [];
+      log = has;
+      position_is = ap (λ p. p % g.ring) place;
+      number_is = omega arith;
+      used_is = refl;
+      contents_are = λ b home. refl;
+    }
+
+-- where a byte seals, there is no premise
+pub tells_by_byte : (t : TailValue) (homes records bytes : List ℕ) → t.log.sealing ≡ ByByte
+    → TellsTorn t homes records bytes
+tells_by_byte t homes records bytes byte =
+    let P : Sealing → Type 0 = λ s. TellsTornBy s t homes records bytes in subst P (sym byte) tt

@@ -1,0 +1,115 @@
+-- A commit to the log: when it is refused, its device calls, and what a crash leaves of it.
+use Rattle.std.specs.Prelude.{⊤, ◌≡◌, ◌≢◌, ◌⊎◌, ℕ, ◌+◌, ◌-◌, ◌*◌, ◌%◌, ◌<◌, ◌≤◌, ◌^◌, ◌==◌, if◌then◌else◌}
+use Rattle.std.specs.Prelude.{Bool, true, false, List, [], ◌∷◌, ◌++◌, length, take, drop}
+use Rattle.volume_codec.specs.Descriptor.{RiseWithin}
+use Rattle.device.specs.declared.device.Device.{Ghosts}
+use Rattle.device.specs.Device.{LeavesOnly, Only}
+use Rattle.device.specs.Work.{Work, WriteAt, Sync}
+use Rattle.log_codec.specs.declared.sealing.Sealing.{Sealing}
+use Rattle.log_codec.specs.declared.sealing.Sealing.TheVariants.{ByByte, ByDigest}
+use Rattle.log_codec.specs.Log.{IsCommitSize, first_log_home, ring_block, ring_bytes}
+use Rattle.log_codec.specs.Log.{log_descriptor_blocks, log_commit_blocks}
+use Rattle.log_codec.specs.Commit.{LogDescriptor, log_body, log_seal}
+use Rattle.log_codec.specs.Chain.{IsNextCommit, LogRecovers, spare_blocks, records_position, position_after}
+use Rattle.log_commits.specs.declared.fault.CommitFault.{CommitFault}
+use Rattle.log_commits.specs.declared.fault.CommitFault.TheVariants.{Spent, Count, Homes, Room, Number, Busy, Device}
+use Rattle.log_commits.specs.Ring.{ring_works}
+use Rattle.log_commits.specs.Tail.{TailValue, HoldsLog}
+
+-- the records in the caller's room: they lie behind the blocks of the descriptor
+abbrev pub records_in : List ℕ → List ℕ → List ℕ
+records_in homes room = take (4096 * length homes) (drop (4096 * log_descriptor_blocks (length homes)) room)
+
+-- the next commit has too few blocks
+abbrev pub IsFull : TailValue → ℕ → Type 0
+IsFull t records = t.log.ring < t.used + log_commit_blocks records + spare_blocks t.log.sealing
+
+-- a commit may begin, of records for these home blocks, in room of this size
+pub record MayCommit (t : TailValue) (homes : List ℕ) (room : ℕ) : Type 0 where
+  pub whole : t.spent ≡ false
+  pub size : IsCommitSize t.log.ring (length homes)
+  pub rising : RiseWithin (first_log_home t.log.ring) t.log.blocks homes
+  pub room_is : room ≡ 4096 * log_commit_blocks (length homes) + 1
+  pub number : t.number + 1 < 2 ^ 64
+  pub free : t.used + log_commit_blocks (length homes) + spare_blocks t.log.sealing ≤ t.log.ring
+
+-- why it may not, by name. A device call may fail in any commit that may begin.
+abbrev pub RefusesCommit : TailValue → List ℕ → ℕ → CommitFault → Type 0
+RefusesCommit t homes room Spent = t.spent ≡ true
+RefusesCommit t homes room Count = IsCommitSize t.log.ring (length homes) → ⊥
+RefusesCommit t homes room Homes = RiseWithin (first_log_home t.log.ring) t.log.blocks homes → ⊥
+RefusesCommit t homes room Room = room ≢ 4096 * log_commit_blocks (length homes) + 1
+RefusesCommit t homes room Number = 2 ^ 64 ≤ t.number + 1
+RefusesCommit t homes room Busy = IsFull t (length homes)
+RefusesCommit t homes room Device = MayCommit t homes room
+
+-- the commit under way
+abbrev pub next_logged : TailValue → List ℕ → LogDescriptor
+next_logged t homes = record { number = t.number; homes = homes }
+
+-- its bytes in the log
+abbrev pub commit_bytes : TailValue → List ℕ → List ℕ → List ℕ
+commit_bytes t homes records =
+    let d = next_logged t homes in log_seal t.log.sealing t.start.epoch d records ++ log_body d ++ records
+
+-- Its device calls. Where a byte seals, all but that byte is written first, up to the byte that closes the next seal,
+-- and made sure of before the byte opens this one. Where a digest seals, all is written at once.
+abbrev pub works_by : Sealing → ℕ → ℕ → List ℕ → List Work
+works_by ByByte ring position bytes =
+    ring_works ring position 1 (bytes ++ 0 ∷ [])
+    ++ (Sync ∷ WriteAt (4096 * ring_block ring position) (0xA7 ∷ []) ∷ Sync ∷ [])
+works_by (ByDigest key) ring position bytes = ring_works ring position 0 bytes ++ Sync ∷ []
+
+abbrev pub commit_works : TailValue → List ℕ → List ℕ → List Work
+commit_works t homes records = works_by t.log.sealing t.log.ring t.position (commit_bytes t homes records)
+
+-- the tail behind it
+abbrev pub tail_after : TailValue → List ℕ → TailValue
+tail_after t homes = record t {
+  position = (t.position + log_commit_blocks (length homes)) % t.log.ring;
+  number = t.number + 1;
+  used = t.used + log_commit_blocks (length homes);
+}
+
+-- contents with the commit's records, record i for the home block at place i
+abbrev pub committed_to : (ℕ → List ℕ) → List ℕ → List ℕ → ℕ → List ℕ
+committed_to contents [] records b = contents b
+committed_to contents (home ∷ homes) records b =
+    if b == home then take 4096 records else committed_to contents homes (drop 4096 records) b
+
+-- what the digest is trusted with: a commit that these bytes have at the end of the log, with the number of the commit
+-- under way and with its own digest, is the commit under way, and no further commit lies behind it
+pub record TellsTornByDigest (t : TailValue) (homes records : List ℕ) (bytes : List ℕ) : Type 0 where
+  pub same : (d : LogDescriptor)
+      → IsNextCommit t.log t.start.epoch t.position t.number (t.log.ring - t.used) d bytes
+      → (d ≡ next_logged t homes)
+      × (ring_bytes t.log.ring bytes (records_position t.position d) (length d.homes) ≡ records)
+  pub last : (d : LogDescriptor)
+      → IsNextCommit t.log t.start.epoch (position_after t.position (next_logged t homes)) (t.number + 1)
+      (t.log.ring - t.used - log_commit_blocks (length homes)) d bytes
+      → ⊥
+
+-- the premise on bytes that a crash leaves: the digest tells a torn commit from a whole one. Where a byte seals, there
+-- is none.
+abbrev pub TellsTornBy : Sealing → TailValue → List ℕ → List ℕ → List ℕ → Type 0
+TellsTornBy ByByte t homes records bytes = ⊤
+TellsTornBy (ByDigest key) t homes records bytes = TellsTornByDigest t homes records bytes
+
+abbrev pub TellsTorn : TailValue → List ℕ → List ℕ → List ℕ → Type 0
+TellsTorn t homes records bytes = TellsTornBy t.log.sealing t homes records bytes
+
+-- what a crash within a commit leaves: the contents before it, or with all of its records
+
+abbrev pub LeftByCommit : TailValue → (ℕ → List ℕ) → List ℕ → List ℕ → List ℕ → Type 0
+LeftByCommit t contents homes records bytes =
+    TellsTorn t homes records bytes
+    → LogRecovers t.log contents bytes ⊎ LogRecovers t.log (committed_to contents homes records) bytes
+
+-- what the calls of a commit leave: within them a crash leaves what it may, and once they have succeeded the commit is
+-- durable
+pub record CommitLeaves {D : Type 0} (disk : Ghosts D) (t : TailValue) (contents : ℕ → List ℕ)
+    (homes records : List ℕ) (done : Bool) (old new : D) : Type 0 where
+  pub crash : LeavesOnly disk.moment disk.left_since old new (LeftByCommit t contents homes records)
+  pub durable : done ≡ true → Only (disk.may_leave new) (disk.seen new)
+  pub committed : done ≡ true → TellsTorn t homes records (disk.seen new)
+      → HoldsLog (tail_after t homes) (committed_to contents homes records) (disk.seen new)

@@ -1,0 +1,4 @@
+pub mod Calls
+pub mod Ring
+pub mod Tail
+pub mod Commit

@@ -1,0 +1,172 @@
+// Commits.
+ghost use Rattle.std.specs.Prelude.{◌≡◌, ◌≢◌, ◌↔◌, ◌⊎◌, ◌<◌, ◌≤◌, ◌+◌, ◌*◌, ◌^◌, ◌++◌, [], ◌∷◌, ℕ, List, true, is_ok, length, take, IsTrue, IfOk, IfErr, OnOk};
+ghost use Rattle.volume_codec.specs.Descriptor.{RiseWithin};
+ghost use Rattle.log_codec.specs.Chain.{spare_blocks};
+ghost use Rattle.device.specs.Work.{Sync, WriteAt};
+ghost use Rattle.log_codec.specs.Log.{log_descriptor_blocks};
+ghost use Rattle.log_commits.specs.declared.fault.CommitFault.TheVariants.{Device};
+ghost use Rattle.log_commits.specs.Calls.{DidAll};
+ghost use Rattle.log_commits.specs.Tail.{HoldsLog};
+ghost use Rattle.log_commits.specs.Commit.{MayCommit, RefusesCommit, CommitLeaves, commit_bytes, commit_works, works_by, records_in, tail_after};
+
+use crate::fault::CommitFault;
+use crate::image::fill;
+use crate::ring::write_ring;
+use crate::tail::LogTail;
+use device::{Device, DeviceFault, make_durable, write_at};
+use log_codec::{LogGeometry, Sealing};
+
+/// The byte that opens a seal.
+const OPEN: u8 = 0xA7;
+
+// The number of blocks that no commit takes.
+fn spare_of(sealing: Sealing) -> u32
+    ensures value { result ≡ spare_blocks sealing }
+    ensures small { result ≤ 1 }
+{
+    match sealing {
+        Sealing::ByByte => 1,
+        Sealing::ByDigest(_) => 0,
+    }
+}
+
+// Whether the home blocks rise strictly, from `low` on and below `high`.
+fn rise_within(homes: &[u32], low: u32, high: u32) -> bool
+    ensures { IsTrue result ↔ RiseWithin low high homes.now }
+{
+    let mut least = u64::from(low);
+    for home in homes {
+        if u64::from(*home) < least || *home >= high {
+            return false;
+        }
+        least = u64::from(*home) + 1;
+    }
+    true
+}
+
+// Makes sure of what was written, opens the seal at an offset, and makes sure of that.
+fn open_at<D: Device>(device: &mut D, at: u64) -> Result<(), DeviceFault>
+    requires { at + 1 ≤ length (D.seen device.old) }
+    ensures { DidAll D.Device device.old (Sync ∷ WriteAt at (0xA7 ∷ []) ∷ Sync ∷ []) (is_ok result) device.new }
+{
+    match make_durable(device) {
+        Ok(()) => {}
+        Err(fault) => return Err(fault),
+    }
+    match write_at(device, at, &[OPEN]) {
+        Ok(()) => {}
+        Err(fault) => return Err(fault),
+    }
+    make_durable(device)
+}
+
+// Writes a commit and one byte, which closes the next seal, at a position of the log, and makes sure of the commit.
+fn write_commit<D: Device>(
+    device: &mut D,
+    log: &LogGeometry,
+    position: u32,
+    bytes: &[u8],
+) -> Result<(), DeviceFault>
+    requires long { 4096 * log.now.blocks ≤ length (D.seen device.old) }
+    requires some { 1 < length bytes.now }
+    requires fits { length bytes.now ≤ 4096 * log.now.ring }
+    ensures { (commit : List ℕ) → bytes.now ≡ commit ++ 0 ∷ []
+        → DidAll D.Device device.old (works_by log.now.sealing log.now.ring position commit) (is_ok result) device.new }
+{
+    let at = 4096 * u64::from(log.block_behind(position, 0));
+    match log.sealing() {
+        Sealing::ByByte => match write_ring(device, log, position, 1, bytes) {
+            Ok(()) => open_at(device, at),
+            Err(fault) => Err(fault),
+        },
+        Sealing::ByDigest(_) => {
+            match write_ring(device, log, position, 0, &bytes[..bytes.len() - 1]) {
+                Ok(()) => make_durable(device),
+                Err(fault) => Err(fault),
+            }
+        }
+    }
+}
+
+impl LogTail {
+    // The number of blocks of the descriptor of the next commit, with records for these home blocks, in room of this
+    // size.
+    fn judge(&self, homes: &[u32], room: usize) -> Result<u32, CommitFault>
+        ensures ok { IfOk result (λ blocks. (blocks ≡ log_descriptor_blocks (length homes.now))
+            × MayCommit self.now homes.now room) }
+        ensures refused { IfErr result (RefusesCommit self.now homes.now room) }
+        ensures early { IfErr result (λ fault. fault ≢ Device) }
+    {
+        if self.spent {
+            return Err(CommitFault::Spent);
+        }
+        if homes.len() > 65535 {
+            return Err(CommitFault::Count);
+        }
+        let count = homes.len() as u32;
+        let Some(blocks) = self.log.descriptor_blocks(count) else {
+            return Err(CommitFault::Count);
+        };
+        if !rise_within(homes, self.log.first_home(), self.log.block_count()) {
+            return Err(CommitFault::Homes);
+        }
+        let size = blocks + count;
+        if room != 4096 * size as usize + 1 {
+            return Err(CommitFault::Room);
+        }
+        if self.number == u64::MAX {
+            return Err(CommitFault::Number);
+        }
+        if self.used + size + spare_of(self.log.sealing()) > self.log.ring() {
+            return Err(CommitFault::Busy);
+        }
+        Ok(blocks)
+    }
+
+    /// Commits records for home blocks, which rise strictly. The caller's room is as long as the commit and one byte.
+    /// It has the records behind the blocks of the descriptor, which are filled in here. Takes no memory.
+    ///
+    /// Where a byte seals, this makes a write of all but that byte, a sync, a write of the byte, and a sync. Where a
+    /// digest seals, it makes a write and a sync. The write of the commit is cut in two where the ring wraps.
+    pub fn commit<D: Device>(
+        &mut self,
+        device: &mut D,
+        homes: &[u32],
+        room: &mut [u8],
+    ) -> Result<(), CommitFault>
+        requires long { 4096 * self.old.log.blocks ≤ length (D.seen device.old) }
+        ensures may { OnOk result (MayCommit self.old homes.now (length room.old)) }
+        ensures refused { IfErr result (RefusesCommit self.old homes.now (length room.old)) }
+        ensures unchanged { IfErr result (λ fault. fault ≢ Device
+            → (self.new ≡ self.old) × (device.new ≡ device.old) × (room.new ≡ room.old)) }
+        ensures value { OnOk result (self.new ≡ tail_after self.old homes.now) }
+        ensures spent { IfErr result (λ fault. fault ≡ Device → self.new ≡ record self.old { spent = true }) }
+        ensures did { MayCommit self.old homes.now (length room.old)
+            → DidAll D.Device device.old (commit_works self.old homes.now (records_in homes.now room.old))
+            (is_ok result) device.new }
+        ensures bytes { MayCommit self.old homes.now (length room.old)
+            → room.new ≡ commit_bytes self.old homes.now (records_in homes.now room.old) ++ 0 ∷ [] }
+
+        // Each list that a crash may leave before holds the log, with these contents.
+        ensures leaves { (contents : ℕ → List ℕ) → D.is_honest device.old
+            → ((c : List ℕ) → D.may_leave device.old c → HoldsLog self.old contents c)
+            → CommitLeaves D.Device self.old contents homes.now (records_in homes.now room.old) (is_ok result)
+            device.old device.new }
+    {
+        let blocks = self.judge(homes, room.len())?;
+        let epoch = self.start.epoch;
+        fill(&self.log, epoch, self.number, homes, blocks, room);
+        match write_commit(device, &self.log, self.position, room) {
+            Ok(()) => {}
+            Err(_) => {
+                self.spent = true;
+                return Err(CommitFault::Device);
+            }
+        }
+        let size = blocks + homes.len() as u32;
+        self.position = self.log.position_behind(self.position, size);
+        self.number += 1;
+        self.used += size;
+        Ok(())
+    }
+}

@@ -1,0 +1,65 @@
+// The end of a log.
+ghost use Rattle.std.specs.Prelude.{◌≡◌, false};
+ghost use Rattle.log_commits.specs.Tail.{IsTail, tail_at};
+
+use log_codec::{LogGeometry, LogStart};
+use std::marker::Model;
+
+/// The end of a log, as a session knows it: where the next commit begins, and which blocks are in use.
+#[derive(Drop)]
+pub struct LogTail {
+    pub(crate) log: LogGeometry,
+    pub(crate) start: LogStart,
+    pub(crate) position: u32,
+    pub(crate) number: u64,
+    pub(crate) used: u32,
+    pub(crate) spent: bool,
+}
+
+impl Model for LogTail {
+    ghost use Rattle.log_commits.specs.Tail.{TailValue, IsTail};
+
+    ghost Value = { TailValue };
+
+    ghost view = { λ t. record {
+      log = t.log;
+      start = t.start;
+      position = t.position;
+      number = t.number;
+      used = t.used;
+      spent = t.spent;
+    } };
+
+    ghost invariant = { λ t. IsTail (record {
+      log = t.log;
+      start = t.start;
+      position = t.position;
+      number = t.number;
+      used = t.used;
+      spent = t.spent;
+    }) };
+}
+
+impl LogTail {
+    /// The end of a log that has no commit: this is the start that counts.
+    pub fn new(log: LogGeometry, start: LogStart) -> Self
+        ensures { result ≡ tail_at log start false }
+    {
+        let _ring = log.ring();
+        LogTail {
+            log,
+            start,
+            position: log.position_behind(start.position, 0),
+            number: start.number,
+            used: 0,
+            spent: false,
+        }
+    }
+
+    /// Whether a device call failed. Then no further commit is made.
+    pub fn is_spent(&self) -> bool
+        ensures { result ≡ self.now.spent }
+    {
+        self.spent
+    }
+}
