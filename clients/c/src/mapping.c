@@ -344,6 +344,7 @@ int begin_memory_again(famsync_memory *memory, size_t length)
     memory->open = (struct span){0, 0};
     memory->length = length;
     memory->pages = pages;
+    atomic_store(&memory->handle->file[memory->file].length, length);
     if (memory->home)
         clear_closed_end(memory);
     return FAMSYNC_OK;

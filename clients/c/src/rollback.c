@@ -127,7 +127,8 @@ static int undo_memory(famsync_memory *memory, const struct other *other)
     return memory->home ? undo_mapped(memory) : begin_memory_again(memory, memory->length);
 }
 
-/* From here on the handle has the other core, in which nothing waits. */
+/* From here on the handle has the other core, in which nothing waits. A file whose memory is open gets its length as
+   that is undone. */
 static void use_other(famsync *handle, struct other *other)
 {
     exchange(handle, other);
@@ -136,7 +137,8 @@ static void use_other(famsync *handle, struct other *other)
     for (famsync_memory *memory = handle->memories; memory; memory = memory->next_one)
         memory->stored = false;
     for (unsigned i = 0; i < handle->files; i++)
-        atomic_store(&handle->file[i].length, other->length[i]);
+        if (!memory_of_file(handle, i))
+            atomic_store(&handle->file[i].length, other->length[i]);
 }
 
 static int undo(famsync *handle, struct other *other)

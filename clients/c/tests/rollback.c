@@ -521,6 +521,7 @@ static void refused_by_the_system(bool writes)
         WANT_CODE(code, torn ? FAMSYNC_SYSTEM : call == MMAP && options.resident ? FAMSYNC_NOMEMORY : FAMSYNC_OK);
         WANT(at[0] == (code == FAMSYNC_OK ? 0 : 1) && other[5000] == (code == FAMSYNC_OK ? 0 : 1));
         WANT_CODE(famsync_msync(handle, NULL), torn ? FAMSYNC_TORN : FAMSYNC_OK);
+        WANT(famsync_file_length(handle, 0) == famsync_memory_length(a) && has(handle, 0, 65530, 6, 0));
         at[4096] = other[0] = 2;
         WANT_CODE(famsync_rollback(handle), FAMSYNC_OK);
         if (code == FAMSYNC_NOMEMORY) /* nothing was undone, and so it was committed */

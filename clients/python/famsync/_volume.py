@@ -272,9 +272,16 @@ class Volume:
         file = os.fsdecode(encoded)
         if not self._is_readonly and self._has_memory(file):
             raise Busy(f"memory of {name!r} is open")
+        noted = self._lengths.get(file)
         self._lengths[file] = []
-        check(library.famsync_setlength(handle, encoded, length))
-        self._lengths[file] = [library.famsync_acknowledged(handle)]
+        code = library.famsync_setlength(handle, encoded, length)
+        if code == 0:
+            noted = [library.famsync_acknowledged(handle)]
+        if noted is None:
+            del self._lengths[file]
+        else:
+            self._lengths[file] = noted
+        check(code)
 
     def _may_change_length(self, name: str) -> bool:
         """Whether a rollback may change the length of a file: for each that was set, there is the number of the last

@@ -333,6 +333,10 @@ class Rollbacks(InAFolder):
             volume.rollback()
             self.assertRaises(ValueError, lambda: a[0])
             self.assertEqual((volume.files["a"], b[0]), (length, 0))
+            self.assertRaises(famsync.Invalid, volume.set_length, "a", 1 << 40)
+            with volume.memory("a") as a:
+                volume.rollback()
+                self.assertEqual(len(a), length)
             volume.set_length("a", length + 5000)
             volume.commit()
             a = volume.memory("a")
