@@ -272,15 +272,16 @@ class Volume:
         file = os.fsdecode(encoded)
         if not self._is_readonly and self._has_memory(file):
             raise Busy(f"memory of {name!r} is open")
-        noted = self._lengths.get(file)
-        self._lengths[file] = []
+        before = self._lengths.get(file)
+        mine: List[int] = []
+        self._lengths[file] = mine
         code = library.famsync_setlength(handle, encoded, length)
         if code == 0:
-            noted = [library.famsync_acknowledged(handle)]
-        if noted is None:
-            del self._lengths[file]
-        else:
-            self._lengths[file] = noted
+            self._lengths[file] = [library.famsync_acknowledged(handle)]
+        elif self._lengths.get(file) is mine and before is None:
+            self._lengths.pop(file, None)
+        elif self._lengths.get(file) is mine and before is not None:
+            self._lengths[file] = before
         check(code)
 
     def _may_change_length(self, name: str) -> bool:
@@ -311,7 +312,7 @@ class Volume:
         check(self._session.call(library.famsync_rollback))
         for name, length in lengths.items():
             if self._lengths.get(name) is length:
-                del self._lengths[name]
+                self._lengths.pop(name, None)
 
     def _close_memory_of(self, name: str) -> None:
         for memory in [memory for memory in self._memories if memory.name == name]:
