@@ -37,12 +37,12 @@ length-log_seal ByByte epoch d records = length-open_seal
 length-log_seal (ByDigest key) epoch d records = length-number_text 8 _
 
 -- the number in bytes that reach far enough is that of all bytes
-count_within : (bytes : List ℕ) → number_in 4 (drop 16 (take 4096 bytes)) ≡ number_in 4 (drop 16 bytes)
+pub count_within : (bytes : List ℕ) → number_in 4 (drop 16 (take 4096 bytes)) ≡ number_in 4 (drop 16 bytes)
 unfolding number_in
 count_within bytes = ap (number_in 4) (drop-take 16 4080 bytes) ∙ big_from-take 0 4 4080 (drop 16 bytes) (omega arith)
 
 -- the first of the blocks from a position on
-first_of_ring : (g : LogValue) (bytes : List ℕ) (p n : ℕ) → IsLog g → 4096 * g.blocks ≤ length bytes → 0 < n
+pub first_of_ring : (g : LogValue) (bytes : List ℕ) (p n : ℕ) → IsLog g → 4096 * g.blocks ≤ length bytes → 0 < n
     → take 4096 (ring_bytes g.ring bytes p n) ≡ block_at bytes (ring_block g.ring p)
 first_of_ring g bytes p zero log long some = absurd (omega arith)
 first_of_ring g bytes p (suc n) log long some =

@@ -5,3 +5,4 @@ pub mod Bodies
 pub mod Digests
 pub mod Reading
 pub mod Chains
+pub mod Public
