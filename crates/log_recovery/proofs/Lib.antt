@@ -1,0 +1,4 @@
+pub mod OnlyReading
+pub mod Blocks
+pub mod Commits
+pub mod Chained

@@ -1,0 +1,89 @@
+// The log of a device is read.
+ghost use Rattle.std.specs.Prelude.{◌≡◌, ◌*◌, ◌≤◌, length, IfOk, IfErr};
+ghost use Rattle.log_codec.specs.Start.{IsLogStart};
+ghost use Rattle.log_recovery.specs.Reading.{ReadsAlone, HasFaultsBy, IsFoundLog, HoldsFound, RefusesLog};
+ghost use Rattle.log_recovery.specs.inside.Commit.{HoldsChain, RefusesNext};
+
+use crate::calls::read_block;
+use crate::commit::read_next;
+use crate::found::FoundLog;
+use device::Device;
+use log_codec::{LogGeometry, LogStart, decode_start, is_second, start_block_of};
+use page_entry::{PAGE, Refusal};
+use std::alloc::Allocator;
+
+/// The commits of the log from this start on. `Damaged` where it is neither the next commit nor the end of the log that
+/// lies behind one.
+fn read_chain<D: Device, A: Allocator + Copy>(
+    alloc: A,
+    device: &mut D,
+    log: &LogGeometry,
+    second: bool,
+    start: LogStart,
+) -> Result<FoundLog<A>, Refusal>
+    requires long { 4096 * log.now.blocks ≤ length (D.seen device.old) }
+    requires start { IsLogStart log.now.ring start }
+    ensures chain { D.is_honest device.old → IfOk result (λ found. HoldsChain log.now found (D.seen device.old)) }
+    ensures same { IfOk result (λ found. (found.second ≡ second) × (found.start ≡ start)) }
+    ensures found { IfOk result (IsFoundLog log.now) }
+    ensures refused { D.is_honest device.old → IfErr result
+        (RefusesNext log.now start.epoch start.position start.number log.now.ring (D.seen device.old)) }
+    ensures read { ReadsAlone D.Device device.old device.new }
+    ensures faults { HasFaultsBy (D.faults_met device.old) (D.faults_met device.new) result }
+{
+    let ring = log.ring();
+    let mut commits = Vec::new(alloc);
+    let mut position = start.position;
+    let mut number = start.number;
+    let mut left = ring;
+    loop {
+        let next = read_next(alloc, device, log, start.epoch, position, number, left)?;
+        let Some(commit) = next else {
+            return Ok(FoundLog {
+                second,
+                start,
+                commits,
+                end_position: log.position_behind(position, 0),
+                end_number: number,
+            });
+        };
+        let homes: &[u32] = &commit.homes;
+        let blocks = commit.head + homes.len() as u32;
+        if commits.push(commit).is_err() {
+            return Err(Refusal::OutOfMemory);
+        }
+        position += blocks;
+        number += 1;
+        left -= blocks;
+    }
+}
+
+/// The log of a device: the start that counts, the commits from there on, and where the log ends. `Damaged` where the
+/// device is shorter than the volume, or its bytes hold no log: the start that counts breaks the grammar, or, where a
+/// byte seals, an open seal lies over anything else than the next commit. `Device` where a device call failed.
+/// `OutOfMemory` may come in the place of these. The device is only read. Each block of a descriptor is read once, and
+/// the records where a digest seals.
+pub fn read_log<D: Device, A: Allocator + Copy>(
+    alloc: A,
+    device: &mut D,
+    log: &LogGeometry,
+) -> Result<FoundLog<A>, Refusal>
+    ensures holds { D.is_honest device.old → IfOk result (λ found. HoldsFound log.now found (D.seen device.old)) }
+    ensures found { IfOk result (IsFoundLog log.now) }
+    ensures long { IfOk result (λ found. 4096 * log.now.blocks ≤ length (D.seen device.old)) }
+    ensures refused { D.is_honest device.old → IfErr result (RefusesLog log.now (D.seen device.old)) }
+    ensures read { ReadsAlone D.Device device.old device.new }
+    ensures faults { HasFaultsBy (D.faults_met device.old) (D.faults_met device.new) result }
+{
+    if device.len() < PAGE * u64::from(log.block_count()) {
+        return Err(Refusal::Damaged);
+    }
+    let selecting = read_block(device, 1)?;
+    let second = is_second(selecting[0]);
+    let block = read_block(device, start_block_of(second))?;
+    let Some(start) = decode_start(log, &block) else {
+        return Err(Refusal::Damaged);
+    };
+    let found = read_chain(alloc, device, log, second, start)?;
+    Ok(found)
+}
