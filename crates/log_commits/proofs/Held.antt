@@ -26,7 +26,7 @@ pub record KeepsLog (t : TailValue) (old new : List ℕ) : Type 0 where
   pub homes : (b : ℕ) → IsLogHome t.log b → block_at new b ≡ block_at old b
 
 -- the start that counts
-start_kept : (ring : ℕ) (s : LogStart) (old new : List ℕ) → length new ≡ length old
+pub start_kept : (ring : ℕ) (s : LogStart) (old new : List ℕ) → length new ≡ length old
     → ((i : ℕ) → i < 16384 → get_or new i 0 ≡ get_or old i 0) → HasLogStart ring s old → HasLogStart ring s new
 start_kept ring s old new same low is =
     let byte : get_or new 4096 0 ≡ get_or old 4096 0 = low 4096 (omega arith) in

@@ -2,6 +2,7 @@ pub mod Places
 pub mod Ranges
 pub mod Moved
 pub mod Held
+pub mod Written
 pub mod UnderWay
 pub mod Works
 pub mod Left

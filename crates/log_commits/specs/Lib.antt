@@ -2,3 +2,4 @@ pub mod Calls
 pub mod Ring
 pub mod Tail
 pub mod Commit
+pub mod Homes

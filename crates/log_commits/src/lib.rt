@@ -7,9 +7,7 @@ mod image;
 mod laws;
 mod ring;
 mod tail;
-#[cfg(test)]
-mod tests;
 
 pub use fault::CommitFault;
-pub use laws::{held_log, no_premise};
+pub use laws::{held_log, no_premise, written_home};
 pub use tail::LogTail;

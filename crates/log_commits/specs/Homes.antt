@@ -1,0 +1,57 @@
+-- Home blocks that commits of a log have, and a start behind some of its commits.
+use Rattle.std.specs.Prelude.{◌≡◌, ◌⊎◌, ⊤, ℕ, ◌+◌, ◌-◌, ◌*◌, ◌%◌, List, [], ◌∷◌, ◌++◌, length, take, drop}
+use Rattle.std.specs.List.{Contains}
+use Rattle.volume_codec.specs.Layout.{block_at}
+use Rattle.log_codec.specs.declared.sealing.Sealing.{Sealing}
+use Rattle.log_codec.specs.declared.sealing.Sealing.TheVariants.{ByByte, ByDigest}
+use Rattle.log_codec.specs.declared.start.LogStart.{LogStart}
+use Rattle.log_codec.specs.Log.{LogValue, first_log_home}
+use Rattle.log_codec.specs.Start.{HasLogStart}
+use Rattle.log_codec.specs.Commit.{LogDescriptor}
+use Rattle.log_codec.specs.Chain.{IsLogHome, IsNextCommit, chain_end, chain_blocks}
+use Rattle.log_commits.specs.Tail.{TailValue}
+
+-- one of these commits has this home block
+abbrev pub IsLoggedHome : List LogDescriptor → ℕ → Type 0
+IsLoggedHome [] b = ⊥
+IsLoggedHome (d ∷ ds) b = Contains d.homes b ⊎ IsLoggedHome ds b
+
+-- new is old, but for home blocks that these commits have
+pub record DiffersInHomes (g : LogValue) (chain : List LogDescriptor) (old new : List ℕ) : Type 0 where
+  pub same_length : length new ≡ length old
+  pub low : take (4096 * first_log_home g.ring) new ≡ take (4096 * first_log_home g.ring) old
+  pub homes : (b : ℕ) → IsLogHome g b → (block_at new b ≡ block_at old b) ⊎ IsLoggedHome chain b
+
+-- the start behind these commits
+abbrev pub start_behind_of : LogValue → LogStart → List LogDescriptor → LogStart
+start_behind_of g s ds = record {
+  position = chain_end s.position ds % g.ring;
+  number = s.number + length ds;
+  epoch = s.epoch;
+}
+
+-- the tail of the log from there on
+abbrev pub tail_from : TailValue → List LogDescriptor → TailValue
+tail_from t ds = record t { start = start_behind_of t.log t.start ds; used = t.used - chain_blocks ds }
+
+-- Each home block of these commits has its recovered bytes, or a younger commit has it.
+abbrev pub AreWrittenHome : LogValue → (ℕ → List ℕ) → List LogDescriptor → List LogDescriptor → List ℕ → Type 0
+AreWrittenHome g contents ds younger bytes =
+    (b : ℕ) → IsLogHome g b → IsLoggedHome ds b → IsLoggedHome younger b ⊎ (block_at bytes b ≡ contents b)
+
+-- Where a digest seals, no commit with the next number and its own digest lies at the end of the log, also in this many
+-- blocks. Where a byte seals, this is no premise.
+abbrev pub StaysLastBy : Sealing → TailValue → ℕ → List ℕ → Type 0
+StaysLastBy ByByte t left bytes = ⊤
+StaysLastBy (ByDigest key) t left bytes =
+    (d : LogDescriptor) → IsNextCommit t.log t.start.epoch t.position t.number left d bytes → ⊥
+
+-- what is asked of a start behind some commits, before it may count: the starts and block 1 alone changed, it counts in
+-- the new bytes, the home blocks of these commits are written, and the log ends where it did
+pub record MayStartBehind (t : TailValue) (contents : ℕ → List ℕ) (ds younger : List LogDescriptor)
+    (old new : List ℕ) : Type 0 where
+  pub same_length : length new ≡ length old
+  pub same_behind : drop 16384 new ≡ drop 16384 old
+  pub start : HasLogStart t.log.ring (start_behind_of t.log t.start ds) new
+  pub written : AreWrittenHome t.log contents ds younger old
+  pub last : StaysLastBy t.log.sealing t (t.log.ring - (t.used - chain_blocks ds)) new
