@@ -161,8 +161,8 @@ impl Volume {
         undone
     }
 
-    /// Makes changes and commits them. If `change` returns an error or panics, or the commit is refused, all changes are
-    /// rolled back. If the rollback is refused, its error is returned.
+    /// Makes changes and commits them. If `change` returns an error or panics, or the commit is refused, all changes
+    /// are rolled back. If the rollback is refused, its error is returned.
     ///
     /// ```
     /// # include!(concat!(env!("CARGO_MANIFEST_DIR"), "/tests/volumes/mod.rs"));

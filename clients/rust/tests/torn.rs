@@ -1,6 +1,6 @@
-//! A session that commits nothing before a rollback: a commit was refused memory after it had taken a part of the stores,
-//! and the memory with the rest was closed. The next session finds what was committed before. It is the only test of its
-//! process, because all of that is refused memory meanwhile.
+//! A session that commits nothing before a rollback: a commit was refused memory after it had taken a part of the
+//! stores, and the memory with the rest was closed. The next session finds what was committed before. It is the only
+//! test of its process, because all of that is refused memory meanwhile.
 
 mod volumes;
 
