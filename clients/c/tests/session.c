@@ -46,24 +46,26 @@ static int read_another(famsync *handle, uint64_t number)
     return report("read", famsync_read(handle, C, (PAGES + number % PAGES) * 4096, &byte, 1, NULL));
 }
 
-/* Changes all that a round changes, and undoes it. */
+/* Changes all that a round changes, and undoes it. In layouts 1 and 2 `b` keeps its length of 5,000 bytes. */
 static int undone(famsync *handle, famsync_memory *memory, uint64_t number)
 {
     static const unsigned char junk[100] = {0xEE};
     unsigned char *at = famsync_memory_at(memory), found = 0;
+    bool resizes = famsync_file_length(handle, B) < 5000;
     int failed = 0;
     for (unsigned page = 0; page < PAGES; page += 2) {
         memcpy(at + page * 4096 + 3000, junk, sizeof junk);
         failed |= report("write", famsync_write(handle, C, (page + 1) * 4096 + 3000, junk, sizeof junk, NULL));
     }
-    failed |= report("setlength", famsync_setlength(handle, "b", 4999));
+    if (resizes)
+        failed |= report("setlength", famsync_setlength(handle, "b", 4999));
     if (report("rollback", famsync_rollback(handle)))
         return 1;
     for (unsigned page = 0; page < PAGES; page += 2) {
         failed |= report("read", famsync_read(handle, C, (page + 1) * 4096 + 3000, &found, 1, NULL));
         WANT(found == 0 && at[page * 4096 + 3000] == 0);
     }
-    WANT(famsync_file_length(handle, B) == (number - 1) / 4 * 4);
+    WANT(famsync_file_length(handle, B) == (resizes ? (number - 1) / 4 * 4 : 5000));
     return failed;
 }
 
