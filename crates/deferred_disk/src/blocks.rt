@@ -197,9 +197,25 @@ impl<A: Allocator + Copy> Blocks<A> {
         ensures err { OnErr result (self.new ≡ self.old) }
     {
         let count = run.len() / BLOCK;
+        if count == 1 {
+            return self.enter_one(from, run.clone()?);
+        }
         let shares = shares_of(self.alloc, run, count)?;
         self.rooms.reserve(count)?;
         enter_rooms(&mut self.rooms, from, run, shares);
+        Ok(())
+    }
+
+    // The block with this number is known, and has the bytes of a run of one block.
+    fn enter_one(&mut self, block: usize, run: Run<A>) -> Result<(), AllocError>
+        requires whole { length run.value.items ≡ 4096 }
+        requires fits { 4096 * block + 4096 ≤ length self.old.bytes }
+        ensures bytes { OnOk result (self.new.bytes ≡ written self.old.bytes (4096 * block) run.value.items) }
+        ensures flags { OnOk result (self.new.flags ≡ with_known self.old.flags block (block + 1)) }
+        ensures err { OnErr result (self.new ≡ self.old) }
+    {
+        self.rooms.reserve(1)?;
+        enter_room(&mut self.rooms, block, run);
         Ok(())
     }
 
@@ -233,6 +249,16 @@ fn enter_rooms<A: Allocator + Copy>(
             drop(rooms.insert(from + k, Part::new(share, BLOCK * k, BLOCK * k + BLOCK)));
         }
     }
+}
+
+// Puts the block of a run of one into a map, under this number.
+fn enter_room<A: Allocator + Copy>(rooms: &mut Rooms<A>, block: usize, run: Run<A>)
+    requires room { 1 ≤ spare rooms.old }
+    requires whole { length run.value.items ≡ 4096 }
+    requires fits { block + 1 < 2 ^ 64 }
+    ensures { Enters (get nat_eq rooms.old) (get nat_eq rooms.new) block 1 run.value.items }
+{
+    drop(rooms.insert(block, Part::new(run, 0, BLOCK)));
 }
 
 // Copies what a block that begins at an offset has of the bytes from another offset on.

@@ -142,6 +142,16 @@ impl<A: Allocator + Copy> DeferredDisk<A> {
         true
     }
 
+    /// Copies bytes from an offset on, as a read does, or answers which block a read would lack. It counts no call.
+    pub fn peek(&self, at: u64, buffer: &mut [u8]) -> Option<usize>
+        requires { at + length buffer.old ≤ length (seen_of (as_memory self.now)) }
+        ensures lacked { result ≡ lacked_by_read self.now.known at (length buffer.old) }
+        ensures bytes { IsSuppliedWell self.now → result ≡ None
+            → buffer.new ≡ slice_range (seen_of (as_memory self.now)) at (at + length buffer.old) }
+    {
+        self.blocks.read(at as usize, buffer)
+    }
+
     /// Which block the last call of `read`, `write` or `sync` lacked, where it failed for want of one.
     pub fn wanted(&self) -> Option<usize>
         ensures { result ≡ self.now.wanted }
@@ -274,8 +284,8 @@ impl<A: Allocator + Copy> Device for DeferredDisk<A> {
             ≡ after_read self.old (lacked_by_read self.old.known at (length buffer.old)) (is_ok result) }
         ensures lacks { is_ok result ≡ is_none (lacked_by_read self.old.known at (length buffer.old)) }
     {
+        self.wanted = self.peek(at, buffer);
         raise(&mut self.calls);
-        self.wanted = self.blocks.read(at as usize, buffer);
         if self.wanted.is_some() {
             raise(&mut self.faults);
             return Err(DeviceFault);

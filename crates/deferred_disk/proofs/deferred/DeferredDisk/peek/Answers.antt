@@ -2,16 +2,16 @@ use Rattle.std.proofs.Common.{◌≤◌, ◌≡◌, ◌+◌, sym, ◌∙◌, ap,
 use Rattle.std.specs.Prelude.{slice_range}
 use Rattle.deferred_disk.specs.Deferred.{Deferred, AreAlike, as_memory}
 use Rattle.device.specs.Memory.{seen_of, content_after}
-use Rattle.deferred_disk.proofs.Deferring.{agrees_for_read, none_of, within_kept}
+use Rattle.deferred_disk.proofs.Deferring.{agrees_for_read, within_kept}
 use Rattle.device.proofs.Public.{length-content_after}
-use Rattle.deferred_disk.proofs.deferred.DeferredDiskDevice.read.Goals as goal
+use Rattle.deferred_disk.proofs.deferred.DeferredDisk.peek.Goals as goal
 
-pub read-self-inside-requires : goal.read-self-inside-requires
-read-self-inside-requires g c =
+pub read-requires : goal.read-requires
+read-requires g c =
     (within_kept (c.args.at + length c.args.buffer.now) c.self.view_is c.self.invariant.0 c.requires).1.0
 
 pub returns-clause-bytes : goal.returns-clause-bytes
-returns-clause-bytes g c = λ well.
+returns-clause-bytes g c = λ well none.
     let disk = c.self.inside in
     let n = length c.args.buffer.now in
     let content = content_after disk.past.first disk.past.changes in
@@ -24,7 +24,6 @@ returns-clause-bytes g c = λ well.
       c.self.invariant.0.bytes_length,
     ) in
     let alike = subst (λ (d : Deferred). AreAlike d.supplied) (sym c.self.view_is) well in
-    let none = none_of c.read-self-inside.result (sym c.is_some.ensures ∙ c.if-is_some.false) in
-    c.read-self-inside.ensures.bytes none ∙ agrees_for_read disk.blocks.flags disk.blocks.bytes content c.args.at n
-    (c.self.invariant.0.agrees alike) same room (sym c.read-self-inside.ensures.lacked ∙ none)
+    c.read.ensures.bytes none ∙ agrees_for_read disk.blocks.flags disk.blocks.bytes content c.args.at n
+    (c.self.invariant.0.agrees alike) same room (sym c.read.ensures.lacked ∙ none)
     ∙ ap (λ (d : Deferred). slice_range (seen_of (as_memory d)) c.args.at (c.args.at + n)) c.self.view_is
