@@ -1,0 +1,4 @@
+pub mod Putting
+pub mod Changing
+pub mod Whole
+pub mod Public

@@ -1,0 +1,218 @@
+// Blocks that are kept in memory.
+ghost use Rattle.std.specs.Prelude.{◌≡◌, ◌↔◌, ◌+◌, ◌-◌, ◌<◌, ◌≤◌, ◌==◌, ◌++◌, ℕ, [], length, None, IsTrue, OnOk, OnErr};
+ghost use Rattle.std.specs.Option.{option_copied};
+ghost use Rattle.std.specs.Vec.{vec_capacity};
+ghost use Rattle.volume_codec.specs.Descriptor.{RiseWithin};
+ghost use Rattle.kept_blocks.specs.Blocks.{homes_in, bytes_in, all_bytes, AreWholeBlocks, with_home, with_zeros};
+ghost use Rattle.kept_blocks.specs.Blocks.{without_run, cut_in};
+
+use crate::cutting::{cut_off, has_whole_block};
+use std::alloc::{AllocError, Allocator};
+use std::collections::BTreeMap;
+use std::marker::Model;
+
+/// Home blocks with their bytes, in rising order.
+#[derive(Drop)]
+pub struct Blocks<A: Allocator + Copy> {
+    tree: BTreeMap<u32, Box<[u8; 4096], A>, A>,
+}
+
+impl<A: Allocator + Copy> Model for Blocks<A> {
+    ghost use Rattle.std.specs.Prelude.{map};
+    ghost use Rattle.kept_blocks.specs.Blocks.{Blocks as BlocksValue, AreWholeBlocks};
+
+    ghost Value = { BlocksValue };
+
+    ghost view = { λ b. map (λ entry. (entry.0, entry.1.value)) b.tree.entries };
+
+    ghost invariant = { λ b. AreWholeBlocks (map (λ entry. (entry.0, entry.1.value)) b.tree.entries) };
+}
+
+impl<A: Allocator + Copy> Blocks<A> {
+    /// None yet. It takes no memory.
+    pub fn new(alloc: A) -> Self
+        ensures { result ≡ [] }
+    {
+        Blocks {
+            tree: BTreeMap::new(alloc),
+        }
+    }
+
+    /// How many there are.
+    pub fn len(&self) -> usize
+        ensures { result ≡ length self.now }
+    {
+        self.tree.len()
+    }
+
+    /// Whether there are none.
+    pub fn is_empty(&self) -> bool
+        ensures { IsTrue result ↔ (self.now ≡ []) }
+    {
+        self.len() == 0
+    }
+
+    /// The bytes of a home block, if it is one of them.
+    pub fn get(&self, home: u32) -> Option<&[u8; 4096]>
+        ensures { option_copied result ≡ bytes_in self.now home }
+    {
+        match self.tree.get(&home) {
+            Some(bytes) => Some(&**bytes),
+            None => None,
+        }
+    }
+
+    /// These are the bytes of a home block from now on. An `Err` changes nothing.
+    pub fn put(&mut self, home: u32, bytes: Box<[u8; 4096], A>) -> Result<(), AllocError>
+        ensures ok { OnOk result (self.new ≡ with_home self.old home bytes.value) }
+        ensures err { OnErr result (self.new ≡ self.old) }
+        ensures absent { OnErr result (bytes_in self.old home ≡ None) }
+    {
+        has_whole_block(&bytes);
+        self.tree.insert(home, bytes)?;
+        Ok(())
+    }
+
+    /// All home blocks go.
+    pub fn clear(&mut self)
+        ensures { self.new ≡ [] }
+    {
+        self.tree.clear();
+    }
+
+    /// The home blocks from `low` on that come before `high` go.
+    pub fn remove(&mut self, low: u32, high: u32)
+        ensures { self.new ≡ without_run self.old low high }
+    {
+        self.tree.retain(|home, _| *home < low || high <= *home);
+    }
+
+    /// The bytes of a home block after the first `left` become zeros, if it is one of these.
+    pub fn cut(&mut self, home: u32, left: u64)
+        ensures { self.new ≡ cut_in self.old home left }
+    {
+        self.tree.retain(|key, bytes| {
+            if *key == home {
+                cut_off(bytes, left);
+            }
+            true
+        });
+    }
+
+    // Puts zeros in the home blocks from `low` on that come before `high`; after an `Err`, in some of them.
+    fn put_zeros(&mut self, alloc: A, low: u32, high: u32) -> Result<(), AllocError>
+        requires { low ≤ high }
+        ensures ok { OnOk result (self.new ≡ with_zeros self.old low (high - low)) }
+        ensures err { OnErr result (without_run self.new low high ≡ without_run self.old low high) }
+    {
+        for home in low..high {
+            let block = Box::new(alloc, [0; 4096])?;
+            self.put(home, block)?;
+        }
+        Ok(())
+    }
+
+    // Puts zeros in these home blocks, and a text in another one. An `Err` changes only these.
+    fn fill(
+        &mut self,
+        alloc: A,
+        low: u32,
+        high: u32,
+        first: u32,
+        text: &[u8; 4096],
+    ) -> Result<(), AllocError>
+        requires { low ≤ high }
+        ensures ok { OnOk result
+            (self.new ≡ with_home (with_zeros self.old low (high - low)) first text.now) }
+        ensures err { OnErr result (without_run self.new low high ≡ without_run self.old low high) }
+    {
+        self.put_zeros(alloc, low, high)?;
+        let block = Box::new(alloc, *text)?;
+        self.put(first, block)
+    }
+
+    /// Puts the last page of a file that grows, zeros in the home blocks after it that come before `high`, and the text
+    /// of the lengths in the first home block. An `Err` changes nothing.
+    pub fn grow(
+        &mut self,
+        alloc: A,
+        home: u32,
+        high: u32,
+        last: &[u8; 4096],
+        first: u32,
+        text: &[u8; 4096],
+    ) -> Result<(), AllocError>
+        requires order { (first < home) × (home < high) }
+        requires rising { (end : ℕ) × (high ≤ end) × RiseWithin first end (homes_in self.old) }
+        requires none { (q : ℕ) → home < q → q < high → bytes_in self.old q ≡ None }
+        ensures ok { OnOk result (self.new ≡ with_home
+            (with_home (with_zeros self.old (home + 1) (high - (home + 1))) home last.now) first text.now) }
+        ensures err { OnErr result (self.new ≡ self.old) }
+    {
+        let block = Box::new(alloc, *last)?;
+        let low = if self.get(home).is_some() {
+            home + 1
+        } else {
+            home
+        };
+        match self.fill(alloc, low, high, first, text) {
+            Ok(()) => {
+                // It has one already.
+                let _ = self.put(home, block);
+                Ok(())
+            }
+            Err(error) => {
+                self.remove(low, high);
+                Err(error)
+            }
+        }
+    }
+
+    /// Takes the home blocks from `low` on that come before `high` away, cuts the last page of a file that shrinks, and
+    /// puts the text of the lengths in the first home block. An `Err` changes nothing.
+    pub fn shrink(
+        &mut self,
+        alloc: A,
+        low: u32,
+        high: u32,
+        home: u32,
+        left: u64,
+        first: u32,
+        text: &[u8; 4096],
+    ) -> Result<(), AllocError>
+        requires order { (first < low) × (first < home) }
+        requires rising { (end : ℕ) × RiseWithin first end (homes_in self.old) }
+        ensures ok { OnOk result
+            (self.new ≡ with_home (cut_in (without_run self.old low high) home left) first text.now) }
+        ensures err { OnErr result (self.new ≡ self.old) }
+    {
+        let block = Box::new(alloc, *text)?;
+        self.put(first, block)?;
+        self.remove(low, high);
+        self.cut(home, left);
+        Ok(())
+    }
+
+    /// Adds the numbers of the home blocks to a list that has room for them.
+    pub fn list_homes(&self, list: &mut Vec<u32, A>)
+        requires none { list.old.items ≡ [] }
+        requires room { length self.now ≤ vec_capacity list.old }
+        ensures items { list.new.items ≡ homes_in self.now }
+        ensures room { vec_capacity list.old ≤ vec_capacity list.new }
+    {
+        for home in self.tree.keys() {
+            // There is room for it.
+            let _ = list.push(*home);
+        }
+    }
+    /// Adds the bytes of all blocks to a list, one block behind the other.
+    pub fn list_bytes(&self, list: &mut Vec<u8, A>) -> Result<(), AllocError>
+        ensures bytes { OnOk result (list.new.items ≡ list.old.items ++ all_bytes self.now) }
+        ensures whole { AreWholeBlocks self.now }
+    {
+        for (_home, bytes) in &self.tree {
+            list.extend_from_slice(&**bytes)?;
+        }
+        Ok(())
+    }
+}
