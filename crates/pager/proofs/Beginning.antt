@@ -10,7 +10,7 @@ use Rattle.std.proofs.lemmas.List.{length-append, length-map}
 use Rattle.volume_codec.specs.Layout.{journals_of}
 use Rattle.journal.specs.WriteOut.{WriteOut, begun_of}
 use Rattle.journal.specs.WriteOuts.{begun, is_busy, has_uncommitted, next_batch}
-use Rattle.pager.specs.Blocks.{Blocks, homes_in}
+use Rattle.kept_blocks.specs.Blocks.{Blocks, homes_in}
 use Rattle.pager.specs.State.{PagerState}
 use Rattle.pager.specs.Calls.{committed_with}
 use Rattle.pager.specs.inside.Sound.{IsSound}

@@ -11,7 +11,7 @@ use Rattle.volume_codec.proofs.Public.{first_home_of-next, first_home_of-le}
 use Rattle.history.proofs.Public.{total_pages-before}
 use Rattle.std.proofs.Common.{inl, inr, ap}
 use Rattle.std.proofs.lemmas.Bool.{cases_lt, cases_eq}
-use Rattle.pager.specs.inside.Sound.{IsBeforeEnd}
+use Rattle.pager.specs.State.{IsBeforeEnd}
 
 -- each length is within its file's capacity
 lengths_fit : (fs : List TableFile) (lengths : List ℕ) → length lengths ≡ length fs

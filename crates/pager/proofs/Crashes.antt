@@ -21,7 +21,8 @@ use Rattle.pager.specs.Histories.{IsPagerStep, HasCome, HasGone, Stays, ThenPut,
 use Rattle.pager.specs.Histories.{ThenResized}
 use Rattle.pager.proofs.Histories.{Keeps, keeps_committed, keeps_stepped, keeps_read, durable_left, step_within}
 use Rattle.pager.proofs.Histories.{IsDurable}
-use Rattle.pager.proofs.Files.{IsInFile, home_below, page_allowed, are_now, parts_now, keeps_opened, keeps_put}
+use Rattle.pager.proofs.Having.{IsInFile, home_below}
+use Rattle.pager.proofs.Files.{page_allowed, are_now, parts_now, keeps_opened, keeps_put}
 use Rattle.pager.proofs.Files.{seen_now}
 use Rattle.pager.proofs.Resized.{keeps_resized}
 

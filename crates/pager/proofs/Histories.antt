@@ -31,7 +31,7 @@ use Rattle.journal.specs.inside.Consistent.{IsConsistent}
 use Rattle.journal.proofs.Public.{consistent_begun, consistent_within, consistent_after}
 use Rattle.journal.proofs.Public.{consistent_failed, stage_committed}
 use Rattle.recovery.specs.Reading.{IsOnlyRead}
-use Rattle.pager.specs.Blocks.{Blocks, homes_in, bytes_in, newest_in}
+use Rattle.kept_blocks.specs.Blocks.{Blocks, homes_in, bytes_in, newest_in}
 use Rattle.pager.specs.State.{PagerState, record_for}
 use Rattle.pager.specs.Calls.{after_commit, after_step, next_bytes}
 use Rattle.pager.specs.Calls.{records_after}
@@ -51,7 +51,7 @@ use Rattle.volume_codec.specs.Files.{File}
 use Rattle.volume_codec.specs.Super.{Fits}
 use Rattle.pager.specs.inside.Contents.{written_over, HaveFiles}
 use Rattle.pager.specs.Histories.{marked_with, acknowledged_by, IsPagerStep, IsBegunCommit}
-use Rattle.pager.proofs.Putting.{newest_push}
+use Rattle.kept_blocks.proofs.Public.{newest_push}
 use Rattle.pager.proofs.Stepping.{batch_homes, tied_after, AllOf, all_after}
 use Rattle.pager.proofs.Beginning.{map_push}
 use Rattle.pager.proofs.Outs.{none_after, none_uncommitted, never_device, committing, by_mover}
@@ -120,6 +120,41 @@ pub not_acknowledged : (prefix history : List Event) (event : Event)
     → HasAcknowledged prefix (history ++ event ∷ [])
 not_acknowledged prefix history event other has = acknowledged_more prefix history (event ∷ [])
     (λ number there. absurd (other number (sym (only_one event (Acknowledge number) there)))) has
+
+-- ---- a call that makes no commit and no step
+
+-- what is kept after it: it changes no more than the lengths, what is put, and the device
+pub keeps_call : {D : Type 0} (disk : Ghosts D) (files : List File) (history : List Event) (s : PagerState D)
+    (event : Event) (lengths : List ℕ) (staged : Blocks) (device : D) (k : Keeps disk files history s)
+    → ((number : ℕ) → Acknowledge number ≡ event → ⊥)
+    → HaveFiles files s.table (written_over staged k.new) (history ++ event ∷ [])
+    → lengths_after (lengths_of files) (history ++ event ∷ []) ≡ lengths
+    → IsConsistent s.table s.write_outs k.old k.new (disk.seen device) (disk.may_leave device)
+    → Keeps disk files (history ++ event ∷ []) (record s { lengths = lengths; staged = staged; device = device })
+keeps_call disk files history s event lengths staged device k other has now consistent = record {
+  old = k.old;
+  new = k.new;
+  earlier = k.earlier;
+  later = k.later;
+  old_rest = k.old_rest ++ event ∷ [];
+  new_rest = k.new_rest ++ event ∷ [];
+  old_begins = begins_more k.earlier k.old_rest history (event ∷ []) k.old_begins;
+  new_begins = begins_more k.later k.new_rest history (event ∷ []) k.new_begins;
+  old_marked = k.old_marked;
+  new_marked = k.new_marked;
+  old_has = k.old_has;
+  new_has = k.new_has;
+  current = has;
+  lengths = now;
+  named = k.named;
+  table = k.table;
+  consistent = consistent;
+  old_acknowledged = λ has. not_acknowledged k.earlier history event other (k.old_acknowledged has);
+  new_acknowledged = not_acknowledged k.later history event other k.new_acknowledged;
+  marks = k.marks;
+  records = k.records;
+  tied = k.tied;
+}
 
 -- ---- a commit
 
@@ -505,35 +540,25 @@ pub record IsDurable (files : List File) (v : SuperValue) (history : List Event)
   pub has : HaveFiles files v contents prefix
   pub recovers : Recovers v contents c
 
+durable_as : {files : List File} {v : SuperValue} {history : List Event} {c : List ℕ} (prefix rest : List Event)
+    (contents : ℕ → List ℕ) → prefix ++ rest ≡ history → IsMarked prefix → HasAcknowledged prefix history
+    → HaveFiles files v contents prefix → Recovers v contents c → IsDurable files v history c
+durable_as prefix rest contents begins marked acknowledged has recovers = record {
+  prefix = prefix;
+  contents = contents;
+  durable = record { rest = rest; begins = begins; marked = marked; acknowledged = acknowledged };
+  has = has;
+  recovers = recovers;
+}
+
 pub durable_left : {D : Type 0} (disk : Ghosts D) (files : List File) (history : List Event) (s : PagerState D)
     (k : Keeps disk files history s) (c : List ℕ) → LeftWithin s.table k.old k.new (current_stage s.write_outs) c
     → IsDurable files s.table history c
 durable_left disk files history s k c left =
     elim (old_or_new s.table k.old k.new (current_stage s.write_outs) c left) [
-      | inl was ↦ record {
-        prefix = k.earlier;
-        contents = k.old;
-        durable = record {
-          rest = k.old_rest;
-          begins = k.old_begins;
-          marked = k.old_marked;
-          acknowledged = k.old_acknowledged (early was.1);
-        };
-        has = k.old_has;
-        recovers = was.0;
-      }
-      | inr is ↦ record {
-        prefix = k.later;
-        contents = k.new;
-        durable = record {
-          rest = k.new_rest;
-          begins = k.new_begins;
-          marked = k.new_marked;
-          acknowledged = k.new_acknowledged;
-        };
-        has = k.new_has;
-        recovers = is;
-      }
+      | inl was ↦ durable_as k.earlier k.old_rest k.old k.old_begins k.old_marked (k.old_acknowledged (early was.1))
+          k.old_has was.0
+      | inr is ↦ durable_as k.later k.new_rest k.new k.new_begins k.new_marked k.new_acknowledged k.new_has is
     ]
   where
     early : option_map_or is_committed (current_stage s.write_outs) true ≡ false

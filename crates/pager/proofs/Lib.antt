@@ -1,5 +1,3 @@
-pub mod Putting
-pub mod Changing
 pub mod Capacities
 pub mod Rooms
 pub mod Stepping
@@ -7,6 +5,8 @@ pub mod Beginning
 pub mod Outs
 pub mod Records
 pub mod Histories
+pub mod Overlaid
+pub mod Having
 pub mod Files
 pub mod Runs
 pub mod Inside

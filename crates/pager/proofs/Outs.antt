@@ -22,7 +22,7 @@ use Rattle.pager.proofs.Stepping.{AllOf, all_after}
 -- ---- one write-out
 
 -- its batch is committed once its records, its descriptor and its gate are written and durable
-committed_steps : (w : WriteOut) → has_committed w ≡ true → length w.batch.homes + w.described + 3 ≤ w.steps
+pub committed_steps : (w : WriteOut) → has_committed w ≡ true → length w.batch.homes + w.described + 3 ≤ w.steps
 committed_steps w committed = by (next_stage w) (stage_is (length w.batch.homes) w.described w.steps) committed
   where
     by : (o : Option Stage) → IsAt (length w.batch.homes) w.described w.steps o

@@ -6,7 +6,7 @@ use Rattle.std.specs.Option.{option_or, option_and_then}
 use Rattle.std.proofs.lemmas.Bool.{cond-true, cond-false, cases_Bool, eq-eqb, ne_eqb, cases_eq}
 use Rattle.journal.specs.WriteOut.{WriteOut, next_home}
 use Rattle.journal.specs.WriteOuts.{WriteOutsValue, gives_way, moving, outs_moving, outs_home, shares_syncs}
-use Rattle.pager.specs.Blocks.{Blocks, homes_in, bytes_in, newest_in}
+use Rattle.kept_blocks.specs.Blocks.{Blocks, homes_in, bytes_in, newest_in}
 use Rattle.pager.proofs.Stepping.{batch_homes}
 use Rattle.pager.proofs.Outs.{home_there}
 

@@ -15,16 +15,15 @@ use Rattle.volume_codec.specs.Descriptor.{RiseWithin}
 use Rattle.volume_codec.specs.Text.{zeros}
 use Rattle.volume_codec.proofs.Public.{first_home_of-next, first_home_of-le, total_pages-take_le}
 use Rattle.journal.specs.Pages.{home_of}
-use Rattle.pager.specs.Blocks.{Blocks, homes_in, bytes_in, with_home, with_zeros, without_run, cut_in, cut_to}
+use Rattle.kept_blocks.specs.Blocks.{Blocks, homes_in, bytes_in, with_home, with_zeros, without_run, cut_in, cut_to}
 use Rattle.pager.specs.State.{PagerState, file_length, reserved}
 use Rattle.pager.specs.Calls.{end_page, grown, shrunk, restaged, is_overfull, resized_to}
 use Rattle.pager.specs.inside.Sound.{IsSound}
 use Rattle.pager.specs.inside.Resizing.{MayHaveLength}
 use Rattle.pager.proofs.Capacities.{end_within, last_within, are_set}
-use Rattle.pager.proofs.Putting.{bytes_put, rising_put, length_put}
-use Rattle.pager.proofs.Changing.{bytes_zeros, rising_zeros, length_zeros, is_among, bytes_without, rising_without}
-use Rattle.pager.proofs.Changing.{fewer_without, bytes_cut, homes_cut, length_cut, is_outside, outside_below}
-use Rattle.pager.proofs.Changing.{inside_of}
+use Rattle.kept_blocks.proofs.Public.{bytes_put, rising_put, length_put, bytes_zeros, rising_zeros, length_zeros}
+use Rattle.kept_blocks.proofs.Public.{is_among, bytes_without, rising_without, fewer_without, bytes_cut, homes_cut}
+use Rattle.kept_blocks.proofs.Public.{length_cut, is_outside, outside_below, inside_of}
 
 -- files lie one after another
 homes_rise : (v : SuperValue) (i j : ℕ) → i ≤ j → first_home_of v i ≤ first_home_of v j

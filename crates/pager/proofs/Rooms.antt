@@ -6,9 +6,9 @@ use Rattle.std.proofs.lemmas.Bool.{leb-false, and_cases}
 use Rattle.volume_codec.specs.Layout.{lengths_blocks, first_home}
 use Rattle.volume_codec.specs.Descriptor.{RiseWithin}
 use Rattle.volume_codec.specs.Super.{SuperValue}
-use Rattle.pager.specs.Blocks.{Blocks, homes_in, bytes_in, with_home}
+use Rattle.kept_blocks.specs.Blocks.{Blocks, homes_in, bytes_in, with_home}
 use Rattle.pager.specs.State.{reserved, is_full}
-use Rattle.pager.proofs.Putting.{bytes_put, length_put}
+use Rattle.kept_blocks.proofs.Public.{bytes_put, length_put}
 
 some_after : (b : Bool) (o : Option (List ℕ)) (v : List ℕ) (n : ℕ)
     → (if is_some (if b then Some v else o) then 0 else n) ≤ (if is_some o then 0 else n)

@@ -11,7 +11,7 @@ use Rattle.volume_codec.specs.Files.{File}
 use Rattle.journal.specs.declared.flushed.Flushed.{Flushed}
 use Rattle.history.specs.History.{Event, Store, SetLength}
 use Rattle.history.specs.Reading.{ReadsBack}
-use Rattle.pager.specs.Blocks.{Blocks}
+use Rattle.kept_blocks.specs.Blocks.{Blocks}
 use Rattle.pager.specs.State.{PagerState, newly_opened, file_length}
 use Rattle.pager.specs.Calls.{after_put, after_commit, committed_with, after_step, after_length, resized_to, last_page}
 use Rattle.pager.specs.Histories.{marked_with, acknowledged_by, IsPagerStep, HasCome}

@@ -1,7 +1,7 @@
 -- What is against a length, and what it takes.
 use Rattle.std.proofs.Common.{◌≡◌, ◌≢◌, ℕ, Bool, true, false, List, [], ◌∷◌, refl, sym, ◌∙◌, subst, eqb, if◌then◌else◌}
 use Rattle.std.proofs.Common.{Option, Some, None, Result, Ok, Err, ltb, ◌≤◌, arith}
-use Rattle.std.specs.Prelude.{OnOk, IfErr, is_none, is_some, ◌&&◌}
+use Rattle.std.specs.Prelude.{OnOk, IfErr, is_none, ◌&&◌}
 use Rattle.std.proofs.lemmas.Bool.{cond-true, cond-false, eq-eqb, ne_eqb}
 use Rattle.std.proofs.lemmas.Bool.Decides.{nat_tests}
 use Rattle.device.specs.declared.device.Device.{Ghosts}
@@ -26,12 +26,6 @@ on_ok (Err e) P Q f p = tt
 pub if_err : {X E : Type 0} (r : Result X E) (P Q : E → Type 0) → ((e : E) → P e → Q e) → IfErr r P → IfErr r Q
 if_err (Ok x) P Q f p = tt
 if_err (Err e) P Q f p = f e p
-
--- ---- options
-
-pub none_of : {X : Type 0} (o : Option X) → is_some o ≡ false → o ≡ None
-none_of None e = refl
-none_of (Some x) e = absurd (cc)
 
 -- ---- a page that is put
 
@@ -61,7 +55,7 @@ same_free : (t : Bool) (o : Option Refusal) → t ≡ true → first_reason ((if
 same_free true o e = refl
 same_free false o e = absurd (cc)
 
-other_reason : (t b e : Bool) → t ≡ false → b ≡ false
+pub other_reason : (t b e : Bool) → t ≡ false → b ≡ false
     → first_reason ((if t then None
     else first_reason (reason_if b refusals.Broken ∷ reason_if e refusals.NoFrame ∷ [])) ∷ [])
     ≡ first_reason (reason_if e refusals.NoFrame ∷ [])
@@ -82,7 +76,7 @@ pub room_free : (e : Bool) → e ≡ false → first_reason (reason_if e refusal
 room_free true e = absurd (cc)
 room_free false e = refl
 
-no_call : (a b c d : Bool) → b ≡ false → ◌≡◌ {A = ℕ} (if a && (b && c && d) then 1 else 0) 0
+pub no_call : (a b c d : Bool) → b ≡ false → ◌≡◌ {A = ℕ} (if a && (b && c && d) then 1 else 0) 0
 no_call true true c d e = absurd (cc)
 no_call true false c d e = refl
 no_call false b c d e = refl

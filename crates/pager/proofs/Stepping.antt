@@ -9,7 +9,7 @@ use Rattle.journal.specs.declared.flushed.Flushed.TheVariants.{Going, Committed,
 use Rattle.journal.specs.Stage.{may_share}
 use Rattle.journal.specs.WriteOut.{WriteOut, advanced_of}
 use Rattle.journal.specs.WriteOuts.{gives_way, is_at, joined, moved, batches_after}
-use Rattle.pager.specs.Blocks.{Blocks, homes_in}
+use Rattle.kept_blocks.specs.Blocks.{Blocks, homes_in}
 use Rattle.pager.specs.Calls.{records_after}
 
 abbrev pub batch_homes : List WriteOut → List (List ℕ)

@@ -15,7 +15,7 @@ use Rattle.journal.specs.Pages.{home_of}
 use Rattle.journal.specs.declared.flushed.Flushed.{Flushed}
 use Rattle.journal.specs.declared.flushed.Flushed.TheVariants.{Done}
 use Rattle.journal.specs.WriteOuts.{begun, is_busy, outs_home, outs_after}
-use Rattle.pager.specs.Blocks.{Blocks, homes_in, with_home, with_zeros, without_run, cut_in, cut_to}
+use Rattle.kept_blocks.specs.Blocks.{Blocks, homes_in, with_home, with_zeros, without_run, cut_in, cut_to}
 use Rattle.pager.specs.State.{PagerState, file_length, up_to_end, is_full, reserved, kept_bytes, current_in, record_for}
 
 -- why a device isn't opened, and what becomes of it: as an opening of its volume is refused; or for want of memory

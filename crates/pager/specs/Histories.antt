@@ -14,7 +14,7 @@ use Rattle.journal.specs.WriteOuts.{next_work, next_answer}
 use Rattle.recovery.specs.Reading.{IsOnlyRead}
 use Rattle.recovery.specs.Volume.{VolumeState, IsAtRest}
 use Rattle.history.specs.History.{Event, Store, SetLength, Mark, Acknowledge}
-use Rattle.pager.specs.Blocks.{Blocks, homes_in}
+use Rattle.kept_blocks.specs.Blocks.{Blocks, homes_in}
 use Rattle.pager.specs.State.{PagerState, newly_opened, file_length}
 use Rattle.pager.specs.Calls.{put_refusal, commit_refusal, after_put, after_commit, after_step, next_bytes}
 use Rattle.pager.specs.Calls.{set_length_refusal, last_page, after_length}

@@ -1,4 +1,3 @@
-pub mod Blocks
 pub mod State
 pub mod Calls
 pub mod Histories

@@ -1,14 +1,14 @@
 -- What contracts see of a pager.
-use Rattle.std.specs.Prelude.{ℕ, ◌+◌, ◌-◌, ◌*◌, if◌then◌else◌, Bool, List, [], length, take, slice_index_or}
+use Rattle.std.specs.Prelude.{ℕ, ◌+◌, ◌-◌, ◌*◌, ◌<◌, ◌≤◌, if◌then◌else◌, Bool, List, [], length, take, slice_index_or}
 use Rattle.std.specs.Prelude.{is_some, is_none, ◌&&◌, nat_le, Option, Some, None, unwrap_or}
 use Rattle.std.specs.Option.{option_or}
 use Rattle.page_entry.specs.declared.numbers.FilePage.{FilePage}
 use Rattle.volume_codec.specs.Layout.{first_home, lengths_blocks, block_at}
-use Rattle.volume_codec.specs.Super.{SuperValue, geometry_of}
+use Rattle.volume_codec.specs.Super.{SuperValue, geometry_of, first_home_of, pages_of}
 use Rattle.volume_codec.specs.Text.{padded, zeros}
 use Rattle.journal.specs.WriteOuts.{WriteOutsValue, none_of}
 use Rattle.recovery.specs.Volume.{VolumeState}
-use Rattle.pager.specs.Blocks.{Blocks, bytes_in, newest_in}
+use Rattle.kept_blocks.specs.Blocks.{Blocks, bytes_in, newest_in}
 
 -- A pager and its device: the volume's table of files, and the length of each in bytes; the most pages of files that a
 -- commit takes; the blocks that were put since the last commit began; the write-outs that aren't done, and the blocks
@@ -43,6 +43,11 @@ volume_in s = record { table = s.table; lengths = s.lengths; device = s.device }
 -- the length of a file in bytes
 abbrev pub file_length : List ℕ → ℕ → ℕ
 file_length lengths file = slice_index_or lengths file 0
+
+-- the home block is of no page past its file's end, of files of these lengths
+abbrev pub IsBeforeEnd : SuperValue → List ℕ → ℕ → Type 0
+IsBeforeEnd table lengths home = (file : ℕ)
+    → first_home_of table file + pages_of (file_length lengths file) ≤ home → home < first_home_of table (file + 1) → ⊥
 
 -- a page up to its file's end, then zeros, of files of these lengths
 abbrev pub up_to_end : List ℕ → FilePage → List ℕ → List ℕ

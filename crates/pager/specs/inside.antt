@@ -2,3 +2,4 @@ pub mod Sound
 pub mod Opening
 pub mod Contents
 pub mod Resizing
+pub mod Fields

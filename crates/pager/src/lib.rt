@@ -1,7 +1,6 @@
 //! A page store over a volume: whole pages of files, committed together, found again after a crash.
 #![tactic(auto)]
 
-mod blocks;
 mod laws;
 mod opening;
 mod pager;
@@ -10,4 +9,4 @@ mod tending;
 
 pub use laws::{what_pagers_leave, what_runs_leave};
 pub use pager::Pager;
-pub use tending::Tender;
+pub use pages::{block_after, capacity_at, home_block, last_block, length_at, text_with};

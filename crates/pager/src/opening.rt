@@ -8,9 +8,9 @@ ghost use Rattle.pager.specs.Calls.{RefusesPagerOpening};
 ghost use Rattle.pager.specs.inside.Opening.{IsRoom};
 
 use crate::Pager;
-use crate::blocks::Blocks;
 use device::Device;
 use journal::WriteOuts;
+use kept_blocks::Blocks;
 use page_entry::Refusal;
 use recovery::Volume;
 use std::alloc::{AllocError, Allocator};

@@ -5,6 +5,7 @@ ghost use Rattle.std.specs.List.{AllByRecursion, sum_by};
 ghost use Rattle.std.specs.Vec.{vec_len, vec_capacity};
 ghost use Rattle.device.specs.Did.{Did};
 ghost use Rattle.volume_codec.specs.Layout.{first_home, max_frames, block_at, lengths_blocks};
+ghost use Rattle.volume_codec.specs.Lengths.{AreLengths};
 ghost use Rattle.volume_codec.specs.Super.{block_count, capacities_in};
 ghost use Rattle.journal.specs.Pages.{home_of};
 ghost use Rattle.journal.specs.Work.{has_done};
@@ -12,23 +13,22 @@ ghost use Rattle.journal.specs.WriteOuts.{is_busy, next_work, next_answer, outs_
 ghost use Rattle.recovery.specs.Counts.{Rises, IsAccounted};
 ghost use Rattle.recovery.specs.Reading.{IsOnlyRead};
 ghost use Rattle.journal.specs.LedTo.{MayBegin};
-ghost use Rattle.pager.specs.Blocks.{homes_in, with_home, newest_in, cut_to, bytes_in};
+ghost use Rattle.kept_blocks.specs.Blocks.{homes_in, with_home, newest_in, cut_to, bytes_in};
 ghost use Rattle.pager.specs.State.{newly_opened, kept_bytes, current_in, up_to_end, file_length, is_full, reserved, record_for};
 ghost use Rattle.pager.specs.Calls.{page_refusal, put_refusal, RefusesPut, after_put, commit_refusal, after_commit, read_calls, next_bytes, records_after, after_step};
 ghost use Rattle.pager.specs.Calls.{first_reason, reason_if, end_page, restaged, is_overfull, new_length_refusal, set_length_refusal, reads_last, RefusesSetLength, length_calls, last_page, resized_to, after_length};
 ghost use Rattle.recovery.specs.Volume.{IsWellFormed};
-ghost use Rattle.pager.specs.inside.Sound.{IsSound, IsBeforeEnd};
+ghost use Rattle.pager.specs.inside.Sound.{IsSound};
+ghost use Rattle.pager.specs.State.{IsBeforeEnd};
 ghost use Rattle.pager.specs.inside.Opening.{IsRoom};
 ghost use Rattle.pager.specs.inside.Resizing.{MayHaveLength};
 ghost use Rattle.page_entry.specs.declared.refusal.Refusal.TheVariants.{NoFrame};
 
-use crate::blocks::Blocks;
 use crate::opening::{Room, most_pages};
-use crate::pages::{
-    block_after, boxed_page, capacity_at, cut_off, home_block, last_block, length_at, text_with,
-};
+use crate::pages::{block_after, capacity_at, home_block, last_block, length_at, text_with};
 use device::Device;
 use journal::{Flushed, WriteOuts};
+use kept_blocks::{Blocks, boxed_page, cut_off, has_whole_block};
 use page_entry::{FileNumber, FilePage, PAGE, PageIndex, Refusal};
 use recovery::Volume;
 use recovery::reading::read;
@@ -65,27 +65,11 @@ impl<D: Device, A: Allocator + Copy> Model for Pager<D, A> {
 
     ghost Value = { PagerState D };
 
-    ghost view = { λ p. record {
-      table = p.table;
-      lengths = p.lengths.items;
-      most = p.most;
-      staged = p.staged;
-      write_outs = p.write_outs;
-      records = p.records.items;
-      marks = p.marks;
-      device = p.device;
-    } };
+    ghost use Rattle.pager.specs.inside.Fields.{state_of};
 
-    ghost invariant = { λ p. IsPager D.seen (record {
-      table = p.table;
-      lengths = p.lengths.items;
-      most = p.most;
-      staged = p.staged;
-      write_outs = p.write_outs;
-      records = p.records.items;
-      marks = p.marks;
-      device = p.device;
-    }) (vec_capacity p.records) (vec_capacity p.homes) };
+    ghost view = { state_of };
+
+    ghost invariant = { λ p. IsPager D.seen (state_of p) (vec_capacity p.records) (vec_capacity p.homes) };
 }
 
 // The bytes of a home block in the newest list that has it.
@@ -131,13 +115,6 @@ fn record_for<A: Allocator + Copy>(records: &[Blocks<A>], home: Option<u32>) -> 
         },
         None => &[0; 4096],
     }
-}
-
-// A block is whole. It does nothing at run time: the proof of `advance` needs its clause.
-fn has_whole_block(block: &[u8; 4096])
-    ensures { length block.now ≡ 4096 }
-{
-    let _bytes: &[u8] = block;
 }
 
 // The blocks of a write-out that is done go.
@@ -629,9 +606,10 @@ impl<D: Device, A: Allocator + Copy> Pager<D, A> {
         &self.table
     }
 
-    /// The length of each file in bytes, in the table's order.
+    /// The length of each file in bytes, in the table's order. None is above its file's capacity.
     pub fn lengths(&self) -> &[u64]
-        ensures { result.now ≡ self.now.lengths }
+        ensures value { result.now ≡ self.now.lengths }
+        ensures each { AreLengths self.now.table self.now.lengths }
     {
         &self.lengths
     }

@@ -1,20 +1,18 @@
 // Pages of files: their home blocks, and how many of their bytes are the file's.
-ghost use Rattle.std.specs.Prelude.{◌≡◌, ◌+◌, ◌*◌, ◌<◌, ◌≤◌, length, take, replicate, slice_index_or, slice_set, IfOk};
+ghost use Rattle.std.specs.Prelude.{◌≡◌, ◌+◌, ◌*◌, ◌<◌, ◌≤◌, length, slice_index_or, slice_set};
 ghost use Rattle.volume_codec.specs.Layout.{first_home};
 ghost use Rattle.volume_codec.specs.Super.{block_count, capacities_in, first_home_of, pages_of};
 ghost use Rattle.volume_codec.specs.Lengths.{AreLengths, lengths_text};
-ghost use Rattle.volume_codec.specs.Text.{padded};
 ghost use Rattle.journal.specs.Pages.{home_of};
-ghost use Rattle.pager.specs.State.{file_length};
+ghost use Rattle.pager.specs.State.{file_length, IsBeforeEnd};
 ghost use Rattle.pager.specs.Calls.{end_page};
-ghost use Rattle.pager.specs.inside.Sound.{IsBeforeEnd};
 
 use page_entry::{FileNumber, FilePage, PAGE};
-use std::alloc::{AllocError, Allocator};
+use std::alloc::Allocator;
 use volume_codec::{Super, write_lengths};
 
 /// The length of a file in bytes, of these lengths.
-pub(crate) fn length_at(lengths: &[u64], file: FileNumber) -> u64
+pub fn length_at(lengths: &[u64], file: FileNumber) -> u64
     requires { file < length lengths.now }
     ensures { result ≡ file_length lengths.now file }
 {
@@ -22,11 +20,7 @@ pub(crate) fn length_at(lengths: &[u64], file: FileNumber) -> u64
 }
 
 /// The home block of a page that begins before its file's end.
-pub(crate) fn home_block<A: Allocator + Copy>(
-    table: &Super<A>,
-    lengths: &[u64],
-    page: FilePage,
-) -> u32
+pub fn home_block<A: Allocator + Copy>(table: &Super<A>, lengths: &[u64], page: FilePage) -> u32
     requires lengths { AreLengths table.now lengths.now }
     requires file { page.file < length lengths.now }
     requires page { 4096 * page.page < file_length lengths.now page.file }
@@ -40,7 +34,7 @@ pub(crate) fn home_block<A: Allocator + Copy>(
 }
 
 /// The capacity of a file in bytes.
-pub(crate) fn capacity_at<A: Allocator + Copy>(table: &Super<A>, file: FileNumber) -> u64
+pub fn capacity_at<A: Allocator + Copy>(table: &Super<A>, file: FileNumber) -> u64
     requires { file < length table.now.files }
     ensures { result ≡ slice_index_or (capacities_in table.now) file 0 }
 {
@@ -48,7 +42,8 @@ pub(crate) fn capacity_at<A: Allocator + Copy>(table: &Super<A>, file: FileNumbe
 }
 
 /// The home block of the page in which a file of this length ends, or that begins at its end; it is below its capacity.
-pub(crate) fn last_block<A: Allocator + Copy>(table: &Super<A>, file: FileNumber, end: u64) -> u32
+#[tactic(auto, using(crate::proofs::Capacities::last_within))]
+pub fn last_block<A: Allocator + Copy>(table: &Super<A>, file: FileNumber, end: u64) -> u32
     requires file { file < length table.now.files }
     requires fits { end < slice_index_or (capacities_in table.now) file 0 }
     ensures home { result ≡ home_of table.now (end_page file end) }
@@ -59,7 +54,7 @@ pub(crate) fn last_block<A: Allocator + Copy>(table: &Super<A>, file: FileNumber
 }
 
 /// The home block after those of a file of this length.
-pub(crate) fn block_after<A: Allocator + Copy>(table: &Super<A>, file: FileNumber, end: u64) -> u32
+pub fn block_after<A: Allocator + Copy>(table: &Super<A>, file: FileNumber, end: u64) -> u32
     requires file { file < length table.now.files }
     requires fits { end ≤ slice_index_or (capacities_in table.now) file 0 }
     ensures home { result ≡ first_home_of table.now file + pages_of end }
@@ -70,7 +65,7 @@ pub(crate) fn block_after<A: Allocator + Copy>(table: &Super<A>, file: FileNumbe
 }
 
 /// The block of these lengths where a file has another one; the lengths stay.
-pub(crate) fn text_with<A: Allocator + Copy>(
+pub fn text_with<A: Allocator + Copy>(
     lengths: &mut Vec<u64, A>,
     file: FileNumber,
     to: u64,
@@ -85,35 +80,4 @@ pub(crate) fn text_with<A: Allocator + Copy>(
     let text = write_lengths(lengths);
     lengths[file as usize] = from;
     text
-}
-
-// Makes every byte zero.
-fn clear(bytes: &mut [u8])
-    ensures { bytes.new ≡ replicate (length bytes.old) 0 }
-{
-    bytes.fill(0);
-}
-
-/// Keeps a page's first bytes, and makes those after them zero.
-#[tactic(auto, unfolding(volume_codec::specs::Text::zeros))]
-pub(crate) fn cut_off(page: &mut [u8; 4096], left: u64)
-    ensures { page.new ≡ padded 4096 (take left page.old) }
-{
-    if left < PAGE {
-        clear(&mut page[left as usize..]);
-    }
-}
-
-/// A copy of a page on the heap: its first bytes, and zeros after them.
-pub(crate) fn boxed_page<A: Allocator + Copy>(
-    alloc: A,
-    page: &[u8; 4096],
-    left: u64,
-) -> Result<Box<[u8; 4096], A>, AllocError>
-    ensures { IfOk result (λ block. block.value ≡ padded 4096 (take left page.now)) }
-{
-    let mut block = Box::new(alloc, [0; 4096])?;
-    block.copy_from_slice(page);
-    cut_off(&mut block, left);
-    Ok(block)
 }

@@ -6,7 +6,7 @@ use Rattle.volume_codec.specs.Lengths.{HasLengths, lengths_in}
 use Rattle.volume_codec.specs.Super.{SuperValue, block_count}
 use Rattle.history.specs.History.{Event, memory_of, after, lengths_of, lengths_after}
 use Rattle.history.specs.inside.Contents.{HasParts}
-use Rattle.pager.specs.Blocks.{Blocks, bytes_in}
+use Rattle.kept_blocks.specs.Blocks.{Blocks, bytes_in}
 
 -- the home blocks as they are once these are written
 abbrev pub written_over : Blocks → (ℕ → List ℕ) → ℕ → List ℕ

@@ -5,13 +5,8 @@ use Rattle.volume_codec.specs.Layout.{first_home, journals_of, lengths_blocks, m
 use Rattle.volume_codec.specs.Super.{SuperValue, Fits, block_count, geometry_of, first_home_of, pages_of}
 use Rattle.volume_codec.specs.Lengths.{AreLengths}
 use Rattle.volume_codec.specs.Descriptor.{RiseWithin}
-use Rattle.pager.specs.Blocks.{Blocks, homes_in, bytes_in}
+use Rattle.kept_blocks.specs.Blocks.{Blocks, homes_in, bytes_in}
 use Rattle.pager.specs.State.{PagerState, file_length, reserved}
-
--- the home block is of no page past its file's end, of files of these lengths
-abbrev pub IsBeforeEnd : SuperValue → List ℕ → ℕ → Type 0
-IsBeforeEnd table lengths home = (file : ℕ)
-    → first_home_of table file + pages_of (file_length lengths file) ≤ home → home < first_home_of table (file + 1) → ⊥
 
 -- no page past its file's end is put
 abbrev pub EndsWithin : SuperValue → List ℕ → Blocks → Type 0

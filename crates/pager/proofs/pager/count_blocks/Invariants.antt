@@ -1,6 +1,6 @@
 use Rattle.std.proofs.Common.{◌≡◌, ◌-◌, ◌^◌, take, length, min}
 use Rattle.std.specs.List.{sum_by}
-use Rattle.pager.specs.Blocks.{Blocks}
+use Rattle.kept_blocks.specs.Blocks.{Blocks}
 use Rattle.pager.proofs.pager.count_blocks.Given as goal
 
 abbrev pub invariant-loop-blocks : goal.invariant-loop-blocks

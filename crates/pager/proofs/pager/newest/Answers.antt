@@ -2,8 +2,8 @@ use Rattle.std.proofs.Common.{◌≡◌, ℕ, List, take, ◌++◌, ◌∷◌, [
 use Rattle.std.proofs.Common.{◌<◌, ◌+◌, length}
 use Rattle.std.specs.Option.{option_or, option_copied}
 use Rattle.std.proofs.lemmas.List.{take_more}
-use Rattle.pager.specs.Blocks.{Blocks, bytes_in, newest_in}
-use Rattle.pager.proofs.Putting.{newest_push}
+use Rattle.kept_blocks.specs.Blocks.{Blocks, bytes_in, newest_in}
+use Rattle.kept_blocks.proofs.Public.{newest_push}
 use Rattle.pager.proofs.pager.newest.Goals.{in-Some, in-None}
 use Rattle.pager.proofs.pager.newest.Goals as goal
 

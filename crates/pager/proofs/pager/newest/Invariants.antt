@@ -1,6 +1,6 @@
 use Rattle.std.proofs.Common.{◌≡◌, take}
 use Rattle.std.specs.Option.{option_copied}
-use Rattle.pager.specs.Blocks.{newest_in}
+use Rattle.kept_blocks.specs.Blocks.{newest_in}
 use Rattle.pager.proofs.pager.newest.Given as goal
 
 abbrev pub invariant-loop-blocks : goal.invariant-loop-blocks

@@ -1,7 +1,7 @@
 use Rattle.std.proofs.Common.{◌+◌, ◌<◌, arith}
 use Rattle.volume_codec.specs.Super.{block_count}
 use Rattle.pager.proofs.Capacities.{home_within, before_end}
-use Rattle.pager.specs.inside.Sound.{IsBeforeEnd}
+use Rattle.pager.specs.State.{IsBeforeEnd}
 use Rattle.std.proofs.Common.{subst, sym}
 use Rattle.pager.proofs.pages.home_block.Goals.{After-first_home}
 use Rattle.pager.proofs.pages.home_block.Goals as goal

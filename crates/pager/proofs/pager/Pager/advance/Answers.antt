@@ -5,11 +5,12 @@ use Rattle.journal.specs.WriteOut.{WriteOut}
 use Rattle.journal.specs.Work.{has_done}
 use Rattle.journal.specs.WriteOuts.{WriteOutsValue, shares_syncs, next_answer, next_work, outs_after}
 use Rattle.device.specs.Did.{Did}
-use Rattle.pager.specs.Blocks.{Blocks}
+use Rattle.kept_blocks.specs.Blocks.{Blocks}
 use Rattle.pager.specs.State.{PagerState, record_for}
 use Rattle.pager.specs.Calls.{after_step, next_bytes}
 use Rattle.pager.specs.inside.Sound.{IsSound}
 use Rattle.pager.proofs.Stepping.{tied_after, fewer_after, all_after}
+use Rattle.pager.proofs.Inside.{state_of}
 use Rattle.pager.proofs.pager.Pager.advance.Goals as goal
 
 stepped : {D : Type 0} (seen : D → List ℕ) (s : PagerState D) (answer : Flushed) (device : D)
@@ -36,16 +37,7 @@ stepped seen s answer device sound same = record {
 
 pub invariant_of-self : goal.invariant_of-self
 invariant_of-self g c =
-    let s : PagerState g.row.D.Denot = record {
-      table = c.self.inside.table;
-      lengths = c.self.inside.lengths.items;
-      most = c.self.inside.most;
-      staged = c.self.inside.staged;
-      write_outs = c.self.inside.write_outs;
-      records = c.self.inside.records.items;
-      marks = c.self.inside.marks;
-      device = c.self.inside.device;
-    } in
+    let s : PagerState g.row.D.Denot = state_of c.self.inside in
     let p = c.self.invariant in
     let sound = stepped g.D.Device.seen s c.step-answer.result c.step-answer.new.device p.sound
     c.step-answer.ensures.did.same_length in

@@ -3,25 +3,17 @@ use Rattle.std.specs.Prelude.{is_ok, IsOk, ◌≢◌, ◌^◌, ◌-◌}
 use Rattle.journal.specs.LedTo.{MayBegin}
 use Rattle.std.proofs.lemmas.Bool.{cond-true}
 use Rattle.journal.specs.WriteOuts.{WriteOutsValue, begun, is_busy}
-use Rattle.pager.specs.Blocks.{Blocks, homes_in}
+use Rattle.kept_blocks.specs.Blocks.{Blocks, homes_in}
 use Rattle.pager.specs.State.{PagerState}
 use Rattle.pager.specs.Calls.{after_commit}
 use Rattle.pager.specs.inside.Sound.{IsSound}
 use Rattle.pager.proofs.Beginning.{with_batch, committed_some, room_for_batch, as_many_records, begun_sound, may_begin}
+use Rattle.pager.proofs.Inside.{state_of}
 use Rattle.pager.proofs.pager.Pager.begin.Goals as goal
 
 module _ (g : _) (c : goal.Joined-push g) where
   abbrev state : PagerState g.row.D.Denot
-  state = record {
-    table = c.self.inside.table;
-    lengths = c.self.inside.lengths.items;
-    most = c.self.inside.most;
-    staged = c.self.inside.staged;
-    write_outs = c.self.inside.write_outs;
-    records = c.self.inside.records.items;
-    marks = c.self.inside.marks;
-    device = c.self.inside.device;
-  }
+  state = state_of c.self.inside
 
   free : is_busy state.write_outs ≡ false
   free = ap (λ (s : PagerState g.row.D.Denot). is_busy s.write_outs) c.self.view_is ∙ c.requires.free

@@ -6,7 +6,7 @@ use Rattle.std.specs.Option.{option_copied}
 use Rattle.volume_codec.specs.Layout.{lengths_blocks}
 use Rattle.volume_codec.specs.Super.{pages_of}
 use Rattle.journal.specs.Pages.{home_of}
-use Rattle.pager.specs.Blocks.{bytes_in}
+use Rattle.kept_blocks.specs.Blocks.{bytes_in}
 use Rattle.pager.specs.State.{PagerState, file_length, reserved}
 use Rattle.pager.specs.Calls.{is_overfull, restaged, end_page}
 use Rattle.pager.specs.inside.Resizing.{MayHaveLength}

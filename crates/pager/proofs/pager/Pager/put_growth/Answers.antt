@@ -1,65 +1,46 @@
 use Rattle.std.proofs.Common.{◌≡◌, ◌%◌, ◌<◌, false, [], ap, sym, ◌∙◌, subst, arith, set}
 use Rattle.volume_codec.specs.Layout.{first_home}
 use Rattle.journal.specs.Pages.{home_of}
-use Rattle.pager.specs.Blocks.{cut_to}
+use Rattle.kept_blocks.specs.Blocks.{cut_to}
 use Rattle.pager.specs.State.{PagerState, file_length}
 use Rattle.pager.specs.Calls.{is_overfull, restaged, resized_to, end_page}
 use Rattle.pager.specs.inside.Sound.{IsSound}
-use Rattle.pager.specs.inside.Resizing.{MayHaveLength}
-use Rattle.pager.proofs.Inside.{state_of}
+use Rattle.pager.proofs.Inside.{state_of, IsAsked, asked_of}
 use Rattle.pager.proofs.Resizing.{none_added, resized_grown, sound_grown}
-use Rattle.pager.proofs.pager.Pager.put_growth.Goals.{After-text-1, After-self-1}
+use Rattle.pager.proofs.pager.Pager.put_growth.Goals.{After-self-1}
 use Rattle.pager.proofs.pager.Pager.put_growth.Goals as goal
-
-module _ (g : _) (c : After-text-1 g) where
-  abbrev s : PagerState g.row.D.Denot
-  s = state_of c.self.inside
-
-  back : (P : PagerState g.row.D.Denot → Type 0) → P c.args.self.now → P s
-  back P p = subst P (sym c.self.view_is) p
-
-  may : MayHaveLength s.table c.args.file c.args.to
-  may = back (λ p. MayHaveLength p.table c.args.file c.args.to) c.requires.may
-
-  from_is : c.args.from ≡ file_length s.lengths c.args.file
-  from_is = back (λ p. c.args.from ≡ file_length p.lengths c.args.file) c.requires.from
-
-  grows : file_length s.lengths c.args.file < c.args.to
-  grows = omega (arith, from_is, c.requires.more)
-
-  home_is : c.last_block-home.result ≡ home_of s.table (end_page c.args.file (file_length s.lengths c.args.file))
-  home_is = c.last_block-home.ensures.home ∙ ap (λ n. home_of s.table (end_page c.args.file n)) from_is
 
 pub grow-requires-clause-none : goal.grow-requires-clause-none
 grow-requires-clause-none g c q above below =
-    none_added g.D.Device.seen (s g c) c.self.invariant.sound c.args.file c.args.to (may g c) (grows g c) q
-    (omega (arith, above, home_is g c)) (omega (arith, below, c.block_after-high.ensures.home))
+    let s : PagerState g.row.D.Denot = state_of c.self.inside in
+    let asked = asked_of s c.args.self.now c.args.file c.args.from c.args.to c.self.view_is c.requires.may
+    c.requires.from in
+    let home_is : c.last_block-home.result
+    ≡ home_of s.table (end_page c.args.file (file_length s.lengths c.args.file)) =
+    c.last_block-home.ensures.home ∙ ap (λ n. home_of s.table (end_page c.args.file n)) asked.from_is in
+    none_added g.D.Device.seen s c.self.invariant.sound c.args.file c.args.to asked.may
+    (omega (arith, asked.from_is, c.requires.more)) q (omega (arith, above, home_is))
+    (omega (arith, below, c.block_after-high.ensures.home))
 
 module _ (g : _) (c : After-self-1 g) where
   abbrev t : PagerState g.row.D.Denot
   t = state_of c.self.inside
 
-  back_to : (P : PagerState g.row.D.Denot → Type 0) → P c.args.self.now → P t
-  back_to P p = subst P (sym c.self.view_is) p
+  asked : IsAsked t c.args.file c.args.from c.args.to
+  asked = asked_of t c.args.self.now c.args.file c.args.from c.args.to c.self.view_is c.requires.may c.requires.from
 
-  may_to : MayHaveLength t.table c.args.file c.args.to
-  may_to = back_to (λ p. MayHaveLength p.table c.args.file c.args.to) c.requires.may
-
-  from_to : c.args.from ≡ file_length t.lengths c.args.file
-  from_to = back_to (λ p. c.args.from ≡ file_length p.lengths c.args.file) c.requires.from
-
-  grows_to : file_length t.lengths c.args.file < c.args.to
-  grows_to = omega (arith, from_to, c.requires.more)
+  grows : file_length t.lengths c.args.file < c.args.to
+  grows = omega (arith, asked.from_is, c.requires.more)
 
   staged_is : c.grow.new.self ≡ restaged t.table t.lengths c.args.file c.args.to c.args.last.now t.staged
   staged_is = c.in-Ok.ensures.ok
-      ∙ resized_grown g.D.Device.seen t c.self.invariant.sound c.args.file c.args.to may_to grows_to
+      ∙ resized_grown g.D.Device.seen t c.self.invariant.sound c.args.file c.args.to asked.may grows
       c.last_block-home.result c.block_after-high.result c.first_home-first.result c.cut_off.new.page
       c.text_with-text.result c.args.last.now
-      (c.last_block-home.ensures.home ∙ ap (λ n. home_of t.table (end_page c.args.file n)) from_to)
+      (c.last_block-home.ensures.home ∙ ap (λ n. home_of t.table (end_page c.args.file n)) asked.from_is)
       c.block_after-high.ensures.home
       (c.first_home-first.ensures.value ∙ ap (λ v. first_home v.layout v.slots) c.geometry.ensures.value)
-      (c.cut_off.ensures ∙ ap (λ n. cut_to (n % 4096) c.args.last.now) from_to)
+      (c.cut_off.ensures ∙ ap (λ n. cut_to (n % 4096) c.args.last.now) asked.from_is)
       c.text_with-text.ensures.text
 
   new_is : record t {
@@ -74,9 +55,9 @@ module _ (g : _) (c : After-self-1 g) where
 pub invariant_of-self : goal.invariant_of-self
 invariant_of-self g c = record {
   sound = subst (IsSound g.D.Device.seen) (sym (new_is g c))
-      (sound_grown g.D.Device.seen (t g c) c.self.invariant.sound c.args.file c.args.to (may_to g c) c.args.last.now
-      (grows_to g c) (back_to g c (λ p. is_overfull p.table p.most
-      (restaged p.table p.lengths c.args.file c.args.to [] p.staged) ≡ false) c.requires.room));
+      (sound_grown g.D.Device.seen (t g c) c.self.invariant.sound c.args.file c.args.to (asked g c).may c.args.last.now
+      (grows g c) (subst (λ (p : PagerState g.row.D.Denot). is_overfull p.table p.most
+      (restaged p.table p.lengths c.args.file c.args.to [] p.staged) ≡ false) (sym c.self.view_is) c.requires.room));
   lists = c.self.invariant.lists;
   homes = c.self.invariant.homes;
 }

@@ -3,14 +3,15 @@ use Rattle.std.specs.Prelude.{OnOk, OnErr}
 use Rattle.std.specs.Vec.{vec_capacity}
 use Rattle.volume_codec.specs.Layout.{first_home}
 use Rattle.volume_codec.specs.Super.{block_count}
-use Rattle.pager.specs.Blocks.{Blocks, with_home, bytes_in}
-use Rattle.pager.specs.State.{PagerState, is_full}
-use Rattle.pager.specs.inside.Sound.{IsPager, IsBeforeEnd}
-use Rattle.pager.proofs.Putting.{rising_put, bytes_put}
+use Rattle.kept_blocks.specs.Blocks.{Blocks, with_home, bytes_in}
+use Rattle.pager.specs.State.{PagerState, is_full, IsBeforeEnd}
+use Rattle.pager.specs.inside.Sound.{IsPager}
+use Rattle.kept_blocks.proofs.Public.{rising_put, bytes_put}
 use Rattle.std.proofs.Common.{◌∙◌, eqb, Some, arith}
 use Rattle.std.proofs.lemmas.Bool.{cond-false, ne_eqb}
 use Rattle.pager.proofs.Rooms.{few_put}
 use Rattle.pager.proofs.pager.Pager.stage.Goals.{in-Ok-put, in-Err}
+use Rattle.pager.proofs.Inside.{state_of}
 use Rattle.pager.proofs.pager.Pager.stage.Goals as goal
 
 put_cases : {X E : Type 0} (r : Result X E) (P Q : Type 0) → OnOk r P → OnErr r Q → P ⊎ Q
@@ -46,16 +47,7 @@ staged_more seen s list_room home_room home v p low within before room = record 
 
 pub invariant_of-self : goal.invariant_of-self
 invariant_of-self g c =
-    let s : PagerState g.row.D.Denot = record {
-      table = c.self.inside.table;
-      lengths = c.self.inside.lengths.items;
-      most = c.self.inside.most;
-      staged = c.self.inside.staged;
-      write_outs = c.self.inside.write_outs;
-      records = c.self.inside.records.items;
-      marks = c.self.inside.marks;
-      device = c.self.inside.device;
-    } in
+    let s : PagerState g.row.D.Denot = state_of c.self.inside in
     let with = λ (m : Blocks). IsPager g.D.Device.seen (record s { staged = m })
     (vec_capacity c.self.inside.records) (vec_capacity c.self.inside.homes) in
     let low = subst (λ (p : PagerState g.row.D.Denot). first_home p.table.layout p.table.slots ≤ c.args.home)
