@@ -1,5 +1,5 @@
 -- Until a commit is written out, its write-out is the newest one and isn't committed.
-use Rattle.std.proofs.Common.{◌≡◌, ◌≢◌, ◌⊎◌, inl, inr, ℕ, ◌+◌, ◌<◌, ◌≤◌, Bool, true, false, not, if◌then◌else◌}
+use Rattle.std.proofs.Common.{◌≡◌, ◌≢◌, ℕ, ◌+◌, ◌<◌, Bool, true, false, not, if◌then◌else◌}
 use Rattle.std.proofs.Common.{List, [], ◌∷◌, ◌++◌, length, drop, map, Option, Some, None, refl, sym, ◌∙◌}
 use Rattle.std.proofs.Common.{ap, subst, arith}
 use Rattle.std.specs.List.{list_any}
@@ -20,30 +20,15 @@ use Rattle.journal.specs.WriteOut.{WriteOut, advanced_of, begun_of, next_stage, 
 use Rattle.journal.specs.WriteOuts.{WriteOutsValue, is_at, gives_way, joined, moving, moved, outs_moving, next_answer}
 use Rattle.journal.specs.WriteOuts.{batches_after, shares_syncs, is_busy, next_batch}
 use Rattle.journal.proofs.Public.{IsAt, stage_is}
-use Rattle.pager.specs.Blocks.{Blocks, homes_in}
+use Rattle.kept_blocks.specs.Blocks.{Blocks, homes_in}
 use Rattle.pager.specs.State.{PagerState}
 use Rattle.pager.specs.Calls.{after_commit, commit_refusal, committed_with}
+use Rattle.pager.proofs.Public.{committed_steps}
 use Rattle.embedded.specs.Steps.{MakesStep, Succeeds}
 use Rattle.embedded.specs.inside.Awaiting.{EndsAwaiting}
+use Rattle.embedded.proofs.Left.{answered}
 
 -- ---- one write-out
-
--- a committed one has made the steps that commit it
-committed_steps : (w : WriteOut) → has_committed w ≡ true → length w.batch.homes + w.described + 3 ≤ w.steps
-committed_steps w committed = by (next_stage w) (stage_is (length w.batch.homes) w.described w.steps) committed
-  where
-    by : (o : Option Stage) → IsAt (length w.batch.homes) w.described w.steps o
-        → option_map_or is_committed o true ≡ true → length w.batch.homes + w.described + 3 ≤ w.steps
-    by None at e = omega (arith, at)
-    by (Some (Recording i)) at e = absurd (cc)
-    by (Some (Describing i)) at e = absurd (cc)
-    by (Some SyncingRecords) at e = absurd (cc)
-    by (Some Opening) at e = absurd (cc)
-    by (Some Committing) at e = absurd (cc)
-    by (Some (Applying i)) at e = omega (arith, at.0)
-    by (Some SyncingHomes) at e = omega (arith, at)
-    by (Some Closing) at e = omega (arith, at)
-    by (Some Finishing) at e = omega (arith, at)
 
 few_steps : (w : WriteOut) → w.steps < length w.batch.homes + w.described + 3 → has_committed w ≡ false
 few_steps w few = by (has_committed w) refl
@@ -211,15 +196,10 @@ pub step_awaiting : (mark : ℕ) (s new : PagerState Deferred) (answer : Flushed
 step_awaiting mark s new answer succeeds other step ends =
     subst (λ (t : PagerState Deferred). EndsAwaiting mark t.write_outs.batches) (sym step.value)
     (by answer succeeds (moved_awaiting mark shares s.write_outs.batches answer ends
-    (moving_answers s.write_outs answer step.whole (answered answer succeeds step.answered)) other))
+    (moving_answers s.write_outs answer step.whole (answered s answer succeeds step.answered)) other))
   where
     shares : Bool
     shares = shares_syncs s.write_outs.geometry.layout
-
-    answered : (a : Flushed) → Succeeds a → (a ≡ next_answer s.write_outs) ⊎ (a ≡ flushed.Device)
-        → next_answer s.write_outs ≡ a
-    answered a succeeds (inl is) = sym is
-    answered a succeeds (inr failed) = absurd (subst Succeeds failed succeeds)
 
     by : (a : Flushed) → Succeeds a → StillAwaiting mark shares s.write_outs.batches a
         → EndsAwaiting mark (batches_after shares a s.write_outs.batches)

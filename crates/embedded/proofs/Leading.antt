@@ -10,7 +10,7 @@ use Rattle.recovery.specs.Reading.{IsOnlyRead}
 use Rattle.page_entry.specs.declared.numbers.FilePage.{FilePage}
 use Rattle.page_entry.specs.declared.refusal.Refusal.{Refusal}
 use Rattle.history.specs.History.{Event, SetLength, Mark, Acknowledge}
-use Rattle.pager.specs.Blocks.{Blocks}
+use Rattle.kept_blocks.specs.Blocks.{Blocks}
 use Rattle.pager.specs.State.{PagerState, file_length}
 use Rattle.pager.specs.Calls.{after_commit, after_put, committed_with, set_length_refusal, after_length, resized_to}
 use Rattle.pager.specs.Calls.{last_page}

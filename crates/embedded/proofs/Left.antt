@@ -90,20 +90,21 @@ answered_moving outs answer is some = go outs.broken is
     go true is none = some (sym is)
     go false is none = some (sym is ∙ none)
 
+-- a step that succeeds answers as it was to
+pub answered : (s : PagerState Deferred) (a : Flushed) → Succeeds a
+    → (a ≡ next_answer s.write_outs) ⊎ (a ≡ flushed.Device) → next_answer s.write_outs ≡ a
+answered s a succeeds (inl is) = sym is
+answered s a succeeds (inr failed) = absurd (subst Succeeds failed succeeds)
+
 -- a step that succeeds leaves fewer
 pub step_fewer : (s new : PagerState Deferred) (answer : Flushed) → Succeeds answer → MakesStep s answer new
     → left_of new < left_of s
 step_fewer s new answer succeeds step =
     let now : left_of new ≡ all_left (batches_after shares answer s.write_outs.batches) = ap left_of step.value in
-    omega (arith, now, after answer succeeds (answered answer succeeds step.answered))
+    omega (arith, now, after answer succeeds (answered s answer succeeds step.answered))
   where
     shares : Bool
     shares = shares_syncs s.write_outs.geometry.layout
-
-    answered : (a : Flushed) → Succeeds a → (a ≡ next_answer s.write_outs) ⊎ (a ≡ flushed.Device)
-        → next_answer s.write_outs ≡ a
-    answered a succeeds (inl is) = sym is
-    answered a succeeds (inr failed) = absurd (subst Succeeds failed succeeds)
 
     fewer : (a : Flushed) → a ≢ flushed.Broken → next_answer s.write_outs ≡ a
         → all_left (moved shares s.write_outs.batches) < left_of s

@@ -5,3 +5,4 @@ pub mod Leading
 pub mod Serving
 pub mod Tended
 pub mod Hosted
+pub mod Lacking

@@ -7,7 +7,7 @@ use Rattle.std.proofs.lemmas.Bool.Decides.{nat_tests}
 use Rattle.deferred_disk.specs.Deferred.{Deferred}
 use Rattle.page_entry.specs.declared.refusal.Refusal.TheVariants as refusals
 use Rattle.journal.specs.declared.flushed.Flushed.TheVariants as flushed
-use Rattle.pager.specs.Blocks.{Blocks}
+use Rattle.kept_blocks.specs.Blocks.{Blocks}
 use Rattle.pager.specs.State.{PagerState}
 use Rattle.pager.specs.Calls.{after_commit, commit_refusal}
 use Rattle.embedded.specs.Steps.{MakesSteps, NoStep, ThenStep, AnyStep, WhileBusy, IsWrittenOut}

@@ -13,7 +13,7 @@ use Rattle.embedded.specs.Recorded.{deferred_disk}
 use Rattle.embedded.specs.Supplying.{with_supplied, is_of_disk}
 use Rattle.embedded.specs.declared.tending.Supplying.{Supplying}
 use Rattle.embedded.specs.declared.tending.Forgetting.{Forgetting}
-use Rattle.embedded.specs.inside.Tending.{HasSupplied, HasForgotten}
+use Rattle.embedded.specs.Tending.{HasSupplied, HasForgotten}
 use Rattle.embedded.proofs.Serving.{serves_later}
 
 -- the same disk in memory, supplied well only if the other one was, of whose calls no fewer were made
@@ -73,7 +73,7 @@ tended_call before after is = subst (λ (d : Deferred). IsLike d before) (sym is
     (record { same = refl; well = λ well. well; more = omega arith })
 
 -- nothing was written to such a disk
-only_read : (after before : Deferred) → IsLike after before → IsSuppliedWell after
+pub only_read : (after before : Deferred) → IsLike after before → IsSuppliedWell after
     → IsOnlyRead deferred_disk before after
 only_read after before like well =
     let same = like.same in

@@ -2,6 +2,8 @@ pub mod Recorded
 pub mod Embedded
 pub mod Steps
 pub mod Reading
+pub mod Opening
 pub mod Supplying
+pub mod Tending
 pub mod Hosting
 pub mod inside

@@ -1,4 +1,4 @@
--- Why a page wasn't read, and which block was lacking.
+-- Why a request wasn't carried out, and which block was lacking.
 use Rattle.std.specs.Prelude.{ℕ, ◌≡◌, ◌^◌, ◌≤◌, Option, Some}
 use Rattle.page_entry.specs.declared.refusal.Refusal.{Refusal}
 use Rattle.page_entry.specs.declared.refusal.Refusal.TheVariants as refusals

@@ -9,7 +9,7 @@ use Rattle.journal.specs.Work.{has_done}
 use Rattle.journal.specs.declared.flushed.Flushed.{Flushed}
 use Rattle.journal.specs.declared.flushed.Flushed.TheVariants.{Committed, Device, Broken}
 use Rattle.journal.specs.WriteOuts.{is_busy, next_work, next_answer}
-use Rattle.pager.specs.Blocks.{Blocks}
+use Rattle.kept_blocks.specs.Blocks.{Blocks}
 use Rattle.pager.specs.State.{PagerState}
 use Rattle.pager.specs.Calls.{after_commit, after_step, commit_refusal, next_bytes}
 use Rattle.pager.specs.Histories.{IsBegunCommit}

@@ -1,3 +1,2 @@
 -- What ties private code to the definitions that public clauses name.
-pub mod Tending
 pub mod Awaiting

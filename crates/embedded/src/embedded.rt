@@ -1,13 +1,13 @@
 // A volume whose device calls a host makes.
-ghost use Rattle.std.specs.Prelude.{◌≡◌, min, Ok, None, IfOk, IfErr};
-ghost use Rattle.volume_codec.specs.Layout.{max_frames};
-ghost use Rattle.recovery.specs.Opening.{Opens};
-ghost use Rattle.recovery.specs.Volume.{IsWellFormed};
-ghost use Rattle.pager.specs.State.{newly_opened, volume_in};
+ghost use Rattle.std.specs.Prelude.{◌≡◌, IfOk, IfErr};
 ghost use Rattle.pager.specs.Calls.{RefusesPagerOpening};
 ghost use Rattle.embedded.specs.Recorded.{deferred_disk};
-ghost use Rattle.embedded.specs.Embedded.{just_opened, ServesWell};
+ghost use Rattle.embedded.specs.Embedded.{ServesWell};
+ghost use Rattle.embedded.specs.Opening.{OpensVolume, KeepsForWanted};
+ghost use Rattle.embedded.specs.Reading.{pager_refusal};
 
+use crate::reading::Unread;
+use crate::trial::{Trial, after_lack, lacked_block};
 use deferred_disk::DeferredDisk;
 use page_entry::Refusal;
 use pager::Pager;
@@ -49,21 +49,23 @@ impl<A: Allocator + Copy> Model for Embedded<A> {
 /// Opens the volume of a disk, as `Pager::open` does: a commit takes so many pages of files at most, or as many as its
 /// journals have room for. A refusal hands the disk back.
 ///
-/// `Device` where a block was lacking, which the disk names (`wanted`): the host supplies it, and opens again. Of a
-/// closed journal the gate alone is wanted. `NotAVolume`, `Damaged` as `recovery::open`, and `OutOfMemory` where memory
-/// was refused.
+/// `Wanted` where a block was lacking: the host supplies it, and opens again. Of a closed journal the gate alone is
+/// wanted. The opening is tried before it is made, so no call is recorded where a block is wanted. `NotAVolume`,
+/// `Damaged` as `recovery::open`, and `OutOfMemory` where memory was refused.
 pub fn open<A: Allocator + Copy>(
     alloc: A,
     disk: DeferredDisk<A>,
     most: u32,
-) -> Result<Embedded<A>, (Refusal, DeferredDisk<A>)>
-    ensures opens { IfOk result (λ embedded. Opens deferred_disk disk
-        (Ok embedded.pager.table) embedded.pager.device) }
-    ensures just_opened { IfOk result (λ embedded. embedded ≡ just_opened (newly_opened (volume_in embedded.pager)
-        (min most (max_frames embedded.pager.table.layout embedded.pager.table.slots)))) }
-    ensures well_formed { IfOk result (λ embedded. IsWellFormed deferred_disk (volume_in embedded.pager)) }
-    ensures refused { IfErr result (λ e. RefusesPagerOpening deferred_disk disk e.0 e.1) }
+) -> Result<Embedded<A>, (Unread, DeferredDisk<A>)>
+    ensures opens { IfOk result (OpensVolume disk most) }
+    ensures refused { IfErr result (λ e. RefusesPagerOpening deferred_disk disk (pager_refusal e.0) e.1) }
+    ensures wanted { IfErr result (λ e. KeepsForWanted disk e.0 e.1) }
 {
+    match lacked_block(&disk, recovery::open(alloc, Trial::new(&disk))) {
+        Ok(Some(block)) => return Err((Unread::Wanted(block), after_lack(disk, block))),
+        Ok(None) => {}
+        Err(_) => return Err((Unread::Refused(Refusal::OutOfMemory), disk)),
+    }
     match Pager::open(alloc, disk, most) {
         Ok(pager) => {
             opened_as_recovered(pager.device());
@@ -74,7 +76,7 @@ pub fn open<A: Allocator + Copy>(
                 acknowledged: None,
             })
         }
-        Err(refused) => Err(refused),
+        Err((refusal, disk)) => Err((Unread::Refused(refusal), disk)),
     }
 }
 

@@ -8,7 +8,11 @@ mod reading;
 mod requesting;
 mod steps;
 mod tending;
+mod trial;
 
 pub use embedded::{Embedded, open};
 pub use laws::crashed_on_the_host;
-pub use reading::Unread;
+pub use reading::{Unread, block_number};
+pub use requesting::{confirmed, made_calls};
+pub use tending::{Carrying, Forgetting, Supplying};
+pub use trial::{Trial, after_lack, lacked_block};

@@ -1,21 +1,21 @@
-// Why a page wasn't read.
+// Why a request wasn't carried out.
 ghost use Rattle.std.specs.Prelude.{◌≡◌, ℕ, ◌^◌, ◌≤◌, IfSome, IfNone, Option, Some};
 ghost use Rattle.embedded.specs.Reading.{pager_refusal, ReportsWanted};
 
 use page_entry::Refusal;
 
-/// Why a page wasn't read.
+/// Why a page wasn't read, a length wasn't set, or a volume wasn't opened.
 #[derive(Clone, Copy, PartialEq, Eq, Debug)]
 pub enum Unread {
-    /// A block is wanted. Once the host has supplied it, the page can be asked for again.
+    /// A block is wanted. Once the host has supplied it, the request can be made again.
     Wanted(u32),
-    /// The pager refused it.
+    /// The pager, or its opening, refused it.
     Refused(Refusal),
 }
 
 impl Unread {
-    // Why it was refused by a pager whose disk lacked this block in its last call, or none.
-    pub(crate) fn of(why: Refusal, wanted: Option<u32>) -> Unread
+    /// Why it was refused by a pager whose disk lacked this block in its last call, or none.
+    pub fn of(why: Refusal, wanted: Option<u32>) -> Unread
         ensures refusal { pager_refusal result ≡ why }
         ensures wanted { (disk : Option ℕ) → IfSome wanted (λ block. disk ≡ Some block)
             → IfNone wanted ((block : ℕ) → disk ≡ Some block → 2 ^ 32 ≤ block) → ReportsWanted disk result }
@@ -27,8 +27,8 @@ impl Unread {
     }
 }
 
-// The number of a block, where it has one of 32 bits.
-pub(crate) fn block_number(wanted: Option<usize>) -> Option<u32>
+/// The number of a block, where it has one of 32 bits.
+pub fn block_number(wanted: Option<usize>) -> Option<u32>
     ensures some { IfSome result (λ block. wanted ≡ Some block) }
     ensures none { IfNone result ((block : ℕ) → wanted ≡ Some block → 2 ^ 32 ≤ block) }
 {

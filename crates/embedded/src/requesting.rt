@@ -119,16 +119,16 @@ impl<A: Allocator + Copy> Embedded<A> {
     }
 }
 
-// How many device calls the host has made.
-pub(crate) fn made_calls<A: Allocator + Copy>(disk: &DeferredDisk<A>) -> u64
+/// How many device calls the host has made.
+pub fn made_calls<A: Allocator + Copy>(disk: &DeferredDisk<A>) -> u64
     ensures { result ≡ made_calls disk.now }
 {
     disk.recorded().saturating_sub(disk.waiting() as u64)
 }
 
 // Rule: deferred acknowledgement
-// The mark that is acknowledged once the host has made so many calls.
-pub(crate) fn confirmed(
+/// The mark that is acknowledged once the host has made so many calls.
+pub fn confirmed(
     made: u64,
     due: u64,
     committed: Option<u32>,

@@ -4,26 +4,26 @@ ghost use Rattle.embedded.specs.Supplying.{is_of_disk};
 
 use deferred_disk::DeferredDisk;
 use device::Device;
-use pager::Tender;
+use kept_blocks::Tender;
 use std::alloc::Allocator;
 
 // Whether a block lies before the end of the disk.
-fn is_of_disk<A: Allocator + Copy>(disk: &DeferredDisk<A>, block: u32) -> bool
+pub(crate) fn is_of_disk<A: Allocator + Copy>(disk: &DeferredDisk<A>, block: u32) -> bool
     ensures { result ≡ is_of_disk disk.now block }
 {
     4096 * u64::from(block) + 4096 <= disk.len()
 }
 
-// A block that the host has read. `refused` says whether memory was refused for it.
+/// A block that the host has read. `refused` says whether memory was refused for it.
 #[derive(Drop)]
-pub(crate) struct Supplying<'a> {
+pub struct Supplying<'a> {
     pub block: u32,
     pub bytes: &'a [u8; 4096],
     pub refused: bool,
 }
 
 impl<'a, A: Allocator + Copy> Tender<DeferredDisk<A>> for Supplying<'a> {
-    ghost use Rattle.embedded.specs.inside.Tending.{HasSupplied};
+    ghost use Rattle.embedded.specs.Tending.{HasSupplied};
 
     ghost tends = { HasSupplied };
 
@@ -33,15 +33,15 @@ impl<'a, A: Allocator + Copy> Tender<DeferredDisk<A>> for Supplying<'a> {
     }
 }
 
-// A block that the host needn't keep. `done` says whether it isn't known any more.
+/// A block that the host needn't keep. `done` says whether it isn't known any more.
 #[derive(Drop)]
-pub(crate) struct Forgetting {
+pub struct Forgetting {
     pub block: u32,
     pub done: bool,
 }
 
 impl<A: Allocator + Copy> Tender<DeferredDisk<A>> for Forgetting {
-    ghost use Rattle.embedded.specs.inside.Tending.{HasForgotten};
+    ghost use Rattle.embedded.specs.Tending.{HasForgotten};
 
     ghost tends = { HasForgotten };
 
@@ -50,12 +50,12 @@ impl<A: Allocator + Copy> Tender<DeferredDisk<A>> for Forgetting {
     }
 }
 
-// The host has made the oldest call.
+/// The host has made the oldest call.
 #[derive(Drop)]
-pub(crate) struct Carrying;
+pub struct Carrying;
 
 impl<A: Allocator + Copy> Tender<DeferredDisk<A>> for Carrying {
-    ghost use Rattle.embedded.specs.inside.Tending.{HasCarried};
+    ghost use Rattle.embedded.specs.Tending.{HasCarried};
 
     ghost tends = { HasCarried };
 
