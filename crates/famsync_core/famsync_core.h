@@ -63,7 +63,8 @@
  *
  * The program defines the three functions by which the core requests memory: rattle_alloc and the next two, below.
  *
- * A call of type int64_t returns a number from 0 on, or one of the negative codes.
+ * A call of type int64_t returns a number from 0 on, or one of the negative codes. The comment of each call lists the
+ * codes that it may return, without FAMSYNC_CORE_.
  */
 #ifndef FAMSYNC_CORE_H
 #define FAMSYNC_CORE_H
@@ -97,7 +98,7 @@ enum famsync_core_code {
     /* why a request is refused; the same numbers as in famsync.h */
     FAMSYNC_CORE_NOFRAME = -27, /* more pages were written, or added to a file, than one commit can have */
     FAMSYNC_CORE_DEVICE = -28,  /* a call couldn't be recorded, because memory was refused */
-    FAMSYNC_CORE_BROKEN = -29,  /* that happened earlier: close the session, and open the volume again */
+    FAMSYNC_CORE_BROKEN = -29,  /* DEVICE was returned earlier: close the session, and open the volume again */
     FAMSYNC_CORE_EINVAL = -30,  /* the page begins past the file's end, or the length is more than the capacity */
     FAMSYNC_CORE_NOFILE = -34,  /* the volume has no such file */
     FAMSYNC_CORE_BUSY = -35,    /* the session has made 2^32 - 1 commits */
@@ -107,23 +108,24 @@ enum famsync_core_code {
 /* The kinds of recorded calls. */
 enum famsync_core_kind { FAMSYNC_CORE_CALL_WRITE = 1, FAMSYNC_CORE_CALL_SYNC = 2 };
 
-/* Begins with a volume of `blocks` blocks: the length of its file divided by 4,096, without a remainder. OK, ARGUMENT
+/* Begins with a volume of `blocks` blocks: the length of its file divided by 4,096, rounded down. OK, ARGUMENT
    (0 blocks), NOMEMORY. If the answer isn't OK, `*at` is unchanged. */
 int32_t famsync_core_begin(uint32_t blocks, uint8_t **at);
 
 /* Supplies a block that the host has read. `bytes` are its 4,096 bytes in the volume's file, after the calls that were
-   carried out. A known block stays unchanged. OK, ARGUMENT (no such block, or another count), NOMEMORY. At any time. */
+   carried out. A known block stays unchanged. OK, ARGUMENT (no such block, or `count` isn't 4,096), NOMEMORY. You may
+   call it at any time. */
 int32_t famsync_core_supply(famsync_core core, uint32_t block, const uint8_t *bytes, size_t count, uint8_t **at);
 
-/* Whether a block is known: 1 or 0. At any time. */
+/* Whether a block is known: 1 or 0. You may call it at any time. */
 int32_t famsync_core_is_known(famsync_core core, uint32_t block, uint8_t **at);
 
-/* Opens the volume. A commit has at most `pages` pages. If `pages` is 0, or more than the volume's journals allow, it
-   is as many as they allow. If a crash left a commit to be carried out, opening records calls. OK, WANTED, NOTAVOLUME,
-   DAMAGED, NOMEMORY (close the handle, and begin again), ORDER.
+/* Opens the volume. A commit has at most `pages` pages. If `pages` is 0, or more than the volume's journals allow, the
+   limit is what the journals allow. If a crash left a commit that isn't written home, opening records calls. OK,
+   WANTED, NOTAVOLUME, DAMAGED, NOMEMORY (close the handle, and begin again), ORDER.
 
-   WANTED: a block is missing, and nothing is open. Opening wants block 0, the gates, the lengths, and the blocks of
-   open journals, one after the other. */
+   WANTED: a block is missing, nothing is open, and no call was recorded. Opening wants block 0, the gates, the lengths,
+   and the blocks of open journals, one after the other. */
 int32_t famsync_core_open(famsync_core core, uint32_t pages, uint32_t *wanted, uint8_t **at);
 
 /* The number of files of the volume, which are numbered from 0. The most pages of one commit. The number of blocks
@@ -144,17 +146,17 @@ int32_t famsync_core_file(famsync_core core, uint32_t file, uint64_t *length, ui
 int64_t famsync_core_file_name(famsync_core core, uint32_t file, uint8_t *name, size_t count, uint8_t **at);
 
 /* Reads a page of a file, numbered from 0: 4,096 bytes, with zeros past the file's end. OK, WANTED (supply the block,
-   and call again), ARGUMENT (another count, or a page of 2^32 or more), NOFILE, EINVAL, ORDER. */
+   and call again), ARGUMENT (`count` isn't 4,096, or a page of 2^32 or more), NOFILE, EINVAL, ORDER. */
 int32_t famsync_core_read(famsync_core core, uint32_t file, uint64_t page, uint8_t *bytes, size_t count,
                           uint32_t *wanted, uint8_t **at);
 
 /* Writes a whole page of a file. The page waits in memory for the next commit. Bytes past the file's end become zeros.
-   OK, ARGUMENT (another count, or a page of 2^32 or more), NOFILE, EINVAL, BROKEN, NOFRAME, NOMEMORY, ORDER. A
+   OK, ARGUMENT (`count` isn't 4,096, or a page of 2^32 or more), NOFILE, EINVAL, BROKEN, NOFRAME, NOMEMORY, ORDER. A
    refusal changes nothing. */
 int32_t famsync_core_write(famsync_core core, uint32_t file, uint64_t page, const uint8_t *bytes, size_t count,
                            uint8_t **at);
 
-/* The number of pages that the next commit takes. Whether this page is among them: 1 or 0. ORDER. */
+/* The number of pages that the next commit takes, and whether this page is among them: 1 or 0. ORDER. */
 int64_t famsync_core_staged(famsync_core core, uint8_t **at);
 int32_t famsync_core_is_staged(famsync_core core, uint32_t file, uint64_t page, uint8_t **at);
 
@@ -163,9 +165,9 @@ int32_t famsync_core_is_staged(famsync_core core, uint32_t file, uint64_t page, 
    famsync_core_acknowledged returns this number. OK, BROKEN, DEVICE, BUSY, ORDER. */
 int32_t famsync_core_commit(famsync_core core, uint32_t *mark, uint8_t **at);
 
-/* The number of the last durable commit; 0 if there is none. A commit is durable when the calls that waited after it
-   was made are carried out. Later calls may wait. If a second commit is made before that, the first one is acknowledged
-   only with the second. ORDER. */
+/* The number of the last durable commit; 0 if there is none. A commit is durable when the host has carried out all
+   calls that waited when famsync_core_commit returned. Calls recorded later may still wait. If a second commit is made
+   before that, the first one is acknowledged only with the second. ORDER. */
 int64_t famsync_core_acknowledged(famsync_core core, uint8_t **at);
 
 /* Makes up to `most` further steps of earlier commits, which write their pages home, and records their calls. OK (steps
@@ -181,30 +183,31 @@ int64_t famsync_core_unwritten(famsync_core core, uint8_t **at);
    changes nothing. */
 int32_t famsync_core_set_length(famsync_core core, uint32_t file, uint64_t length, uint32_t *wanted, uint8_t **at);
 
-/* The number of recorded calls that wait for the host. At any time. */
+/* The number of recorded calls that wait for the host. You may call it at any time. */
 int64_t famsync_core_waiting(famsync_core core, uint8_t **at);
 
-/* A recorded call. Index 0 is the oldest waiting call. The host makes the calls in the order of their index. `*kind`
-   is FAMSYNC_CORE_CALL_WRITE for a write of the `*length` bytes at `*bytes` to `*offset` of the volume's file, or
-   FAMSYNC_CORE_CALL_SYNC for a sync of that file. OK, NONE (no call of this index waits). At any time. */
+/* A recorded call. Index 0 is the oldest waiting call. The host makes the calls in the order of their index. `*kind` is
+   FAMSYNC_CORE_CALL_WRITE for a write of the `*length` bytes at `*bytes` to `*offset` of the volume's file, or
+   FAMSYNC_CORE_CALL_SYNC for a sync of that file. OK, NONE (no call of this index waits). You may call it at any
+   time. */
 int32_t famsync_core_call(famsync_core core, uint32_t index, uint32_t *kind, uint64_t *offset, const uint8_t **bytes,
                           uint64_t *length, uint8_t **at);
 
 /* Reports that the host has successfully made the `count` oldest calls, in order. OK, ARGUMENT (fewer calls wait;
-   nothing is changed). At any time. */
+   nothing is changed). You may call it at any time. */
 int32_t famsync_core_carried_out(famsync_core core, uint32_t count, uint8_t **at);
 
 /* Forgets a block. The next read of it wants it again. A block isn't forgotten if a waiting call writes to it. Once the
-   volume is open, blocks before the files aren't forgotten, either. OK, NONE (it isn't forgotten), ARGUMENT (no such
-   block). At any time. */
+   volume is open, blocks before the files aren't forgotten either. OK, NONE (it isn't forgotten), ARGUMENT (no such
+   block). You may call it at any time. */
 int32_t famsync_core_forget(famsync_core core, uint32_t block, uint8_t **at);
 
-/* Frees the session, and drops its waiting calls. At any time, once. */
+/* Frees the session, and drops its waiting calls. You may call it at any time, but only once. */
 void famsync_core_close(famsync_core core);
 
-/* The program defines these three functions over malloc, realloc and free of one allocator. `ok` tells whether there is
-   memory. If there is none, `p` points to a byte of the program, and is never null. An alignment is at most 16. For a
-   `size` of 0, request at least one byte. A block that can't be made larger stays unchanged. */
+/* The program defines these three functions over malloc, realloc and free of one allocator. `ok` is true if there is
+   memory. If there is none, `p` points to any byte of the program, because it may never be null. An alignment is at
+   most 16. For a `size` of 0, request at least one byte. A block that can't be made larger stays unchanged. */
 struct rattle_tried {
     bool ok;
     uint8_t *p;

@@ -107,8 +107,10 @@ static famsync_core begin(void)
     HAVE(famsync_core_begin(BLOCKS, &core.at) == FAMSYNC_CORE_OK);
     HAVE(famsync_core_head(core, &core.at) == FAMSYNC_CORE_ORDER);
     HAVE(famsync_core_files(core, &core.at) == FAMSYNC_CORE_ORDER);
-    while ((code = famsync_core_open(core, 0, &wanted, &core.at)) == FAMSYNC_CORE_WANTED)
+    while ((code = famsync_core_open(core, 0, &wanted, &core.at)) == FAMSYNC_CORE_WANTED) {
+        HAVE(famsync_core_waiting(core, &core.at) == 0);
         supply(&core, wanted);
+    }
     HAVE(code == FAMSYNC_CORE_OK);
     HAVE(famsync_core_open(core, 0, &wanted, &core.at) == FAMSYNC_CORE_ORDER);
     HAVE(famsync_core_head(core, &core.at) == HOME);

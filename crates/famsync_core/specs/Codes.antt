@@ -1,5 +1,5 @@
 -- The codes that the calls answer: the numbers of `enum famsync_core_code` in famsync_core.h.
-use Rattle.std.specs.Prelude.{ℕ, ◌^◌, ℤ, pos, neg_ℤ, nat_lt, if◌then◌else◌, Option, Some, None, Result, Ok, Err}
+use Rattle.std.specs.Prelude.{ℕ, ℤ, pos, neg_ℤ, Result, Ok, Err}
 use Rattle.page_entry.specs.declared.refusal.Refusal.{Refusal}
 use Rattle.page_entry.specs.declared.refusal.Refusal.TheVariants as refusals
 use Rattle.embedded.specs.declared.reading.Unread.{Unread}
@@ -64,28 +64,21 @@ abbrev pub outcome_code : Result (Unit {0}) Refusal → ℤ
 outcome_code (Ok done) = ok_code
 outcome_code (Err refusal) = refusal_code refusal
 
--- a page that was read, a block that is wanted for it, or why it was refused
+-- why a request wasn't carried out: a block is wanted for it, or it was refused
+abbrev pub unread_code : Unread → ℤ
+unread_code (unreads.Wanted block) = wanted_code
+unread_code (unreads.Refused refusal) = refusal_code refusal
+
+-- the block that is wanted then, which is else the one that was told before
+abbrev pub unread_block : Unread → ℕ → ℕ
+unread_block (unreads.Wanted block) before = block
+unread_block (unreads.Refused refusal) before = before
+
+-- a request that was carried out, or not, and the block that is wanted then
 abbrev pub reading_code : Result (Unit {0}) Unread → ℤ
 reading_code (Ok done) = ok_code
-reading_code (Err (unreads.Wanted block)) = wanted_code
-reading_code (Err (unreads.Refused refusal)) = refusal_code refusal
+reading_code (Err why) = unread_code why
 
--- the block that is wanted then, which is else the one that was told before
 abbrev pub wanted_block : Result (Unit {0}) Unread → ℕ → ℕ
-wanted_block (Err (unreads.Wanted block)) before = block
-wanted_block outcome before = before
-
--- the number of a block that was lacked, where it has one of 32 bits
-abbrev pub small_block : Option ℕ → Option ℕ
-small_block (Some block) = if nat_lt block (2 ^ 32) then Some block else None
-small_block None = None
-
--- why a volume isn't opened: a device call failed for want of a block, or another reason
-abbrev pub lack_code : Refusal → Option ℕ → ℤ
-lack_code refusals.Device (Some block) = wanted_code
-lack_code refusal lacked = refusal_code refusal
-
--- the block that is wanted then, which is else the one that was told before
-abbrev pub lacked_block : Refusal → Option ℕ → ℕ → ℕ
-lacked_block refusals.Device (Some block) before = block
-lacked_block refusal lacked before = before
+wanted_block (Ok done) before = before
+wanted_block (Err why) before = unread_block why before

@@ -1,32 +1,33 @@
 -- What each call does, and what it answers.
-use Rattle.std.specs.Prelude.{ℕ, ℤ, pos, ◌≡◌, ◌⊎◌, ◌-◌, ◌^◌, ◌==◌, ◌&&◌, min, nat_le, Bool, MatchBool}
-use Rattle.std.specs.Prelude.{List, length, Option, Some, None, unwrap_or, is_some, is_none}
-use Rattle.std.specs.Prelude.{Result, Ok, Err, if◌then◌else◌}
+use Rattle.std.specs.Prelude.{ℕ, ℤ, pos, ◌≡◌, ◌⊎◌, ◌-◌, ◌*◌, ◌^◌, ◌≤◌, ◌==◌, ◌&&◌, min, nat_le, nat_lt}
+use Rattle.std.specs.Prelude.{List, length, slice_get, slice_index, Option, Some, None, unwrap_or, is_some, is_none}
+use Rattle.std.specs.Prelude.{Bool, MatchBool, Result, Ok, Err, if◌then◌else◌}
 use Rattle.std.specs.Option.{option_map_or}
 use Rattle.std.specs.List.{sum_by}
 use Rattle.page_entry.specs.declared.numbers.FilePage.{FilePage}
 use Rattle.page_entry.specs.declared.refusal.Refusal.{Refusal}
 use Rattle.page_entry.specs.declared.refusal.Refusal.TheVariants as refusals
+use Rattle.device.specs.Device.{written}
 use Rattle.device.specs.Memory.{DiskChange, seen_of}
 use Rattle.device.specs.Memory.DiskChange.{write, sync}
 use Rattle.deferred_disk.specs.Deferred.{Deferred, as_memory, carried_moment, IsSuppliedWell}
-use Rattle.volume_codec.specs.Layout.{max_frames, lengths_blocks, first_file_home, journals_of}
+use Rattle.volume_codec.specs.Layout.{lengths_blocks, first_file_home, journals_of}
+use Rattle.volume_codec.specs.Super.{capacities_in, names_in, pages_of}
 use Rattle.journal.specs.Pages.{home_of}
 use Rattle.recovery.specs.Counts.{Rises}
-use Rattle.recovery.specs.Opening.{Opens}
 use Rattle.recovery.specs.Reading.{IsOnlyRead}
-use Rattle.recovery.specs.Volume.{IsWellFormed}
-use Rattle.pager.specs.Blocks.{bytes_in}
-use Rattle.pager.specs.State.{current_in, newly_opened, reserved, up_to_end, volume_in}
+use Rattle.kept_blocks.specs.Blocks.{bytes_in}
+use Rattle.pager.specs.State.{current_in, file_length, reserved, up_to_end}
 use Rattle.pager.specs.Calls.{RefusesPagerOpening, RefusesPut, put_refusal, after_put, page_refusal, read_calls}
 use Rattle.pager.specs.Calls.{RefusesSetLength, set_length_refusal, after_length, last_page, length_calls}
 use Rattle.embedded.specs.declared.reading.Unread.{Unread}
-use Rattle.embedded.specs.Embedded.{EmbeddedState, just_opened, over_device, with_pager, with_mark}
+use Rattle.embedded.specs.Embedded.{EmbeddedState, over_device, with_pager, with_mark}
+use Rattle.embedded.specs.Opening.{OpensVolume, KeepsForWanted}
 use Rattle.embedded.specs.Reading.{ReportsWanted, pager_refusal}
 use Rattle.embedded.specs.Recorded.{deferred_disk}
 use Rattle.embedded.specs.Steps.{Commits, RefusesCommit, WritesOut, RefusesSteps}
 use Rattle.famsync_core.specs.Codes.{ok_code, argument_code, memory_code, none_code, order_code, refusal_code}
-use Rattle.famsync_core.specs.Codes.{outcome_code, reading_code, wanted_block, lack_code, lacked_block, small_block}
+use Rattle.famsync_core.specs.Codes.{outcome_code, reading_code, wanted_block, unread_block, unread_code}
 use Rattle.famsync_core.specs.Held.{HeldVolume, holding, is_block, has_block, needs_no, waiting_in}
 use Rattle.famsync_core.specs.Held.{after_supplied, after_forgotten, after_calls_made}
 
@@ -36,20 +37,12 @@ use Rattle.famsync_core.specs.Held.{after_supplied, after_forgotten, after_calls
 abbrev pub most_pages : ℕ → ℕ
 most_pages pages = if pages == 0 then 2 ^ 32 - 1 else pages
 
--- an open volume, as an opening of this disk leaves it
-abbrev pub OpensVolume : Deferred → (most : ℕ) → EmbeddedState → Type 0
-OpensVolume disk most e =
-    Opens deferred_disk disk (Ok e.pager.table) e.pager.device
-    × (e ≡ just_opened (newly_opened (volume_in e.pager)
-    (min most (max_frames e.pager.table.layout e.pager.table.slots))))
-    × IsWellFormed deferred_disk (volume_in e.pager)
-
--- the volume was opened; or it was refused, and the disk is kept
+-- the volume was opened; or it was refused, and the disk is kept, as it was where a block is wanted
 abbrev pub AnswersOpen : HeldVolume → Deferred → (most : ℕ) → ℤ → (before wanted : ℕ) → HeldVolume → Type 0
 AnswersOpen held disk most code before wanted held' =
     ((e : EmbeddedState) × (code ≡ ok_code) × (wanted ≡ before) × OpensVolume disk most e × (held' ≡ holding e))
-    ⊎ ((why : Refusal) × (left : Deferred) × (code ≡ lack_code why (small_block left.wanted))
-    × (wanted ≡ lacked_block why (small_block left.wanted) before) × RefusesPagerOpening deferred_disk disk why left
+    ⊎ ((why : Unread) × (left : Deferred) × (code ≡ unread_code why) × (wanted ≡ unread_block why before)
+    × RefusesPagerOpening deferred_disk disk (pager_refusal why) left × KeepsForWanted disk why left
     × (held' ≡ record held { disk = Some left }))
 
 -- ---- pages and lengths
@@ -156,16 +149,38 @@ AnswersMade held count code held' = MatchBool (nat_le count (waiting_in held))
     ((code ≡ ok_code) × (held' ≡ after_calls_made count held))
     ((code ≡ argument_code) × (held' ≡ held))
 
+-- ---- the files of an open volume
+
+-- a count as C gets it
+abbrev pub count_code : ℕ → ℤ
+count_code count = pos (min count (2 ^ 63 - 1))
+
+-- the length of a file in bytes is answered, and how many pages it can have, which have room for that; or there is no
+-- such file
+abbrev pub AnswersFile : EmbeddedState → (file : ℕ) → ℤ → (size size' pages pages' : ℕ) → Type 0
+AnswersFile e file code size size' pages pages' = MatchBool (nat_lt file (length e.pager.table.files))
+    ((code ≡ ok_code) × (size' ≡ file_length e.pager.lengths file)
+    × (pages' ≡ pages_of (slice_index (capacities_in e.pager.table) file)) × (size' ≤ 4096 * pages'))
+    ((code ≡ argument_code) × (size' ≡ size) × (pages' ≡ pages))
+
+-- a name is at the beginning of this place, and its length is answered; there may be no such name, or no room for it
+abbrev pub CopiesName : Option (List ℕ) → ℤ → (old new : List ℕ) → Type 0
+CopiesName (Some name) code old new = MatchBool (nat_le (length name) (length old))
+    ((code ≡ count_code (length name)) × (new ≡ written old 0 name))
+    ((code ≡ argument_code) × (new ≡ old))
+CopiesName None code old new = (code ≡ argument_code) × (new ≡ old)
+
+-- so it is with the name of a file
+abbrev pub AnswersName : EmbeddedState → (file : ℕ) → ℤ → (old new : List ℕ) → Type 0
+AnswersName e file code old new = CopiesName (slice_get (names_in e.pager.table) file) code old new
+
 -- ---- what is told of an open volume
 
 -- a value of it, or that none is open
 abbrev pub told : (EmbeddedState → ℤ) → HeldVolume → ℤ
 told value held = option_map_or value held.volume order_code
 
--- a count as C gets it; whether something is so
-abbrev pub count_code : ℕ → ℤ
-count_code count = pos (min count (2 ^ 63 - 1))
-
+-- whether something is so
 abbrev pub flag_code : Bool → ℤ
 flag_code is = if is then pos 1 else pos 0
 

@@ -2,7 +2,7 @@
 ghost use Rattle.std.specs.Prelude.{◌≡◌, ℕ, ◌-◌, ◌^◌, min, is_some, IfSome, IfNone, Some, None};
 ghost use Rattle.std.specs.Option.{option_map};
 ghost use Rattle.deferred_disk.specs.Deferred.{carried_moment};
-ghost use Rattle.famsync_core.specs.Codes.{order_code, outcome_code, reading_code, wanted_block, lack_code, lacked_block, small_block};
+ghost use Rattle.famsync_core.specs.Codes.{order_code, outcome_code, reading_code, unread_block, unread_code, wanted_block};
 ghost use Rattle.famsync_core.specs.Held.{page_numbered};
 ghost use Rattle.famsync_core.specs.Requests.{AnswersOpen, AnswersRead, AnswersWrite, AnswersLength, AnswersCommit, AnswersSteps, most_pages};
 
@@ -23,6 +23,20 @@ pub(crate) fn page_numbered(file: u32, page: u64) -> FilePage
     }
 }
 
+// Why a request wasn't carried out, and the block that is wanted for it.
+fn code_of_unread(why: &Unread, wanted: &mut u32) -> i32
+    ensures code { result ≡ unread_code why.now }
+    ensures wanted { wanted.new ≡ unread_block why.now wanted.old }
+{
+    match why {
+        Unread::Wanted(block) => {
+            *wanted = *block;
+            WANTED
+        }
+        Unread::Refused(refusal) => code_of_refusal(refusal),
+    }
+}
+
 // What a reading came to, and the block that is wanted for it.
 fn code_of_reading(outcome: &Result<(), Unread>, wanted: &mut u32) -> i32
     ensures code { result ≡ reading_code outcome.now }
@@ -30,35 +44,7 @@ fn code_of_reading(outcome: &Result<(), Unread>, wanted: &mut u32) -> i32
 {
     match outcome {
         Ok(()) => OK,
-        Err(Unread::Wanted(block)) => {
-            *wanted = *block;
-            WANTED
-        }
-        Err(Unread::Refused(refusal)) => code_of_refusal(refusal),
-    }
-}
-
-// The number of a block that was lacked, where it has one of 32 bits.
-fn block_number(lacked: Option<usize>) -> Option<u32>
-    ensures { result ≡ small_block lacked }
-{
-    match lacked {
-        Some(block) => u32::try_from(block).ok(),
-        None => None,
-    }
-}
-
-// Why a volume isn't opened: for want of a block, or for another reason.
-fn code_of_lack(refusal: &Refusal, lacked: Option<u32>, wanted: &mut u32) -> i32
-    ensures code { result ≡ lack_code refusal.now lacked }
-    ensures wanted { wanted.new ≡ lacked_block refusal.now lacked wanted.old }
-{
-    match lacked {
-        Some(block) if matches!(refusal, Refusal::Device) => {
-            *wanted = block;
-            WANTED
-        }
-        Some(_) | None => code_of_refusal(refusal),
+        Err(why) => code_of_unread(why, wanted),
     }
 }
 
@@ -137,19 +123,11 @@ impl State {
                 self.volume = Some(volume);
                 OK
             }
-            Err((refusal, disk)) => self.give_back(disk, refusal, wanted),
+            Err((why, disk)) => {
+                self.disk = Some(disk);
+                code_of_unread(&why, wanted)
+            }
         }
-    }
-
-    // Keeps the disk of a volume that wasn't opened, and answers why: for want of a block, or for another reason.
-    fn give_back(&mut self, disk: DeferredDisk<Global>, refusal: Refusal, wanted: &mut u32) -> i32
-        ensures kept { self.new ≡ record self.old { disk = Some disk } }
-        ensures code { result ≡ lack_code refusal (small_block disk.wanted) }
-        ensures wanted { wanted.new ≡ lacked_block refusal (small_block disk.wanted) wanted.old }
-    {
-        let lacked = block_number(disk.wanted());
-        self.disk = Some(disk);
-        code_of_lack(&refusal, lacked, wanted)
     }
 
     /// Reads a page of a file.

@@ -1,12 +1,15 @@
 // What is told of an open volume.
-ghost use Rattle.std.specs.Prelude.{◌≡◌, ℕ, ◌-◌, ◌^◌, min, pos};
+ghost use Rattle.std.specs.Prelude.{◌≡◌, ℕ, ◌-◌, ◌^◌, min, pos, IfSome, IfNone};
+ghost use Rattle.famsync_core.specs.Codes.{order_code};
 ghost use Rattle.famsync_core.specs.Held.{page_numbered};
-ghost use Rattle.famsync_core.specs.Requests.{told, files_told, frames_told, head_told, shares_told, acknowledged_told, staged_told, is_staged_told, unwritten_told};
+ghost use Rattle.famsync_core.specs.Requests.{AnswersFile, AnswersName, told, files_told, frames_told, head_told, shares_told, acknowledged_told, staged_told, is_staged_told, unwritten_told};
 
 use crate::codes::{ARGUMENT, OK, ORDER};
 use crate::requests::page_numbered;
 use crate::state::State;
-use volume_codec::Super;
+use device::put;
+use embedded::Embedded;
+use std::alloc::Global;
 
 /// A count as C gets it.
 pub(crate) fn number_of(count: u64) -> i64
@@ -15,11 +18,36 @@ pub(crate) fn number_of(count: u64) -> i64
     i64::try_from(count).unwrap_or(i64::MAX)
 }
 
-// Copies as many of these bytes as a place has room for, and answers how many.
-fn copied(bytes: &[u8], to: &mut [u8]) -> usize {
-    let count = bytes.len().min(to.len());
-    to[..count].copy_from_slice(&bytes[..count]);
-    count
+// The length of a file, and how many pages it can have.
+fn tell_file(volume: &Embedded<Global>, file: u32, length: &mut u64, pages: &mut u64) -> i32
+    ensures { AnswersFile volume.now file result length.old length.new pages.old pages.new }
+{
+    let pager = volume.pager();
+    let table = pager.table();
+    let place = file as usize;
+    if place >= table.file_count() {
+        return ARGUMENT;
+    }
+    *length = pager.lengths()[place];
+    *pages = u64::from(table.pages(place));
+    OK
+}
+
+// Copies the name of a file, if it has room, and answers its length.
+fn tell_name(volume: &Embedded<Global>, file: u32, to: &mut [u8]) -> i64
+    ensures { AnswersName volume.now file result to.old to.new }
+{
+    let table = volume.pager().table();
+    let place = file as usize;
+    if place >= table.file_count() {
+        return i64::from(ARGUMENT);
+    }
+    let name = table.name(place).as_bytes();
+    if name.len() > to.len() {
+        return i64::from(ARGUMENT);
+    }
+    put(to, 0, name);
+    number_of(name.len() as u64)
 }
 
 impl State {
@@ -64,38 +92,27 @@ impl State {
     }
 
     /// The length of a file, and how many pages it can have.
-    pub(crate) fn file(&self, file: u32, length: &mut u64, pages: &mut u64) -> i32 {
-        let Some(volume) = &self.volume else {
-            return ORDER;
-        };
-        let pager = volume.pager();
-        if file as usize >= pager.table().file_count() {
-            return ARGUMENT;
-        }
-        match pager.lengths().get(file as usize) {
-            Some(bytes) => {
-                *length = *bytes;
-                *pages = u64::from(pager.table().pages(file as usize));
-                OK
-            }
-            None => ARGUMENT,
+    pub(crate) fn file(&self, file: u32, length: &mut u64, pages: &mut u64) -> i32
+        ensures order { IfNone self.now.volume
+            ((result ≡ order_code) × (length.new ≡ length.old) × (pages.new ≡ pages.old)) }
+        ensures answers { IfSome self.now.volume (λ e.
+            AnswersFile e file result length.old length.new pages.old pages.new) }
+    {
+        match &self.volume {
+            Some(volume) => tell_file(volume, file, length, pages),
+            None => ORDER,
         }
     }
 
     /// Copies the name of a file, and answers its length.
-    pub(crate) fn file_name(&self, file: u32, to: &mut [u8]) -> i64 {
-        let Some(volume) = &self.volume else {
-            return i64::from(ORDER);
-        };
-        let table = volume.pager().table();
-        if file as usize >= table.file_count() {
-            return i64::from(ARGUMENT);
+    pub(crate) fn file_name(&self, file: u32, to: &mut [u8]) -> i64
+        ensures order { IfNone self.now.volume ((result ≡ order_code) × (to.new ≡ to.old)) }
+        ensures answers { IfSome self.now.volume (λ e. AnswersName e file result to.old to.new) }
+    {
+        match &self.volume {
+            Some(volume) => tell_name(volume, file, to),
+            None => i64::from(ORDER),
         }
-        let name = table.name(file as usize).as_bytes();
-        if name.len() > to.len() {
-            return i64::from(ARGUMENT);
-        }
-        number_of(copied(name, to) as u64)
     }
 
     /// The last mark that is durable, 0 where there is none.
