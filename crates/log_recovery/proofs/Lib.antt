@@ -2,3 +2,4 @@ pub mod OnlyReading
 pub mod Blocks
 pub mod Commits
 pub mod Chained
+pub mod LogEnds

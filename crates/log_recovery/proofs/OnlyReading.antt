@@ -2,7 +2,6 @@
 use Rattle.std.proofs.Common.{◌≡◌, ◌∙◌, ℕ, List, refl}
 use Rattle.device.specs.declared.device.Device.{Ghosts}
 use Rattle.device.proofs.Public.{leaves_at_start, leaves_then, leaves_weaker}
-use Rattle.page_entry.specs.declared.refusal.Refusal.TheVariants.{OutOfMemory}
 use Rattle.log_codec.specs.declared.broken.Broken.{Broken}
 use Rattle.log_codec.specs.declared.broken.Broken.TheVariants as broken
 use Rattle.log_recovery.specs.Reading.{ReadsAlone, FailedOnce}

@@ -243,6 +243,7 @@ pub fn read_next<D: Device, A: Allocator + Copy>(
         → IfErr result (RefusesNext log.now epoch position number left (D.seen device.old)) }
     ensures read { ReadsAlone D.Device device.old device.new }
     ensures faults { HasFaultsBy (D.faults_met device.old) (D.faults_met device.new) result }
+    ensures byte { IfErr result (λ refusal. refusal ≡ Refusal.Damaged → log.now.sealing ≡ ByByte) }
     ensures len { length (D.seen device.new) ≡ length (D.seen device.old) }
 {
     let first = read_block(device, log.block_behind(position, 0))?;

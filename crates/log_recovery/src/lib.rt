@@ -3,10 +3,13 @@
 
 mod calls;
 mod commit;
+mod ending;
 mod found;
 mod reading;
 #[cfg(test)]
 mod tests;
 
+pub use calls::read_block;
+pub use ending::ends_at;
 pub use found::{FoundCommit, FoundLog};
 pub use reading::read_log;

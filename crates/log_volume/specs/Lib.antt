@@ -1,0 +1,2 @@
+pub mod Super
+pub mod Files
