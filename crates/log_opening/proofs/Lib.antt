@@ -1,0 +1,9 @@
+pub mod Blocks
+pub mod Rings
+pub mod Newest
+pub mod Keeping
+pub mod Recovered
+pub mod Looked
+pub mod Opened
+pub mod Volumes
+pub mod Public

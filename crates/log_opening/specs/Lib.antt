@@ -1,0 +1,4 @@
+pub mod Opening
+pub mod CutOff
+pub mod Volume
+pub mod inside

@@ -1,0 +1,4 @@
+-- What ties the private code of this crate to its definitions; no public contract names it.
+pub mod Keeping
+pub mod Places
+pub mod Found

@@ -1,0 +1,19 @@
+//! Opening a volume with a log: the records of its commits are written home, and the log goes on behind them.
+#![tactic(auto)]
+
+mod epoch;
+mod homes;
+mod laws;
+mod lengths;
+mod looking;
+mod opening;
+mod switching;
+#[cfg(test)]
+mod tests;
+mod volume;
+mod youngest;
+
+pub use laws::{cut_off_openings, files_of_openings};
+pub use lengths::find_lengths;
+pub use opening::open_log;
+pub use volume::{OpenedLog, open_log_volume, read_first};
