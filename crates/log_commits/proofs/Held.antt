@@ -1,6 +1,6 @@
 -- Logs that are kept, or that have one commit more.
 use Rattle.std.proofs.Common.{◌≡◌, ℕ, ◌+◌, ◌-◌, ◌*◌, ◌/◌, ◌%◌, ◌<◌, ◌≤◌, List, [], ◌∷◌, ◌++◌}
-use Rattle.std.proofs.Common.{Bool, true, false, length, get_or, sym, ap, subst, ◌∙◌, arith}
+use Rattle.std.proofs.Common.{Bool, true, false, length, get_or, refl, sym, ap, subst, ◌∙◌, arith}
 use Rattle.std.proofs.Math.Nat.{mod-add-mod}
 use Rattle.std.proofs.lemmas.List.{append-nil}
 use Rattle.volume_codec.specs.Layout.{block_at}
@@ -72,17 +72,19 @@ module _ (t : TailValue) (contents : ℕ → List ℕ) (old new : List ℕ) (hel
 
   -- the same log, where it ends as before
   pub held_still : LogEndsAt g.sealing g s.epoch end (s.number + length chain) (g.ring - chain_blocks chain) new
-      → HoldsLog t contents new
+      → (h : HoldsLog t contents new) × (h.chain ≡ held.chain)
   held_still ends =
-      let P : List LogDescriptor → Type 0 = λ ds. HasLog g s ds new in
-      record {
-        chain = chain;
-        log = subst P (append-nil chain) (kept_log [] ends);
-        position_is = held.position_is;
-        number_is = held.number_is;
-        used_is = held.used_is;
-        contents_are = kept_contents;
-      }
+      let P : List LogDescriptor → Type 0 = λ ds. HasLog g s ds new in (
+        record {
+          chain = chain;
+          log = subst P (append-nil chain) (kept_log [] ends);
+          position_is = held.position_is;
+          number_is = held.number_is;
+          used_is = held.used_is;
+          contents_are = kept_contents;
+        },
+        refl,
+      )
 
   -- and with one commit more
   pub held_more : (homes records : List ℕ) → 0 < g.ring → 4096 * (4 + g.ring) ≤ length new
@@ -90,23 +92,26 @@ module _ (t : TailValue) (contents : ℕ → List ℕ) (old new : List ℕ) (hel
       → ring_bytes g.ring new (records_position end (next_logged t homes)) (length homes) ≡ records
       → LogEndsAt g.sealing g s.epoch (position_after end (next_logged t homes)) (s.number + length chain + 1)
       (g.ring - chain_blocks chain - log_commit_blocks (length homes)) new
-      → HoldsLog (tail_after t homes) (committed_to contents homes records) new
+      → (h : HoldsLog (tail_after t homes) (committed_to contents homes records) new)
+      × (h.chain ≡ held.chain ++ next_logged t homes ∷ [])
   held_more homes records some long next are ends =
       let d : LogDescriptor = next_logged t homes in
-      let n : ℕ = log_commit_blocks (length homes) in
-      record {
-        chain = chain ++ d ∷ [];
-        log = kept_log (d ∷ []) (next, ends);
-        position_is = ap (λ x. (x + n) % g.ring) held.position_is ∙ mod-add-mod end g.ring n
-            ∙ ap (λ x. x % g.ring) (sym (end_more s.position chain d));
-        number_is = omega (arith, held.number_is, length_more chain d);
-        used_is = omega (arith, held.used_is, blocks_more chain d);
-        contents_are = λ b home.
-            let other : ℕ = newest_or g.ring b s.position chain b in
-            committed_as g.ring other (records_position end d) homes records contents b new some long
-            (kept_contents b home) are
-            ∙ ap (block_at new) (sym (newest_with g.ring b s.position chain d b));
-      }
+      let n : ℕ = log_commit_blocks (length homes) in (
+        record {
+          chain = chain ++ d ∷ [];
+          log = kept_log (d ∷ []) (next, ends);
+          position_is = ap (λ x. (x + n) % g.ring) held.position_is ∙ mod-add-mod end g.ring n
+              ∙ ap (λ x. x % g.ring) (sym (end_more s.position chain d));
+          number_is = omega (arith, held.number_is, length_more chain d);
+          used_is = omega (arith, held.used_is, blocks_more chain d);
+          contents_are = λ b home.
+              let other : ℕ = newest_or g.ring b s.position chain b in
+              committed_as g.ring other (records_position end d) homes records contents b new some long
+              (kept_contents b home) are
+              ∙ ap (block_at new) (sym (newest_with g.ring b s.position chain d b));
+        },
+        refl,
+      )
 
 -- what a range behind the end of the log leaves of it
 pub keeps_of_torn : (t : TailValue) (contents : ℕ → List ℕ) (old new : List ℕ) (to blocks : ℕ) → IsLog t.log

@@ -21,8 +21,10 @@ use Rattle.log_commits.specs.Tail.{TailValue, HoldsLog, tail_at}
 use Rattle.log_commits.specs.Commit.{MayCommit, LeftByCommit, TellsTorn, TellsTornBy, TellsTornByDigest}
 use Rattle.log_commits.specs.Commit.{committed_to, next_logged, commit_bytes, works_by, commit_works, tail_after}
 use Rattle.log_commits.specs.Commit.{CommitLeaves}
+use Rattle.log_commits.specs.Behind.{IsSameOutside}
 use Rattle.log_commits.proofs.Places.{ring_place, places_apart, block_low}
 use Rattle.log_commits.proofs.Ranges.{RingTorn, RingHas, torn_within}
+use Rattle.log_commits.proofs.Outside.{did_length, all_outside, commit_in}
 use Rattle.log_commits.proofs.Held.{KeepsLog, keeps_of_torn}
 use Rattle.log_commits.proofs.UnderWay.{closed_by_byte, open_by_byte, whole_by_digest, torn_by_digest, closed_before}
 use Rattle.log_commits.proofs.Works.{RingFrom, WentRound, went_round, did_split, one_did}
@@ -36,6 +38,15 @@ recovers t contents bytes held = record {
   log = held.log;
   contents_are = held.contents_are;
 }
+
+-- what the calls of a commit leave; the commits that are read once it is made are known, too
+pub record CommitLeft {D : Type 0} (disk : Ghosts D) (t : TailValue) (contents : ℕ → List ℕ)
+    (homes records : List ℕ) (chain : List LogDescriptor) (done : Bool) (old new : D) : Type 0 where
+  pub crash : LeavesOnly disk.moment disk.left_since old new (LeftByCommit t contents homes records)
+  pub durable : done ≡ true → Only (disk.may_leave new) (disk.seen new)
+  pub committed : done ≡ true → TellsTorn t homes records (disk.seen new)
+      → (h : HoldsLog (tail_after t homes) (committed_to contents homes records) (disk.seen new))
+      × (h.chain ≡ chain ++ next_logged t homes ∷ [])
 
 module _ {D : Type 0} (disk : Ghosts D) (t : TailValue) (contents : ℕ → List ℕ) (homes records : List ℕ) (room : ℕ)
     (log : IsLog t.log) (may : MayCommit t homes room)
@@ -63,8 +74,14 @@ module _ {D : Type 0} (disk : Ghosts D) (t : TailValue) (contents : ℕ → List
   abbrev Left : List ℕ → Type 0
   Left = LeftByCommit t contents homes records
 
+  abbrev pub seen_held : HoldsLog t contents (disk.seen old)
+  seen_held = held (disk.seen old) (seen_is_left old honest)
+
   abbrev Leaves : D → Bool → Type 0
-  Leaves new done = CommitLeaves disk t contents homes records done old new
+  Leaves new done = CommitLeft disk t contents homes records seen_held.chain done old new
+
+  abbrev HoldsMore : List ℕ → Type 0
+  HoldsMore c = (h : HoldsLog after newer c) × (h.chain ≡ seen_held.chain ++ next_logged t homes ∷ [])
 
   pub some : 0 < ring
   some = omega (arith, log.some_ring)
@@ -81,9 +98,6 @@ module _ {D : Type 0} (disk : Ghosts D) (t : TailValue) (contents : ℕ → List
     records_size,
   )
 
-  seen_held : HoldsLog t contents (disk.seen old)
-  seen_held = held (disk.seen old) (seen_is_left old honest)
-
   -- a sync that was made sure of
   durable_by : {mid new : D} (done : Bool) → disk.is_honest mid → Did disk mid Sync done new → done ≡ true
       → Only (disk.may_leave new) (disk.seen new)
@@ -97,7 +111,8 @@ module _ {D : Type 0} (disk : Ghosts D) (t : TailValue) (contents : ℕ → List
     tells_by c tells =
         let P : Sealing → Type 0 = λ s. TellsTornBy s t homes records c in subst P digest tells
 
-    keeps : (b c : List ℕ) → HoldsLog t contents b → RingTorn ring t.position 0 (length bytes) b c → KeepsLog t b c
+    pub keeps : (b c : List ℕ) → HoldsLog t contents b → RingTorn ring t.position 0 (length bytes) b c
+        → KeepsLog t b c
     keeps b c is torn =
         keeps_of_torn t contents b c (length bytes) n log is torn (omega (arith, size)) (omega (arith, may.free))
 
@@ -106,8 +121,8 @@ module _ {D : Type 0} (disk : Ghosts D) (t : TailValue) (contents : ℕ → List
         let before = held from.0 from.1 in
         elim (torn_by_digest t contents from.0 c homes records room log before may head_size records_size
         (keeps from.0 c before from.2) key digest (tells_by c tells)) [
-          | inl is ↦ inl (recovers t contents c is)
-          | inr is ↦ inr (recovers after newer c is)
+          | inl is ↦ inl (recovers t contents c is.0)
+          | inr is ↦ inr (recovers after newer c is.0)
         ]
 
     pub leaves_by_digest : {new : D} (done : Bool)
@@ -133,7 +148,7 @@ module _ {D : Type 0} (disk : Ghosts D) (t : TailValue) (contents : ℕ → List
                 durable = durable_by done is sync;
                 committed = λ made tells.
                     let same : disk.seen new ≡ disk.seen both.0 = done_seen sync is made in
-                    let P : List ℕ → Type 0 = λ l. HoldsLog after newer l in
+                    let P : List ℕ → Type 0 = λ l. HoldsMore l in
                     let Q : List ℕ → Type 0 = λ l. TellsTorn t homes records l in
                     let c : List ℕ = disk.seen both.0 in
                     let has : RingHas ring t.position 0 (4096 * n) bytes c = λ k least most.
@@ -150,7 +165,7 @@ module _ {D : Type 0} (disk : Ghosts D) (t : TailValue) (contents : ℕ → List
     abbrev image : List ℕ
     image = bytes ++ 0 ∷ []
 
-    image_size : length image ≡ 4096 * n + 1
+    pub image_size : length image ≡ 4096 * n + 1
     image_size = omega (arith, length-append bytes (0 ∷ []), size)
 
     room_for : n + 1 ≤ ring
@@ -158,7 +173,7 @@ module _ {D : Type 0} (disk : Ghosts D) (t : TailValue) (contents : ℕ → List
         let P : Sealing → Type 0 = λ s. t.used + n + spare_blocks s ≤ ring in
         let free = subst P byte may.free in omega arith
 
-    near : 4096 * n + 1 ≤ 4096 * ring
+    pub near : 4096 * n + 1 ≤ 4096 * ring
     near = omega (arith, room_for)
 
     byte_keeps : (b c : List ℕ) → HoldsLog t contents b → RingTorn ring t.position 0 (4096 * n + 1) b c
@@ -173,15 +188,15 @@ module _ {D : Type 0} (disk : Ghosts D) (t : TailValue) (contents : ℕ → List
     widened b c torn = torn_within torn 0 (4096 * n + 1) (omega arith) (omega (arith, image_size))
 
     -- before the seal's byte is written
-    unsealed : (b c : List ℕ) → HoldsLog t contents b → RingTorn ring t.position 1 (length image) b c
+    pub unsealed : (b c : List ℕ) → HoldsLog t contents b → RingTorn ring t.position 1 (length image) b c
         → HoldsLog t contents c
     unsealed b c is torn =
         let stays : get_or c (ring_place ring t.position 0) 0 ≡ get_or b (ring_place ring t.position 0) 0 =
         torn.elsewhere (ring_place ring t.position 0)
         (λ k least most. places_apart ring t.position 0 k some (omega arith) (omega (arith, image_size, near))) in
-        closed_by_byte t contents b c homes records room log is may head_size records_size
+        (closed_by_byte t contents b c homes records room log is may head_size records_size
         (byte_keeps b c is (widened b c torn)) byte
-        (λ opened. closed_before t contents b is byte (sym stays ∙ opened))
+        (λ opened. closed_before t contents b is byte (sym stays ∙ opened))).0
 
     left_unsealed : (c : List ℕ) → RingFrom ring t.position 1 (length image) (disk.may_leave old) c → Left c
     left_unsealed c from tells = inl (recovers t contents c (unsealed from.0 c (held from.0 from.1) from.2))
@@ -204,7 +219,7 @@ module _ {D : Type 0} (disk : Ghosts D) (t : TailValue) (contents : ℕ → List
 
     module _ (m : List ℕ) (torn : RingTorn ring t.position 1 (length image) (disk.seen old) m)
         (has : RingHas ring t.position 1 (length image) image m) (c : List ℕ) (seal : Torn place 1 m c) where
-      seal_torn : RingTorn ring t.position 0 (4096 * n + 1) (disk.seen old) c
+      pub seal_torn : RingTorn ring t.position 0 (4096 * n + 1) (disk.seen old) c
       seal_torn = record {
         same_length = seal.same_length ∙ torn.same_length;
         elsewhere = λ i other.
@@ -219,7 +234,7 @@ module _ {D : Type 0} (disk : Ghosts D) (t : TailValue) (contents : ℕ → List
       seal_keeps : KeepsLog t (disk.seen old) c
       seal_keeps = byte_keeps (disk.seen old) c seen_held seal_torn
 
-      pub sealed : get_or c place 0 ≡ 0xA7 → HoldsLog after newer c
+      pub sealed : get_or c place 0 ≡ 0xA7 → HoldsMore c
       sealed is =
           open_by_byte t contents (disk.seen old) c homes records room log seen_held may head_size records_size
           seal_keeps byte (λ k least most. elim (cases_eq k 0) [
@@ -237,12 +252,15 @@ module _ {D : Type 0} (disk : Ghosts D) (t : TailValue) (contents : ℕ → List
                 stays ∙ has k (omega arith) (omega (arith, image_size))
           ])
 
+      pub closed : get_or c place 0 ≢ 0xA7 → (h : HoldsLog t contents c) × (h.chain ≡ seen_held.chain)
+      closed other =
+          closed_by_byte t contents (disk.seen old) c homes records room log seen_held may head_size records_size
+          seal_keeps byte (λ opened. other (ap (λ x. get_or c x 0) (sym place_is) ∙ opened))
+
       pub left_sealing : Left c
       left_sealing tells = elim (cases_eq (get_or c place 0) 0xA7) [
-        | inl is ↦ inr (recovers after newer c (sealed is))
-        | inr other ↦ inl (recovers t contents c
-            (closed_by_byte t contents (disk.seen old) c homes records room log seen_held may head_size records_size
-            seal_keeps byte (λ opened. other (ap (λ x. get_or c x 0) (sym place_is) ∙ opened))))
+        | inl is ↦ inr (recovers after newer c (sealed is).0)
+        | inr other ↦ inl (recovers t contents c (closed other).0)
       ]
 
     pub few : 1 < 4096
@@ -295,7 +313,7 @@ module _ {D : Type 0} (disk : Ghosts D) (t : TailValue) (contents : ℕ → List
             durable = durable_by done is last;
             committed = λ made tells.
                 let same : disk.seen new ≡ c = done_seen last is made in
-                let P : List ℕ → Type 0 = λ l. HoldsLog after newer l in
+                let P : List ℕ → Type 0 = λ l. HoldsMore l in
                 let room_two : place + 1 ≤ length (disk.seen two) =
                 omega (arith, block_low ring t.position some, log_long, went.has.same_length, sync.same_length) in
                 let opened : get_or c place 0 ≡ 0xA7 =
@@ -353,19 +371,56 @@ module _ {D : Type 0} (disk : Ghosts D) (t : TailValue) (contents : ℕ → List
     (long : 4096 * t.log.blocks ≤ length (disk.seen old))
     (held : (c : List ℕ) → disk.may_leave old c → HoldsLog t contents c)
     (seen_is_left : (device : D) → disk.is_honest device → disk.may_leave device (disk.seen device)) where
-  pub leaves : {new : D} (done : Bool) → DidAll disk old (commit_works t homes records) done new
-      → CommitLeaves disk t contents homes records done old new
-  leaves {new} done did = by_sealing t.log.sealing refl did
+  left : {new : D} (done : Bool) → DidAll disk old (commit_works t homes records) done new
+      → CommitLeft disk t contents homes records (held (disk.seen old) (seen_is_left old honest)).chain done old new
+  left {new} done did = by_sealing t.log.sealing refl did
     where
       by_sealing : (s : Sealing) → t.log.sealing ≡ s
           → DidAll disk old (works_by s t.log.ring t.position (commit_bytes t homes records)) done new
-          → CommitLeaves disk t contents homes records done old new
+          → CommitLeft disk t contents homes records (held (disk.seen old) (seen_is_left old honest)).chain done old new
       by_sealing ByByte is did =
           leaves_by_byte disk t contents homes records room log may head_size records_size old honest long held
           seen_is_left is done did
       by_sealing (ByDigest key) is did =
           leaves_by_digest disk t contents homes records room log may head_size records_size old honest long held
           seen_is_left key is done did
+
+  pub leaves : {new : D} (done : Bool) → DidAll disk old (commit_works t homes records) done new
+      → CommitLeaves disk t contents homes records done old new
+  leaves {new} done did =
+      let is = left done did in
+      record { crash = is.crash; durable = is.durable; committed = λ made tells. (is.committed made tells).0 }
+
+  pub leaves_chain : {new : D} (done : Bool) → DidAll disk old (commit_works t homes records) done new → done ≡ true
+      → TellsTorn t homes records (disk.seen new)
+      → (h : HoldsLog (tail_after t homes) (committed_to contents homes records) (disk.seen new))
+      × (h.chain ≡ (held (disk.seen old) (seen_is_left old honest)).chain ++ next_logged t homes ∷ [])
+  leaves_chain {new} done did made tells = (left done did).committed made tells
+
+-- what is outside the log stays
+pub leaves_outside : {D : Type 0} (disk : Ghosts D) (t : TailValue) (homes records : List ℕ) (room : ℕ) → IsLog t.log
+    → MayCommit t homes room
+    → length (log_seal t.log.sealing t.start.epoch (next_logged t homes) records ++ log_body (next_logged t homes))
+    ≡ 4096 * log_descriptor_blocks (length homes)
+    → length records ≡ 4096 * length homes → (old new : D) → 4096 * t.log.blocks ≤ length (disk.seen old)
+    → (done : Bool) → DidAll disk old (commit_works t homes records) done new → disk.is_honest old
+    → IsSameOutside t.log (disk.seen old) (disk.seen new)
+leaves_outside disk t homes records room log may head_size records_size old new long done did honest =
+    let n : ℕ = log_commit_blocks (length homes) in
+    let size : length (commit_bytes t homes records) ≡ 4096 * n = omega (
+      arith,
+      length-append (log_seal t.log.sealing t.start.epoch (next_logged t homes) records
+          ++ log_body (next_logged t homes)) records,
+      head_size,
+      records_size,
+    ) in
+    let all = commit_in t.log.sealing t.log.ring t.position n (commit_bytes t homes records)
+    (omega (arith, log.some_ring)) size (omega (arith, may.size.room)) in
+    record {
+      same_length = did_length disk (commit_works t homes records) old new done did;
+      places = all_outside disk t.log.ring (commit_works t homes records) old new done all
+          (omega (arith, log.some_homes, long)) honest did;
+    }
 
 -- a log without commits
 pub held_at_start : (g : LogValue) (s : LogStart) (spent : Bool) (bytes : List ℕ) → HasLog g s [] bytes

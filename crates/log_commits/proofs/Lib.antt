@@ -5,5 +5,12 @@ pub mod Held
 pub mod Written
 pub mod UnderWay
 pub mod Works
+pub mod Outside
 pub mod Left
 pub mod Filling
+pub mod Kept
+pub mod Moving
+pub mod Committing
+pub mod Ready
+pub mod Selected
+pub mod Public

@@ -69,7 +69,7 @@ places_apart ring p j k some lt near same = elim (cases_lt (j / 4096) (k / 4096)
 
 -- ---- what is read there
 
-get_or-block : (bytes : List ℕ) (i k : ℕ) → k < 4096 → get_or (block_at bytes i) k 0 ≡ get_or bytes (4096 * i + k) 0
+pub get_or-block : (bytes : List ℕ) (i k : ℕ) → k < 4096 → get_or (block_at bytes i) k 0 ≡ get_or bytes (4096 * i + k) 0
 get_or-block bytes i k h = get_or-take 4096 (drop (4096 * i) bytes) k 0 h ∙ get_or-drop (4096 * i) bytes k 0
 
 pub first-block : (bytes : List ℕ) (i : ℕ) → get_or (block_at bytes i) 0 0 ≡ get_or bytes (4096 * i) 0

@@ -137,6 +137,15 @@ module _ (t : TailValue) (contents : ℕ → List ℕ) (old new : List ℕ) (hom
       has k (omega arith) (omega arith) ∙ get_or_append_left head records 0 k (omega (arith, head_size))) in
       is_next (spelled ∙ ap (λ (l : List ℕ). log_seal g.sealing s.epoch d l ++ log_body d) (sym (are_records has)))
 
+  -- the log with the commit
+  abbrev HoldsMore : Type 0
+  HoldsMore = (h : HoldsLog (tail_after t homes) (committed_to contents homes records) new)
+      × (h.chain ≡ held.chain ++ d ∷ [])
+
+  -- the log without it
+  abbrev HoldsSame : Type 0
+  HoldsSame = (h : HoldsLog t contents new) × (h.chain ≡ held.chain)
+
   -- ---- where a byte seals
 
   module _ (byte : g.sealing ≡ ByByte) where
@@ -147,13 +156,13 @@ module _ (t : TailValue) (contents : ℕ → List ℕ) (old new : List ℕ) (hom
         subst P (sym byte) (λ is.
         other (ap (λ x. get_or new x 0) place ∙ sym (first-block new (ring_block g.ring p)) ∙ is))
 
-    pub closed_by_byte : get_or new (ring_place g.ring t.position 0) 0 ≢ 0xA7 → HoldsLog t contents new
+    pub closed_by_byte : get_or new (ring_place g.ring t.position 0) 0 ≢ 0xA7 → HoldsSame
     closed_by_byte other =
         let place = first_place g.ring t.position end held.position_is in
         held_still t contents old new held keeps (closed_at end behind left _ place other)
 
     pub open_by_byte : RingHas g.ring t.position 0 (4096 * n + 1) (commit_bytes t homes records ++ 0 ∷ []) new
-        → HoldsLog (tail_after t homes) (committed_to contents homes records) new
+        → HoldsMore
     open_by_byte all =
         let bytes : List ℕ = commit_bytes t homes records in
         let size : length bytes ≡ 4096 * n =
@@ -211,8 +220,7 @@ module _ (t : TailValue) (contents : ℕ → List ℕ) (old new : List ℕ) (hom
         tells.last e
         (subst R (sym held.used_is) (subst Q (sym numbers) (to_tail n e (behind + 1) (left - n) next))))
 
-    pub whole_by_digest : RingHas g.ring t.position 0 (4096 * n) (commit_bytes t homes records) new
-        → HoldsLog (tail_after t homes) (committed_to contents homes records) new
+    pub whole_by_digest : RingHas g.ring t.position 0 (4096 * n) (commit_bytes t homes records) new → HoldsMore
     whole_by_digest all =
         let has = at_end 0 (4096 * n) (commit_bytes t homes records) all in
         held_more t contents old new held keeps homes records some long (next_of has) (are_records has) last
@@ -220,8 +228,7 @@ module _ (t : TailValue) (contents : ℕ → List ℕ) (old new : List ℕ) (hom
     abbrev sealed_there : List ℕ
     sealed_there = log_seal g.sealing s.epoch d (ring_bytes g.ring new (records_position end d) count) ++ log_body d
 
-    pub torn_by_digest : HoldsLog t contents new
-        ⊎ HoldsLog (tail_after t homes) (committed_to contents homes records) new
+    pub torn_by_digest : HoldsSame ⊎ HoldsMore
     torn_by_digest = elim (same_lists (ring_bytes g.ring new end blocks) sealed_there) [
       | inl same ↦
           let next = is_next same in

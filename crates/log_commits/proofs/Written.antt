@@ -1,6 +1,6 @@
 -- Home blocks that commits have are free to be written, and once they are, a start behind these commits may count.
-use Rattle.std.proofs.Common.{◌≡◌, ◌≢◌, ◌⊎◌, ℕ, zero, suc, ◌+◌, ◌-◌, ◌*◌, ◌/◌, ◌%◌, ◌<◌, ◌≤◌, ◌==◌, List, [], ◌∷◌, ◌++◌}
-use Rattle.std.proofs.Common.{Bool, true, false, cond, length, take, get_or, inl, inr, refl, sym, ap, subst, ◌∙◌, arith}
+use Rattle.std.proofs.Common.{◌≡◌, ◌⊎◌, ℕ, zero, suc, ◌+◌, ◌-◌, ◌*◌, ◌/◌, ◌%◌, ◌<◌, ◌≤◌, ◌==◌, List, [], ◌∷◌, ◌++◌}
+use Rattle.std.proofs.Common.{Bool, true, false, cond, length, get_or, inl, inr, refl, sym, ap, subst, ◌∙◌, arith}
 use Rattle.std.proofs.Common.{length-append}
 use Rattle.std.proofs.Math.Nat.{mod-add-mod}
 use Rattle.std.specs.List.{Contains}
@@ -11,11 +11,11 @@ use Rattle.volume_codec.specs.Layout.{block_at}
 use Rattle.log_codec.specs.declared.sealing.Sealing.{Sealing}
 use Rattle.log_codec.specs.declared.sealing.Sealing.TheVariants.{ByByte, ByDigest}
 use Rattle.log_codec.specs.declared.start.LogStart.{LogStart}
-use Rattle.log_codec.specs.Log.{LogValue, IsLog, ring_block, first_log_home, log_descriptor_blocks, log_commit_blocks}
+use Rattle.log_codec.specs.Log.{LogValue, IsLog, ring_block, log_descriptor_blocks, log_commit_blocks}
 use Rattle.log_codec.specs.Start.{HasLogStart}
 use Rattle.log_codec.specs.Commit.{LogDescriptor}
-use Rattle.log_codec.specs.Chain.{IsNextCommit, LogEndsAt, IsChain, HasLog, IsLogHome, records_position}
-use Rattle.log_codec.specs.Chain.{position_after, chain_end, chain_blocks, logged_or, newest_or, contents_of_log}
+use Rattle.log_codec.specs.Chain.{LogEndsAt, IsChain, IsLogHome, records_position}
+use Rattle.log_codec.specs.Chain.{position_after, chain_end, chain_blocks, logged_or, newest_or}
 use Rattle.log_commits.specs.Tail.{TailValue, HoldsLog}
 use Rattle.log_commits.specs.Homes.{IsLoggedHome, DiffersInHomes, AreWrittenHome, tail_from, start_behind_of}
 use Rattle.log_commits.specs.Homes.{StaysLastBy, MayStartBehind}
@@ -53,7 +53,7 @@ newest_in ring one other p (d ∷ ds) b (inr has) =
     newest_in ring (logged_or ring one (records_position p d) d.homes b)
     (logged_or ring other (records_position p d) d.homes b) (position_after p d) ds b has
 
-logged_cases : (homes : List ℕ) (b : ℕ)
+pub logged_cases : (homes : List ℕ) (b : ℕ)
     → Contains homes b ⊎ ((ring other p : ℕ) → logged_or ring other p homes b ≡ other)
 logged_cases [] b = inr (λ ring other p. refl)
 logged_cases (home ∷ homes) b = elim (cases_eq home b) [
@@ -68,7 +68,7 @@ logged_cases (home ∷ homes) b = elim (cases_eq home b) [
 ]
 
 -- a commit has the home block, or none changes which block is read
-newest_cases : (ds : List LogDescriptor) (b : ℕ)
+pub newest_cases : (ds : List LogDescriptor) (b : ℕ)
     → IsLoggedHome ds b ⊎ ((ring other p : ℕ) → newest_or ring other p ds b ≡ other)
 newest_cases [] b = inr (λ ring other p. refl)
 newest_cases (d ∷ ds) b = elim (logged_cases d.homes b) [
@@ -123,62 +123,76 @@ newest_round ring other p q (d ∷ ds) b same =
 
 -- ---- home blocks that are written
 
+-- new is old in the log, in the start that counts, and in each home block that no commit has
 module _ (t : TailValue) (contents : ℕ → List ℕ) (old new : List ℕ) (log : IsLog t.log)
-    (held : HoldsLog t contents old) (differs : DiffersInHomes t.log held.chain old new) where
+    (held : HoldsLog t contents old) (same_length : length new ≡ length old)
+    (start : HasLogStart t.log.ring t.start new)
+    (same : (b : ℕ) → 4 ≤ b → b < 4 + t.log.ring → block_at new b ≡ block_at old b)
+    (homes : (b : ℕ) → IsLogHome t.log b → (block_at new b ≡ block_at old b) ⊎ IsLoggedHome held.chain b) where
   abbrev ring : ℕ
   ring = t.log.ring
 
-  low_same : (i : ℕ) → i < 4096 * (4 + ring) → get_or new i 0 ≡ get_or old i 0
-  low_same i lt =
-      sym (get_or-take (4096 * (4 + ring)) new i 0 lt) ∙ ap (λ (l : List ℕ). get_or l i 0) differs.low
-      ∙ get_or-take (4096 * (4 + ring)) old i 0 lt
-
-  low_block : (b : ℕ) → b < 4 + ring → block_at new b ≡ block_at old b
-  low_block b lt =
-      same_block new old b differs.same_length (λ j small. low_same (4096 * b + j) (omega arith))
-
   in_ring : (p n : ℕ) → SameBlocks ring p p n old new
-  in_ring p n = λ k lt. low_block (ring_block ring (p + k)) (block_low ring (p + k) (omega (arith, log.some_ring)))
+  in_ring p n = λ k lt.
+      same (ring_block ring (p + k)) (omega arith) (block_low ring (p + k) (omega (arith, log.some_ring)))
 
   ends_same : (s : Sealing) (p number room : ℕ) → LogEndsAt s t.log t.start.epoch p number room old
       → LogEndsAt s t.log t.start.epoch p number room new
   ends_same ByByte p number room closed = λ opened.
       closed (ap (λ (l : List ℕ). get_or l 0 0)
-      (sym (low_block (ring_block ring p) (block_low ring p (omega (arith, log.some_ring))))) ∙ opened)
+      (sym (same (ring_block ring p) (omega arith) (block_low ring p (omega (arith, log.some_ring))))) ∙ opened)
   ends_same (ByDigest key) p number room none = λ d next.
       none d (next_moved t.log t.start.epoch p p number room d new old
       (λ k lt. sym (in_ring p (log_commit_blocks (length d.homes)) k lt)) next)
 
-  pub held_with_homes : HoldsLog t contents new
-  held_with_homes =
+  pub kept_with_homes : (h : HoldsLog t contents new) × (h.chain ≡ held.chain)
+  kept_with_homes =
       let g : LogValue = t.log in
       let s : LogStart = t.start in
       let chain : List LogDescriptor = held.chain in
       let ends = ends_same g.sealing (chain_end s.position chain) (s.number + length chain)
       (g.ring - chain_blocks chain)
       (ends_of g s.epoch s.position s.number g.ring chain old held.log.commits) in
-      let P : List LogDescriptor → Type 0 = λ ds. IsChain g s.epoch s.position s.number g.ring ds new in
-      record {
-        chain = chain;
-        log = record {
-          long = omega (arith, held.log.long, differs.same_length);
-          start = start_kept ring s old new differs.same_length (λ i lt. low_same i (omega arith)) held.log.start;
-          commits = subst P (append-nil chain) (chain_on g s.epoch s.position s.number g.ring chain [] old new
-              (in_ring s.position (chain_blocks chain)) held.log.commits ends);
-        };
-        position_is = held.position_is;
-        number_is = held.number_is;
-        used_is = held.used_is;
-        contents_are = λ b home. held.contents_are b home ∙ sym (elim (differs.homes b home) [
-          | inl same ↦
-              newest_same ring b s.position chain b old new same (in_ring s.position (chain_blocks chain))
-          | inr has ↦
-              ap (block_at new) (newest_in ring b 0 s.position chain b has)
-              ∙ newest_same ring 0 s.position chain b old new (low_block 0 (omega arith))
-              (in_ring s.position (chain_blocks chain))
-              ∙ ap (block_at old) (newest_in ring 0 b s.position chain b has)
-        ]);
-      }
+      let P : List LogDescriptor → Type 0 = λ ds. IsChain g s.epoch s.position s.number g.ring ds new in (
+        record {
+          chain = chain;
+          log = record {
+            long = omega (arith, held.log.long, same_length);
+            start = start;
+            commits = subst P (append-nil chain) (chain_on g s.epoch s.position s.number g.ring chain [] old new
+                (in_ring s.position (chain_blocks chain)) held.log.commits ends);
+          };
+          position_is = held.position_is;
+          number_is = held.number_is;
+          used_is = held.used_is;
+          contents_are = λ b home. held.contents_are b home ∙ sym (elim (homes b home) [
+            | inl here ↦
+                newest_same ring b s.position chain b old new here (in_ring s.position (chain_blocks chain))
+            | inr has ↦
+                ap (block_at new) (newest_in ring b 4 s.position chain b has)
+                ∙ newest_same ring 4 s.position chain b old new (same 4 (omega arith) (omega (arith, log.some_ring)))
+                (in_ring s.position (chain_blocks chain))
+                ∙ ap (block_at old) (newest_in ring 4 b s.position chain b has)
+          ]);
+        },
+        refl,
+      )
+
+pub held_with_homes : (t : TailValue) (contents : ℕ → List ℕ) (old new : List ℕ) → IsLog t.log
+    → (held : HoldsLog t contents old) → DiffersInHomes t.log held.chain old new → HoldsLog t contents new
+held_with_homes t contents old new log held differs =
+    (kept_with_homes t contents old new log held differs.same_length
+    (start_kept t.log.ring t.start old new differs.same_length (λ i lt. low_same i (omega arith)) held.log.start)
+    (λ b least most. low_block b most) differs.homes).0
+  where
+    low_same : (i : ℕ) → i < 4096 * (4 + t.log.ring) → get_or new i 0 ≡ get_or old i 0
+    low_same i lt =
+        sym (get_or-take (4096 * (4 + t.log.ring)) new i 0 lt) ∙ ap (λ (l : List ℕ). get_or l i 0) differs.low
+        ∙ get_or-take (4096 * (4 + t.log.ring)) old i 0 lt
+
+    low_block : (b : ℕ) → b < 4 + t.log.ring → block_at new b ≡ block_at old b
+    low_block b lt =
+        same_block new old b differs.same_length (λ j small. low_same (4096 * b + j) (omega arith))
 
 -- ---- a start behind some commits
 
@@ -325,25 +339,27 @@ module _ (t : TailValue) (contents : ℕ → List ℕ) (old new : List ℕ) (log
       here ∙ sym (newest_same turn b p es b old new (high_block b (omega (arith, home.low))) kept)
       ∙ ap (block_at new) (sym (newest_round turn b p q es b (λ k. block_round turn p k)))
 
-  pub held_from : HoldsLog (tail_from t ds) contents new
+  pub held_from : (h : HoldsLog (tail_from t ds) contents new) × (h.chain ≡ es)
   held_from =
       let P : List LogDescriptor → Type 0 =
-      λ l. IsChain t.log t.start.epoch t.start.position t.start.number turn l old in
-      record {
-        chain = es;
-        log = record {
-          long = omega (arith, held.log.long, same_length);
-          start = start;
-          commits = chain_wider t.log t.start.epoch p q number (turn - chain_blocks ds) turn es old new
-              (moved_blocks (chain_blocks es)) (omega arith)
-              (chain_behind t.log t.start.epoch t.start.position t.start.number turn ds es old
-              (subst P parts held.log.commits)) end_there;
-        };
-        position_is = position;
-        number_is = numbers;
-        used_is = used;
-        contents_are = recovered;
-      }
+      λ l. IsChain t.log t.start.epoch t.start.position t.start.number turn l old in (
+        record {
+          chain = es;
+          log = record {
+            long = omega (arith, held.log.long, same_length);
+            start = start;
+            commits = chain_wider t.log t.start.epoch p q number (turn - chain_blocks ds) turn es old new
+                (moved_blocks (chain_blocks es)) (omega arith)
+                (chain_behind t.log t.start.epoch t.start.position t.start.number turn ds es old
+                (subst P parts held.log.commits)) end_there;
+          };
+          position_is = position;
+          number_is = numbers;
+          used_is = used;
+          contents_are = recovered;
+        },
+        refl,
+      )
 
 -- the log ends where it did
 ends_by : (t : TailValue) (contents : ℕ → List ℕ) (old new : List ℕ) (left : ℕ) (s : Sealing) → t.log.sealing ≡ s
@@ -362,7 +378,7 @@ ends_by t contents old new left (ByDigest key) digest held high last = last
 
 pub may_start : (t : TailValue) (contents : ℕ → List ℕ) (old new : List ℕ) → IsLog t.log
     → (held : HoldsLog t contents old) → (ds younger : List LogDescriptor) → held.chain ≡ ds ++ younger
-    → MayStartBehind t contents ds younger old new → HoldsLog (tail_from t ds) contents new
+    → MayStartBehind t contents ds younger old new → (h : HoldsLog (tail_from t ds) contents new) × (h.chain ≡ younger)
 may_start t contents old new log held ds younger parts may =
     let high : (i : ℕ) → 16384 ≤ i → get_or new i 0 ≡ get_or old i 0 = λ i le.
     ap (λ k. get_or new k 0) (behind_place i le) ∙ sym (get_or-drop 16384 new (i - 16384) 0)

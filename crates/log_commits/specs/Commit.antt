@@ -12,7 +12,8 @@ use Rattle.log_codec.specs.Log.{log_descriptor_blocks, log_commit_blocks}
 use Rattle.log_codec.specs.Commit.{LogDescriptor, log_body, log_seal}
 use Rattle.log_codec.specs.Chain.{IsNextCommit, LogRecovers, spare_blocks, records_position, position_after}
 use Rattle.log_commits.specs.declared.fault.CommitFault.{CommitFault}
-use Rattle.log_commits.specs.declared.fault.CommitFault.TheVariants.{Spent, Count, Homes, Room, Number, Busy, Device}
+use Rattle.log_commits.specs.declared.fault.CommitFault.TheVariants.{Spent, Count, Homes, Room, Number, Busy}
+use Rattle.log_commits.specs.declared.fault.CommitFault.TheVariants.{Start, Device}
 use Rattle.log_commits.specs.Ring.{ring_works}
 use Rattle.log_commits.specs.Tail.{TailValue, HoldsLog}
 
@@ -41,6 +42,7 @@ RefusesCommit t homes room Homes = RiseWithin (first_log_home t.log.ring) t.log.
 RefusesCommit t homes room Room = room ≢ 4096 * log_commit_blocks (length homes) + 1
 RefusesCommit t homes room Number = 2 ^ 64 ≤ t.number + 1
 RefusesCommit t homes room Busy = IsFull t (length homes)
+RefusesCommit t homes room Start = ⊥
 RefusesCommit t homes room Device = MayCommit t homes room
 
 -- the commit under way
@@ -52,13 +54,17 @@ abbrev pub commit_bytes : TailValue → List ℕ → List ℕ → List ℕ
 commit_bytes t homes records =
     let d = next_logged t homes in log_seal t.log.sealing t.start.epoch d records ++ log_body d ++ records
 
--- Its device calls. Where a byte seals, all but that byte is written first, up to the byte that closes the next seal,
--- and made sure of before the byte opens this one. Where a digest seals, all is written at once.
-abbrev pub works_by : Sealing → ℕ → ℕ → List ℕ → List Work
-works_by ByByte ring position bytes =
+-- Its device calls, with these last ones. Where a byte seals, all but that byte is written first, up to the byte that
+-- closes the next seal, and made sure of before the byte opens this one. Where a digest seals, all is written at once.
+abbrev pub works_with : Sealing → ℕ → ℕ → List ℕ → List Work → List Work
+works_with ByByte ring position bytes last =
     ring_works ring position 1 (bytes ++ 0 ∷ [])
-    ++ (Sync ∷ WriteAt (4096 * ring_block ring position) (0xA7 ∷ []) ∷ Sync ∷ [])
-works_by (ByDigest key) ring position bytes = ring_works ring position 0 bytes ++ Sync ∷ []
+    ++ (Sync ∷ WriteAt (4096 * ring_block ring position) (0xA7 ∷ []) ∷ last)
+works_with (ByDigest key) ring position bytes last = ring_works ring position 0 bytes ++ last
+
+-- the last one makes sure of the commit
+abbrev pub works_by : Sealing → ℕ → ℕ → List ℕ → List Work
+works_by sealing ring position bytes = works_with sealing ring position bytes (Sync ∷ [])
 
 abbrev pub commit_works : TailValue → List ℕ → List ℕ → List Work
 commit_works t homes records = works_by t.log.sealing t.log.ring t.position (commit_bytes t homes records)

@@ -3,3 +3,5 @@ pub mod Ring
 pub mod Tail
 pub mod Commit
 pub mod Homes
+pub mod Behind
+pub mod Selecting

@@ -1,14 +1,18 @@
 // Commits.
-ghost use Rattle.std.specs.Prelude.{◌≡◌, ◌≢◌, ◌↔◌, ◌⊎◌, ◌<◌, ◌≤◌, ◌+◌, ◌*◌, ◌^◌, ◌++◌, [], ◌∷◌, ℕ, List, true, is_ok, length, take, IsTrue, IfOk, IfErr, OnOk};
+ghost use Rattle.std.specs.Prelude.{◌≡◌, ◌≢◌, ◌↔◌, ◌⊎◌, ◌<◌, ◌≤◌, ◌+◌, ◌*◌, ◌^◌, ◌++◌, [], ◌∷◌, ℕ, Bool, List, true, is_ok, length, take, IsTrue, IfOk, IfErr, OnOk, OnErr};
 ghost use Rattle.volume_codec.specs.Descriptor.{RiseWithin};
 ghost use Rattle.log_codec.specs.Chain.{spare_blocks};
 ghost use Rattle.device.specs.Work.{Sync, WriteAt};
 ghost use Rattle.log_codec.specs.Log.{log_descriptor_blocks};
 ghost use Rattle.log_commits.specs.declared.fault.CommitFault.TheVariants.{Device};
 ghost use Rattle.log_commits.specs.Calls.{DidAll};
+ghost use Rattle.log_codec.specs.Commit.{LogDescriptor};
 ghost use Rattle.log_commits.specs.Tail.{HoldsLog};
-ghost use Rattle.log_commits.specs.Commit.{MayCommit, RefusesCommit, CommitLeaves, commit_bytes, commit_works, works_by, records_in, tail_after};
+ghost use Rattle.log_commits.specs.Behind.{HoldsCommits, IsSameOutside};
+ghost use Rattle.log_commits.specs.Selecting.{last_works};
+ghost use Rattle.log_commits.specs.Commit.{MayCommit, RefusesCommit, CommitLeaves, TellsTorn, committed_to, next_logged, commit_bytes, commit_works, works_with, records_in, tail_after};
 
+use crate::behind::select_other;
 use crate::fault::CommitFault;
 use crate::image::fill;
 use crate::ring::write_ring;
@@ -44,10 +48,22 @@ fn rise_within(homes: &[u32], low: u32, high: u32) -> bool
     true
 }
 
-// Makes sure of what was written, opens the seal at an offset, and makes sure of that.
-fn open_at<D: Device>(device: &mut D, at: u64) -> Result<(), DeviceFault>
-    requires { at + 1 ≤ length (D.seen device.old) }
-    ensures { DidAll D.Device device.old (Sync ∷ WriteAt at (0xA7 ∷ []) ∷ Sync ∷ []) (is_ok result) device.new }
+// Makes sure of what was written. Where a start is to be selected, the one that doesn't count is, before that.
+fn finish<D: Device>(device: &mut D, select: Option<bool>) -> Result<(), DeviceFault>
+    requires long { 16384 ≤ length (D.seen device.old) }
+    ensures { DidAll D.Device device.old (last_works select) (is_ok result) device.new }
+{
+    match select {
+        None => make_durable(device),
+        Some(second) => select_other(device, second),
+    }
+}
+
+// Makes sure of what was written, opens the seal at an offset, and finishes.
+fn open_at<D: Device>(device: &mut D, at: u64, select: Option<bool>) -> Result<(), DeviceFault>
+    requires long { 16384 ≤ length (D.seen device.old) }
+    requires there { at + 1 ≤ length (D.seen device.old) }
+    ensures { DidAll D.Device device.old (Sync ∷ WriteAt at (0xA7 ∷ []) ∷ last_works select) (is_ok result) device.new }
 {
     match make_durable(device) {
         Ok(()) => {}
@@ -57,31 +73,33 @@ fn open_at<D: Device>(device: &mut D, at: u64) -> Result<(), DeviceFault>
         Ok(()) => {}
         Err(fault) => return Err(fault),
     }
-    make_durable(device)
+    finish(device, select)
 }
 
-// Writes a commit and one byte, which closes the next seal, at a position of the log, and makes sure of the commit.
+// Writes a commit and one byte, which closes the next seal, at a position of the log, and finishes.
 fn write_commit<D: Device>(
     device: &mut D,
     log: &LogGeometry,
     position: u32,
     bytes: &[u8],
+    select: Option<bool>,
 ) -> Result<(), DeviceFault>
     requires long { 4096 * log.now.blocks ≤ length (D.seen device.old) }
     requires some { 1 < length bytes.now }
     requires fits { length bytes.now ≤ 4096 * log.now.ring }
     ensures { (commit : List ℕ) → bytes.now ≡ commit ++ 0 ∷ []
-        → DidAll D.Device device.old (works_by log.now.sealing log.now.ring position commit) (is_ok result) device.new }
+        → DidAll D.Device device.old (works_with log.now.sealing log.now.ring position commit (last_works select))
+        (is_ok result) device.new }
 {
     let at = 4096 * u64::from(log.block_behind(position, 0));
     match log.sealing() {
         Sealing::ByByte => match write_ring(device, log, position, 1, bytes) {
-            Ok(()) => open_at(device, at),
+            Ok(()) => open_at(device, at, select),
             Err(fault) => Err(fault),
         },
         Sealing::ByDigest(_) => {
             match write_ring(device, log, position, 0, &bytes[..bytes.len() - 1]) {
-                Ok(()) => make_durable(device),
+                Ok(()) => finish(device, select),
                 Err(fault) => Err(fault),
             }
         }
@@ -91,7 +109,7 @@ fn write_commit<D: Device>(
 impl LogTail {
     // The number of blocks of the descriptor of the next commit, with records for these home blocks, in room of this
     // size.
-    fn judge(&self, homes: &[u32], room: usize) -> Result<u32, CommitFault>
+    pub(crate) fn judge(&self, homes: &[u32], room: usize) -> Result<u32, CommitFault>
         ensures ok { IfOk result (λ blocks. (blocks ≡ log_descriptor_blocks (length homes.now))
             × MayCommit self.now homes.now room) }
         ensures refused { IfErr result (RefusesCommit self.now homes.now room) }
@@ -123,6 +141,44 @@ impl LogTail {
         Ok(blocks)
     }
 
+    // Writes the next commit, in whose room the records are, and finishes.
+    pub(crate) fn write_next<D: Device>(
+        &mut self,
+        device: &mut D,
+        homes: &[u32],
+        room: &mut [u8],
+        blocks: u32,
+        select: Option<bool>,
+    ) -> Result<(), CommitFault>
+        requires long { 4096 * self.old.log.blocks ≤ length (D.seen device.old) }
+        requires may { MayCommit self.old homes.now (length room.old) }
+        requires blocks { blocks ≡ log_descriptor_blocks (length homes.now) }
+        ensures failed { IfErr result (λ fault. fault ≡ Device) }
+        ensures value { OnOk result (self.new ≡ tail_after self.old homes.now) }
+        ensures spent { OnErr result (self.new ≡ record self.old { spent = true }) }
+        ensures did { DidAll D.Device device.old (works_with self.old.log.sealing self.old.log.ring self.old.position
+            (commit_bytes self.old homes.now (records_in homes.now room.old)) (last_works select))
+            (is_ok result) device.new }
+        ensures bytes { room.new ≡ commit_bytes self.old homes.now (records_in homes.now room.old) ++ 0 ∷ [] }
+        ensures len { length (D.seen device.new) ≡ length (D.seen device.old) }
+        ensures honest { D.is_honest device.new ↔ D.is_honest device.old }
+    {
+        let epoch = self.start.epoch;
+        fill(&self.log, epoch, self.number, homes, blocks, room);
+        match write_commit(device, &self.log, self.position, room, select) {
+            Ok(()) => {}
+            Err(_) => {
+                self.spent = true;
+                return Err(CommitFault::Device);
+            }
+        }
+        let size = blocks + homes.len() as u32;
+        self.position = self.log.position_behind(self.position, size);
+        self.number += 1;
+        self.used += size;
+        Ok(())
+    }
+
     /// Commits records for home blocks, which rise strictly. The caller's room is as long as the commit and one byte.
     /// It has the records behind the blocks of the descriptor, which are filled in here. Takes no memory.
     ///
@@ -147,26 +203,30 @@ impl LogTail {
         ensures bytes { MayCommit self.old homes.now (length room.old)
             → room.new ≡ commit_bytes self.old homes.now (records_in homes.now room.old) ++ 0 ∷ [] }
 
+        // Home blocks, the starts and the byte that selects one stay.
+        ensures len { length (D.seen device.new) ≡ length (D.seen device.old) }
+        ensures honest { D.is_honest device.new ↔ D.is_honest device.old }
+        ensures outside { D.is_honest device.old
+            → IsSameOutside self.old.log (D.seen device.old) (D.seen device.new) }
+
+        // Each list that a crash may leave before holds the log, with these contents and commits.
+        ensures commits { (second : Bool) (contents : ℕ → List ℕ) (chain : List LogDescriptor)
+            → D.is_honest device.old
+            → ((c : List ℕ) → D.may_leave device.old c → HoldsCommits second self.old contents chain c)
+            → OnOk result (TellsTorn self.old homes.now (records_in homes.now room.old) (D.seen device.new)
+            → HoldsCommits second (tail_after self.old homes.now)
+            (committed_to contents homes.now (records_in homes.now room.old))
+            (chain ++ next_logged self.old homes.now ∷ []) (D.seen device.new)) }
+
         // Each list that a crash may leave before holds the log, with these contents.
         ensures leaves { (contents : ℕ → List ℕ) → D.is_honest device.old
             → ((c : List ℕ) → D.may_leave device.old c → HoldsLog self.old contents c)
             → CommitLeaves D.Device self.old contents homes.now (records_in homes.now room.old) (is_ok result)
             device.old device.new }
     {
+        let _log = &self.log;
         let blocks = self.judge(homes, room.len())?;
-        let epoch = self.start.epoch;
-        fill(&self.log, epoch, self.number, homes, blocks, room);
-        match write_commit(device, &self.log, self.position, room) {
-            Ok(()) => {}
-            Err(_) => {
-                self.spent = true;
-                return Err(CommitFault::Device);
-            }
-        }
-        let size = blocks + homes.len() as u32;
-        self.position = self.log.position_behind(self.position, size);
-        self.number += 1;
-        self.used += size;
+        self.write_next(device, homes, room, blocks, None)?;
         Ok(())
     }
 }

@@ -15,6 +15,8 @@ pub enum CommitFault {
     Number,
     /// The log is too full until older commits are written home.
     Busy,
+    /// The start can't move behind the commits that it is to move behind.
+    Start,
     /// A device call failed now.
     Device,
 }

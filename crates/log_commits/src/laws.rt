@@ -1,5 +1,5 @@
 // What follows of the definitions alone.
-ghost use Rattle.std.specs.Prelude.{◌≡◌, ◌++◌, ℕ, List, [], Bool};
+ghost use Rattle.std.specs.Prelude.{◌≡◌, ◌++◌, ℕ, List, [], ◌∷◌, Bool};
 ghost use Rattle.volume_codec.specs.Layout.{block_at};
 ghost use Rattle.log_codec.specs.declared.sealing.Sealing.TheVariants.{ByByte};
 ghost use Rattle.log_codec.specs.declared.start.LogStart.{LogStart};
@@ -7,8 +7,10 @@ ghost use Rattle.log_codec.specs.Log.{LogValue, IsLog};
 ghost use Rattle.log_codec.specs.Commit.{LogDescriptor};
 ghost use Rattle.log_codec.specs.Chain.{HasLog, LogRecovers};
 ghost use Rattle.log_commits.specs.Tail.{TailValue, HoldsLog, tail_at};
-ghost use Rattle.log_commits.specs.Commit.{TellsTorn};
-ghost use Rattle.log_commits.specs.Homes.{DiffersInHomes, MayStartBehind, tail_from};
+ghost use Rattle.log_commits.specs.declared.behind.OldCommits.{OldCommits};
+ghost use Rattle.log_commits.specs.Commit.{TellsTorn, committed_to, next_logged, tail_after};
+ghost use Rattle.log_commits.specs.Homes.{AreWrittenHome, DiffersInHomes, MayStartBehind, tail_from};
+ghost use Rattle.log_commits.specs.Behind.{HoldsCommits, IsReadyToMove, IsSameOutside};
 
 /// Bytes that hold a log with a tail recover to its contents. A log without commits holds its home blocks.
 pub fn held_log()
@@ -33,4 +35,20 @@ pub fn written_home()
     ensures next_start { (t : TailValue) (contents : ℕ → List ℕ) (old new : List ℕ) → IsLog t.log
         → (held : HoldsLog t contents old) → (ds younger : List LogDescriptor) → held.chain ≡ ds ++ younger
         → MayStartBehind t contents ds younger old new → HoldsLog (tail_from t ds) contents new }
+{}
+
+/// What a commit keeps of older commits that are being written home: a home block that is written stays so, or the
+/// commit has it, too. Once the start behind the older commits is written and they are home, it stays ready.
+pub fn committing_keeps()
+    ensures written { (t : TailValue) (contents : ℕ → List ℕ) (ds younger : List LogDescriptor)
+        (homes records old new : List ℕ) → IsSameOutside t.log old new
+        → AreWrittenHome t.log contents ds younger old
+        → AreWrittenHome t.log (committed_to contents homes records) ds (younger ++ next_logged t homes ∷ []) new }
+    ensures ready { (second : Bool) (t : TailValue) (oldest : OldCommits) (contents : ℕ → List ℕ)
+        (ds younger : List LogDescriptor) (homes records old new : List ℕ) → IsSameOutside t.log old new
+        → IsReadyToMove second t oldest contents ds younger old
+        → HoldsCommits second (tail_after t homes) (committed_to contents homes records)
+        ((ds ++ younger) ++ next_logged t homes ∷ []) new
+        → IsReadyToMove second (tail_after t homes) oldest (committed_to contents homes records) ds
+        (younger ++ next_logged t homes ∷ []) new }
 {}

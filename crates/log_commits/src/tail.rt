@@ -1,5 +1,5 @@
 // The end of a log.
-ghost use Rattle.std.specs.Prelude.{◌≡◌, false};
+ghost use Rattle.std.specs.Prelude.{◌≡◌, ◌-◌, false};
 ghost use Rattle.log_commits.specs.Tail.{IsTail, tail_at};
 
 use log_codec::{LogGeometry, LogStart};
@@ -54,6 +54,34 @@ impl LogTail {
             used: 0,
             spent: false,
         }
+    }
+
+    /// Where the volume has its parts.
+    pub fn log(&self) -> LogGeometry
+        ensures { result ≡ self.now.log }
+    {
+        self.log
+    }
+
+    /// The position of the next commit.
+    pub fn position(&self) -> u32
+        ensures { result ≡ self.now.position }
+    {
+        self.position
+    }
+
+    /// The number of the next commit.
+    pub fn number(&self) -> u64
+        ensures { result ≡ self.now.number }
+    {
+        self.number
+    }
+
+    /// The number of commits in the log: those that aren't all written home.
+    pub fn commits(&self) -> u64
+        ensures { result ≡ self.now.number - self.now.start.number }
+    {
+        self.number.saturating_sub(self.start.number)
     }
 
     /// Whether a device call failed. Then no further commit is made.

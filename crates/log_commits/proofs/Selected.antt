@@ -1,0 +1,385 @@
+-- What the calls of a commit leave that selects a start.
+use Rattle.std.proofs.Common.{◌≡◌, ◌⊎◌, ℕ, ◌+◌, ◌-◌, ◌*◌, ◌<◌, ◌≤◌, Bool, true, false, List, [], ◌∷◌, ◌++◌}
+use Rattle.std.proofs.Common.{length, get_or, inl, inr, refl, sym, ap, subst, ◌∙◌, arith, length-append}
+use Rattle.std.specs.Prelude.{not}
+use Rattle.std.proofs.lemmas.Bool.{cases_eq, false≢true}
+use Rattle.device.specs.Device.{Torn, TornFrom, Only, LeavesOnly}
+use Rattle.device.specs.Work.{WriteAt, Sync}
+use Rattle.device.specs.Did.{Did}
+use Rattle.device.specs.declared.device.Device.{Ghosts}
+use Rattle.device.proofs.Public.{leaves_at_start, leaves_weaker, leaves_then, done_seen, written_within}
+use Rattle.device.proofs.Ranges.{torn_by_write}
+use Rattle.log_codec.specs.declared.sealing.Sealing.{Sealing}
+use Rattle.log_codec.specs.declared.sealing.Sealing.TheVariants.{ByByte, ByDigest}
+use Rattle.log_codec.specs.Log.{IsLog, ring_block, log_descriptor_blocks, log_commit_blocks}
+use Rattle.log_codec.specs.Start.{counts_second}
+use Rattle.log_codec.specs.Commit.{LogDescriptor, log_body, log_seal}
+use Rattle.log_commits.specs.declared.behind.OldCommits.{OldCommits}
+use Rattle.log_commits.specs.Calls.{DidAll}
+use Rattle.log_commits.specs.Ring.{ring_works}
+use Rattle.log_commits.specs.Tail.{TailValue, HoldsLog}
+use Rattle.log_commits.specs.Commit.{CommitLeaves, LeftByCommit, MayCommit, TellsTorn, TellsTornBy, TellsTornByDigest}
+use Rattle.log_commits.specs.Commit.{committed_to, next_logged, commit_bytes, works_with, tail_after}
+use Rattle.log_commits.specs.Behind.{HoldsCommits, IsReadyToMove, IsSameOutside, MayMove, select_works, selecting}
+use Rattle.log_commits.specs.Behind.{tail_behind}
+use Rattle.log_commits.specs.Selecting.{IsSureBy, selecting_works}
+use Rattle.log_commits.proofs.Places.{block_low}
+use Rattle.log_commits.proofs.Ranges.{RingTorn, RingHas, torn_within}
+use Rattle.log_commits.proofs.Kept.{selects}
+use Rattle.log_commits.proofs.Left.{recovers, keeps, unsealed, sealed, closed, seal_torn, image_size, near}
+use Rattle.log_commits.proofs.UnderWay.{torn_by_digest, whole_by_digest}
+use Rattle.log_commits.proofs.Works.{RingFrom, WentRound, went_round, did_split, one_did}
+use Rattle.log_commits.proofs.Ready.{Before, After, Either, Left, torn_outside, ready_same, ready_more}
+use Rattle.log_commits.proofs.Ready.{left_selecting, left_either, selected_with}
+
+module _ {D : Type 0} (disk : Ghosts D) (t : TailValue) (contents : ℕ → List ℕ) (homes records : List ℕ) (room : ℕ)
+    (oldest : OldCommits) (log : IsLog t.log) (may : MayCommit t homes room) (can : MayMove t oldest) (second : Bool)
+    (ds younger : List LogDescriptor)
+    (head_size : length (log_seal t.log.sealing t.start.epoch (next_logged t homes) records
+    ++ log_body (next_logged t homes)) ≡ 4096 * log_descriptor_blocks (length homes))
+    (records_size : length records ≡ 4096 * length homes) (old : D) (honest : disk.is_honest old)
+    (long : 4096 * t.log.blocks ≤ length (disk.seen old))
+    (held : (c : List ℕ) → disk.may_leave old c → HoldsCommits second t contents (ds ++ younger) c)
+    (ready : IsReadyToMove second t oldest contents ds younger (disk.seen old))
+    (seen_is_left : (device : D) → disk.is_honest device → disk.may_leave device (disk.seen device)) where
+  abbrev ring : ℕ
+  ring = t.log.ring
+
+  abbrev n : ℕ
+  n = log_commit_blocks (length homes)
+
+  abbrev bytes : List ℕ
+  bytes = commit_bytes t homes records
+
+  abbrev behind : TailValue
+  behind = tail_behind t oldest
+
+  abbrev newer : ℕ → List ℕ
+  newer = committed_to contents homes records
+
+  abbrev With : List ℕ → Type 0
+  With = After t contents homes records room oldest log may can second ds younger
+
+  abbrev Without : List ℕ → Type 0
+  Without = Before t contents homes records room oldest log may can second ds younger
+
+  abbrev Mid : List ℕ → Type 0
+  Mid = Either t contents homes records room oldest log may can second ds younger
+
+  abbrev Crash : List ℕ → Type 0
+  Crash = Left t contents homes records room oldest log may can second ds younger
+
+  -- what its calls leave; the commits that are read once it is made are known, too
+  pub record Leaves (new : D) (done : Bool) : Type 0 where
+    pub crash : LeavesOnly disk.moment disk.left_since old new Crash
+    pub durable : done ≡ true → Only (disk.may_leave new) (disk.seen new)
+    pub committed : done ≡ true → TellsTorn behind homes records (disk.seen new)
+        → HoldsCommits (not second) (tail_after behind homes) newer (younger ++ next_logged t homes ∷ [])
+        (disk.seen new)
+
+  abbrev seen_held : HoldsLog t contents (disk.seen old)
+  seen_held = ready.holds.held
+
+  abbrev lists_held : (c : List ℕ) → disk.may_leave old c → HoldsLog t contents c
+  lists_held c may = (held c may).held
+
+  some : 0 < ring
+  some = omega (arith, log.some_ring)
+
+  log_long : 4096 * (4 + ring) ≤ length (disk.seen old)
+  log_long = omega (arith, log.some_homes)
+
+  low : 16384 ≤ length (disk.seen old)
+  low = omega (arith, log_long)
+
+  size : length bytes ≡ 4096 * n
+  size = omega (
+    arith,
+    length-append (log_seal t.log.sealing t.start.epoch (next_logged t homes) records
+        ++ log_body (next_logged t homes)) records,
+    head_size,
+    records_size,
+  )
+
+  failed_as : {new : D} (done : Bool) → done ≡ false → Leaves new false → Leaves new done
+  failed_as {new} done is leaves = let P : Bool → Type 0 = λ b. Leaves new b in subst P (sym is) leaves
+
+  failed_by : {new : D} → LeavesOnly disk.moment disk.left_since old new Crash → Leaves new false
+  failed_by crash = record {
+    crash = crash;
+    durable = λ made. absurd (false≢true made);
+    committed = λ made. absurd (false≢true made);
+  }
+
+  -- what doesn't differ in the byte
+  crash_of : (c : List ℕ) → Mid c → Crash c
+  crash_of c may_be = left_either t contents homes records room oldest log may can second ds younger c may_be
+
+  -- ---- the byte, and the last sync
+
+  module _ (mid : D) (is : disk.is_honest mid) (room_for : 16384 ≤ length (disk.seen mid))
+      (lists : (c : List ℕ) → disk.may_leave mid c → Mid c)
+      (whole : TellsTorn t homes records (disk.seen mid) → With (disk.seen mid))
+      (before : LeavesOnly disk.moment disk.left_since old mid Crash) where
+    by_byte : (c : List ℕ) → TornFrom 4096 1 (disk.may_leave mid) c → Crash c
+    by_byte c from =
+        left_selecting t contents homes records room oldest log may can second ds younger from.0 c from.2
+        (lists from.0 from.1)
+
+    select_last : {new : D} (done : Bool) → DidAll disk mid (select_works second) done new → Leaves new done
+    select_last {new} done (inl failed) =
+        failed_as done failed.1
+        (failed_by (leaves_then {P = Crash} before (leaves_weaker failed.0.time by_byte)))
+    select_last {new} done (inr both) =
+        let one : D = both.0 in
+        let did = both.1 in
+        let sync = one_did disk Sync both.2 in
+        let one_is = did.honest.1 is in
+        let c : List ℕ = disk.seen one in
+        let seen = done_seen did is refl in
+        let fits : 4096 + 1 ≤ length (disk.seen mid) = omega arith in
+        let P : List ℕ → Type 0 = λ l. Torn 4096 1 (disk.seen mid) l in
+        let torn : Torn 4096 1 (disk.seen mid) c =
+        subst P (sym seen) (torn_by_write (disk.seen mid) 4096 (selecting (not second) ∷ []) fits) in
+        let byte : get_or c 4096 0 ≡ selecting (not second) =
+        ap (λ (l : List ℕ). get_or l 4096 0) seen
+        ∙ written_within (disk.seen mid) 4096 (selecting (not second) ∷ []) 4096 fits (omega arith) (omega arith) in
+        record {
+          crash = leaves_then {P = Crash} (leaves_then {P = Crash} before (leaves_weaker did.time by_byte))
+              (leaves_weaker sync.time (λ x may. by_byte x (did.left x may)));
+          durable = λ made x may. sync.durable one_is made refl x may ∙ sym (done_seen sync one_is made);
+          committed = λ made tells.
+              let same : disk.seen new ≡ c = done_seen sync one_is made in
+              let Q : List ℕ → Type 0 = λ l. TellsTorn behind homes records l in
+              let R : List ℕ → Type 0 = λ l. HoldsCommits (not second) (tail_after behind homes) newer
+              (younger ++ next_logged t homes ∷ []) l in
+              subst R (sym same) (selected_with t contents homes records room oldest log may can second ds younger
+              (disk.seen mid) c torn whole (selects (not second) ∙ ap counts_second (sym byte)) (subst Q same tells));
+        }
+
+  -- ---- where a digest seals
+
+  module _ (key : ℕ) (digest : t.log.sealing ≡ ByDigest key) (only : Only (disk.may_leave old) (disk.seen old)) where
+    abbrev seen : List ℕ
+    seen = disk.seen old
+
+    tells_by : (c : List ℕ) → TellsTorn t homes records c → TellsTornByDigest t homes records c
+    tells_by c tells =
+        let P : Sealing → Type 0 = λ s. TellsTornBy s t homes records c in subst P digest tells
+
+    kept : (c : List ℕ) (torn : RingTorn ring t.position 0 (length bytes) seen c) → IsSameOutside t.log seen c
+    kept c torn = torn_outside t.log t.position 0 (length bytes) seen c some torn
+
+    torn_either : (c : List ℕ) → RingTorn ring t.position 0 (length bytes) seen c → Mid c
+    torn_either c torn tells =
+        elim (torn_by_digest t contents seen c homes records room log seen_held may head_size records_size
+        (keeps disk t contents homes records room log may head_size records_size old honest long lists_held
+        seen_is_left key digest seen c seen_held torn) key digest (tells_by c tells)) [
+          | inl is ↦ inl (ready_same t contents homes records room oldest log may can second ds younger seen c ready
+              (kept c torn) is)
+          | inr is ↦ inr (ready_more t contents homes records room oldest log may can second ds younger seen c ready
+              (kept c torn) is)
+        ]
+
+    from_either : (c : List ℕ) → RingFrom ring t.position 0 (length bytes) (disk.may_leave old) c → Mid c
+    from_either c from =
+        let P : List ℕ → Type 0 = λ l. RingTorn ring t.position 0 (length bytes) l c in
+        torn_either c (subst P (only from.0 from.1) from.2)
+
+    left_ring : (c : List ℕ) → RingFrom ring t.position 0 (length bytes) (disk.may_leave old) c → Crash c
+    left_ring c from = crash_of c (from_either c from)
+
+    selecting_by_digest : {new : D} (done : Bool)
+        → DidAll disk old (ring_works ring t.position 0 bytes ++ select_works second) done new → Leaves new done
+    selecting_by_digest {new} done did =
+        elim (did_split disk (ring_works ring t.position 0 bytes) (select_works second) old new done did) [
+          | inl failed ↦
+              let went = went_round ring t.position some disk 0 bytes (omega arith) (omega arith)
+              (omega (arith, size, may.free)) false log_long failed.0 in
+              failed_as done failed.1 (failed_by (leaves_weaker went.has.time left_ring))
+          | inr both ↦
+              let mid : D = both.0 in
+              let went = went_round ring t.position some disk 0 bytes (omega arith) (omega arith)
+              (omega (arith, size, may.free)) true log_long both.1 in
+              let torn = went.has.torn honest in
+              let has : RingHas ring t.position 0 (4096 * n) bytes (disk.seen mid) = λ k least most.
+              went.is refl honest k least (omega (arith, size)) in
+              select_last mid (went.has.honest.1 honest) (omega (arith, went.has.same_length, low))
+              (λ c may. from_either c (went.has.left c may))
+              (λ tells. ready_more t contents homes records room oldest log may can second ds younger seen
+              (disk.seen mid) ready (kept (disk.seen mid) torn)
+              (whole_by_digest t contents seen (disk.seen mid) homes records room log seen_held may head_size
+              records_size (keeps disk t contents homes records room log may head_size records_size old honest long
+              lists_held seen_is_left key digest seen (disk.seen mid) seen_held torn) key digest
+              (tells_by (disk.seen mid) tells) has))
+              (leaves_weaker went.has.time left_ring) done both.2
+        ]
+
+  -- ---- where a byte seals
+
+  module _ (byte : t.log.sealing ≡ ByByte) where
+    abbrev image : List ℕ
+    image = bytes ++ 0 ∷ []
+
+    abbrev place : ℕ
+    place = 4096 * ring_block ring t.position
+
+    size_image : length image ≡ 4096 * n + 1
+    size_image =
+        image_size disk t contents homes records room log may head_size records_size old honest long lists_held
+        seen_is_left byte
+
+    few : 1 < 4096
+    few = omega arith
+
+    some_image : 1 ≤ length image
+    some_image = omega (arith, size_image)
+
+    fits_image : length image ≤ 4096 * ring
+    fits_image = omega (
+      arith,
+      size_image,
+      near disk t contents homes records room log may head_size records_size old honest long lists_held seen_is_left
+          byte,
+    )
+
+    left_unsealed : (c : List ℕ) → RingFrom ring t.position 1 (length image) (disk.may_leave old) c → Crash c
+    left_unsealed c from tells =
+        inl (recovers t contents c (unsealed disk t contents homes records room log may head_size records_size old
+        honest long lists_held seen_is_left byte from.0 c (lists_held from.0 from.1) from.2))
+
+    same_chain : (lists_held (disk.seen old) (seen_is_left old honest)).chain ≡ seen_held.chain
+    same_chain = (held (disk.seen old) (seen_is_left old honest)).chain_is ∙ sym ready.holds.chain_is
+
+    module _ (m : List ℕ) (torn : RingTorn ring t.position 1 (length image) (disk.seen old) m)
+        (has : RingHas ring t.position 1 (length image) image m) (c : List ℕ) (seal : Torn place 1 m c) where
+      outside : IsSameOutside t.log (disk.seen old) c
+      outside =
+          torn_outside t.log t.position 0 (4096 * n + 1) (disk.seen old) c some
+          (seal_torn disk t contents homes records room log may head_size records_size old honest long lists_held
+          seen_is_left byte m torn has c seal)
+
+      opened_with : get_or c place 0 ≡ 0xA7 → With c
+      opened_with is =
+          let more = sealed disk t contents homes records room log may head_size records_size old honest long
+          lists_held seen_is_left byte m torn has c seal is in
+          ready_more t contents homes records room oldest log may can second ds younger (disk.seen old) c ready outside
+          (more.0, more.1 ∙ ap (λ (l : List LogDescriptor). l ++ next_logged t homes ∷ []) same_chain)
+
+      seal_either : Mid c
+      seal_either tells = elim (cases_eq (get_or c place 0) 0xA7) [
+        | inl is ↦ inr (opened_with is)
+        | inr other ↦
+            let still = closed disk t contents homes records room log may head_size records_size old honest long
+            lists_held seen_is_left byte m torn has c seal other in
+            inl (ready_same t contents homes records room oldest log may can second ds younger (disk.seen old) c ready
+            outside (still.0, still.1 ∙ same_chain))
+      ]
+
+    module _ (one two : D) (went : WentRound ring t.position some disk 1 image few some_image fits_image old one true)
+        (sync : Did disk one Sync true two) where
+      one_is : disk.is_honest one
+      one_is = went.has.honest.1 honest
+
+      two_is : disk.is_honest two
+      two_is = sync.honest.1 one_is
+
+      crash_synced : LeavesOnly disk.moment disk.left_since old two Crash
+      crash_synced =
+          leaves_then {P = Crash} (leaves_weaker went.has.time left_unsealed)
+          (leaves_weaker sync.time (λ c may. left_unsealed c (went.has.left c may)))
+
+      torn_seal : (c : List ℕ) → TornFrom place 1 (disk.may_leave two) c → Torn place 1 (disk.seen one) c
+      torn_seal c from =
+          let is : from.0 ≡ disk.seen one = sync.durable one_is refl refl from.0 from.1 in
+          let P : List ℕ → Type 0 = λ l. Torn place 1 l c in subst P is from.2
+
+      either_seal : (c : List ℕ) → TornFrom place 1 (disk.may_leave two) c → Mid c
+      either_seal c from =
+          seal_either (disk.seen one) (went.has.torn honest) (went.is refl honest) c (torn_seal c from)
+
+      seal_failed : {new : D} → Did disk two (WriteAt place (0xA7 ∷ [])) false new → Leaves new false
+      seal_failed did =
+          failed_by (leaves_then {P = Crash} crash_synced
+          (leaves_weaker did.time (λ c from. crash_of c (either_seal c from))))
+
+      seal_done : {three new : D} (done : Bool) → Did disk two (WriteAt place (0xA7 ∷ [])) true three
+          → DidAll disk three (select_works second) done new → Leaves new done
+      seal_done {three} {new} done did rest =
+          let is = did.honest.1 two_is in
+          let c : List ℕ = disk.seen three in
+          let fits : place + 1 ≤ length (disk.seen two) =
+          omega (arith, block_low ring t.position some, log_long, went.has.same_length, sync.same_length) in
+          let here : place - place ≡ 0 = omega arith in
+          let opened : get_or c place 0 ≡ 0xA7 =
+          ap (λ (l : List ℕ). get_or l place 0) (done_seen did two_is refl)
+          ∙ written_within (disk.seen two) place (0xA7 ∷ []) place fits (omega arith) (omega arith)
+          ∙ ap (λ i. get_or (0xA7 ∷ []) i 0) here in
+          select_last three is
+          (omega (arith, low, went.has.same_length, sync.same_length, did.same_length))
+          (λ x may. either_seal x (did.left x may))
+          (λ tells. opened_with (disk.seen one) (went.has.torn honest) (went.is refl honest) c
+          (torn_seal c (did.left c (seen_is_left three is))) opened)
+          (leaves_then {P = Crash} crash_synced
+          (leaves_weaker did.time (λ x from. crash_of x (either_seal x from)))) done rest
+
+    selecting_by_byte : {new : D} (done : Bool)
+        → DidAll disk old (ring_works ring t.position 1 image
+        ++ (Sync ∷ WriteAt place (0xA7 ∷ []) ∷ select_works second)) done new → Leaves new done
+    selecting_by_byte {new} done did =
+        elim (did_split disk (ring_works ring t.position 1 image)
+        (Sync ∷ WriteAt place (0xA7 ∷ []) ∷ select_works second) old new done did) [
+          | inl failed ↦
+              let went = went_round ring t.position some disk 1 image few some_image fits_image false log_long
+              failed.0 in
+              failed_as done failed.1 (failed_by (leaves_weaker went.has.time left_unsealed))
+          | inr both ↦
+              further both.0 (went_round ring t.position some disk 1 image few some_image fits_image true log_long
+              both.1) both.2
+        ]
+      where
+        further : (one : D)
+            → WentRound ring t.position some disk 1 image few some_image fits_image old one true
+            → DidAll disk one (Sync ∷ WriteAt place (0xA7 ∷ []) ∷ select_works second) done new → Leaves new done
+        further one went (inl failed) =
+            failed_as done failed.1 (failed_by (leaves_then {P = Crash} (leaves_weaker went.has.time left_unsealed)
+            (leaves_weaker failed.0.time (λ c may. left_unsealed c (went.has.left c may)))))
+        further one went (inr (two, sync, inl failed)) =
+            failed_as done failed.1 (seal_failed one two went sync failed.0)
+        further one went (inr (two, sync, inr (three, did, rest))) =
+            seal_done one two went sync done did rest
+
+  -- ---- sealed as the log is
+
+  pub selecting_left : {new : D} (done : Bool) → IsSureBy disk t.log.sealing old
+      → DidAll disk old (selecting_works t second homes records) done new → Leaves new done
+  selecting_left {new} done sure did = by t.log.sealing refl sure did
+    where
+      by : (s : Sealing) → t.log.sealing ≡ s → IsSureBy disk s old
+          → DidAll disk old (works_with s ring t.position bytes (select_works second)) done new → Leaves new done
+      by ByByte is sure did = selecting_by_byte is done did
+      by (ByDigest key) is sure did = selecting_by_digest key is sure done did
+
+  pub selecting_leaves : {new : D} (done : Bool) → IsSureBy disk t.log.sealing old
+      → DidAll disk old (selecting_works t second homes records) done new
+      → CommitLeaves disk behind contents homes records done old new
+  selecting_leaves {new} done sure did =
+      let is = selecting_left done sure did in record {
+        crash = is.crash;
+        durable = is.durable;
+        committed = λ made tells. (is.committed made tells).held;
+      }
+
+-- no call was made
+pub selecting_refused : {D : Type 0} (disk : Ghosts D) (t : TailValue) (contents : ℕ → List ℕ)
+    (homes records : List ℕ) (oldest : OldCommits) (second : Bool) (chain : List LogDescriptor) (old : D) (done : Bool)
+    → done ≡ false → ((c : List ℕ) → disk.left_since old (disk.moment old) c → disk.may_leave old c)
+    → ((c : List ℕ) → disk.may_leave old c → HoldsCommits second t contents chain c)
+    → CommitLeaves disk (tail_behind t oldest) contents homes records done old old
+selecting_refused disk t contents homes records oldest second chain old done failed now held =
+    let P : List ℕ → Type 0 = LeftByCommit (tail_behind t oldest) contents homes records in
+    record {
+      crash = leaves_at_start {P = P} (λ c left tells. inl (recovers t contents c (held c (now c left)).held));
+      durable = λ made. absurd (false≢true (sym failed ∙ made));
+      committed = λ made. absurd (false≢true (sym failed ∙ made));
+    }

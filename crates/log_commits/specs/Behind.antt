@@ -1,0 +1,139 @@
+-- The start of a log moves behind its oldest commits, and their room is free again.
+use Rattle.std.specs.Prelude.{◌≡◌, ◌⊎◌, ℕ, ◌+◌, ◌-◌, ◌*◌, ◌%◌, ◌<◌, ◌≤◌}
+use Rattle.std.specs.Prelude.{Bool, true, false, not, if◌then◌else◌, List, [], ◌∷◌, ◌++◌, length, slice_index}
+use Rattle.volume_codec.specs.Layout.{block_at}
+use Rattle.device.specs.declared.device.Device.{Ghosts}
+use Rattle.device.specs.Device.{LeavesOnly, Only}
+use Rattle.device.specs.Work.{Work, WriteAt, Sync}
+use Rattle.log_codec.specs.declared.start.LogStart.{LogStart}
+use Rattle.log_codec.specs.Log.{LogValue, first_log_home}
+use Rattle.log_codec.specs.Start.{IsStartBlock, start_block, start_text, counts_second}
+use Rattle.log_codec.specs.Commit.{LogDescriptor}
+use Rattle.log_codec.specs.Chain.{LogRecovers, IsLogHome, chain_blocks}
+use Rattle.log_commits.specs.declared.behind.OldCommits.{OldCommits}
+use Rattle.log_commits.specs.declared.behind.MoveFault.{MoveFault}
+use Rattle.log_commits.specs.declared.behind.MoveFault.TheVariants.{Spent, Range, Device}
+use Rattle.log_commits.specs.Tail.{TailValue, HoldsLog}
+use Rattle.log_commits.specs.Homes.{AreWrittenHome, StaysLastBy}
+
+-- the start behind the oldest commits, as many as are below a number
+abbrev pub start_behind : TailValue → OldCommits → LogStart
+start_behind t oldest = record {
+  position = (t.start.position + oldest.blocks) % t.log.ring;
+  number = oldest.below;
+  epoch = t.start.epoch;
+}
+
+-- the tail once it counts: the blocks of these commits are free
+abbrev pub tail_behind : TailValue → OldCommits → TailValue
+tail_behind t oldest = record t { start = start_behind t oldest; used = t.used - oldest.blocks }
+
+-- the start may move behind these commits
+pub record MayMove (t : TailValue) (oldest : OldCommits) : Type 0 where
+  pub whole : t.spent ≡ false
+  pub blocks : oldest.blocks ≤ t.used
+  pub low : t.start.number ≤ oldest.below
+  pub high : oldest.below ≤ t.number
+
+-- why it may not, by name. A device call may fail in any move that may begin.
+abbrev pub RefusesMove : TailValue → OldCommits → MoveFault → Type 0
+RefusesMove t oldest Spent = t.spent ≡ true
+RefusesMove t oldest Range = (t.used < oldest.blocks) ⊎ (oldest.below < t.start.number) ⊎ (t.number < oldest.below)
+RefusesMove t oldest Device = MayMove t oldest
+
+-- why what was written isn't made sure of
+abbrev pub RefusesSure : TailValue → MoveFault → Type 0
+RefusesSure t Spent = t.spent ≡ true
+RefusesSure t Range = ⊥
+RefusesSure t Device = t.spent ≡ false
+
+-- bytes may be written into home blocks from this one on
+pub record MayWriteHome (t : TailValue) (home size : ℕ) : Type 0 where
+  pub whole : t.spent ≡ false
+  pub blocks : size % 4096 ≡ 0
+  pub low : first_log_home t.log.ring ≤ home
+  pub high : 4096 * home + size ≤ 4096 * t.log.blocks
+
+abbrev pub RefusesHome : TailValue → ℕ → ℕ → MoveFault → Type 0
+RefusesHome t home size Spent = t.spent ≡ true
+RefusesHome t home size Range =
+    (size % 4096 ≡ 0 → ⊥) ⊎ (home < first_log_home t.log.ring) ⊎ (4096 * t.log.blocks < 4096 * home + size)
+RefusesHome t home size Device = MayWriteHome t home size
+
+-- a block of the log may be copied to a home block
+pub record MayCopyHome (t : TailValue) (block home : ℕ) : Type 0 where
+  pub whole : t.spent ≡ false
+  pub least : 4 ≤ block
+  pub most : block < first_log_home t.log.ring
+  pub is_home : IsLogHome t.log home
+
+abbrev pub RefusesCopy : TailValue → ℕ → ℕ → MoveFault → Type 0
+RefusesCopy t block home Spent = t.spent ≡ true
+RefusesCopy t block home Range =
+    (block < 4) ⊎ (first_log_home t.log.ring ≤ block) ⊎ (home < first_log_home t.log.ring) ⊎ (t.log.blocks ≤ home)
+RefusesCopy t block home Device = MayCopyHome t block home
+
+-- the byte that selects the second start or the first one
+abbrev pub selecting : Bool → ℕ
+selecting second = if second then 0xA7 else 0
+
+-- Device calls: the start is written in the place of the one that doesn't count. Once that is sure, it is selected, and
+-- that is made sure, too.
+abbrev pub start_work : TailValue → Bool → OldCommits → Work
+start_work t second oldest = WriteAt (4096 * start_block (not second)) (start_text (start_behind t oldest))
+
+abbrev pub select_works : Bool → List Work
+select_works second = WriteAt 4096 (selecting (not second) ∷ []) ∷ Sync ∷ []
+
+abbrev pub move_works : TailValue → Bool → OldCommits → List Work
+move_works t second oldest = start_work t second oldest ∷ Sync ∷ select_works second
+
+-- these bytes hold a log with this tail, whose commits are these, by the second start or by the first one
+pub record HoldsCommits (second : Bool) (t : TailValue) (contents : ℕ → List ℕ) (chain : List LogDescriptor)
+    (bytes : List ℕ) : Type 0 where
+  pub held : HoldsLog t contents bytes
+  pub chain_is : held.chain ≡ chain
+  pub selected : second ≡ counts_second (slice_index bytes 4096)
+
+-- outside the log, new is old
+pub record IsSameOutside (g : LogValue) (old new : List ℕ) : Type 0 where
+  pub same_length : length new ≡ length old
+  pub places : (i : ℕ) → (i < 16384) ⊎ (4096 * first_log_home g.ring ≤ i) → slice_index new i ≡ slice_index old i
+
+-- these are the commits below the number, and they take the blocks
+pub record AreOldest (t : TailValue) (oldest : OldCommits) (ds : List LogDescriptor) : Type 0 where
+  pub number : oldest.below ≡ t.start.number + length ds
+  pub blocks : oldest.blocks ≡ chain_blocks ds
+
+-- what calls that change no contents leave: the log with its commits, at each moment and from then on
+pub record LeavesCommits {D : Type 0} (disk : Ghosts D) (second : Bool) (t : TailValue) (contents : ℕ → List ℕ)
+    (chain : List LogDescriptor) (old new : D) : Type 0 where
+  pub crash : LeavesOnly disk.moment disk.left_since old new (HoldsCommits second t contents chain)
+  pub left : (c : List ℕ) → disk.may_leave new c → HoldsCommits second t contents chain c
+
+-- new is old, but for these bytes in the home blocks from this one on
+pub record HasHomes (home : ℕ) (bytes old new : List ℕ) : Type 0 where
+  pub there : (b : ℕ) → home ≤ b → 4096 * b < 4096 * home + length bytes → block_at new b ≡ block_at bytes (b - home)
+  pub elsewhere : (b : ℕ) → (b < home) ⊎ (4096 * home + length bytes ≤ 4096 * b) → block_at new b ≡ block_at old b
+
+-- everything is ready for the start behind the oldest commits to count
+pub record IsReadyToMove (second : Bool) (t : TailValue) (oldest : OldCommits) (contents : ℕ → List ℕ)
+    (ds younger : List LogDescriptor) (bytes : List ℕ) : Type 0 where
+  pub holds : HoldsCommits second t contents (ds ++ younger) bytes
+  pub oldest_are : AreOldest t oldest ds
+  pub start : IsStartBlock t.log.ring (start_behind t oldest) (block_at bytes (start_block (not second)))
+  pub written : AreWrittenHome t.log contents ds younger bytes
+
+-- what a digest is trusted with: at the end of the log no commit has its own digest and the next number, also in the
+-- room that gets free. Where a byte seals, this is no premise.
+abbrev pub StaysLast : TailValue → OldCommits → List ℕ → Type 0
+StaysLast t oldest bytes = StaysLastBy t.log.sealing t (t.log.ring - (t.used - oldest.blocks)) bytes
+
+-- what the calls of a move leave: at each moment the same contents, and once they have succeeded the start counts
+pub record MoveLeaves {D : Type 0} (disk : Ghosts D) (second : Bool) (t : TailValue) (oldest : OldCommits)
+    (contents : ℕ → List ℕ) (younger : List LogDescriptor) (done : Bool) (old new : D) : Type 0 where
+  pub crash : LeavesOnly disk.moment disk.left_since old new
+      (λ c. StaysLast t oldest c → LogRecovers t.log contents c)
+  pub durable : done ≡ true → Only (disk.may_leave new) (disk.seen new)
+  pub moved : done ≡ true → StaysLast t oldest (disk.seen new)
+      → HoldsCommits (not second) (tail_behind t oldest) contents younger (disk.seen new)

@@ -1,0 +1,389 @@
+// Commits are written home, and the start moves behind them.
+ghost use Rattle.std.specs.Prelude.{◌≡◌, ◌≢◌, ◌↔◌, ◌<◌, ◌≤◌, ◌+◌, ◌*◌, ◌^◌, ◌++◌, ℕ, Bool, true, false, List, [], ◌∷◌, not, is_ok, length, slice_index, IsOk, IfErr, OnOk};
+ghost use Rattle.volume_codec.specs.Layout.{block_at};
+ghost use Rattle.device.specs.Device.{Only};
+ghost use Rattle.device.specs.Did.{Did};
+ghost use Rattle.device.specs.Work.{CopyBlock, Sync, WriteAt};
+ghost use Rattle.log_codec.specs.Commit.{LogDescriptor};
+ghost use Rattle.log_codec.specs.Start.{IsStartBlock, start_block, start_text};
+ghost use Rattle.log_commits.specs.declared.behind.MoveFault.TheVariants.{Device};
+ghost use Rattle.log_commits.specs.Calls.{DidAll};
+ghost use Rattle.log_commits.specs.Homes.{IsLoggedHome, AreWrittenHome};
+ghost use Rattle.log_commits.specs.Behind.{MayMove, RefusesMove, RefusesSure, MayWriteHome, RefusesHome, MayCopyHome, RefusesCopy, start_behind, tail_behind, selecting as selected, start_work, select_works, move_works, HoldsCommits, AreOldest, LeavesCommits, HasHomes, IsReadyToMove, MoveLeaves};
+
+use crate::tail::LogTail;
+use device::{Device, DeviceFault, copy_block, make_durable, write_at};
+use log_codec::{LogStart, encode_start, start_block_of};
+
+/// The oldest commits of a log: those below a number, and the blocks that they take.
+#[derive(Clone, Copy, PartialEq, Eq, Debug)]
+pub struct OldCommits {
+    /// The number of the first commit behind them.
+    pub below: u64,
+    /// The number of blocks that they take.
+    pub blocks: u32,
+}
+
+/// Why commits aren't written home, or the start isn't moved.
+#[derive(Clone, Copy, PartialEq, Eq, Debug)]
+pub enum MoveFault {
+    /// A device call failed before. Open the volume anew.
+    Spent,
+    /// The log doesn't have these commits or blocks, or these aren't whole home blocks of the volume.
+    Range,
+    /// A device call failed now.
+    Device,
+}
+
+// The byte that selects the second start or the first one.
+fn selecting(second: bool) -> u8
+    ensures { result ≡ selected second }
+{
+    if second { 0xA7 } else { 0 }
+}
+
+// Writes a start in the place of the one that doesn't count.
+fn write_other<D: Device>(device: &mut D, second: bool, start: &LogStart) -> Result<(), DeviceFault>
+    requires long { 16384 ≤ length (D.seen device.old) }
+    ensures { Did D.Device device.old (WriteAt (4096 * start_block (not second)) (start_text start.now))
+        (is_ok result) device.new }
+{
+    let at = 4096 * u64::from(start_block_of(!second));
+    write_at(device, at, &encode_start(start))
+}
+
+// Selects the start that doesn't count, and makes sure of that.
+pub(crate) fn select_other<D: Device>(device: &mut D, second: bool) -> Result<(), DeviceFault>
+    requires long { 16384 ≤ length (D.seen device.old) }
+    ensures { DidAll D.Device device.old (select_works second) (is_ok result) device.new }
+{
+    match write_at(device, 4096, &[selecting(!second)]) {
+        Ok(()) => make_durable(device),
+        Err(fault) => Err(fault),
+    }
+}
+
+// Writes a start in the place of the one that doesn't count, makes sure of it, selects it, and makes sure of that.
+fn move_to<D: Device>(device: &mut D, second: bool, start: &LogStart) -> Result<(), DeviceFault>
+    requires long { 16384 ≤ length (D.seen device.old) }
+    ensures { DidAll D.Device device.old
+        (WriteAt (4096 * start_block (not second)) (start_text start.now) ∷ Sync ∷ select_works second)
+        (is_ok result) device.new }
+{
+    match write_other(device, second, start) {
+        Ok(()) => {}
+        Err(fault) => return Err(fault),
+    }
+    match make_durable(device) {
+        Ok(()) => select_other(device, second),
+        Err(fault) => Err(fault),
+    }
+}
+
+impl LogTail {
+    /// All commits of the log so far.
+    pub fn commits_so_far(&self) -> OldCommits
+        ensures { result ≡ record { below = self.now.number; blocks = self.now.used } }
+    {
+        OldCommits {
+            below: self.number,
+            blocks: self.used,
+        }
+    }
+
+    // Whether the start may move behind these commits.
+    pub(crate) fn judge_move(&self, oldest: OldCommits) -> Result<(), MoveFault>
+        ensures ok { OnOk result (MayMove self.now oldest) }
+        ensures small { oldest.below < 2 ^ 64 }
+        ensures refused { IfErr result (RefusesMove self.now oldest) }
+        ensures early { IfErr result (λ fault. fault ≢ Device) }
+    {
+        if self.spent {
+            return Err(MoveFault::Spent);
+        }
+        if oldest.blocks > self.used {
+            return Err(MoveFault::Range);
+        }
+        if oldest.below < self.start.number || oldest.below > self.number {
+            return Err(MoveFault::Range);
+        }
+        Ok(())
+    }
+
+    // The start behind these commits.
+    pub(crate) fn start_behind(&self, oldest: OldCommits) -> LogStart
+        ensures { result ≡ start_behind self.now oldest }
+    {
+        LogStart {
+            position: self.log.position_behind(self.start.position, oldest.blocks),
+            number: oldest.below,
+            epoch: self.start.epoch,
+        }
+    }
+
+    // Whether bytes may be written into home blocks from this one on.
+    fn judge_home(&self, home: u32, size: usize) -> Result<(), MoveFault>
+        ensures ok { OnOk result (MayWriteHome self.now home size) }
+        ensures refused { IfErr result (RefusesHome self.now home size) }
+        ensures early { IfErr result (λ fault. fault ≢ Device) }
+    {
+        if self.spent {
+            return Err(MoveFault::Spent);
+        }
+        if size % 4096 != 0 || home < self.log.first_home() || home > self.log.block_count() {
+            return Err(MoveFault::Range);
+        }
+        if size as u64 > 4096 * u64::from(self.log.block_count() - home) {
+            return Err(MoveFault::Range);
+        }
+        Ok(())
+    }
+
+    /// Writes bytes into home blocks, from this one on. One device call, and nothing is made sure of. A crash changes
+    /// no contents where commits of the log have these blocks.
+    pub fn write_home<D: Device>(
+        &mut self,
+        device: &mut D,
+        home: u32,
+        bytes: &[u8],
+    ) -> Result<(), MoveFault>
+        requires long { 4096 * self.old.log.blocks ≤ length (D.seen device.old) }
+        ensures may { OnOk result (MayWriteHome self.old home (length bytes.now)) }
+        ensures refused { IfErr result (RefusesHome self.old home (length bytes.now)) }
+        ensures unchanged { IfErr result (λ fault. fault ≢ Device
+            → (self.new ≡ self.old) × (device.new ≡ device.old)) }
+        ensures value { OnOk result (self.new ≡ self.old) }
+        ensures spent { IfErr result (λ fault. fault ≡ Device → self.new ≡ record self.old { spent = true }) }
+        ensures did { MayWriteHome self.old home (length bytes.now)
+            → Did D.Device device.old (WriteAt (4096 * home) bytes.now) (is_ok result) device.new }
+        ensures len { length (D.seen device.new) ≡ length (D.seen device.old) }
+        ensures written { D.is_honest device.old
+            → OnOk result (HasHomes home bytes.now (D.seen device.old) (D.seen device.new)) }
+
+        // Each list that a crash may leave before holds the log, with these commits, which have these home blocks.
+        ensures leaves { (second : Bool) (contents : ℕ → List ℕ) (chain : List LogDescriptor)
+            → D.is_honest device.old
+            → ((b : ℕ) → home ≤ b → 4096 * b < 4096 * home + length bytes.now → IsLoggedHome chain b)
+            → ((c : List ℕ) → D.may_leave device.old c → HoldsCommits second self.old contents chain c)
+            → LeavesCommits D.Device second self.old contents chain device.old device.new }
+    {
+        self.judge_home(home, bytes.len())?;
+        match write_at(device, 4096 * u64::from(home), bytes) {
+            Ok(()) => Ok(()),
+            Err(_) => {
+                self.spent = true;
+                Err(MoveFault::Device)
+            }
+        }
+    }
+
+    // Whether this block of the log may be copied to this home block.
+    fn judge_copy(&self, block: u32, home: u32) -> Result<(), MoveFault>
+        ensures ok { OnOk result (MayCopyHome self.now block home) }
+        ensures refused { IfErr result (RefusesCopy self.now block home) }
+        ensures early { IfErr result (λ fault. fault ≢ Device) }
+    {
+        if self.spent {
+            return Err(MoveFault::Spent);
+        }
+        if block < 4 || block >= self.log.first_home() {
+            return Err(MoveFault::Range);
+        }
+        if home < self.log.first_home() || home >= self.log.block_count() {
+            return Err(MoveFault::Range);
+        }
+        Ok(())
+    }
+
+    /// Copies a block of the log to a home block: a read and a write, and nothing is made sure of. A crash changes no
+    /// contents where a commit of the log has the home block.
+    pub fn copy_home<D: Device>(
+        &mut self,
+        device: &mut D,
+        block: u32,
+        home: u32,
+    ) -> Result<(), MoveFault>
+        requires long { 4096 * self.old.log.blocks ≤ length (D.seen device.old) }
+        ensures may { OnOk result (MayCopyHome self.old block home) }
+        ensures refused { IfErr result (RefusesCopy self.old block home) }
+        ensures unchanged { IfErr result (λ fault. fault ≢ Device
+            → (self.new ≡ self.old) × (device.new ≡ device.old)) }
+        ensures value { OnOk result (self.new ≡ self.old) }
+        ensures spent { IfErr result (λ fault. fault ≡ Device → self.new ≡ record self.old { spent = true }) }
+        ensures did { MayCopyHome self.old block home
+            → Did D.Device device.old (CopyBlock block home) (is_ok result) device.new }
+        ensures len { length (D.seen device.new) ≡ length (D.seen device.old) }
+        ensures honest { D.is_honest device.new ↔ D.is_honest device.old }
+        ensures copied { D.is_honest device.old
+            → OnOk result (HasHomes home (block_at (D.seen device.old) block) (D.seen device.old) (D.seen device.new)) }
+
+        // Each list that a crash may leave before holds the log, with these commits, one of which has this home block.
+        ensures leaves { (second : Bool) (contents : ℕ → List ℕ) (chain : List LogDescriptor)
+            → D.is_honest device.old → IsLoggedHome chain home
+            → ((c : List ℕ) → D.may_leave device.old c → HoldsCommits second self.old contents chain c)
+            → LeavesCommits D.Device second self.old contents chain device.old device.new }
+    {
+        self.judge_copy(block, home)?;
+        let mut buffer = [0; 4096];
+        match copy_block(device, block, home, &mut buffer) {
+            Ok(()) => Ok(()),
+            Err(_) => {
+                self.spent = true;
+                Err(MoveFault::Device)
+            }
+        }
+    }
+
+    /// Writes the start behind these commits in the place of the start that doesn't count. `second` says whether the
+    /// second start counts. One device call, and nothing is made sure of. The start may be selected once this is sure,
+    /// by a commit or by a sync, and these commits are written home.
+    pub fn write_start<D: Device>(
+        &mut self,
+        device: &mut D,
+        second: bool,
+        oldest: OldCommits,
+    ) -> Result<(), MoveFault>
+        requires long { 4096 * self.old.log.blocks ≤ length (D.seen device.old) }
+        ensures may { OnOk result (MayMove self.old oldest) }
+        ensures refused { IfErr result (RefusesMove self.old oldest) }
+        ensures unchanged { IfErr result (λ fault. fault ≢ Device
+            → (self.new ≡ self.old) × (device.new ≡ device.old)) }
+        ensures value { OnOk result (self.new ≡ self.old) }
+        ensures spent { IfErr result (λ fault. fault ≡ Device → self.new ≡ record self.old { spent = true }) }
+        ensures len { length (D.seen device.new) ≡ length (D.seen device.old) }
+        ensures did { MayMove self.old oldest
+            → Did D.Device device.old (start_work self.old second oldest) (is_ok result) device.new }
+
+        // Each list that a crash may leave before holds the log, by the start that counts.
+        ensures leaves { (contents : ℕ → List ℕ) (chain : List LogDescriptor) → D.is_honest device.old
+            → ((c : List ℕ) → D.may_leave device.old c → HoldsCommits second self.old contents chain c)
+            → LeavesCommits D.Device second self.old contents chain device.old device.new }
+
+        // These commits are written home. Then the start is ready to be selected, once it is sure.
+        ensures ready { (contents : ℕ → List ℕ) (ds younger : List LogDescriptor) → D.is_honest device.old
+            → ((c : List ℕ) → D.may_leave device.old c → HoldsCommits second self.old contents (ds ++ younger) c)
+            → AreOldest self.old oldest ds
+            → AreWrittenHome self.old.log contents ds younger (D.seen device.old)
+            → OnOk result (IsReadyToMove second self.old oldest contents ds younger (D.seen device.new)) }
+    {
+        self.judge_move(oldest)?;
+        let start = self.start_behind(oldest);
+        match write_other(device, second, &start) {
+            Ok(()) => Ok(()),
+            Err(_) => {
+                self.spent = true;
+                Err(MoveFault::Device)
+            }
+        }
+    }
+
+    /// Makes sure of all that was written. One device call.
+    pub fn make_sure<D: Device>(&mut self, device: &mut D) -> Result<(), MoveFault>
+        ensures may { OnOk result (self.old.spent ≡ false) }
+        ensures refused { IfErr result (RefusesSure self.old) }
+        ensures unchanged { IfErr result (λ fault. fault ≢ Device
+            → (self.new ≡ self.old) × (device.new ≡ device.old)) }
+        ensures value { OnOk result (self.new ≡ self.old) }
+        ensures spent { IfErr result (λ fault. fault ≡ Device → self.new ≡ record self.old { spent = true }) }
+        ensures len { length (D.seen device.new) ≡ length (D.seen device.old) }
+        ensures honest { D.is_honest device.new ↔ D.is_honest device.old }
+        ensures did { self.old.spent ≡ false → Did D.Device device.old Sync (is_ok result) device.new }
+        ensures sure { D.is_honest device.old
+            → OnOk result (Only (D.may_leave device.new) (D.seen device.new)
+            × (D.seen device.new ≡ D.seen device.old)) }
+
+        // Each list that a crash may leave before holds the log.
+        ensures leaves { (second : Bool) (contents : ℕ → List ℕ) (chain : List LogDescriptor)
+            → ((c : List ℕ) → D.may_leave device.old c → HoldsCommits second self.old contents chain c)
+            → LeavesCommits D.Device second self.old contents chain device.old device.new }
+    {
+        if self.spent {
+            return Err(MoveFault::Spent);
+        }
+        if make_durable(device).is_err() {
+            self.spent = true;
+            return Err(MoveFault::Device);
+        }
+        Ok(())
+    }
+
+    /// Selects the start behind these commits, which was written and is sure, and makes sure of that. Two device calls.
+    /// Then the room of these commits is free.
+    pub fn select_start<D: Device>(
+        &mut self,
+        device: &mut D,
+        second: bool,
+        oldest: OldCommits,
+    ) -> Result<(), MoveFault>
+        requires long { 4096 * self.old.log.blocks ≤ length (D.seen device.old) }
+        ensures may { OnOk result (MayMove self.old oldest) }
+        ensures refused { IfErr result (RefusesMove self.old oldest) }
+        ensures unchanged { IfErr result (λ fault. fault ≢ Device
+            → (self.new ≡ self.old) × (device.new ≡ device.old)) }
+        ensures value { OnOk result (self.new ≡ tail_behind self.old oldest) }
+        ensures spent { IfErr result (λ fault. fault ≡ Device → self.new ≡ record self.old { spent = true }) }
+        ensures len { length (D.seen device.new) ≡ length (D.seen device.old) }
+        ensures did { MayMove self.old oldest
+            → DidAll D.Device device.old (select_works second) (is_ok result) device.new }
+
+        // All is sure, the start is written, and these commits are written home.
+        ensures leaves { (contents : ℕ → List ℕ) (ds younger : List LogDescriptor) → D.is_honest device.old
+            → Only (D.may_leave device.old) (D.seen device.old)
+            → IsReadyToMove second self.old oldest contents ds younger (D.seen device.old)
+            → MoveLeaves D.Device second self.old oldest contents younger (is_ok result) device.old device.new }
+    {
+        self.judge_move(oldest)?;
+        match select_other(device, second) {
+            Ok(()) => {}
+            Err(_) => {
+                self.spent = true;
+                return Err(MoveFault::Device);
+            }
+        }
+        self.start = self.start_behind(oldest);
+        self.used -= oldest.blocks;
+        Ok(())
+    }
+
+    /// Moves the start behind these commits, which are written home: it writes the start, makes sure of that and of all
+    /// that was written before, selects it, and makes sure of that. Four device calls.
+    pub fn move_start<D: Device>(
+        &mut self,
+        device: &mut D,
+        second: bool,
+        oldest: OldCommits,
+    ) -> Result<(), MoveFault>
+        requires long { 4096 * self.old.log.blocks ≤ length (D.seen device.old) }
+        ensures may { OnOk result (MayMove self.old oldest) }
+        ensures refused { IfErr result (RefusesMove self.old oldest) }
+        ensures unchanged { IfErr result (λ fault. fault ≢ Device
+            → (self.new ≡ self.old) × (device.new ≡ device.old)) }
+        ensures value { OnOk result (self.new ≡ tail_behind self.old oldest) }
+        ensures spent { IfErr result (λ fault. fault ≡ Device → self.new ≡ record self.old { spent = true }) }
+        ensures len { length (D.seen device.new) ≡ length (D.seen device.old) }
+        ensures honest { D.is_honest device.new ↔ D.is_honest device.old }
+        ensures did { MayMove self.old oldest
+            → DidAll D.Device device.old (move_works self.old second oldest) (is_ok result) device.new }
+
+        // Each list that a crash may leave before holds the log, by the start that counts, and a read finds these
+        // commits written home.
+        ensures leaves { (contents : ℕ → List ℕ) (ds younger : List LogDescriptor) → D.is_honest device.old
+            → ((c : List ℕ) → D.may_leave device.old c → HoldsCommits second self.old contents (ds ++ younger) c)
+            → AreOldest self.old oldest ds
+            → AreWrittenHome self.old.log contents ds younger (D.seen device.old)
+            → MoveLeaves D.Device second self.old oldest contents younger (is_ok result) device.old device.new }
+    {
+        self.judge_move(oldest)?;
+        let start = self.start_behind(oldest);
+        match move_to(device, second, &start) {
+            Ok(()) => {}
+            Err(_) => {
+                self.spent = true;
+                return Err(MoveFault::Device);
+            }
+        }
+        self.start = start;
+        self.used -= oldest.blocks;
+        Ok(())
+    }
+}
