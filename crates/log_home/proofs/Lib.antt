@@ -1,0 +1,5 @@
+mod Chained
+mod Entries
+mod Steps
+mod Kept
+pub mod Public
