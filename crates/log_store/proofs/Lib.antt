@@ -1,0 +1,4 @@
+mod Stores
+mod Sound
+mod Ending
+pub mod Public

@@ -1,0 +1,4 @@
+pub mod Store
+pub mod Needs
+pub mod Sound
+pub mod Rounds

@@ -1,0 +1,14 @@
+// How far commits are written home.
+
+/// How far the oldest commits of a log are written home.
+#[derive(Clone, Copy, PartialEq, Eq, Debug)]
+pub enum HomeStage {
+    /// None are being written home.
+    Resting,
+    /// Their home blocks are being copied, one after another.
+    Copying,
+    /// The start behind them is written, and no sync was made since.
+    Written,
+    /// The start behind them is written and sure, and may be selected.
+    Sure,
+}

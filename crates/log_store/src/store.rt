@@ -1,0 +1,587 @@
+// The log of a volume in a session.
+ghost use Rattle.std.specs.Prelude.{◌≡◌, ◌≢◌, ◌↔◌, ◌<◌, ◌≤◌, ◌+◌, ◌-◌, ◌*◌, ◌^◌, ◌++◌, ℕ, Bool, true, List, [], ◌∷◌, None, Some, is_ok, length, IsTrue};
+ghost use Rattle.std.specs.Prelude.{IfOk, IfErr, OnOk, OnErr, IfSome, IfNone};
+ghost use Rattle.volume_codec.specs.Layout.{block_at};
+ghost use Rattle.device.specs.Device.{LeavesOnly};
+ghost use Rattle.log_codec.specs.Log.{log_descriptor_blocks, IsCommitSize};
+ghost use Rattle.log_codec.specs.Chain.{IsLogHome, LogRecovers};
+ghost use Rattle.log_recovery.specs.Reading.{ReadsAlone};
+ghost use Rattle.log_commits.specs.Calls.{DidAll};
+ghost use Rattle.log_codec.specs.Commit.{LogDescriptor};
+ghost use Rattle.log_commits.specs.Commit.{CommitLeaves, MayCommit, RefusesCommit, TellsTorn, committed_to};
+ghost use Rattle.log_commits.specs.Commit.{next_logged, records_in, tail_after};
+ghost use Rattle.log_home.specs.Index.{find_in, recorded_or};
+ghost use Rattle.log_home.specs.Work.{next_copy, stepped};
+ghost use Rattle.log_store.specs.Store.{IsStoreOver, RefusesStoreCommit, RefusesRead, HasNoted, KeepsStore};
+ghost use Rattle.log_store.specs.Store.{store_block, store_read_calls, fresh_store, working, StepsBy, MayStepBy};
+ghost use Rattle.log_store.specs.Store.{RefusesStepBy, TrustsBy, step_works};
+ghost use Rattle.log_store.specs.Store.{IsSelectable, committing_tail, second_by, selection, stage_by};
+ghost use Rattle.log_store.specs.Store.{store_commit_works, tail_by, unless_old, works_selecting};
+ghost use Rattle.log_store.specs.Sound.{IsOfLog, IsStore};
+ghost use Rattle.log_store.specs.declared.stage.HomeStage.TheVariants.{Resting, Copying, Written, Sure};
+ghost use Rattle.log_commits.specs.Behind.{HoldsCommits, IsSameOutside, StaysLast};
+ghost use Rattle.log_store.specs.Needs.{commit_edges, copied_from, step_block};
+
+use crate::fault::{Progress, StoreFault};
+use crate::stage::HomeStage;
+use device::Device;
+use log_codec::{LogGeometry, Sealing};
+use log_commits::{CommitFault, LogTail, MoveFault, OldCommits};
+use log_home::{HomeWork, LogIndex};
+use std::alloc::Allocator;
+use std::marker::Model;
+
+/// The log of a volume in a session: where it ends, which start counts, the newest record of each home block, and how
+/// far the oldest commits are written home.
+#[derive(Drop)]
+pub struct LogStore<A: Allocator + Copy> {
+    alloc: A,
+    tail: LogTail,
+    second: bool,
+    index: LogIndex<A>,
+    stage: HomeStage,
+    // The commits that are written home. In the stage `Resting` it is done with.
+    work: HomeWork<A>,
+}
+
+impl<A: Allocator + Copy> Model for LogStore<A> {
+    ghost use Rattle.log_store.specs.Store.{StoreValue};
+    ghost use Rattle.log_store.specs.Sound.{IsStore};
+
+    ghost Value = { StoreValue };
+
+    ghost view = { λ s. record {
+      tail = s.tail;
+      second = s.second;
+      entries = s.index;
+      stage = s.stage;
+      work = s.work;
+    } };
+
+    ghost invariant = { λ s. IsStore (record {
+      tail = s.tail;
+      second = s.second;
+      entries = s.index;
+      stage = s.stage;
+      work = s.work;
+    }) };
+}
+
+// The number of blocks of the descriptor of a commit of this many records, if there is one.
+fn head_of(log: &LogGeometry, records: usize) -> Option<u32>
+    ensures some { IfSome result (λ n. (n ≡ log_descriptor_blocks records) × IsCommitSize log.now.ring records) }
+    ensures none { IfNone result (IsCommitSize log.now.ring records → ⊥) }
+{
+    if records > 65535 {
+        return None;
+    }
+    log.descriptor_blocks(records as u32)
+}
+
+// Makes a commit, which selects the start behind old commits if there are some here. `second` says which start counts.
+fn make<D: Device>(
+    tail: &mut LogTail,
+    device: &mut D,
+    homes: &[u32],
+    room: &mut [u8],
+    second: bool,
+    select: Option<OldCommits>,
+) -> Result<(), CommitFault>
+    requires long { 4096 * tail.old.log.blocks ≤ length (D.seen device.old) }
+    requires of_log { IfSome select (IsOfLog tail.old) }
+    ensures may { OnOk result (MayCommit tail.old homes.now (length room.old)) }
+    ensures refused { IfErr result (RefusesCommit tail.old homes.now (length room.old)) }
+    ensures unchanged { IfErr result (λ fault. fault ≢ CommitFault.Device
+        → (tail.new ≡ tail.old) × (device.new ≡ device.old)) }
+    ensures value { OnOk result (tail.new ≡ tail_after (tail_by tail.old select) homes.now) }
+    ensures spent { IfErr result (λ fault. fault ≡ CommitFault.Device → tail.new ≡ record tail.old { spent = true }) }
+    ensures did { MayCommit tail.old homes.now (length room.old)
+        → DidAll D.Device device.old (works_selecting tail.old second select homes.now (records_in homes.now room.old))
+        (is_ok result) device.new }
+    ensures len { length (D.seen device.new) ≡ length (D.seen device.old) }
+    ensures honest { D.is_honest device.new ↔ D.is_honest device.old }
+
+    // Each list that a crash may leave before holds the log. A start that is selected is ready.
+    ensures leaves { (contents : ℕ → List ℕ) (ds younger : List LogDescriptor) → D.is_honest device.old
+        → ((c : List ℕ) → D.may_leave device.old c → HoldsCommits second tail.old contents (ds ++ younger) c)
+        → IsSelectable D.Device second tail.old contents ds younger select device.old
+        → CommitLeaves D.Device (tail_by tail.old select) contents homes.now (records_in homes.now room.old)
+        (is_ok result) device.old device.new }
+    ensures commits { (contents : ℕ → List ℕ) (ds younger : List LogDescriptor) → D.is_honest device.old
+        → ((c : List ℕ) → D.may_leave device.old c → HoldsCommits second tail.old contents (ds ++ younger) c)
+        → IsSelectable D.Device second tail.old contents ds younger select device.old
+        → OnOk result (TellsTorn (tail_by tail.old select) homes.now (records_in homes.now room.old)
+        (D.seen device.new)
+        → HoldsCommits (second_by second select) (tail_after (tail_by tail.old select) homes.now)
+        (committed_to contents homes.now (records_in homes.now room.old))
+        (younger ++ next_logged tail.old homes.now ∷ []) (D.seen device.new)) }
+    ensures outside { select ≡ None → D.is_honest device.old
+        → IsSameOutside tail.old.log (D.seen device.old) (D.seen device.new) }
+{
+    match select {
+        None => tail.commit(device, homes, room),
+        Some(oldest) => tail.commit_selecting(device, homes, room, second, oldest),
+    }
+}
+
+// Which start counts once such a commit is made.
+fn second_by(second: bool, select: Option<OldCommits>) -> bool
+    ensures { result ≡ second_by second select }
+{
+    match select {
+        None => second,
+        Some(_) => !second,
+    }
+}
+
+// How far old commits are written home then.
+fn stage_by(stage: HomeStage, select: Option<OldCommits>) -> HomeStage
+    ensures { result ≡ stage_by stage select }
+{
+    match (select, stage) {
+        (Some(_), _) => HomeStage::Resting,
+        (None, HomeStage::Resting) => HomeStage::Resting,
+        (None, HomeStage::Copying) => HomeStage::Copying,
+        (None, HomeStage::Written) => HomeStage::Sure,
+        (None, HomeStage::Sure) => HomeStage::Sure,
+    }
+}
+
+// Forgets the records of the old commits that a commit freed.
+fn forget_freed<A: Allocator + Copy>(index: &mut LogIndex<A>, select: Option<OldCommits>)
+    ensures { (b : ℕ) → find_in index.new b ≡ unless_old select (find_in index.old b) }
+{
+    match select {
+        None => {}
+        Some(oldest) => index.forget(oldest.below),
+    }
+}
+
+// The block of the next record that a work copies, if it copies one.
+fn copied_from<A: Allocator + Copy>(work: &HomeWork<A>, index: &LogIndex<A>) -> Option<u32>
+    ensures { result ≡ copied_from (next_copy work.now index.now) }
+{
+    match work.next_copy(index) {
+        Some((_, newest)) => Some(newest.block),
+        None => None,
+    }
+}
+
+impl<A: Allocator + Copy> LogStore<A> {
+    /// That of a log without commits, where this start counts: the second one or the first one.
+    pub fn new(alloc: A, tail: LogTail, second: bool) -> Self
+        requires { tail.start.number ≤ tail.number }
+        ensures { result ≡ fresh_store tail second }
+    {
+        LogStore {
+            alloc,
+            tail,
+            second,
+            index: LogIndex::new(alloc),
+            stage: HomeStage::Resting,
+            work: HomeWork::none(alloc),
+        }
+    }
+
+    /// Where the volume has its parts.
+    pub fn log(&self) -> LogGeometry
+        ensures value { result ≡ self.now.tail.log }
+        ensures store { IsStore self.now }
+    {
+        self.tail.log()
+    }
+
+    /// The number of commits in the log: those that aren't all written home.
+    pub fn commits(&self) -> u64
+        ensures { result ≡ self.now.tail.number - self.now.tail.start.number }
+    {
+        self.tail.commits()
+    }
+
+    /// The block that the next step reads, or of which it writes a part: that of the record that it copies; block 1,
+    /// where it selects the start.
+    pub fn step_block(&self) -> Option<u32>
+        ensures { result ≡ step_block self.now }
+    {
+        match self.stage {
+            HomeStage::Resting => None,
+            HomeStage::Copying => copied_from(&self.work, &self.index),
+            HomeStage::Written => None,
+            HomeStage::Sure => Some(1),
+        }
+    }
+
+    /// The two blocks of the log of which the next commit of this many records writes a part, where a byte seals: its
+    /// first block, and the block behind it. None where a digest seals, or a commit has no such number of records.
+    /// A commit that selects a start also writes a byte of block 1.
+    pub fn commit_edges(&self, records: u32) -> Option<(u32, u32)>
+        ensures some { IsCommitSize self.now.tail.log.ring records → result ≡ commit_edges self.now.tail records }
+        ensures none { (IsCommitSize self.now.tail.log.ring records → ⊥) → result ≡ None }
+    {
+        let log = self.tail.log();
+        let Some(head) = head_of(&log, records as usize) else {
+            return None;
+        };
+        let position = self.tail.position();
+        match log.sealing() {
+            Sealing::ByByte => Some((
+                log.block_behind(position, 0),
+                log.block_behind(position, head + records),
+            )),
+            Sealing::ByDigest(_) => None,
+        }
+    }
+
+    /// The number of the next commit.
+    pub fn number(&self) -> u64
+        ensures { result ≡ self.now.tail.number }
+    {
+        self.tail.number()
+    }
+
+    /// The blocks of the ring that commits use, from the start on.
+    pub fn used(&self) -> u32
+        ensures { result ≡ self.now.tail.used }
+    {
+        self.tail.commits_so_far().blocks
+    }
+
+    /// Whether a device call failed. Then no further commit is made.
+    pub fn is_spent(&self) -> bool
+        ensures { result ≡ self.now.tail.spent }
+    {
+        self.tail.is_spent()
+    }
+
+    /// How far the oldest commits are written home.
+    pub fn stage(&self) -> HomeStage
+        ensures { result ≡ self.now.stage }
+    {
+        self.stage
+    }
+
+    /// Whether each commit is home, and none is being written home.
+    pub fn is_idle(&self) -> bool
+        ensures { IsTrue result ↔ ((self.now.tail.used ≡ 0) × (self.now.stage ≡ Resting)) }
+    {
+        self.used() == 0 && self.stage == HomeStage::Resting
+    }
+
+    // The old commits behind which the next commit selects the start.
+    fn selection(&self) -> Option<OldCommits>
+        ensures { result ≡ selection self.now }
+    {
+        match self.stage {
+            HomeStage::Resting => None,
+            HomeStage::Copying => None,
+            HomeStage::Written => match self.tail.log().sealing() {
+                Sealing::ByByte => Some(self.work.oldest()),
+                Sealing::ByDigest(_) => None,
+            },
+            HomeStage::Sure => Some(self.work.oldest()),
+        }
+    }
+
+    /// Commits records for home blocks, as `LogTail::commit`. The next steps write them home. `OutOfMemory` if there is
+    /// no memory to note where the records lie; then no device call was made.
+    ///
+    /// A written start goes along: a sync of the commit makes sure of it. Where a byte seals, the same commit selects
+    /// it, and where a digest seals, the next one does. Then the room of the old commits is free.
+    pub fn commit<D: Device>(
+        &mut self,
+        device: &mut D,
+        homes: &[u32],
+        room: &mut [u8],
+    ) -> Result<(), StoreFault>
+        requires long { 4096 * self.old.tail.log.blocks ≤ length (D.seen device.old) }
+        ensures may { OnOk result (MayCommit self.old.tail homes.now (length room.old)) }
+        ensures refused { IfErr result (RefusesStoreCommit self.old homes.now (length room.old)) }
+        ensures unchanged { IfErr result (λ fault. fault ≢ StoreFault.Commit CommitFault.Device
+            → KeepsStore self.old self.new × (device.new ≡ device.old)) }
+        ensures spent { IfErr result (λ fault. fault ≡ StoreFault.Commit CommitFault.Device
+            → self.new.tail ≡ record self.old.tail { spent = true }) }
+        ensures noted { OnOk result (HasNoted self.old self.new homes.now) }
+        ensures did { IfErr result (λ fault. fault ≢ StoreFault.OutOfMemory)
+            → MayCommit self.old.tail homes.now (length room.old)
+            → DidAll D.Device device.old (store_commit_works self.old homes.now (records_in homes.now room.old))
+            (is_ok result) device.new }
+        ensures len { length (D.seen device.new) ≡ length (D.seen device.old) }
+        ensures honest { D.is_honest device.new ↔ D.is_honest device.old }
+
+        // The store is over the device: each list that a crash may leave holds its log, with these contents.
+        ensures leaves { (contents : ℕ → List ℕ) → D.is_honest device.old
+            → IsStoreOver D.Device self.old contents device.old
+            → CommitLeaves D.Device (committing_tail self.old) contents homes.now (records_in homes.now room.old)
+            (is_ok result) device.old device.new }
+        ensures kept { (contents : ℕ → List ℕ) → D.is_honest device.old
+            → IsStoreOver D.Device self.old contents device.old
+            → IfErr result (λ fault. fault ≢ StoreFault.Commit CommitFault.Device
+            → IsStoreOver D.Device self.new contents device.new) }
+        ensures store { (contents : ℕ → List ℕ) → D.is_honest device.old
+            → IsStoreOver D.Device self.old contents device.old
+            → OnOk result (TellsTorn (committing_tail self.old) homes.now (records_in homes.now room.old)
+            (D.seen device.new)
+            → IsStoreOver D.Device self.new (committed_to contents homes.now (records_in homes.now room.old))
+            device.new) }
+    {
+        let log = self.tail.log();
+        let Some(head) = head_of(&log, homes.len()) else {
+            return Err(StoreFault::Commit(CommitFault::Count));
+        };
+        if self.index.admit(homes).is_err() {
+            return Err(StoreFault::OutOfMemory);
+        }
+        let records = log.position_behind(self.tail.position(), head);
+        let number = self.tail.number();
+        let select = self.selection();
+        match make(&mut self.tail, device, homes, room, self.second, select) {
+            Ok(()) => {
+                self.index.note(&log, records, number, homes);
+                forget_freed(&mut self.index, select);
+                self.second = second_by(self.second, select);
+                self.stage = stage_by(self.stage, select);
+                Ok(())
+            }
+            Err(fault) => Err(StoreFault::Commit(fault)),
+        }
+    }
+
+    // The block that has a home block's bytes.
+    fn store_block(&self, home: u32) -> u32
+        ensures { result ≡ store_block self.now home }
+    {
+        match self.index.find(home) {
+            Some(newest) => newest.block,
+            None => home,
+        }
+    }
+
+    /// Reads a home block, as the commits so far left it: its newest record, else the block itself. One device call.
+    pub fn read<D: Device>(
+        &self,
+        device: &mut D,
+        home: u32,
+        buffer: &mut [u8; 4096],
+    ) -> Result<(), StoreFault>
+        requires long { 4096 * self.now.tail.log.blocks ≤ length (D.seen device.old) }
+        ensures refused { IfErr result (RefusesRead self.now home) }
+        ensures unread { IfErr result (λ fault. fault ≡ StoreFault.Range → device.new ≡ device.old) }
+        ensures failed { IfErr result (λ fault. fault ≡ StoreFault.Device → D.faults_met device.old < 2 ^ 64 - 1
+            → D.faults_met device.new ≡ D.faults_met device.old + 1) }
+        ensures done { OnOk result (D.faults_met device.new ≡ D.faults_met device.old) }
+        ensures bytes { (contents : ℕ → List ℕ) → D.is_honest device.old
+            → IsStoreOver D.Device self.now contents device.old → IsLogHome self.now.tail.log home
+            → OnOk result (buffer.new ≡ contents home) }
+        ensures store { (contents : ℕ → List ℕ) → D.is_honest device.old
+            → IsStoreOver D.Device self.now contents device.old
+            → IsStoreOver D.Device self.now contents device.new }
+        ensures alone { ReadsAlone D.Device device.old device.new }
+        ensures calls { D.calls_made device.old < 2 ^ 64 - 1
+            → D.calls_made device.new ≡ D.calls_made device.old + store_read_calls self.now home }
+        ensures len { length (D.seen device.new) ≡ length (D.seen device.old) }
+        ensures honest { D.is_honest device.new ↔ D.is_honest device.old }
+    {
+        let block = self.store_block(home);
+        if block >= self.tail.log().block_count() {
+            return Err(StoreFault::Range);
+        }
+        match device.read(4096 * u64::from(block), buffer) {
+            Ok(()) => Ok(()),
+            Err(_) => Err(StoreFault::Device),
+        }
+    }
+
+    // Begins to write all commits so far home, if there are any.
+    fn begin(&mut self) -> Result<Progress, StoreFault>
+        requires { self.old.stage ≡ Resting }
+        ensures value { IfOk result (StepsBy self.old Resting self.new) }
+        ensures refused { IfErr result (RefusesStepBy self.old Resting) }
+        ensures memory { IfErr result (λ fault. fault ≡ StoreFault.OutOfMemory) }
+        ensures unchanged { OnErr result (self.new ≡ self.old) }
+    {
+        if self.tail.commits_so_far().blocks == 0 {
+            return Ok(Progress::Idle);
+        }
+        match HomeWork::begin(self.alloc, &self.tail, &self.index) {
+            Ok(work) => {
+                self.work = work;
+                self.stage = HomeStage::Copying;
+                Ok(Progress::Began)
+            }
+            Err(_) => Err(StoreFault::OutOfMemory),
+        }
+    }
+
+    // Copies the next home block.
+    fn copy<D: Device>(&mut self, device: &mut D) -> Result<Progress, StoreFault>
+        requires long { 4096 * self.old.tail.log.blocks ≤ length (D.seen device.old) }
+        requires stage { self.old.stage ≡ Copying }
+        requires left { self.old.work.done ≢ length self.old.work.homes }
+        ensures may { OnOk result (MayStepBy self.old Copying) }
+        ensures value { IfOk result (StepsBy self.old Copying self.new) }
+        ensures did { MayStepBy self.old Copying
+            → DidAll D.Device device.old (step_works self.old Copying) (is_ok result) device.new }
+        ensures refused { IfErr result (RefusesStepBy self.old Copying) }
+        ensures unchanged { IfErr result (λ fault. fault ≢ StoreFault.Move MoveFault.Device
+            → (self.new ≡ self.old) × (device.new ≡ device.old)) }
+        ensures spent { IfErr result (λ fault. fault ≡ StoreFault.Move MoveFault.Device
+            → self.new.tail ≡ record self.old.tail { spent = true }) }
+        ensures len { length (D.seen device.new) ≡ length (D.seen device.old) }
+        ensures honest { D.is_honest device.new ↔ D.is_honest device.old }
+        ensures leaves { (contents : ℕ → List ℕ) → D.is_honest device.old
+            → IsStoreOver D.Device self.old contents device.old
+            → LeavesOnly D.moment D.left_since device.old device.new (LogRecovers self.old.tail.log contents) }
+        ensures store { (contents : ℕ → List ℕ) → D.is_honest device.old
+            → IsStoreOver D.Device self.old contents device.old
+            → OnOk result (IsStoreOver D.Device self.new contents device.new) }
+    {
+        match self.work.step(&mut self.tail, &self.index, device) {
+            Ok(()) => {}
+            Err(fault) => return Err(StoreFault::Move(fault)),
+        }
+        Ok(Progress::Copied)
+    }
+
+    // Writes the start behind the commits that are home.
+    fn write_start<D: Device>(&mut self, device: &mut D) -> Result<Progress, StoreFault>
+        requires long { 4096 * self.old.tail.log.blocks ≤ length (D.seen device.old) }
+        requires stage { self.old.stage ≡ Copying }
+        requires done { self.old.work.done ≡ length self.old.work.homes }
+        ensures may { OnOk result (MayStepBy self.old Copying) }
+        ensures value { IfOk result (StepsBy self.old Copying self.new) }
+        ensures did { MayStepBy self.old Copying
+            → DidAll D.Device device.old (step_works self.old Copying) (is_ok result) device.new }
+        ensures refused { IfErr result (RefusesStepBy self.old Copying) }
+        ensures unchanged { IfErr result (λ fault. fault ≢ StoreFault.Move MoveFault.Device
+            → (self.new ≡ self.old) × (device.new ≡ device.old)) }
+        ensures spent { IfErr result (λ fault. fault ≡ StoreFault.Move MoveFault.Device
+            → self.new.tail ≡ record self.old.tail { spent = true }) }
+        ensures len { length (D.seen device.new) ≡ length (D.seen device.old) }
+        ensures honest { D.is_honest device.new ↔ D.is_honest device.old }
+        ensures leaves { (contents : ℕ → List ℕ) → D.is_honest device.old
+            → IsStoreOver D.Device self.old contents device.old
+            → LeavesOnly D.moment D.left_since device.old device.new (LogRecovers self.old.tail.log contents) }
+        ensures store { (contents : ℕ → List ℕ) → D.is_honest device.old
+            → IsStoreOver D.Device self.old contents device.old
+            → OnOk result (IsStoreOver D.Device self.new contents device.new) }
+    {
+        match self
+            .tail
+            .write_start(device, self.second, self.work.oldest())
+        {
+            Ok(()) => {
+                self.stage = HomeStage::Written;
+                Ok(Progress::Wrote)
+            }
+            Err(fault) => Err(StoreFault::Move(fault)),
+        }
+    }
+
+    // Makes sure of the start.
+    fn make_sure<D: Device>(&mut self, device: &mut D) -> Result<Progress, StoreFault>
+        requires stage { self.old.stage ≡ Written }
+        ensures may { OnOk result (MayStepBy self.old Written) }
+        ensures value { IfOk result (StepsBy self.old Written self.new) }
+        ensures did { MayStepBy self.old Written
+            → DidAll D.Device device.old (step_works self.old Written) (is_ok result) device.new }
+        ensures refused { IfErr result (RefusesStepBy self.old Written) }
+        ensures unchanged { IfErr result (λ fault. fault ≢ StoreFault.Move MoveFault.Device
+            → (self.new ≡ self.old) × (device.new ≡ device.old)) }
+        ensures spent { IfErr result (λ fault. fault ≡ StoreFault.Move MoveFault.Device
+            → self.new.tail ≡ record self.old.tail { spent = true }) }
+        ensures len { length (D.seen device.new) ≡ length (D.seen device.old) }
+        ensures honest { D.is_honest device.new ↔ D.is_honest device.old }
+        ensures leaves { (contents : ℕ → List ℕ) → D.is_honest device.old
+            → IsStoreOver D.Device self.old contents device.old
+            → LeavesOnly D.moment D.left_since device.old device.new (LogRecovers self.old.tail.log contents) }
+        ensures store { (contents : ℕ → List ℕ) → D.is_honest device.old
+            → IsStoreOver D.Device self.old contents device.old
+            → OnOk result (IsStoreOver D.Device self.new contents device.new) }
+    {
+        match self.tail.make_sure(device) {
+            Ok(()) => {
+                self.stage = HomeStage::Sure;
+                Ok(Progress::Synced)
+            }
+            Err(fault) => Err(StoreFault::Move(fault)),
+        }
+    }
+
+    // Selects the start, which is sure.
+    fn select<D: Device>(&mut self, device: &mut D) -> Result<Progress, StoreFault>
+        requires long { 4096 * self.old.tail.log.blocks ≤ length (D.seen device.old) }
+        requires stage { self.old.stage ≡ Sure }
+        ensures may { OnOk result (MayStepBy self.old Sure) }
+        ensures value { IfOk result (StepsBy self.old Sure self.new) }
+        ensures did { MayStepBy self.old Sure
+            → DidAll D.Device device.old (step_works self.old Sure) (is_ok result) device.new }
+        ensures refused { IfErr result (RefusesStepBy self.old Sure) }
+        ensures unchanged { IfErr result (λ fault. fault ≢ StoreFault.Move MoveFault.Device
+            → (self.new ≡ self.old) × (device.new ≡ device.old)) }
+        ensures spent { IfErr result (λ fault. fault ≡ StoreFault.Move MoveFault.Device
+            → self.new.tail ≡ record self.old.tail { spent = true }) }
+        ensures len { length (D.seen device.new) ≡ length (D.seen device.old) }
+        ensures honest { D.is_honest device.new ↔ D.is_honest device.old }
+        ensures leaves { (contents : ℕ → List ℕ) → D.is_honest device.old
+            → IsStoreOver D.Device self.old contents device.old
+            → LeavesOnly D.moment D.left_since device.old device.new
+            (λ c. StaysLast self.old.tail self.old.work.oldest c → LogRecovers self.old.tail.log contents c) }
+        ensures store { (contents : ℕ → List ℕ) → D.is_honest device.old
+            → IsStoreOver D.Device self.old contents device.old
+            → OnOk result (StaysLast self.old.tail self.old.work.oldest (D.seen device.new)
+            → IsStoreOver D.Device self.new contents device.new) }
+    {
+        let oldest = self.work.oldest();
+        match self.tail.select_start(device, self.second, oldest) {
+            Ok(()) => {
+                self.second = !self.second;
+                self.index.forget(oldest.below);
+                self.stage = HomeStage::Resting;
+                Ok(Progress::Moved)
+            }
+            Err(fault) => Err(StoreFault::Move(fault)),
+        }
+    }
+
+    /// The next step by which commits are written home: it begins with all commits so far, copies their home blocks,
+    /// one a step, and moves the start behind them, in three steps: it writes the start, makes sure of it, and selects
+    /// it and makes sure of that. Commits may come between two steps. Once the start is written, they carry the rest of
+    /// the move, and no step makes a sync.
+    pub fn step<D: Device>(&mut self, device: &mut D) -> Result<Progress, StoreFault>
+        requires long { 4096 * self.old.tail.log.blocks ≤ length (D.seen device.old) }
+        ensures may { OnOk result (MayStepBy self.old self.old.stage) }
+        ensures value { IfOk result (StepsBy self.old self.old.stage self.new) }
+        ensures did { IfErr result (λ fault. fault ≢ StoreFault.OutOfMemory) → MayStepBy self.old self.old.stage
+            → DidAll D.Device device.old (step_works self.old self.old.stage) (is_ok result) device.new }
+        ensures refused { IfErr result (RefusesStepBy self.old self.old.stage) }
+        ensures unchanged { IfErr result (λ fault. fault ≢ StoreFault.Move MoveFault.Device
+            → (self.new ≡ self.old) × (device.new ≡ device.old)) }
+        ensures spent { IfErr result (λ fault. fault ≡ StoreFault.Move MoveFault.Device
+            → self.new.tail ≡ record self.old.tail { spent = true }) }
+        ensures len { length (D.seen device.new) ≡ length (D.seen device.old) }
+        ensures honest { D.is_honest device.new ↔ D.is_honest device.old }
+
+        // The store is over the device: a crash leaves the same contents, and the store stays over it.
+        ensures leaves { (contents : ℕ → List ℕ) → D.is_honest device.old
+            → IsStoreOver D.Device self.old contents device.old
+            → LeavesOnly D.moment D.left_since device.old device.new
+            (λ c. TrustsBy self.old self.old.stage c → LogRecovers self.old.tail.log contents c) }
+        ensures store { (contents : ℕ → List ℕ) → D.is_honest device.old
+            → IsStoreOver D.Device self.old contents device.old
+            → OnOk result (TrustsBy self.old self.old.stage (D.seen device.new)
+            → IsStoreOver D.Device self.new contents device.new) }
+    {
+        match self.stage {
+            HomeStage::Resting => self.begin(),
+            HomeStage::Copying => {
+                if self.work.is_done() {
+                    self.write_start(device)
+                } else {
+                    self.copy(device)
+                }
+            }
+            HomeStage::Written => self.make_sure(device),
+            HomeStage::Sure => self.select(device),
+        }
+    }
+}
