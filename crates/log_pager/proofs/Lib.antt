@@ -1,0 +1,3 @@
+mod Blocks
+mod Over
+pub mod Public
