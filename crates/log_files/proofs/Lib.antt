@@ -1,0 +1,7 @@
+mod HomeBlocks
+mod Rooms
+mod Resizing
+mod Setting
+mod Faults
+mod Reading
+mod Seen

@@ -1,0 +1,4 @@
+pub mod State
+pub mod Calls
+pub mod inside
+pub mod Needs

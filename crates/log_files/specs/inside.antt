@@ -1,0 +1,3 @@
+pub mod Sound
+pub mod Faults
+pub mod Fields

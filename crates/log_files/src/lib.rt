@@ -1,0 +1,13 @@
+//! The files of a volume with a log: pages are put and lengths set, both committed together, read back, and written
+//! home in steps.
+#![tactic(auto)]
+
+mod asking;
+mod commits;
+mod files;
+mod lengths;
+mod needs;
+mod opening;
+mod places;
+
+pub use files::LogFiles;
