@@ -1,0 +1,7 @@
+pub mod Lowered
+pub mod First
+pub mod Keeping
+pub mod Resized
+pub mod Crashes
+pub mod Runs
+pub mod Public
