@@ -1,0 +1,7 @@
+mod Leading
+mod Stepping
+mod Calls
+mod Serving
+mod Left
+mod Lacking
+mod Byte

@@ -1,0 +1,5 @@
+use Rattle.embedded_log.proofs.Byte.{told_mark}
+use Rattle.embedded_log.proofs.laws.told_by_byte.Goals as goal
+
+pub returns : goal.returns
+returns c = λ files mark s reached byte. told_mark files mark s reached byte

@@ -1,0 +1,9 @@
+pub mod State
+pub mod Opening
+pub mod Needs
+pub mod Steps
+pub mod Supplying
+pub mod Runs
+pub mod Serving
+pub mod Hosting
+pub mod inside

@@ -1,0 +1,66 @@
+-- What a volume with a log has served, and which marks are acknowledged.
+use Rattle.std.specs.Prelude.{ℕ, ◌≡◌, ◌-◌, ◌^◌, ◌≤◌, min, List, Contains, Option, IfSome}
+use Rattle.deferred_disk.specs.Deferred.{Deferred, as_memory, carried_moment, IsSuppliedWell}
+use Rattle.device.specs.Memory.{moment_of, seen_of}
+use Rattle.volume_codec.specs.Files.{File}
+use Rattle.volume_codec.specs.Layout.{block_at}
+use Rattle.history.specs.History.{Event, Acknowledge}
+use Rattle.log_volume.specs.Files.{RecoversToLog, log_files_in}
+use Rattle.log_files.specs.State.{LogFilesState}
+use Rattle.log_histories.specs.Histories.{IsJustOpened}
+use Rattle.embedded.specs.Recorded.{deferred_disk}
+use Rattle.embedded_log.specs.Runs.{HasRunLog, HasServedLog, IsToldRun, IsToldServed}
+
+-- a volume that had these files was opened
+pub record IsFirst (files : List File) (first : LogFilesState Deferred) : Type 0 where
+  pub before : Deferred
+  pub opened : IsJustOpened deferred_disk before first
+  pub files_are : files ≡ log_files_in first.table (block_at (deferred_disk.seen first.pager.device))
+  pub recovered : RecoversToLog (seen_of (as_memory before)) files
+
+-- Calls led from the opening of a volume that had these files to a state by whose history a mark is acknowledged, and
+-- further ones from there to this state.
+pub record HasPassedLogMark (files : List File) (mark : ℕ) (s : LogFilesState Deferred) : Type 0 where
+  pub first : LogFilesState Deferred
+  pub opened : IsFirst files first
+  pub earlier : List Event
+  pub mid : LogFilesState Deferred
+  pub run : HasRunLog first earlier mid
+  pub acknowledges : Contains earlier (Acknowledge mark)
+  pub later : List Event
+  pub served : HasServedLog mid later s
+
+-- the digest is right about the bytes that a read gave after each of these calls
+abbrev pub IsToldMark : {files : List File} {mark : ℕ} {s : LogFilesState Deferred}
+    → HasPassedLogMark files mark s → Type 0
+IsToldMark reached = IsToldRun reached.run × IsToldServed reached.served
+
+-- So they did, and there this many device calls were recorded. (A count that has come to 2^64-1 stays there.)
+abbrev pub HasNeededLog : List File → (due mark : ℕ) → LogFilesState Deferred → Type 0
+HasNeededLog files due mark s =
+    (reached : HasPassedLogMark files mark s)
+    × (due ≡ min (moment_of (as_memory reached.mid.pager.device)) (2 ^ 64 - 1))
+
+-- So they did, and the host has made the device calls that were recorded there.
+abbrev pub HasMadeLogCalls : List File → (mark : ℕ) → LogFilesState Deferred → Type 0
+HasMadeLogCalls files mark s =
+    (reached : HasPassedLogMark files mark s)
+    × (moment_of (as_memory reached.mid.pager.device) ≤ carried_moment s.pager.device)
+
+-- Calls led to this state from the opening of a volume. It had the files to which the bytes of a disk recovered. On the
+-- way the mark of the last commit was acknowledged in the history, when as many device calls were recorded as it needs;
+-- and so was the mark that is acknowledged, whose device calls the host has made.
+pub record ServesLogFiles (s : LogFilesState Deferred) (committed : Option ℕ) (due : ℕ) (acknowledged : Option ℕ)
+    : Type 0 where
+  pub files : List File
+  pub first : LogFilesState Deferred
+  pub opened : IsFirst files first
+  pub history : List Event
+  pub served : HasServedLog first history s
+  pub commits : IfSome committed (λ mark. HasNeededLog files due mark s)
+  pub durable : IfSome acknowledged (λ mark. HasMadeLogCalls files mark s)
+
+-- So it is as long as the host supplied each block as it was.
+abbrev pub ServesLogWell : LogFilesState Deferred → Option ℕ → ℕ → Option ℕ → Type 0
+ServesLogWell s committed due acknowledged =
+    IsSuppliedWell s.pager.device → ServesLogFiles s committed due acknowledged

@@ -1,0 +1,3 @@
+-- What ties private code to the definitions that public clauses name.
+pub mod Leading
+pub mod Rounds
