@@ -1,0 +1,4 @@
+mod Crash
+mod Fresh
+mod Made
+mod Tables

@@ -1,0 +1,4 @@
+pub mod Asked
+pub mod Fresh
+pub mod Formatting
+pub mod inside

@@ -1,0 +1,139 @@
+// A volume with a log is made on a device whose bytes are all 0.
+ghost use Rattle.std.specs.Prelude.{◌≡◌, ◌⊎◌, ◌*◌, ◌≤◌, ◌+◌, ℕ, length, slice_index, is_ok, IfOk, IfErr, OnOk};
+ghost use Rattle.device.specs.Device.{LeavesOnly};
+ghost use Rattle.device.specs.Did.{Did};
+ghost use Rattle.device.specs.Work.{WriteAt};
+ghost use Rattle.volume_codec.specs.Files.{asked_by, lengths_asked};
+ghost use Rattle.volume_codec.specs.Lengths.{lengths_text};
+ghost use Rattle.new_volume.specs.Formatting.{IsZero, DidAll};
+ghost use Rattle.log_codec.specs.Log.{first_log_home};
+ghost use Rattle.log_codec.specs.Start.{start_text};
+ghost use Rattle.log_volume.specs.Super.{LogSuperValue, log_of, log_super_text};
+ghost use Rattle.log_format.specs.Asked.{IsLogAsked, HasLogShape, RefusesLogFormat};
+ghost use Rattle.log_format.specs.Fresh.{first_log_start};
+ghost use Rattle.log_format.specs.Formatting.{log_works, IsWrittenInLog, HasAskedLog, HasFormattedLog, LeftByLogFormat};
+
+use crate::asked::{asked_super, log_block_count};
+use device::{Device, DeviceFault, make_durable, write_at};
+use log_codec::{LogGeometry, LogStart, Sealing, encode_start};
+use log_volume::LogSuper;
+use page_entry::{PAGE, Refusal};
+use std::alloc::Allocator;
+use volume_codec::{FileSpec, write_lengths_of};
+
+/// The start of a fresh log.
+const FIRST_START: LogStart = LogStart {
+    position: 0,
+    number: 1,
+    epoch: 1,
+};
+
+/// Makes a volume with a log of this many blocks on a device whose bytes are all 0: the log has no commit, and the
+/// files have these lengths and only zeros. It writes the start in block 2 and the lengths block, syncs, writes block 0
+/// and syncs. No other byte changes, whatever is answered.
+///
+/// `BadShape`, before any memory is taken and any device call is made, where no volume has these files and this log
+/// (`log_block_count`), or the device is shorter than its blocks. `OutOfMemory` before any device call. `Device` where
+/// a device call failed: the later ones weren't made.
+pub fn format_log<D: Device, A: Allocator + Copy>(
+    alloc: A,
+    device: &mut D,
+    sealing: Sealing,
+    files: &[FileSpec],
+    ring: u64,
+) -> Result<(), Refusal>
+    ensures formatted { D.is_honest device.old → IsZero (D.seen device.old)
+        → OnOk result (HasFormattedLog D.Device sealing (asked_by files.now) ring device.old device.new) }
+    ensures others { D.is_honest device.old → (i : ℕ)
+        → ((table : LogSuperValue) → IsLogAsked sealing (asked_by files.now) ring table → ¬ IsWrittenInLog table i)
+        → slice_index (D.seen device.new) i ≡ slice_index (D.seen device.old) i }
+    ensures asked { HasAskedLog D.Device sealing (asked_by files.now) ring device.old result device.new }
+    ensures crash { D.is_honest device.old → IsZero (D.seen device.old)
+        → LeavesOnly D.moment D.left_since device.old device.new
+        (LeftByLogFormat D.Device sealing (asked_by files.now) ring device.old) }
+{
+    let table = shape(alloc, device.len(), sealing, files, ring)?;
+    match write_fresh(device, &table, files) {
+        Ok(()) => Ok(()),
+        Err(_) => Err(Refusal::Device),
+    }
+}
+
+// The super block of these files on a device of so many bytes. `BadShape`, before any memory is taken, where there is
+// none or the device is shorter than its blocks.
+fn shape<A: Allocator + Copy>(
+    alloc: A,
+    bytes: u64,
+    sealing: Sealing,
+    files: &[FileSpec],
+    ring: u64,
+) -> Result<LogSuper<A>, Refusal>
+    ensures ok { IfOk result (HasLogShape sealing (asked_by files.now) ring bytes) }
+    ensures refused { IfErr result (RefusesLogFormat sealing (asked_by files.now) ring bytes) }
+    ensures early { IfErr result (λ refusal. (refusal ≡ Refusal.BadShape) ⊎ (refusal ≡ Refusal.OutOfMemory)) }
+{
+    let blocks = log_block_count(sealing, files, ring)?;
+    if bytes < PAGE * blocks {
+        return Err(Refusal::BadShape);
+    }
+    asked_super(alloc, sealing, files, ring)
+}
+
+// Writes the first start, the lengths of these files and their super block.
+fn write_fresh<D: Device, A: Allocator + Copy>(
+    device: &mut D,
+    table: &LogSuper<A>,
+    files: &[FileSpec],
+) -> Result<(), DeviceFault>
+    requires long { 4096 * (log_of table.now).blocks ≤ length (D.seen device.old) }
+    requires few { length files.now ≤ 64 }
+    ensures did { DidAll D.Device device.old (log_works table.now (lengths_asked (asked_by files.now)))
+        (is_ok result) device.new }
+    ensures table { length (log_super_text table.now) ≡ 4096 }
+    ensures lengths { length (lengths_text (lengths_asked (asked_by files.now))) ≡ 4096 }
+    ensures start { length (start_text first_log_start) ≡ 4096 }
+{
+    let block = table.to_block();
+    let lengths = write_lengths_of(files);
+    match put_start(device, &table.log()) {
+        Ok(()) => {}
+        Err(fault) => return Err(fault),
+    }
+    match put_lengths(device, &table.log(), &lengths) {
+        Ok(()) => {}
+        Err(fault) => return Err(fault),
+    }
+    match make_durable(device) {
+        Ok(()) => {}
+        Err(fault) => return Err(fault),
+    }
+    match write_at(device, 0, &block) {
+        Ok(()) => {}
+        Err(fault) => return Err(fault),
+    }
+    make_durable(device)
+}
+
+// Writes the start of a fresh log.
+fn put_start<D: Device>(device: &mut D, log: &LogGeometry) -> Result<(), DeviceFault>
+    requires { 4096 * log.now.blocks ≤ length (D.seen device.old) }
+    ensures did { Did D.Device device.old (WriteAt 8192 (start_text first_log_start)) (is_ok result) device.new }
+    ensures start { length (start_text first_log_start) ≡ 4096 }
+{
+    let _ring = log.ring();
+    let start = encode_start(&FIRST_START);
+    write_at(device, 2 * PAGE, &start)
+}
+
+// Writes the block of lengths.
+fn put_lengths<D: Device>(
+    device: &mut D,
+    log: &LogGeometry,
+    lengths: &[u8; 4096],
+) -> Result<(), DeviceFault>
+    requires { 4096 * log.now.blocks ≤ length (D.seen device.old) }
+    ensures { Did D.Device device.old (WriteAt (4096 * first_log_home log.now.ring) lengths.now) (is_ok result)
+        device.new }
+{
+    write_at(device, PAGE * u64::from(log.first_home()), lengths)
+}

@@ -1,0 +1,10 @@
+//! A volume with a log is made on a device whose bytes are all 0.
+#![tactic(auto)]
+
+mod asked;
+mod formatting;
+mod laws;
+
+pub use asked::{asked_super, log_block_count};
+pub use formatting::format_log;
+pub use laws::fresh_volume;

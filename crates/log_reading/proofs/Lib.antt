@@ -1,0 +1,3 @@
+mod Homes
+mod Newest
+mod Read
