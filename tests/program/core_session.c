@@ -107,16 +107,16 @@ static void forget_blocks(void)
         want(famsync_core_forget(core, block, &core.at) >= 0, "a block isn't judged");
 }
 
-/* Opens the volume. An opening that wants a block begins again, and records its calls again; so all blocks are supplied
-   before. Those of files are forgotten then, so that they are wanted where they are read. */
+/* Opens the volume, with the blocks that the core wants. Those of files are forgotten then, so that they are wanted
+   where they are read. */
 static int64_t open_volume(uint32_t pages)
 {
     uint32_t wanted;
     int64_t code;
-    for (uint32_t block = 0; block < blocks; block++)
-        supply(block);
-    code = famsync_core_open(core, pages, &wanted, &core.at);
-    want(code != FAMSYNC_CORE_WANTED, "a block that is known is wanted");
+    while ((code = famsync_core_open(core, pages, &wanted, &core.at)) == FAMSYNC_CORE_WANTED) {
+        want(famsync_core_waiting(core, &core.at) == 0, "a call is recorded where a block is wanted");
+        supply(wanted);
+    }
     make_calls();
     for (int64_t block = famsync_core_head(core, &core.at); block >= 0 && block < blocks; block++)
         want(famsync_core_forget(core, (uint32_t)block, &core.at) >= 0, "a block isn't judged");

@@ -120,6 +120,7 @@ fn format_job<'a, A: Allocator + Copy>(
         disk: text(words, "DISK"),
         slots,
         files,
+        preallocate: words.get_flag("preallocate"),
         json: words.get_flag("json"),
     }))
 }
@@ -133,6 +134,7 @@ fn migrate_job<'a, A: Allocator + Copy>(
         new: text(words, "NEW"),
         layout,
         slots,
+        preallocate: words.get_flag("preallocate"),
         trust: words.get_flag("trust"),
         json: words.get_flag("json"),
     })))

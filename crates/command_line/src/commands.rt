@@ -7,6 +7,7 @@ use std::alloc::{AllocError, Global};
 enum Choice {
     Layout,
     NewLayout,
+    Preallocate,
     Trust,
     Json,
     JsonLines,
@@ -32,7 +33,7 @@ const COMMANDS: &[Shape] = &[
     Shape {
         name: "format",
         about: "Makes or replaces the file DISK by a volume whose files are all zeros",
-        options: &[Choice::Layout, Choice::Json],
+        options: &[Choice::Layout, Choice::Preallocate, Choice::Json],
         words: &[
             ("DISK", "The file to make"),
             (
@@ -48,7 +49,12 @@ const COMMANDS: &[Shape] = &[
     Shape {
         name: "migrate",
         about: "Makes or replaces the file NEW by a volume whose files may grow, with the files of the volume in OLD",
-        options: &[Choice::NewLayout, Choice::Trust, Choice::Json],
+        options: &[
+            Choice::NewLayout,
+            Choice::Preallocate,
+            Choice::Trust,
+            Choice::Json,
+        ],
         words: &[
             ("OLD", "The file that holds the volume, which is opened"),
             ("NEW", "The file to make"),
@@ -196,6 +202,11 @@ fn with_option<'a>(
             alloc,
             "3",
             "The number of the new volume's layout: 3, or 4, and none below that of OLD",
+        )),
+        Choice::Preallocate => command.arg(flag(
+            alloc,
+            "preallocate",
+            "Write zeros to all blocks of the file, so that a lack of disk space shows now",
         )),
         Choice::Trust => command.arg(flag(
             alloc,

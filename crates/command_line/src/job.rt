@@ -27,12 +27,13 @@ pub enum Job<'a, A: Allocator + Copy> {
 /// What is made, and whether what is printed is JSON.
 #[derive(Drop)]
 pub enum Make<'a, A: Allocator + Copy> {
-    /// A volume in the layout of this number, with these files.
+    /// A volume in the layout of this number, with these files, whose blocks may be taken on the disk at once.
     Volume {
         layout: u64,
         disk: &'a str,
         slots: u64,
         files: Vec<FileSpec<'a>, A>,
+        preallocate: bool,
         json: bool,
     },
     /// A volume whose files can grow, of another.
@@ -83,14 +84,15 @@ pub struct Export<'a> {
 }
 
 /// A volume that is made of another: the paths of the old one's file and of the new one's, the number of the new one's
-/// layout, the record slots of each of its journals, whether the old one is trusted though it may be marked as suspect,
-/// and whether what is printed is JSON.
+/// layout, the record slots of each of its journals, whether its blocks are taken on the disk at once, whether the old
+/// one is trusted though it may be marked as suspect, and whether what is printed is JSON.
 #[derive(Clone, Copy)]
 pub struct Migration<'a> {
     pub old: &'a str,
     pub new: &'a str,
     pub layout: u64,
     pub slots: u64,
+    pub preallocate: bool,
     pub trust: bool,
     pub json: bool,
 }

@@ -11,6 +11,7 @@ use std::alloc::Allocator;
 use std::convert::AsStr;
 use std::fs::File;
 use std::io;
+use std::io::IsTerminal;
 use std::marker::Sync;
 use std::rt::Files;
 use std::sync::Wait;
@@ -20,7 +21,7 @@ use volume_commands::{look, make};
 use volume_files::SyncNote;
 
 /// Does what the words ask for, of which the first is the program's name. What it prints goes to `out`, and where
-/// something is wrong, one line to `err`.
+/// something is wrong, one line to `err`. Where that is a terminal, it also shows how much of a long copy is done.
 ///
 /// The status is 0; 1 where a script or a trace is refused, a trace that is run again is answered otherwise, or a
 /// volume that is checked needs opening; 2 where the words aren't of the forms that the help shows; and 3 where a
@@ -35,11 +36,11 @@ where
     A: Allocator + Copy,
     S: AsStr,
     O: io::Write,
-    E: io::Write,
+    E: io::Write + IsTerminal,
     ensures { result ≤ 3 }
 {
     let mut note = SyncNote::Nothing;
-    let done = obey(rt, alloc, words, out, &mut note);
+    let done = obey(rt, alloc, words, out, err, &mut note);
     match once_flushed(done, out.flush()) {
         Ok(status) => status,
         Err(failure) => {
@@ -64,11 +65,12 @@ fn once_flushed<'a>(
     Ok(status)
 }
 
-fn obey<'a, R, A, S, O>(
+fn obey<'a, R, A, S, O, E>(
     rt: &R,
     alloc: A,
     words: &'a [S],
     out: &mut O,
+    err: &mut E,
     note: &mut SyncNote,
 ) -> Result<u8, Failure<'a>>
 where
@@ -76,6 +78,7 @@ where
     A: Allocator + Copy,
     S: AsStr,
     O: io::Write,
+    E: io::Write + IsTerminal,
     ensures { IfOk result (λ status. status ≤ 3) }
 {
     match read_words(rt.alloc(), alloc, words)? {
@@ -86,7 +89,7 @@ where
         Job::Replay(asked) => {
             return replay(rt, alloc, asked, out, note);
         }
-        Job::Make(asked) => make(rt, alloc, asked, out, note)?,
+        Job::Make(asked) => make(rt, alloc, asked, out, err, note)?,
         Job::Run(asked) => run(rt, alloc, asked, out, note)?,
         Job::Threads(asked) => threads(rt, asked, out, note)?,
         Job::Crashes(asked, form) => crashes(rt, alloc, asked, form, out, note)?,

@@ -1,5 +1,6 @@
 mod Appending
 mod Faults
 mod Files
+mod PageCopy
 mod PageText
 pub mod Public

@@ -2,9 +2,8 @@
 use Rattle.std.proofs.Common.{◌≡◌, ◌<◌, ◌≤◌, ◌⊎◌, inl, inr, ⊎_elim, ℕ, zero, suc, add-one, ◌+◌}
 use Rattle.std.proofs.Common.{◌-◌, ◌*◌, min, List, [], ◌++◌, length, take, drop, Option, refl, sym, ◌∙◌}
 use Rattle.std.proofs.Common.{ap, subst, arith, length-drop, length-take, append-nil, append_assoc, slice_range}
-use Rattle.std.proofs.Math.Seq.{take-add}
 use Rattle.std.proofs.lemmas.Bool.{cases_lt}
-use Rattle.std.proofs.lemmas.List.{take_all, take_min, drop-drop, drop_all, take-take, drop-take}
+use Rattle.std.proofs.lemmas.List.{take_min, drop-drop, drop_all, take-take, drop-take}
 use Rattle.std.specs.Io.KnownBytes.{Appends}
 use Rattle.file_rows.specs.Rows.{shown, row_of, rows_text, row_count}
 use Rattle.file_rows.specs.Reading.{part_of, pages_text, page_count}
@@ -119,20 +118,6 @@ pub rows_of_all_pages : (row : ℕ → List ℕ → List ℕ) (bytes : List ℕ)
     → pages_text (page_rows row) bytes (page_count n) ≡ rows_text row bytes (row_count n)
 rows_of_all_pages row bytes n long =
     rows_of_pages row bytes n (page_count n) long (omega arith) ∙ rows_all row bytes n (page_count n) long (omega arith)
-
--- the bytes of the pages before page p
-bytes_of_pages : (bytes : List ℕ) (p : ℕ) → pages_text (λ at page. page) bytes p ≡ take (4096 * p) bytes
-bytes_of_pages bytes zero = refl
-bytes_of_pages bytes (suc p) =
-    let next : 4096 * p + 4096 ≡ 4096 * suc p = omega arith in
-    ap (λ (front : List ℕ). front ++ part_of bytes p) (bytes_of_pages bytes p)
-    ∙ sym (take-add (4096 * p) 4096 bytes) ∙ ap (λ n. take n bytes) next
-
--- the bytes of all pages
-pub pages_whole : (bytes : List ℕ) (n : ℕ) → length bytes ≡ n
-    → pages_text (λ at page. page) bytes (page_count n) ≡ bytes
-pages_whole bytes n long = bytes_of_pages bytes (page_count n)
-    ∙ take_all (4096 * page_count n) bytes (omega (arith, long))
 
 -- a row of a page, as it is cut out of it
 pub row_cut : (bytes : List ℕ) (n to : ℕ) → 16 * n < length bytes → to ≡ min (length bytes) (16 * n + 16)

@@ -1,5 +1,5 @@
 //! The files of a volume as it recovers, read a page at a time, and written in a form of the caller's, as rows of 16
-//! bytes or page by page.
+//! bytes, or copied to another file.
 #![tactic(auto)]
 
 mod form;
@@ -10,5 +10,5 @@ mod recovered;
 
 pub use form::{Form, ListFault, WriteFault};
 pub use listing::list_files;
-pub use pages::{PageForm, write_pages};
+pub use pages::copy_pages;
 pub use recovered::Recovered;

@@ -4,6 +4,7 @@
 mod looking;
 mod making;
 mod print;
+mod progress;
 
 pub use looking::look;
 pub use making::make;

@@ -2,22 +2,32 @@
 ghost use Rattle.std.specs.Prelude.{◌≡◌};
 
 use crate::print::print_count;
-use command_line::{Make, Migration};
+use crate::progress::Progress;
+use command_line::{Export, Make, Migration};
 use std::alloc::Allocator;
 use std::fs::File;
 use std::io;
+use std::io::IsTerminal;
 use std::rt::Files;
 use volume_files::{ExportPlan, FileFailure, MigrationPlan, Plan, SyncNote};
 
 /// Makes what is asked for: a volume, one of another, or a copy of a file of one; and prints how many blocks or bytes
-/// that has. `note` gets what is to be said of a sync that failed.
-pub fn make<'a, R: Files<File = File> + AllocGlobal, A: Allocator + Copy, W: io::Write>(
+/// that has. `note` gets what is to be said of a sync that failed. Where `err` is a terminal, it shows how much of a
+/// copy is written.
+pub fn make<'a, R, A, W, E>(
     rt: &R,
     alloc: A,
     asked: Make<'a, A>,
     out: &mut W,
+    err: &mut E,
     note: &mut SyncNote,
-) -> Result<(), FileFailure<'a>> {
+) -> Result<(), FileFailure<'a>>
+where
+    R: Files<File = File> + AllocGlobal,
+    A: Allocator + Copy,
+    W: io::Write,
+    E: io::Write + IsTerminal,
+{
     let global = rt.alloc();
     match asked {
         Make::Volume {
@@ -25,30 +35,71 @@ pub fn make<'a, R: Files<File = File> + AllocGlobal, A: Allocator + Copy, W: io:
             disk,
             slots,
             files,
+            preallocate,
             json,
         } => {
             let plan = Plan {
                 layout,
                 files: &files,
                 slots,
+                preallocate,
             };
             let blocks = volume_files::format(rt, alloc, disk, plan)?;
             print_count(global, json, "formatted", blocks, "blocks", out)
         }
         Make::Migration(asked) => {
-            let blocks = volume_files::migrate(rt, alloc, migration(&asked), asked.trust, note)?;
+            let blocks = migrated(rt, alloc, &asked, err, note)?;
             print_count(global, asked.json, "migrated", blocks, "blocks", out)
         }
         Make::Copy(asked) => {
-            let plan = ExportPlan {
-                disk: asked.disk,
-                file: asked.file,
-                out: asked.out,
-            };
-            let bytes = volume_files::export(rt, alloc, plan, asked.trust, note)?;
+            let bytes = exported(rt, alloc, asked, err, note)?;
             print_count(global, asked.json, "exported", bytes, "bytes", out)
         }
     }
+}
+
+// Migrates a volume, and counts the blocks of the new one.
+fn migrated<'a, R, A, E>(
+    rt: &R,
+    alloc: A,
+    asked: &Migration<'a>,
+    err: &mut E,
+    note: &mut SyncNote,
+) -> Result<u64, FileFailure<'a>>
+where
+    R: Files<File = File> + AllocGlobal,
+    A: Allocator + Copy,
+    E: io::Write + IsTerminal,
+{
+    let mut progress = Progress::new(err, "migrating");
+    let plan = migration(asked);
+    let made = volume_files::migrate(rt, alloc, plan, asked.trust, note, &mut progress);
+    progress.clear();
+    made
+}
+
+// Copies a file out of a volume, and counts its bytes.
+fn exported<'a, R, A, E>(
+    rt: &R,
+    alloc: A,
+    asked: Export<'a>,
+    err: &mut E,
+    note: &mut SyncNote,
+) -> Result<u64, FileFailure<'a>>
+where
+    R: Files<File = File> + AllocGlobal,
+    A: Allocator + Copy,
+    E: io::Write + IsTerminal,
+{
+    let plan = ExportPlan {
+        disk: asked.disk,
+        file: asked.file,
+        out: asked.out,
+    };
+    let mut progress = Progress::new(err, "exporting");
+    let made = volume_files::export(rt, alloc, plan, asked.trust, note, &mut progress);
+    progress.clear();
+    made
 }
 
 // What is migrated, and where to.
@@ -57,11 +108,13 @@ fn migration<'a>(asked: &Migration<'a>) -> MigrationPlan<'a>
     ensures new { result.new ≡ asked.now.new }
     ensures layout { result.layout ≡ asked.now.layout }
     ensures slots { result.slots ≡ asked.now.slots }
+    ensures preallocate { result.preallocate ≡ asked.now.preallocate }
 {
     MigrationPlan {
         old: asked.old,
         new: asked.new,
         layout: asked.layout,
         slots: asked.slots,
+        preallocate: asked.preallocate,
     }
 }

@@ -7,7 +7,8 @@ ghost use Rattle.file_rows.specs.Recovered.{IsRecovered, IsSound, recovered_file
 ghost use Rattle.volume_files.specs.Export.{IsCopied, IsExported};
 
 use device::Device;
-use file_rows::{ListFault, PageForm, Recovered, WriteFault, write_pages};
+use file_rows::{ListFault, Recovered, WriteFault, copy_pages};
+use new_volume::{EmptyFile, NewFile, WriteListener};
 use page_entry::Refusal;
 use std::alloc::Allocator;
 use std::io;
@@ -21,87 +22,103 @@ pub enum CopyFault {
     Pages(ListFault),
 }
 
-// The pages of a file as their bytes.
-#[derive(Clone, Copy)]
-struct Whole;
-
-impl PageForm for Whole {
-    ghost page_text = { λ whole at page. page };
-
-    fn write_page<W: io::Write>(
-        &self,
-        at: u64,
-        page: &[u8],
-        out: &mut W,
-    ) -> Result<(), WriteFault> {
-        out.write_all(page)?;
-        Ok(())
-    }
-}
-
-/// Writes all bytes of the file of this name of a device's volume, as it recovers, and says how many there are. The
-/// volume is refused as opening refuses it. The device is only read.
-pub fn copy_file<D, A, W>(
+/// Writes all bytes of the file of this name of a device's volume, as it recovers, to an empty file, except zeros past
+/// all that was written, and says how many there are. The volume is refused as opening refuses it. The device is only
+/// read. A listener hears of each write.
+pub fn copy_file<D, A, F, L>(
     alloc: A,
     device: &mut D,
     name: &str,
-    out: &mut W,
-) -> Result<Result<u64, CopyFault>, Refusal>
+    out: F,
+    listener: L,
+) -> Result<Result<(u64, F), CopyFault>, Refusal>
 where
     D: Device,
     A: Allocator + Copy,
-    W: io::Write,
-    ensures copied { D.is_honest device.old → IfOk result (λ copied. IfOk copied
-        (IsExported (D.seen device.old) name.now (W.contents out.old) (W.contents out.new))) }
+    F: EmptyFile + Drop,
+    L: WriteListener + Drop,
+    ensures copied { D.is_honest device.old → IfOk result (λ copied. IfOk copied (λ made. F.is_honest made.1
+        → IsExported (D.seen device.old) name.now (F.seen made.1) made.0)) }
     ensures refused { D.is_honest device.old → IfErr result (RefusesOpening (D.seen device.old)) }
     ensures read { IsOnlyRead D.Device device.old device.new }
 {
     match Recovered::find(alloc, device) {
-        Ok(volume) => Ok(copy_named(&volume, device, name, out)),
+        Ok(volume) => Ok(copy_named(&volume, device, name, out, listener)),
         Err(refusal) => Err(refusal),
     }
 }
 
 // Writes all bytes of the file of this name, and says how many there are.
-fn copy_named<D: Device, A: Allocator + Copy, W: io::Write>(
+fn copy_named<D, A, F, L>(
     volume: &Recovered<A>,
     device: &mut D,
     name: &str,
-    out: &mut W,
-) -> Result<u64, CopyFault>
+    out: F,
+    listener: L,
+) -> Result<(u64, F), CopyFault>
+where
+    D: Device,
+    A: Allocator + Copy,
+    F: EmptyFile + Drop,
+    L: WriteListener + Drop,
     requires long { 4096 * block_count volume.now.table ≤ length (D.seen device.old) }
     requires recovered { D.is_honest device.old → IsRecovered volume.now (D.seen device.old) }
-    ensures copied { D.is_honest device.old → IfOk result (IsCopied
-        (recovered_files volume.now (D.seen device.old)) name.now (W.contents out.old) (W.contents out.new)) }
+    ensures copied { D.is_honest device.old → IfOk result (λ made. F.is_honest made.1 → IsCopied
+        (recovered_files volume.now (D.seen device.old)) name.now (F.seen made.1) made.0) }
     ensures read { IsOnlyRead D.Device device.old device.new }
 {
     match find(volume, name) {
-        Some(file) => copy_found(volume, device, name, file, out),
+        Some(file) => copy_found(volume, device, name, file, out, listener),
         None => Err(CopyFault::NoFile),
     }
 }
 
 // Writes all bytes of this file, which has this name, and says how many there are.
-fn copy_found<D: Device, A: Allocator + Copy, W: io::Write>(
+fn copy_found<D, A, F, L>(
     volume: &Recovered<A>,
     device: &mut D,
     name: &str,
     file: usize,
-    out: &mut W,
-) -> Result<u64, CopyFault>
+    out: F,
+    listener: L,
+) -> Result<(u64, F), CopyFault>
+where
+    D: Device,
+    A: Allocator + Copy,
+    F: EmptyFile + Drop,
+    L: WriteListener + Drop,
     requires there { file < length volume.now.table.files }
     requires named { slice_get (names_in volume.now.table) file ≡ Some name.now }
     requires long { 4096 * block_count volume.now.table ≤ length (D.seen device.old) }
     requires recovered { D.is_honest device.old → IsRecovered volume.now (D.seen device.old) }
-    ensures copied { D.is_honest device.old → IfOk result (IsCopied
-        (recovered_files volume.now (D.seen device.old)) name.now (W.contents out.old) (W.contents out.new)) }
+    ensures copied { D.is_honest device.old → IfOk result (λ made. F.is_honest made.1 → IsCopied
+        (recovered_files volume.now (D.seen device.old)) name.now (F.seen made.1) made.0) }
     ensures read { IsOnlyRead D.Device device.old device.new }
 {
     let bytes = volume.length(file);
-    match write_pages(volume, device, file, bytes, &Whole, out) {
-        Ok(()) => Ok(bytes),
+    let mut new = match lengthened(out, bytes, listener) {
+        Ok(new) => new,
+        Err(cause) => {
+            return Err(CopyFault::Pages(ListFault::Unwritten(WriteFault::Output(cause))));
+        }
+    };
+    match copy_pages(volume, device, file, &mut new) {
+        Ok(()) => Ok((bytes, new.into_parts().0)),
         Err(fault) => Err(CopyFault::Pages(fault)),
     }
+}
+
+// Gives an empty file so many bytes, all 0, which stay holes where zeros are written.
+fn lengthened<F: EmptyFile + Drop, L: WriteListener + Drop>(
+    mut out: F,
+    bytes: u64,
+    mut listener: L,
+) -> io::Result<NewFile<F, L>>
+    ensures { IfOk result (λ new. F.is_honest new.inner → length (F.seen new.inner) ≡ bytes) }
+{
+    out.lengthen(bytes)?;
+    listener.expect(bytes);
+    Ok(NewFile::over(out, listener))
 }
 
 // The file of this name.

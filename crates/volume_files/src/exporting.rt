@@ -9,6 +9,7 @@ use crate::target::{Target, new_file, take_after};
 use crate::volume_file::{Access, apart, found_at, off_streams, other_kind, place};
 use device::Device;
 use file_rows::{ListFault, WriteFault};
+use new_volume::WriteListener;
 use std::alloc::Allocator;
 use std::fs::{File, Files, Metadata, TryLockError};
 use std::{fs, io};
@@ -26,28 +27,40 @@ pub struct ExportPlan<'a> {
 /// volume's file is only read. The copy is made in another file beside its
 /// place, `.new`, which takes its name once all of it is on the disk: where this fails before or is cut off, a file
 /// that had the name is as it was. A copy doesn't replace the file of the volume, one that another process has locked,
-/// or anything else than a regular file.
-pub fn export<'a, R: Files<File = File> + AllocGlobal, A: Allocator + Copy>(
+/// or anything else than a regular file. A listener hears what is written.
+pub fn export<'a, R, A, L>(
     rt: &R,
     alloc: A,
     plan: ExportPlan<'a>,
     trust: bool,
     note: &mut SyncNote,
-) -> Result<u64, FileFailure<'a>> {
+    listener: L,
+) -> Result<u64, FileFailure<'a>>
+where
+    R: Files<File = File> + AllocGlobal,
+    A: Allocator + Copy,
+    L: WriteListener + Drop,
+{
     let from = place(rt, plan.disk)?;
     let mut disk = open_disk(rt, plan.disk, &from, Access::Read, trust, note)?;
-    copied_out(rt, alloc, plan, &mut disk, &from)
+    copied_out(rt, alloc, plan, &mut disk, &from, listener)
 }
 
 // Copies a file of the volume of a disk, whose own file is at a place, to where it was asked for. The disk is only
 // read.
-fn copied_out<'a, R: Files<File = File> + AllocGlobal, D: Device, A: Allocator + Copy>(
+fn copied_out<'a, R, D, A, L>(
     rt: &R,
     alloc: A,
     plan: ExportPlan<'a>,
     disk: &mut D,
     from: &str,
+    listener: L,
 ) -> Result<u64, FileFailure<'a>>
+where
+    R: Files<File = File> + AllocGlobal,
+    D: Device,
+    A: Allocator + Copy,
+    L: WriteListener + Drop,
     ensures { IsOnlyRead D.Device disk.old disk.new }
 {
     let to = place(rt, plan.out)?;
@@ -58,31 +71,37 @@ fn copied_out<'a, R: Files<File = File> + AllocGlobal, D: Device, A: Allocator +
     };
     // Both files are locked until the end.
     let old = old_copy(&target, from)?;
-    let (count, _file) = named_copy(&target, alloc, plan, disk, old.as_ref())?;
+    let (count, _file) = named_copy(&target, alloc, plan, disk, old.as_ref(), listener)?;
     target.sync_name()?;
     Ok(count)
 }
 
 // Makes the copy in another file, and gives that the name that was asked for. Where it wasn't made, or can't have the
 // name, it is taken away. Where that can't be done either, the next export finds that it is there.
-fn named_copy<'a, R: Files<File = File> + AllocGlobal, D: Device, A: Allocator + Copy>(
+fn named_copy<'a, R, D, A, L>(
     target: &Target<'a, '_, R>,
     alloc: A,
     plan: ExportPlan<'a>,
     disk: &mut D,
     old: Option<&File>,
+    listener: L,
 ) -> Result<(u64, File), FileFailure<'a>>
+where
+    R: Files<File = File> + AllocGlobal,
+    D: Device,
+    A: Allocator + Copy,
+    L: WriteListener + Drop,
     ensures { IsOnlyRead D.Device disk.old disk.new }
 {
     let new = target.new_path()?;
-    let Some(mut file) = new_file(target.rt, &new)? else {
+    let Some(file) = new_file(target.rt, &new)? else {
         return Err(FileFailure::CopyIsThere {
             path: plan.out,
             new,
         });
     };
-    match copied(alloc, plan, disk, old, &mut file) {
-        Ok(count) => {
+    match copied(alloc, plan, disk, old, file, listener) {
+        Ok((count, file)) => {
             let file = target.named(&new, Ok(file))?;
             Ok((count, file))
         }
@@ -142,21 +161,22 @@ fn locked(out: &str, file: File) -> Result<File, FileFailure<'_>> {
 }
 
 // Makes the copy in a new file, with all of it on the disk, and says how many bytes it has.
-fn copied<'a, D: Device, A: Allocator + Copy>(
+fn copied<'a, D: Device, A: Allocator + Copy, L: WriteListener + Drop>(
     alloc: A,
     plan: ExportPlan<'a>,
     disk: &mut D,
     old: Option<&File>,
-    file: &mut File,
-) -> Result<u64, FileFailure<'a>>
+    file: File,
+    listener: L,
+) -> Result<(u64, File), FileFailure<'a>>
     ensures { IsOnlyRead D.Device disk.old disk.new }
 {
     let path = plan.out;
     let failed = |cause| FileFailure::File { path, cause };
-    after(old, file).map_err(failed)?;
-    let count = written(alloc, plan, disk, file)?;
+    after(old, &file).map_err(failed)?;
+    let (count, file) = written(alloc, plan, disk, file, listener)?;
     file.sync_all().map_err(failed)?;
-    Ok(count)
+    Ok((count, file))
 }
 
 // Gives a new file what it has of an old one, if there is one.
@@ -168,16 +188,17 @@ fn after(old: Option<&File>, file: &File) -> io::Result<()> {
 }
 
 // Writes the bytes of the file in the volume of a disk to a file, and says how many they are.
-fn written<'a, D: Device, A: Allocator + Copy>(
+fn written<'a, D: Device, A: Allocator + Copy, L: WriteListener + Drop>(
     alloc: A,
     plan: ExportPlan<'a>,
     disk: &mut D,
-    file: &mut File,
-) -> Result<u64, FileFailure<'a>>
+    file: File,
+    listener: L,
+) -> Result<(u64, File), FileFailure<'a>>
     ensures { IsOnlyRead D.Device disk.old disk.new }
 {
-    match copy_file(alloc, disk, plan.file, file) {
-        Ok(Ok(count)) => Ok(count),
+    match copy_file(alloc, disk, plan.file, file, listener) {
+        Ok(Ok(made)) => Ok(made),
         Ok(Err(fault)) => Err(fault.of(plan)),
         Err(refusal) => Err(not_read(alloc, plan.disk, refusal, disk)),
     }

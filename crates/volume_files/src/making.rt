@@ -2,23 +2,27 @@
 ghost use Rattle.std.specs.Prelude.{IfOk, OnOk};
 ghost use Rattle.volume_codec.specs.Files.{asked_by};
 ghost use Rattle.recovery.specs.Format.{HasFormatted};
+ghost use Rattle.new_volume.specs.Formatting.{IsZero};
 
 use crate::cause::refused_to_format;
 use crate::failure::FileFailure;
 use crate::target::Target;
 use crate::volume_file::place;
 use device::{Device, FileDisk};
+use new_volume::format_new;
 use page_entry::Refusal;
 use std::alloc::Allocator;
 use std::fs::{File, Files};
 use volume_codec::FileSpec;
 
-/// A volume to be made: the number of its layout, its files, and the record slots of each of its journals.
+/// A volume to be made: the number of its layout, its files, the record slots of each of its journals, and whether its
+/// blocks are taken on the disk at once.
 #[derive(Clone, Copy)]
 pub struct Plan<'a, 'b> {
     pub layout: u64,
     pub files: &'b [FileSpec<'a>],
     pub slots: u64,
+    pub preallocate: bool,
 }
 
 impl<'a> Plan<'a, '_> {
@@ -66,22 +70,33 @@ fn named_volume<'a, R: Files<File = File> + AllocGlobal, A: Allocator + Copy>(
     old: Option<&File>,
 ) -> Result<File, FileFailure<'a>> {
     let (new, file) = target.new_volume()?;
-    let volume = match target.ready(alloc, blocks, old, file) {
-        Ok(disk) => made(alloc, target.path, plan, disk).map(FileDisk::into_file),
+    let volume = match target.whole(alloc, blocks, plan.preallocate, old, file) {
+        Ok(file) => made_in(target, alloc, plan, file),
         Err(failure) => Err(failure),
     };
     target.named(&new, volume)
 }
 
-// Makes the volume on a new device, and hands that back where all of the volume is on it: where this failed, no device
-// comes back whose file could take a name.
+// Makes the volume in a new file, all of whose bytes are 0.
+fn made_in<'a, R: Files<File = File> + AllocGlobal, A: Allocator + Copy>(
+    target: &Target<'a, '_, R>,
+    alloc: A,
+    plan: Plan<'a, '_>,
+    file: File,
+) -> Result<File, FileFailure<'a>> {
+    let disk = target.disk(file)?;
+    made(alloc, target.path, plan, disk).map(FileDisk::into_file)
+}
+
+// Makes the volume on a new device, whose bytes are all 0, and hands that back where all of the volume is on it: where
+// this failed, no device comes back whose file could take a name.
 fn made<'a, D: Device + Drop, A: Allocator + Copy>(
     alloc: A,
     path: &'a str,
     plan: Plan<'a, '_>,
     mut new: D,
 ) -> Result<D, FileFailure<'a>>
-    ensures { D.is_honest new → IfOk result
+    ensures { D.is_honest new → IsZero (D.seen new) → IfOk result
         (λ made. HasFormatted D.Device plan.entry.layout (asked_by plan.entry.files.now)
         plan.entry.slots new made) }
 {
@@ -91,14 +106,14 @@ fn made<'a, D: Device + Drop, A: Allocator + Copy>(
     }
 }
 
-// Makes the volume on a device.
+// Makes the volume on a device whose bytes are all 0.
 fn format_on<D: Device, A: Allocator + Copy>(
     alloc: A,
     plan: Plan<'_, '_>,
     new: &mut D,
 ) -> Result<(), Refusal>
-    ensures { D.is_honest new.old → OnOk result
+    ensures { D.is_honest new.old → IsZero (D.seen new.old) → OnOk result
         (HasFormatted D.Device plan.entry.layout (asked_by plan.entry.files.now) plan.entry.slots new.old new.new) }
 {
-    recovery::format_as(alloc, new, plan.layout, plan.files, plan.slots)
+    format_new(alloc, new, plan.layout, plan.files, plan.slots)
 }

@@ -13,8 +13,9 @@ use crate::marker::Noted;
 use crate::sync_note::SyncNote;
 use crate::target::Target;
 use crate::volume_file::{apart, found_at, place};
-use device::{Device, FileDisk};
-use page_entry::Refusal;
+use device::Device;
+use new_volume::{NewFile, WriteListener};
+use page_entry::{PAGE, Refusal};
 use recovery::Volume;
 use std::alloc::{AllocError, Allocator};
 use std::fs;
@@ -22,13 +23,15 @@ use std::fs::{File, Files};
 use volume_codec::Layout;
 
 /// Which volume is migrated, and where to: the paths of the two files, the number of the new volume's layout, 3 or 4
-/// and not below the old one's, and the record slots of each of its journals.
+/// and not below the old one's, the record slots of each of its journals, and whether its blocks are taken on the disk
+/// at once.
 #[derive(Clone, Copy)]
 pub struct MigrationPlan<'a> {
     pub old: &'a str,
     pub new: &'a str,
     pub layout: u64,
     pub slots: u64,
+    pub preallocate: bool,
 }
 
 impl<'a> MigrationPlan<'a> {
@@ -50,14 +53,21 @@ impl<'a> MigrationPlan<'a> {
 /// Opens a volume, makes or replaces the file at another path by one in the plan's layout with the same files, and
 /// says how many blocks that has. The old volume is written to by its opening alone. The new one is made in another
 /// file beside its place, `.new`, which takes its name once all of it is on the disk: where this fails before or is
-/// cut off, a file that had the name is as it was. Two paths of one file are refused before anything is touched.
-pub fn migrate<'a, R: Files<File = File> + AllocGlobal, A: Allocator + Copy>(
+/// cut off, a file that had the name is as it was. Two paths of one file are refused before anything is touched. A
+/// listener hears what is written to the new one.
+pub fn migrate<'a, R, A, L>(
     rt: &R,
     alloc: A,
     plan: MigrationPlan<'a>,
     trust: bool,
     note: &mut SyncNote,
-) -> Result<u64, FileFailure<'a>> {
+    listener: L,
+) -> Result<u64, FileFailure<'a>>
+where
+    R: Files<File = File> + AllocGlobal,
+    A: Allocator + Copy,
+    L: WriteListener + Drop,
+{
     let from = place(rt, plan.old)?;
     let to = place(rt, plan.new)?;
     let target = Target {
@@ -67,20 +77,27 @@ pub fn migrate<'a, R: Files<File = File> + AllocGlobal, A: Allocator + Copy>(
     };
     judge_apart(&target, plan, &from)?;
     let disk = open_to_write(rt, plan.old, &from, trust, note)?;
-    migrate_disk(&target, alloc, plan, disk, note)
+    migrate_disk(&target, alloc, plan, disk, note, listener)
 }
 
 // Makes the new volume of the one on a disk.
-fn migrate_disk<'a, R: Files<File = File> + AllocGlobal, D: Device + Noted, A: Allocator + Copy>(
+fn migrate_disk<'a, R, D, A, L>(
     target: &Target<'a, '_, R>,
     alloc: A,
     plan: MigrationPlan<'a>,
     disk: D,
     note: &mut SyncNote,
-) -> Result<u64, FileFailure<'a>> {
+    listener: L,
+) -> Result<u64, FileFailure<'a>>
+where
+    R: Files<File = File> + AllocGlobal,
+    D: Device + Noted,
+    A: Allocator + Copy,
+    L: WriteListener + Drop,
+{
     match recovery::open(alloc, disk) {
         Ok(mut volume) => {
-            let blocks = made_of(target, alloc, plan, &mut volume);
+            let blocks = made_of(target, alloc, plan, &mut volume, listener);
             *note = volume.into_device().into_note();
             blocks
         }
@@ -139,38 +156,86 @@ fn blocks_of<D: Device, A: Allocator + Copy>(
 }
 
 // Makes the new volume, where its shape is accepted, and counts its blocks.
-fn made_of<'a, R: Files<File = File> + AllocGlobal, D: Device, A: Allocator + Copy>(
+fn made_of<'a, R, D, A, L>(
     target: &Target<'a, '_, R>,
     alloc: A,
     plan: MigrationPlan<'a>,
     volume: &mut Volume<D, A>,
-) -> Result<u64, FileFailure<'a>> {
+    mut listener: L,
+) -> Result<u64, FileFailure<'a>>
+where
+    R: Files<File = File> + AllocGlobal,
+    D: Device,
+    A: Allocator + Copy,
+    L: WriteListener + Drop,
+{
     let blocks = match blocks_of(plan, volume) {
         Ok(blocks) => blocks,
         Err(refusal) => return Err(plan.refused(refusal, volume.layout(), false)),
     };
+    listener.expect(
+        blocks
+            .saturating_mul(PAGE)
+            .saturating_add(lengths_of(volume)),
+    );
     // Both files are locked until the end.
     let old = target.old_volume()?;
-    let _file = named_copy(target, alloc, plan, blocks, old.as_ref(), volume)?;
+    let _file = named_copy(target, alloc, plan, blocks, old.as_ref(), volume, listener)?;
     target.durably_name()?;
     Ok(blocks)
 }
 
+// How many bytes the files of a volume have.
+fn lengths_of<D: Device, A: Allocator + Copy>(volume: &Volume<D, A>) -> u64 {
+    let mut bytes = 0u64;
+    for &length in volume.lengths() {
+        bytes = bytes.saturating_add(length);
+    }
+    bytes
+}
+
 // Makes the new volume, of so many blocks, in a new file, and gives that the name of the old one.
-fn named_copy<'a, R: Files<File = File> + AllocGlobal, D: Device, A: Allocator + Copy>(
+fn named_copy<'a, R, D, A, L>(
     target: &Target<'a, '_, R>,
     alloc: A,
     plan: MigrationPlan<'a>,
     blocks: u64,
     old: Option<&File>,
     volume: &mut Volume<D, A>,
-) -> Result<File, FileFailure<'a>> {
+    listener: L,
+) -> Result<File, FileFailure<'a>>
+where
+    R: Files<File = File> + AllocGlobal,
+    D: Device,
+    A: Allocator + Copy,
+    L: WriteListener + Drop,
+{
     let (new, file) = target.new_volume()?;
-    let made = match target.ready(alloc, blocks, old, file) {
-        Ok(disk) => copied(alloc, plan, volume, disk).map(FileDisk::into_file),
+    let made = match target.whole(alloc, blocks, plan.preallocate, old, file) {
+        Ok(file) => copied_to(target, alloc, plan, volume, file, listener),
         Err(failure) => Err(failure),
     };
     target.named(&new, made)
+}
+
+// Makes the new volume in a new file, all of whose bytes are 0: zeros past all that was written stay holes.
+fn copied_to<'a, R, D, A, L>(
+    target: &Target<'a, '_, R>,
+    alloc: A,
+    plan: MigrationPlan<'a>,
+    volume: &mut Volume<D, A>,
+    file: File,
+    listener: L,
+) -> Result<File, FileFailure<'a>>
+where
+    R: Files<File = File> + AllocGlobal,
+    D: Device,
+    A: Allocator + Copy,
+    L: WriteListener + Drop,
+{
+    let disk = target.disk(NewFile::over(file, listener))?;
+    let made = copied(alloc, plan, volume, disk)?;
+    Ok(made.into_file().into_parts().0)
 }
 
 // Copies the volume on to a new device, and hands that back where all of the volume is on it: where the copy failed,

@@ -2,7 +2,7 @@
 use crate::failure::FileFailure;
 use crate::suspect_flag::SuspectFlag;
 use crate::volume_file::{Access, lock, off_streams, open_locked, sync_folder_of, unless};
-use device::FileDisk;
+use device::{BlockFile, FileDisk};
 use page_entry::PAGE;
 use std::alloc::{AllocError, Allocator};
 use std::fs::{File, Files, OpenOptions, Permissions};
@@ -59,16 +59,22 @@ impl<'a, R: Files<File = File> + AllocGlobal> Target<'a, '_, R> {
         }
     }
 
-    /// A disk over a new file of so many blocks, all zeros, which is to replace an old one, if there is one.
-    pub fn ready<A: Allocator + Copy>(
+    /// A new file of so many blocks, all zeros, which is to replace an old one, if there is one.
+    pub fn whole<A: Allocator + Copy>(
         &self,
         alloc: A,
         blocks: u64,
+        preallocate: bool,
         old: Option<&File>,
         file: File,
-    ) -> Result<FileDisk<File>, FileFailure<'a>> {
+    ) -> Result<File, FileFailure<'a>> {
         self.prepare(old, &file)?;
-        fill(alloc, self.path, &file, blocks)?;
+        lengthen(alloc, self.path, &file, blocks, preallocate)?;
+        Ok(file)
+    }
+
+    /// A disk over such a file.
+    pub fn disk<F: BlockFile + Drop>(&self, file: F) -> Result<FileDisk<F>, FileFailure<'a>> {
         match FileDisk::over(file) {
             Ok(disk) => Ok(disk),
             Err((cause, _)) => Err(self.failed(cause)),
@@ -176,6 +182,21 @@ fn unless_denied(outcome: io::Result<()>) -> io::Result<()> {
         Ok(()) => Ok(()),
         Err(fault) => unless(ErrorKind::PermissionDenied, fault),
     }
+}
+
+// Gives a new file so many blocks, all zeros. They are a hole, unless they are to be taken on the disk.
+fn lengthen<'a, A: Allocator + Copy>(
+    alloc: A,
+    path: &'a str,
+    file: &File,
+    blocks: u64,
+    preallocate: bool,
+) -> Result<(), FileFailure<'a>> {
+    if preallocate {
+        return fill(alloc, path, file, blocks);
+    }
+    file.set_len(blocks.saturating_mul(PAGE))
+        .map_err(|cause| FileFailure::File { path, cause })
 }
 
 // The most bytes that are written at once.

@@ -13,6 +13,12 @@ TWO = (
 # One processor stores and commits, and the other waits for the byte and stores beside it.
 ROW = '"programs":[[["store",4096,[1]],["msync",4096,4096,4]],[["await",4096,1],["store",4097,[2]]]]}'
 
+# Each waits for a byte that the other one stores, so neither can end before the other has begun.
+EACH_WAITS = (
+    '"programs":[[["store",4096,[1]],["await",4097,2],["store",4098,[3]]],'
+    '[["await",4096,1],["store",4097,[2]],["await",4098,3]]]}'
+)
+
 # The first row of the first file, with or without the second byte.
 ROW_DUMPS = [
     """\
@@ -118,6 +124,10 @@ def a_commit_beside_a_store():
     yield from leaves("v.img", "before.img", "v.json", "v.trace")
 
 
+def two_threads_that_wait_for_each_other():
+    yield from runs_and_replays(f'{TWO}"trace":1000,{EACH_WAITS}', 12)
+
+
 def sixteen_threads_over_four_pages():
     yield from runs_and_replays(SIXTEEN + ",".join([FOUR] * 4) + "]}", 100)
 
@@ -144,4 +154,10 @@ def refuses(script, status, cause):
     yield from complains("threads|untouched.img|untouched.json", status, cause)
 
 
-GROUPS = [a_commit_beside_a_store, sixteen_threads_over_four_pages, full_traces_are_printed, programs_are_refused]
+GROUPS = [
+    a_commit_beside_a_store,
+    two_threads_that_wait_for_each_other,
+    sixteen_threads_over_four_pages,
+    full_traces_are_printed,
+    programs_are_refused,
+]

@@ -24,12 +24,12 @@ returns-in-Ok-clause-copied g c = λ honest.
     let read = c.in-Ok.ensures.read in
     let volume = c.in-Ok.volume in
     let bytes = g.D.Device.seen c.args.device.now in
-    let P : List ℕ → Type 0 = λ seen. IfOk c.copy_named.result (IsCopied (recovered_files volume seen) c.args.name.now
-    (g.W.Write.contents c.args.out.now) (g.W.Write.contents c.copy_named.new.out)) in
+    let P : List ℕ → Type 0 = λ seen. IfOk c.copy_named.result (λ made. g.F.BlockFile.is_honest made.1
+    → IsCopied (recovered_files volume seen) c.args.name.now (g.F.BlockFile.seen made.1) made.0) in
     IfOk-weaker c.copy_named.result _ _
-    (λ count copied. record {
+    (λ made copied fair. record {
       files = recovered_files volume bytes;
       recovers = recovers_to volume bytes (c.in-Ok.ensures.found honest);
-      copied = copied;
+      copied = copied fair;
     })
     (subst P read.same (c.copy_named.ensures.copied (read.honest.1 honest)))

@@ -1,13 +1,11 @@
-use Rattle.std.proofs.Common.{List, ℕ, length, sym, ◌∙◌, ap, subst, arith}
-use Rattle.std.specs.Io.KnownBytes.{Appends}
-use Rattle.recovery.specs.Volume.{bytes_of}
+use Rattle.std.proofs.Common.{◌≡◌, length, slice_index, sym, ◌∙◌, ap, subst, arith}
 use Rattle.recovery.proofs.FileBytes.{some_at}
 use Rattle.file_rows.specs.Recovered.{recovered_files}
-use Rattle.file_rows.proofs.Public.{name_of_file, file_at, as_many_files, length_of_file, pages_whole}
+use Rattle.file_rows.proofs.Public.{name_of_file, file_at, as_many_files, length_of_file, index_of}
 use Rattle.volume_files.proofs.copying.copy_found.Goals as goal
 
-pub returns-in-Ok-clause-copied : goal.returns-in-Ok-clause-copied
-returns-in-Ok-clause-copied g c = λ honest.
+pub returns-in-Ok-copy_pages-clause-copied : goal.returns-in-Ok-copy_pages-clause-copied
+returns-in-Ok-copy_pages-clause-copied g c = λ honest fair.
     let volume = c.args.volume.now in
     let seen = g.D.Device.seen c.args.device.now in
     let files = recovered_files volume seen in
@@ -18,13 +16,15 @@ returns-in-Ok-clause-copied g c = λ honest.
     let bytes = file_at files i f.0 f.1 in
     let long = length_of_file volume seen is c.length-bytes.ensures.sound i n c.requires.there
     c.length-bytes.ensures.size in
-    let P : List ℕ → Type 0 = λ text. Appends (g.W.Write.contents c.args.out.now)
-    (g.W.Write.contents c.write_pages.new.out) text in
+    let still = subst g.F.BlockFile.is_honest c.into_parts.ensures fair in
+    let was = c.in-Ok-copy_pages.ensures.honest.0 still in
+    let room : length (g.F.BlockFile.seen c.in-Ok.new.inner) ≡ slice_index volume.lengths i =
+    c.in-Ok.ensures was ∙ sym (index_of volume.lengths i n c.length-bytes.ensures.size) in
     record {
       number = i;
       file = f.0;
       there = f.1;
       named = sym (name_of_file volume seen i f.0 c.args.name.now is f.1 c.requires.named);
-      whole = subst P (pages_whole (bytes_of files i) n long ∙ bytes) (c.in-Ok.ensures.written honest);
+      whole = ap g.F.BlockFile.seen c.into_parts.ensures ∙ c.in-Ok-copy_pages.ensures.copied honest was room ∙ bytes;
       counted = sym long ∙ ap length bytes;
     }

@@ -1,4 +1,4 @@
-use Rattle.std.proofs.Common.{◌≡◌, ◌≢◌, ℕ, ◌<◌, slice_get, Some}
+use Rattle.std.proofs.Common.{◌≢◌, ℕ, ◌<◌, slice_get, Some}
 use Rattle.volume_codec.specs.Super.{names_in}
 use Rattle.volume_files.proofs.copying.find.Given as goal
 

@@ -1,7 +1,6 @@
 use Rattle.std.proofs.Common.{List, ℕ, Err, sym, ap, length, subst, ◌∙◌, arith}
 use Rattle.std.proofs.lemmas.Result.{err_from_is_err_and}
 use Rattle.recovery.specs.Opening.{RefusesOpening}
-use Rattle.recovery.specs.Reading.{batches_of}
 use Rattle.recovery.proofs.Public.{read_then, kept_then, kept_ok, kept_err, carried_of, volume_of, found_of}
 use Rattle.file_rows.proofs.recovered.Recovered.find.Goals as goal
 

@@ -1,0 +1,4 @@
+pub mod Blank
+pub mod Calls
+pub mod Public
+mod Zeros

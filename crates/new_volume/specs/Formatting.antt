@@ -1,0 +1,51 @@
+-- What making a volume asks of a device whose bytes are all 0.
+use Rattle.std.specs.Prelude.{◌≡◌, ◌⊎◌, ℕ, zero, suc, ◌*◌, ◌<◌, ◌≤◌, Bool, true, false}
+use Rattle.std.specs.Prelude.{List, [], ◌∷◌, length, slice_index, Result, Ok, Err}
+use Rattle.device.specs.Did.{Did}
+use Rattle.device.specs.Work.{Work, WriteAt, Sync, Nothing}
+use Rattle.device.specs.declared.device.Device.{Ghosts}
+use Rattle.page_entry.specs.declared.refusal.Refusal.{Refusal}
+use Rattle.page_entry.specs.declared.refusal.Refusal.TheVariants.{Device}
+use Rattle.volume_codec.specs.Files.{AskedFile, lengths_asked}
+use Rattle.volume_codec.specs.Layout.{lengths_blocks, first_home, first_file_home}
+use Rattle.volume_codec.specs.Lengths.{lengths_text}
+use Rattle.volume_codec.specs.Super.{SuperValue, super_text}
+use Rattle.recovery.specs.Format.{HasShape, RefusesFormat}
+
+-- each byte is 0
+abbrev pub IsZero : List ℕ → Type 0
+IsZero bytes = (i : ℕ) → slice_index bytes i ≡ 0
+
+-- the byte at this place is in the super block or in the lengths block
+abbrev pub IsWritten : SuperValue → ℕ → Type 0
+IsWritten table i = (i < 4096)
+    ⊎ ((4096 * first_home table.layout table.slots ≤ i) × (i < 4096 * first_file_home table.layout table.slots))
+
+-- a write of a block, where there is one
+abbrev pub write_if : ℕ → ℕ → List ℕ → Work
+write_if zero at block = Nothing
+write_if (suc n) at block = WriteAt at block
+
+-- the lengths are written where they have a block, then the table; each is synced
+abbrev pub new_works : SuperValue → List ℕ → List Work
+new_works table lengths =
+    write_if (lengths_blocks table.layout) (4096 * first_home table.layout table.slots) (lengths_text lengths)
+    ∷ Sync ∷ WriteAt 0 (super_text table) ∷ Sync ∷ []
+
+-- these were asked of a device, one after another, and done, or one of them failed and none of the later was asked
+abbrev pub DidAll : {D : Type 0} → Ghosts D → D → List Work → Bool → D → Type 0
+DidAll disk old [] done new = (done ≡ true) × (new ≡ old)
+DidAll {D} disk old (work ∷ works) done new = ((done ≡ false) × Did disk old work false new)
+    ⊎ ((mid : D) × Did disk old work true mid × DidAll disk mid works done new)
+
+-- What a device was asked for, by the answer: all that a new volume takes; or a part of it, as a call failed; or
+-- nothing, as it was refused before.
+abbrev pub HasAsked : {D X : Type 0} → Ghosts D → ℕ → List AskedFile → ℕ → D → Result X Refusal → D → Type 0
+HasAsked disk layout files slots old (Ok done) new =
+    (table : SuperValue) × HasShape layout files slots (length (disk.seen old)) table
+    × DidAll disk old (new_works table (lengths_asked files)) true new
+HasAsked disk layout files slots old (Err Device) new =
+    (table : SuperValue) × HasShape layout files slots (length (disk.seen old)) table
+    × DidAll disk old (new_works table (lengths_asked files)) false new
+HasAsked disk layout files slots old (Err refusal) new =
+    RefusesFormat layout files slots (length (disk.seen old)) refusal × (new ≡ old)
