@@ -71,7 +71,7 @@ static void stores_apart(unsigned left)
 
 int main(void)
 {
-    if (getenv("WITHOUT_MAPPINGS") == NULL) { /* valgrind ends where a process has some thousands of them */
+    if (goes_on_without_mappings()) {
         stores_apart(40);
         stores_apart(3);
     }

@@ -296,8 +296,7 @@ int main(void)
         if (way == 2 && !tracks())
             continue;
         each_request();
-        /* valgrind ends if a process has some thousands of mappings, and the sanitizer of threads if it gets no more */
-        if (getenv("WITHOUT_MAPPINGS") == NULL && getenv("WITHOUT_SIGNALS") == NULL)
+        if (goes_on_without_mappings())
             no_mapping();
     }
     printf("clients/c: no_memory: as it should be\n");

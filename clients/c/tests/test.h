@@ -36,6 +36,13 @@ BEFORE_SANITIZERS static inline void *other_mmap(void *at, size_t length, int pr
     return (void *)syscall(SYS_mmap, at, length, protection, flags, file, offset);
 }
 
+/* Whether the process can go on where the system allows it no further mapping. Under a sanitizer or valgrind it can't:
+   they map memory of their own, and end a process that gets none. */
+static inline bool goes_on_without_mappings(void)
+{
+    return __interceptor_mmap == NULL && getenv("WITHOUT_MAPPINGS") == NULL;
+}
+
 static char folder[64];
 static char volume[80];
 

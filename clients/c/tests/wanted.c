@@ -1,5 +1,6 @@
 /* Opening a volume reads what it needs, and takes memory for that: of a volume without an open journal the super block,
-   the lengths and the gates. The records of an open journal are read in runs, each twice as long as the one before. */
+   the lengths and the gates. The records of an open journal are read in runs. An open volume keeps the blocks of four
+   reads of its files, each of up to 64 blocks. */
 #include "test.h"
 
 #include <sys/syscall.h>
@@ -7,10 +8,12 @@
 #define MB 1048576
 
 static unsigned reads;
+static size_t longest;
 
 ssize_t pread(int file, void *bytes, size_t count, off_t offset)
 {
     reads++;
+    longest = count > longest ? count : longest;
     return syscall(SYS_pread64, file, bytes, count, offset);
 }
 
@@ -84,6 +87,34 @@ static void recovers_by_few_reads(unsigned layout, unsigned pages)
     WANT_CODE(famsync_close(handle), FAMSYNC_OK);
 }
 
+/* How many reads it takes to read so many pages of the first file from this one on. */
+static unsigned reads_of(famsync *handle, unsigned page, unsigned pages)
+{
+    static unsigned char bytes[4096 * 200];
+    unsigned before = reads;
+    WANT_CODE(famsync_read(handle, 0, 4096ull * page, bytes, 4096ull * pages, NULL), FAMSYNC_OK);
+    return reads - before;
+}
+
+/* At most 4 * 64 blocks of files are kept, those of the last four reads. Others are read again. */
+static void keeps_four_reads(void)
+{
+    famsync *handle;
+    make_sparse_volume(1, 64, "a=16777216");
+    handle = opened_with((struct famsync_options){.foreground = 1});
+    longest = 0;
+    for (unsigned i = 0; i < 5; i++)
+        WANT(reads_of(handle, 500 * i, 1) == 1);
+    for (unsigned i = 1; i < 5; i++)
+        WANT(reads_of(handle, 500 * i, 1) == 0);
+    WANT(reads_of(handle, 0, 1) == 1 && longest == 4096);
+    /* 64, 64, 64 and 8 pages */
+    WANT(reads_of(handle, 3000, 200) == 4 && longest == 64 * 4096);
+    WANT(reads_of(handle, 3000, 200) == 0);
+    WANT(reads_of(handle, 2500, 1) == 1 && reads_of(handle, 3000, 200) > 0);
+    WANT_CODE(famsync_close(handle), FAMSYNC_OK);
+}
+
 int main(void)
 {
     make_sparse_volume(4, 65535, "a=4096");
@@ -96,6 +127,7 @@ int main(void)
         recovers_by_few_reads(layout, 1);
         recovers_by_few_reads(layout, 900);
     }
+    keeps_four_reads();
     printf("clients/c: wanted: as it should be\n");
     return 0;
 }

@@ -291,9 +291,9 @@ static void beside_others(struct shape shape)
     want_counts(shape, COMMITS, were_synced(shape, COMMITS));
 }
 
-/* What an ended process left of its commits is written home at least once, with two syncs for each whose gate is open,
-   after the sync with which each opening begins; also in a session that has fewer frames. An opening begins again for
-   each block that the core lacks, and then makes the same writes and syncs again. */
+/* What an ended process left of its commits is written home once, with two syncs for each whose gate is open, after the
+   sync with which the opening begins; also in a session that has fewer frames. The core begins its opening again for
+   each block that it lacks, which records no call. */
 static void after_an_end(struct shape shape, unsigned commits)
 {
     int status;
@@ -311,8 +311,8 @@ static void after_an_end(struct shape shape, unsigned commits)
     atomic_store(&writes, 0);
     atomic_store(&syncs, 0);
     handle = opened_with((struct famsync_options){.frames = 1});
-    WANT(writes >= left * writes_home(shape).least);
-    WANT(syncs >= 1 + 2 * left && at_home(shape) == commits);
+    WANT(writes >= left * writes_home(shape).least && writes <= left * writes_home(shape).most);
+    WANT(syncs == 1 + 2 * left && at_home(shape) == commits);
     WANT_CODE(famsync_close(handle), FAMSYNC_OK);
 }
 
