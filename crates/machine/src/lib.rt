@@ -21,7 +21,6 @@ mod paging;
 mod running;
 mod stepping;
 mod switching;
-mod tending;
 
 pub use act::{Access, Act, Outcome, Reply, Shape, Step};
 pub use few_bytes::FewBytes;
@@ -31,4 +30,3 @@ pub use laws::{
 pub use machine::Machine;
 pub use msync_flags::MsyncFlags;
 pub use shootdown::ProcState;
-pub use tending::Tender;

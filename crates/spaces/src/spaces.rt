@@ -9,7 +9,7 @@ ghost use Rattle.mappings.specs.Places.{splits};
 ghost use Rattle.mappings.specs.Judgement.{is_user_range, add_refusal, protect_refusal};
 ghost use Rattle.spaces.specs.Spaces.{empty_space, has_space, space_at, entry_at, place_at, first_spaces, with_space, with_entry, with_mapping, without_mapping, IsLowestFree, EditsEntries, SetsRights, AreSpaces};
 ghost use Rattle.spaces.specs.Requests.{is_user_space, judged_range, judged_mapping, judged_protection, maps_some, maps_each, CreateRefused};
-ghost use Rattle.spaces.specs.Changes.{is_place_of, affects, touches, entries_of, protected_where, without_entries_of};
+ghost use Rattle.spaces.specs.Changes.{touches, entries_of, protected_where, without_entries_of};
 ghost use Rattle.spaces.specs.inside.Slots.{SpaceState, edited, without_entries, IsFound, IsMissing, IsFirstFree, AreBelow, NotesSlot, NotesSlots, HasUse, AreInUse, AreFreed, EditsSlot, slot_at};
 
 use crate::space::Space;
@@ -243,24 +243,6 @@ impl<A: Allocator + Copy> Spaces<A> {
         match self.space(pcid) {
             Some(space) => space.mappings().is_mapped(range),
             None => range.count == 0,
-        }
-    }
-
-    /// Whether the entry of a page of a space may change with the change.
-    pub fn affects(&self, change: &Change, pcid: Pcid, page: PageNumber) -> bool
-        ensures { result ≡ affects self.now.map change.now pcid page }
-    {
-        match change {
-            Change::Unmap { pcid: of, range }
-            | Change::Protect {
-                pcid: of,
-                range,
-                rights: _,
-            } => { *of == pcid && range.first <= page && page - range.first < range.count }
-            Change::Reclaim { page: of } => {
-                self.entry(pcid, page).present() && is_of(self.place(pcid, page), *of)
-            }
-            Change::SetLength { file: _, length: _ } | Change::Checkpoint => true,
         }
     }
 
@@ -549,15 +531,5 @@ fn clear_slot<A: Allocator + Copy>(slot: &mut Option<Space<A>>, page: FilePage)
 {
     if let Some(space) = slot {
         space.clear_entries_of(page);
-    }
-}
-
-// Whether a place is in this page of a file.
-fn is_of(place: Option<Place>, page: FilePage) -> bool
-    ensures { result ≡ is_place_of page place }
-{
-    match place {
-        Some(place) => place.file == page.file && place.page == page.page,
-        None => false,
     }
 }
