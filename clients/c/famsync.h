@@ -5,7 +5,7 @@
  * and locks the volume's file itself. A volume has one session that writes, or any number of sessions that only read.
  * Sessions of the program `famsync` count, too.
  *
- * A program can access the bytes of a file in two ways. It may use both in one session, also for the same file:
+ * A program can access the bytes of a file in two ways. It may use both in one session, even for the same file:
  *
  *   read and write   famsync_read, famsync_write, famsync_msync: any offset, any count, as with pread and pwrite
  *   plain memory     famsync_memory_open, famsync_memory_at, famsync_msync: a pointer to store through
@@ -20,10 +20,10 @@
  * A forked process has a copy of the handle. Each call with this copy returns FAMSYNC_FORKED, except famsync_close,
  * which does nothing: the session belongs to the process that began it. The copy takes memory until the forked process
  * ends or starts another program. It doesn't keep the volume in use. A child of vfork shares the memory of its parent.
- * Its stores to plain memory are stores of the parent. It must not call the library.
+ * Its stores to plain memory are stores of the parent. The child must not call the library.
  *
- * A file can't grow past its capacity, which is set when the volume is made. In a volume of layout 1 or 2 it keeps its
- * length.
+ * A file can't grow past its capacity, which is set when the volume is made. In a volume of layout 1 or 2 a file keeps
+ * its length.
  */
 #ifndef FAMSYNC_H
 #define FAMSYNC_H
@@ -55,7 +55,7 @@ enum famsync_code {
     /* why a volume isn't opened */
     FAMSYNC_NOTREGULAR = -13, /* the path names no regular file, but a folder, a device, a pipe or a socket */
     FAMSYNC_NAMES = -14,      /* the file has several names, so others could use it by another name */
-    FAMSYNC_REPLACED = -15,   /* each time that the file was locked, the path named another file by then */
+    FAMSYNC_REPLACED = -15,   /* each time the library had locked the file, the path named another one */
     FAMSYNC_NOTAVOLUME = -16, /* the file doesn't begin as a volume */
     FAMSYNC_DAMAGED = -17,    /* the file begins as a volume, but its bytes or its length break the format */
     FAMSYNC_SHAPE = -18,      /* `frames` is more than a commit of this volume can have */
@@ -83,26 +83,26 @@ enum famsync_code {
 typedef struct famsync famsync;
 typedef struct famsync_memory famsync_memory;
 
-/* The room for the longest message of famsync_open. It contains two paths. */
+/* The room for the longest message of famsync_open. That message contains two paths. */
 #define FAMSYNC_MESSAGE_SIZE 9000
 
 /* The options of famsync_open. A null pointer means the defaults, which are all zero.
 
-   Set `size` to the size of this structure. A later version of the library adds fields at the end, and knows by `size`
-   which fields a program has. A size of 0 means the fields up to `readonly`. If `size` is larger than the library's,
-   the bytes after the fields below must be 0 (FAMSYNC_ARGUMENT). */
+   Set `size` to the size of this structure. A later version of the library adds fields at the end, and uses `size` to
+   know which fields a program has. A size of 0 means the fields up to `readonly`. If `size` is larger than the
+   library's, the bytes after the fields below must be 0 (FAMSYNC_ARGUMENT). */
 struct famsync_options {
     size_t size;
     int trust;           /* not 0: open a volume that is flagged as suspect, and remove the flag */
-    unsigned frames;     /* the most pages of one commit; 0: as many as the volume allows */
-    unsigned copies;     /* ignored; it keeps the places of the fields after it */
+    unsigned frames;     /* the most pages of one commit; 0 means as many as the volume allows */
+    unsigned copies;     /* ignored; it keeps the offsets of the fields after it */
     int foreground;      /* not 0: no thread of the library's own (see famsync_msync) */
     char *message;       /* room for a line about why the volume wasn't opened */
     size_t message_size; /* the size of this room; a longer message is cut off */
     unsigned wait_ms;    /* how long to wait for a volume that is in use, in milliseconds */
     int readonly;        /* not 0: a session that only reads */
-    int resident;        /* not 0: read a file whole to open its plain memory, instead of mapping the volume's file */
-    size_t budget;       /* the most bytes of committed pages that plain memory keeps; 0: 64 MB */
+    int resident;        /* not 0: read a whole file to open its plain memory, instead of mapping the volume's file */
+    size_t budget;       /* the most bytes of committed pages that plain memory keeps; 0 means 64 MB */
     int tracking;        /* FAMSYNC_TRACK_SIGNALS or FAMSYNC_TRACK_KERNEL; see famsync_memory_open */
 };
 
@@ -123,8 +123,8 @@ struct famsync_new_file {
 /* A new volume. Set `size` to the size of this structure: a later version of the library adds fields at the end. */
 struct famsync_plan {
     size_t size;
-    unsigned layout; /* 1 to 4; 0: 4 */
-    unsigned slots;  /* of each journal: 1 to 1,020; in layout 3 from 2; in layout 4 2 to 65,535; 0: 1,024 */
+    unsigned layout; /* 1 to 4; 0 means 4 */
+    unsigned slots;  /* of each journal: 1 to 1,020; layout 3: 2 to 1,020; layout 4: 2 to 65,535; 0 means 1,024 */
     unsigned files;  /* the number of files, 1 to 64 */
     const struct famsync_new_file *file; /* the files */
     int preallocate;                     /* not 0: takes the disk's blocks now; 0: when they are written */
@@ -140,12 +140,12 @@ struct famsync_plan {
    A commit has at most as many pages as there are slots, or one less in layouts 3 and 4. Without `preallocate` a full
    disk ends a session that writes to a block for the first time (FAMSYNC_DEVICE).
 
-   FAMSYNC_ARGUMENT: there is no such volume; `message` has the reason. FAMSYNC_SYSTEM: errno has the cause. It is
-   EEXIST if a file has this name already, or the name with `.new`. */
+   FAMSYNC_ARGUMENT: a volume can't be made by this plan; `message` has the reason. FAMSYNC_SYSTEM: errno has the cause.
+   It is EEXIST if a file with this name, or with `.new` after it, already exists. */
 int famsync_format(const char *volume, const struct famsync_plan *plan);
 
-/* Begins a session with a volume: a regular file with one name. If the path is a link, the library opens its target.
-   The file is locked until the session ends. The session takes memory for the pages of its commits. On failure
+/* Begins a session with a volume: a regular file with one name. If the path is a symbolic link, the library opens its
+   target. The file is locked until the session ends. The session takes memory for the pages of its commits. On failure
    `*handle` is a null pointer.
 
    FAMSYNC_INUSE: another session has the volume, and `wait_ms` has passed. FAMSYNC_SYSTEM with ENAMETOOLONG: the name
@@ -153,16 +153,16 @@ int famsync_format(const char *volume, const struct famsync_plan *plan);
    sync failed and the suspect flag couldn't be made; `message` has the reason.
 
    With `readonly` any number of sessions share a volume. The library opens the file for reading only, and writes
-   nothing. No session that writes can begin meanwhile. FAMSYNC_NEEDSOPENING: a crash left a commit that isn't yet
-   written to its place, or the volume is flagged as suspect, even with `trust`. Open the volume for writing once, and
-   close it. In a session with `readonly`, famsync_write, famsync_setlength, famsync_msync and famsync_memory_touch
-   return FAMSYNC_READONLY. A store to plain memory raises SIGSEGV, which the program gets. */
+   nothing. While such sessions last, no session that writes can begin. FAMSYNC_NEEDSOPENING: a crash left a commit that
+   isn't yet written to its place, or the volume is flagged as suspect. Here `trust` has no effect. Open the volume for
+   writing once, and close it. In a session with `readonly`, famsync_write, famsync_setlength, famsync_msync and
+   famsync_memory_touch return FAMSYNC_READONLY. A store to plain memory raises SIGSEGV in the program. */
 int famsync_open(const char *volume, const struct famsync_options *options, famsync **handle);
 
 /* Ends a session and frees the handle. Changes since the last msync are lost. Close all plain memory of the handle
-   before (FAMSYNC_ARGUMENT). No other call with the handle may be in progress. First the library writes committed pages
-   to their places in the volume. FAMSYNC_DEVICE, FAMSYNC_UNMARKED: a write or a sync failed, in this call or earlier.
-   What was acknowledged is durable. */
+   first (otherwise FAMSYNC_ARGUMENT). No other call with the handle may be in progress. The library first writes
+   committed pages to their places in the volume. FAMSYNC_DEVICE, FAMSYNC_UNMARKED: a write or a sync failed, in this
+   call or earlier. What was acknowledged is durable. */
 int famsync_close(famsync *handle);
 
 /* The number of files of the volume. The name of each, numbered from 0, and its length as this session has set it; a
@@ -176,19 +176,19 @@ unsigned famsync_frames(const famsync *handle);
 
 /* Sets the length of a file, as ftruncate does. FAMSYNC_EINVAL: the length is more than the file's capacity, or the
    volume has layout 1 or 2. Bytes past a new end are lost. The bytes that a file grows by are zeros. Like a write, the
-   length becomes durable with the next famsync_msync, and is lost if the session ends before.
+   length becomes durable with the next famsync_msync, and is lost if the session ends before that.
 
    The pages that a file grows by count as written, and so does the page in which it ended. FAMSYNC_NOFRAME: these pages
-   and those that wait for a commit are more than one commit can have. Then grow the file in steps, with an msync after
-   each. A refused call changes nothing.
+   and those that wait for a commit are more than one commit can have. In that case grow the file in steps, with an
+   msync after each. A refused call changes nothing.
 
-   Open plain memory of the file grows or shrinks in place. The program may not use bytes past the new end any more.
+   Open plain memory of the file grows or shrinks in place. The program must not use bytes past the new end any more.
    FAMSYNC_SYSTEM: the system refused to change the memory. */
 int famsync_setlength(famsync *handle, const char *file, uint64_t length);
 
 /* Reads `count` bytes of a file from `offset` on, including what this session has written and not committed. `*done` is
    the number of bytes read; `done` may be a null pointer. At the file's end the call reads fewer bytes, or none, and
-   returns FAMSYNC_OK. If a read of the volume fails, `*done` bytes were read before. */
+   returns FAMSYNC_OK. If a read of the volume fails, `*done` bytes were read before the failure. */
 int famsync_read(famsync *handle, unsigned file, uint64_t offset, void *bytes, size_t count, size_t *done);
 
 /* Writes `count` bytes to a file from `offset` on. `*done` is the number of bytes written; `done` may be a null
@@ -196,11 +196,11 @@ int famsync_read(famsync *handle, unsigned file, uint64_t offset, void *bytes, s
 
    FAMSYNC_EINVAL: a byte lies past the file's end. famsync_setlength makes a file longer. FAMSYNC_NOFRAME: these pages
    and those that wait for a commit are more than one commit can have. In both cases nothing is written. FAMSYNC_DEVICE:
-   a page had to be read, because only a part of it is written, and that failed. Then, and with FAMSYNC_NOMEMORY,
-   `*done` bytes were written before.
+   the call writes only a part of a page, and the library failed to read the rest. After FAMSYNC_DEVICE and
+   FAMSYNC_NOMEMORY, `*done` bytes were written before the failure.
 
-   If plain memory of the file is open, famsync_read and famsync_write use it. A write is then a store to it, and opens
-   pages as famsync_memory_touch does. */
+   If plain memory of the file is open, famsync_read and famsync_write use it. A write is then a store to this memory,
+   and opens the stored pages as famsync_memory_touch does. */
 int famsync_write(famsync *handle, unsigned file, uint64_t offset, const void *bytes, size_t count, size_t *done);
 
 /* Makes all changes of this session durable, all of them or none: writes, stores to plain memory, and lengths. The call
@@ -208,7 +208,7 @@ int famsync_write(famsync *handle, unsigned file, uint64_t offset, const void *b
    pointer. Threads that call during a commit share the next one. If the call is refused, all changes still wait, and
    the next call commits them.
 
-   FAMSYNC_NOFRAME: the changed pages, by famsync_write and in plain memory together, are more than one commit can have.
+   FAMSYNC_NOFRAME: the pages changed by famsync_write and in plain memory, together, are more than one commit can have.
    Nothing is committed, and no later call can commit them either. After you close the plain memory, what famsync_write
    wrote to other files can be committed.
 
@@ -220,16 +220,16 @@ int famsync_write(famsync *handle, unsigned file, uint64_t offset, const void *b
    beside the volume's file. FAMSYNC_UNMARKED: a sync failed, and the library couldn't make a lasting suspect flag. So
    the next session doesn't know of the failed sync.
 
-   A part of a commit's writes comes after its acknowledgement. A thread of the library makes them while no call is in
-   progress, or the next commit does. In layout 4 the thread waits until no commit has come for 10 ms. With `foreground`
-   there is no thread. */
+   A part of a commit's writes comes after its acknowledgement. A thread of the library makes these writes while no call
+   is in progress, or the next commit makes them. In layout 4 the thread waits until no commit has come for 10 ms. With
+   `foreground` there is no thread. */
 int famsync_msync(famsync *handle, uint64_t *mark);
 
 /* Undoes all changes of this session since the last famsync_msync: writes, lengths and stores to plain memory. Other
-   threads may store meanwhile: there is one moment within the call, and exactly the stores before it are undone. If a
-   length is undone, the memory of its file grows or shrinks in place, as with famsync_setlength. First the library
-   writes earlier commits to their places. If a write or a length waits for a commit, it also opens the volume again.
-   Meanwhile that takes the memory of a second session.
+   threads may store during the call: there is one moment within it, and exactly the stores before that moment are
+   undone. If a length is undone, the memory of its file grows or shrinks in place, as with famsync_setlength. The
+   library first writes earlier commits to their places. If a write or a length waits for a commit, it also opens the
+   volume again, which takes the memory of a second session during the call.
 
    If the call is refused, all changes still wait for a commit. FAMSYNC_DEVICE: a read, a write or a sync failed, as
    with famsync_msync. FAMSYNC_SYSTEM: the system refused the rollback. If a part was undone by then, no commit is
@@ -260,18 +260,18 @@ struct famsync_stat {
 
 int famsync_stat(famsync *handle, struct famsync_stat *stat);
 
-/* Writes a clean volume with the files of the last acknowledged commit to a file. This backup can be opened as it is.
+/* Writes to a file a clean volume with the files of the last acknowledged commit. This backup can be opened as it is.
    `descriptor` is a regular file, other than the volume's, open for reading and writing, and without O_APPEND
-   (FAMSYNC_ARGUMENT). The library empties it first. Blocks of zeros become holes. The backup is synced when the call
-   succeeds. If the file's name is new, sync its folder, too.
+   (otherwise FAMSYNC_ARGUMENT). The library empties it first. Blocks of zeros become holes. The backup is synced when
+   the call succeeds. If the file's name is new, sync its folder, too.
 
-   Other threads may call with the handle meanwhile, including famsync_msync. A handle makes one backup at a time
-   (FAMSYNC_BUSY). The library locks the file like a volume until the call returns. FAMSYNC_INUSE: somebody else has it
-   locked.
+   Other threads may call with the handle during the backup, including famsync_msync. A handle makes one backup at a
+   time (FAMSYNC_BUSY). The library locks the file like a volume until the call returns. FAMSYNC_INUSE: somebody else
+   has it locked.
 
    FAMSYNC_SYSTEM: the file couldn't be written; errno has the cause. FAMSYNC_DEVICE: the volume couldn't be read (the
-   session goes on), or couldn't be written (the session is over). In both cases the file is no volume. Commits that are
-   made meanwhile don't fail because of the backup. */
+   session goes on), or couldn't be written (the session is over). In both cases the file is no volume. Commits during
+   the backup don't fail because of it. */
 int famsync_backup(famsync *handle, int descriptor);
 
 /*
@@ -283,40 +283,43 @@ int famsync_backup(famsync *handle, int descriptor);
  * return it to the system. It does so if such pages, with a copy of each, exceed `budget` bytes.
  *
  * A load raises SIGBUS if the volume's file can't be read or was truncated, as with each mapped file. In a forked
- * process, a page that wasn't stored to before shows later commits. With `resident` the call reads the whole file, and
- * none of this holds. The same happens if the system's pages are larger than 4,096 bytes, or if it can't map the
- * volume's file.
+ * process, a page that wasn't stored to before the fork may show later commits. With `resident` the call reads the
+ * whole file, and none of this holds. The same happens if the system's pages are larger than 4,096 bytes, or if the
+ * system can't map the volume's file.
  *
- * Other threads may store meanwhile. There is one moment within famsync_msync, and the commit has exactly the stores
- * before it, by all threads, to all plain memory of the handle. At that moment the library closes all pages, until it
- * has copied those that were stored to. A store meanwhile waits for the copying, never for the disk. If several threads
- * store what belongs together, they have to finish before one of them commits.
+ * Other threads may store during a commit. There is one moment within famsync_msync, and the commit has exactly the
+ * stores before it, by all threads, to all plain memory of the handle. At that moment the library closes all pages,
+ * until it has copied those that were stored to. A store during that time waits for the copying, never for the disk. If
+ * several threads store what belongs together, they have to finish before one of them commits.
  *
  * The handler doesn't serve every store:
  *
- * - The kernel doesn't use it: read(2) and the like into this memory fail with EFAULT if the page wasn't stored to.
+ * - The kernel doesn't use the handler: read(2) and the like fail with EFAULT if they read into a page that wasn't
+ *   stored to.
  * - A thread that blocks SIGSEGV can't store.
- * - A handler of SIGSEGV that the program installs later gets the library's faults, unless it calls the one before.
+ * - A handler of SIGSEGV that the program installs later gets the library's faults. It should call the handler before
+ *   it.
  *
  * For all three, famsync_memory_touch opens pages ahead. famsync_memory_open installs the library's handler again if
- * another one took its place, and passes to that one the faults that aren't the library's.
+ * another one took its place. Faults that aren't the library's are passed on to that other handler.
  *
  * With FAMSYNC_TRACK_KERNEL there is no handler: the kernel notes stores, including those of read(2) and the like. Each
- * commit asks it which pages were stored to. Other threads may not store during famsync_msync, famsync_rollback and
- * famsync_setlength. If a commit finds such a store while it copies pages, it copies them again, up to four times. Then
- * it returns FAMSYNC_BUSY, and nothing is committed. The end of a commit gives committed pages back. A store to them by
- * another thread meanwhile may be lost. FAMSYNC_TRACKING, of famsync_open or famsync_memory_open: the system can't do
- * this (Linux can from 6.7 on). With `resident` it is FAMSYNC_ARGUMENT.
+ * commit asks it which pages were stored to. Other threads must not store during famsync_msync, famsync_rollback and
+ * famsync_setlength. If a commit finds such a store while it copies pages, it copies them again, up to four times.
+ * After that it returns FAMSYNC_BUSY, and nothing is committed. The end of a commit gives committed pages back to the
+ * system. A store to them by another thread at that time may be lost. FAMSYNC_TRACKING, of famsync_open or
+ * famsync_memory_open: the system can't do this (Linux can from 6.7 on). FAMSYNC_ARGUMENT: `resident` is set.
  *
  * Bytes past the file's end, in its last page, are memory that isn't kept. The addresses after this page, up to the
- * file's capacity, are reserved and may not be used. While memory of a file is open, famsync_read and famsync_write use
- * it. An empty file has no memory (FAMSYNC_ARGUMENT).
+ * file's capacity, are reserved and must not be used. While memory of a file is open, famsync_read and famsync_write
+ * use it. An empty file has no memory (FAMSYNC_ARGUMENT).
  */
 int famsync_memory_open(famsync *handle, const char *file, famsync_memory **memory);
 
-/* The same at a given address, so that the file can contain pointers into itself. A null pointer means any address.
-   FAMSYNC_ADDRESS: the address isn't that of a page; or it is less than 65,536 and a page; or it leaves no room for the
-   file's capacity; or other memory is between one page before it and one page past the capacity. */
+/* Does the same at a given address, so that the file can contain pointers into itself. A null pointer means any
+   address. The memory takes the file's capacity, and one page before and behind it.
+   FAMSYNC_ADDRESS: the address isn't a multiple of the page size. Or these pages begin below address 65,536, end above
+   the highest address, or contain other memory. */
 int famsync_memory_open_at(famsync *handle, const char *file, void *address, famsync_memory **memory);
 
 /* The address of the memory, which never changes, and the length of the file in bytes. */
@@ -324,11 +327,11 @@ void *famsync_memory_at(const famsync_memory *memory);
 size_t famsync_memory_length(const famsync_memory *memory);
 
 /* The number of pages of 4,096 bytes that were stored to since the last msync. A page whose bytes didn't change may
-   count or not. One commit can have famsync_frames of them. */
+   count or not. One commit can have at most famsync_frames of them. */
 size_t famsync_memory_dirty(const famsync_memory *memory);
 
-/* Opens the pages of `count` bytes from `offset` on, as a store to each of them would. Until the next famsync_msync, by
-   any thread, stores to them raise no SIGSEGV, and the kernel can store to them. All of them count as stored to.
+/* Opens the pages of `count` bytes from `offset` on, as a store to each of them would. Until any thread calls
+   famsync_msync, stores to them raise no SIGSEGV, and the kernel can store to them. All of them count as stored to.
    FAMSYNC_ARGUMENT: the range isn't within the file. FAMSYNC_NOFRAME: it has more pages than one commit can have. In
    both cases no page is opened. */
 int famsync_memory_touch(famsync_memory *memory, size_t offset, size_t count);
