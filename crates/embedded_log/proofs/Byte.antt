@@ -10,7 +10,7 @@ use Rattle.log_histories.specs.Histories.{HasComeLog, HasGoneLog, LogStays}
 use Rattle.log_histories.proofs.Crashes.{keeps, tells_by_byte, trusts_by_byte}
 use Rattle.log_histories.proofs.Runs.{come_on, sealing}
 use Rattle.embedded.specs.Recorded.{deferred_disk}
-use Rattle.embedded_log.specs.Runs.{HasRunLog, HasServedLog, RunStays, RunOn, GoesOn, StoppedInCommit, StoppedInStep}
+use Rattle.embedded_log.specs.Runs.{HasRunLog, HasServedLog, RunStays, RunOn, Unfailed, StoppedInCommit, StoppedInStep}
 use Rattle.embedded_log.specs.Runs.{IsToldRun, IsToldServed, TellsLeft, TellsServed, Trusting, TrustsIn}
 use Rattle.embedded_log.specs.Runs.{Nowhere, InCommit, InStep}
 use Rattle.embedded_log.specs.Serving.{HasPassedLogMark, IsToldMark}
@@ -46,13 +46,13 @@ module _ (files : List File) (history : List Event) (start : LogFilesState Defer
 
   told_served : {events : List Event} {s : LogFilesState Deferred} (served : HasServedLog start events s)
       → IsToldServed served
-  told_served (GoesOn events s run) = told_run run
+  told_served (Unfailed events s run) = told_run run
   told_served (StoppedInCommit events last s mid call read spent run) = told_run run
   told_served (StoppedInStep events last s mid call read spent run) = told_run run
 
   tells_served : {events : List Event} {s : LogFilesState Deferred} (served : HasServedLog start events s) (c : List ℕ)
       → TellsServed served c
-  tells_served (GoesOn events s run) c = tells_left run c
+  tells_served (Unfailed events s run) c = tells_left run c
   tells_served (StoppedInCommit events last s mid call read spent run) c =
       (tells_left run c, trusts (gone_of run (told_run run)).0 InCommit c)
   tells_served (StoppedInStep events last s mid call read spent run) c =

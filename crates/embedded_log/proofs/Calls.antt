@@ -26,7 +26,7 @@ use Rattle.log_files.specs.Calls.{after_log_length, log_resized_to}
 use Rattle.log_histories.specs.Histories.{LogStays, LogPut, LogCommitted, LogMarked, LogStepped, LogRead, LogRefused}
 use Rattle.log_histories.specs.Histories.{LogResized, KeepsContents, RecoversIn, TellsCommit, TrustsStep}
 use Rattle.embedded.specs.Recorded.{deferred_disk}
-use Rattle.embedded_log.specs.Runs.{Nowhere, InCommit, InStep, GoesOn, StoppedInCommit, StoppedInStep}
+use Rattle.embedded_log.specs.Runs.{Nowhere, InCommit, InStep, Unfailed, StoppedInCommit, StoppedInStep}
 use Rattle.embedded_log.specs.inside.Leading.{LeadsLog, RunsLog, AnyEvents, HasAcknowledgedMark}
 use Rattle.embedded_log.proofs.Stepping.{device_or_not}
 use Rattle.embedded_log.proofs.Leading.{GoesForth, goes_forth, leads_nowhere, leads_of, not_read, runs_by, unlike}

@@ -13,7 +13,7 @@ use Rattle.log_commits.specs.Calls.{DidAll}
 use Rattle.log_files.specs.State.{LogFilesState}
 use Rattle.embedded.specs.Recorded.{deferred_disk}
 use Rattle.embedded_log.specs.Runs.{GoesTrusting, HasRunLog, HasServedLog, RunOn, Trusting}
-use Rattle.embedded_log.specs.Runs.{GoesOn, StoppedInCommit, StoppedInStep}
+use Rattle.embedded_log.specs.Runs.{Unfailed, StoppedInCommit, StoppedInStep}
 use Rattle.embedded_log.specs.inside.Leading.{LeadsLog, RunsLog}
 
 -- ---- a device that is only read
@@ -60,7 +60,7 @@ pub leads_nowhere : (s : LogFilesState Deferred) → LeadsLog s s
 leads_nowhere s = record {
   well = λ well. well;
   carried = refl;
-  goes = λ well start before run. (before, GoesOn before s run);
+  goes = λ well start before run. (before, Unfailed before s run);
   stuck = λ well spent. (not_read s.pager.device, spent);
 }
 
@@ -72,14 +72,14 @@ pub leads_of : (E : List Event → Type 0) (old new : LogFilesState Deferred) �
 leads_of E old new it stuck = record {
   well = it.well;
   carried = it.carried;
-  goes = λ well start before run. let went = it.runs well start before run in (went.0, GoesOn went.0 new went.2);
+  goes = λ well start before run. let went = it.runs well start before run in (went.0, Unfailed went.0 new went.2);
   stuck = stuck;
 }
 
 pub served_on : {start : LogFilesState Deferred} {events : List Event} {old : LogFilesState Deferred}
     (new : LogFilesState Deferred) → LeadsLog old new → IsSuppliedWell new.pager.device
     → HasServedLog start events old → (after : List Event) × HasServedLog start after new
-served_on {start} new leads well (GoesOn events old run) = leads.goes well start events run
+served_on {start} new leads well (Unfailed events old run) = leads.goes well start events run
 served_on new leads well (StoppedInCommit events last old mid call read spent run) =
     let stuck = leads.stuck well spent in (
       _,
@@ -112,7 +112,7 @@ not_both false is not = absurd (cc)
 -- no device call has failed
 pub run_of : {start : LogFilesState Deferred} {events : List Event} {s : LogFilesState Deferred}
     → s.pager.store.tail.spent ≡ false → HasServedLog start events s → HasRunLog start events s
-run_of whole (GoesOn events s run) = run
+run_of whole (Unfailed events s run) = run
 run_of whole (StoppedInCommit events last s mid call read spent run) =
     absurd (not_both s.pager.store.tail.spent spent whole)
 run_of whole (StoppedInStep events last s mid call read spent run) =

@@ -16,7 +16,7 @@ use Rattle.log_histories.proofs.Runs.{gone_on, left_since, left_in_commit, left_
 use Rattle.embedded.specs.Recorded.{deferred_disk}
 use Rattle.embedded.proofs.Hosted.{sooner}
 use Rattle.embedded_log.specs.Hosting.{KeepsLogMark}
-use Rattle.embedded_log.specs.Runs.{HasRunLog, HasServedLog, RunStays, RunOn, GoesOn, StoppedInCommit, StoppedInStep}
+use Rattle.embedded_log.specs.Runs.{HasRunLog, HasServedLog, RunStays, RunOn, Unfailed, StoppedInCommit, StoppedInStep}
 use Rattle.embedded_log.specs.Runs.{IsToldRun, IsToldServed, TellsLeft, TellsServed}
 use Rattle.embedded_log.specs.Serving.{HasPassedLogMark}
 
@@ -53,7 +53,7 @@ module _ (files : List File) (history : List Event) (mid : LogFilesState Deferre
   pub left_served : {events : List Event} {s : LogFilesState Deferred} (served : HasServedLog mid events s)
       → IsToldServed served
       → Leaves s.pager.device (λ c. TellsServed served c → ReadsBackAmongLog files history events c)
-  left_served (GoesOn events s run) told =
+  left_served (Unfailed events s run) told =
       let gone = gone_of run told in
       leaves_weaker (left_since deferred_disk since files history mid come gone.0)
       (λ c back tells. back (gone.1 c tells))

@@ -27,7 +27,7 @@ use Rattle.log_histories.proofs.Lowered.{lengths_say}
 use Rattle.embedded.specs.Embedded.{acknowledged_by_calls, made_calls}
 use Rattle.embedded.specs.Recorded.{deferred_disk}
 use Rattle.embedded.proofs.Tended.{IsLike, only_read}
-use Rattle.embedded_log.specs.Runs.{HasRunLog, HasServedLog, Nowhere, RunStays, RunOn, GoesOn}
+use Rattle.embedded_log.specs.Runs.{HasRunLog, HasServedLog, Nowhere, RunStays, RunOn, Unfailed}
 use Rattle.embedded_log.specs.Runs.{StoppedInCommit, StoppedInStep}
 use Rattle.embedded_log.specs.Serving.{HasPassedLogMark, HasNeededLog, HasMadeLogCalls, IsFirst, ServesLogWell}
 use Rattle.embedded_log.specs.inside.Leading.{LeadsLog, RunsLog, HasAcknowledgedMark}
@@ -68,12 +68,12 @@ serves_opened before s opened over fresh honest = λ well.
       first = s;
       opened = record {
         before = before;
-        opened = record { opened = opened had; fresh = fresh; over = over had };
+        opened = record { opened = opened had; begins = fresh; over = over had };
         files_are = refl;
         recovered = recovers_opened before s (opened had);
       };
       history = [];
-      served = GoesOn [] s RunStays;
+      served = Unfailed [] s RunStays;
       commits = tt;
       durable = tt;
     }
@@ -147,7 +147,7 @@ module _ (old new : LogFilesState Deferred) (due : ℕ) (committed acknowledged 
         first = had.first;
         opened = had.opened;
         history = it.0;
-        served = GoesOn it.0 new it.2;
+        served = Unfailed it.0 new it.2;
         commits = (
           record {
             first = had.first;
@@ -157,7 +157,7 @@ module _ (old new : LogFilesState Deferred) (due : ℕ) (committed acknowledged 
             run = it.2;
             acknowledges = it.1;
             later = [];
-            served = GoesOn [] new RunStays;
+            served = Unfailed [] new RunStays;
           },
           omega arith,
         );
@@ -177,7 +177,7 @@ run_later (RunOn trusting events more s next goes run) = omega (arith, run_later
 served_later : {start : LogFilesState Deferred} {events : List Event} {s : LogFilesState Deferred}
     → HasServedLog start events s
     → moment_of (as_memory start.pager.device) ≤ moment_of (as_memory s.pager.device)
-served_later (GoesOn events s run) = run_later run
+served_later (Unfailed events s run) = run_later run
 served_later (StoppedInCommit events last s mid call read spent run) =
     omega (arith, run_later run, (goes_forth _ false last.pager.device mid call.did).later, read.time.later)
 served_later (StoppedInStep events last s mid call read spent run) =
@@ -256,9 +256,9 @@ like_over s after read contents over =
 tended_goes : (after : Deferred) {start : LogFilesState Deferred} {events : List Event} {s : LogFilesState Deferred}
     → IsOnlyRead deferred_disk s.pager.device after → KeepsContents deferred_disk s (on_device s after)
     → HasServedLog start events s → (later : List Event) × HasServedLog start later (on_device s after)
-tended_goes after read over (GoesOn events s run) = (
+tended_goes after read over (Unfailed events s run) = (
   events ++ [],
-  GoesOn (events ++ []) (on_device s after) (RunOn Nowhere events [] s (on_device s after)
+  Unfailed (events ++ []) (on_device s after) (RunOn Nowhere events [] s (on_device s after)
       (record {
         later = read.time.later;
         goes = λ trusted. (LogRead [] s after (record { read = read; over = over }) LogStays, λ c tells. tt);

@@ -18,8 +18,8 @@ use Rattle.embedded.specs.declared.reading.Unread.TheVariants.{Wanted, Refused}
 use Rattle.embedded.specs.Recorded.{deferred_disk}
 use Rattle.embedded_log.specs.Needs.{lacked_by_step}
 use Rattle.embedded_log.specs.Steps.{MakesLogSteps, NoLogStep, ThenLogStep, WhileFull, StopsAtStep, RefusesNextStep}
-use Rattle.embedded_log.specs.Steps.{CommitsLog, CommitsPut, StopsCommit, WithRoom, WithoutRoom, StopsAtCommit}
-use Rattle.embedded_log.specs.Steps.{IsHome, has_log_room}
+use Rattle.embedded_log.specs.Steps.{CommitsLog, CommitsPut, StopsLogCommit, WithRoom, WithoutRoom, StopsAtCommit}
+use Rattle.embedded_log.specs.Steps.{IsAllHome, has_log_room}
 use Rattle.embedded_log.specs.inside.Leading.{LeadsLog, RunsLog, HasAcknowledgedMark}
 use Rattle.embedded_log.specs.inside.Rounds.{MakesWhileFull, StopsWhileFull}
 use Rattle.embedded_log.proofs.Leading.{not_both, runs_on}
@@ -97,7 +97,7 @@ device_or_not refusals.BadShape = inr (λ is. absurd (cc))
 -- ---- a commit after steps
 
 pub stops_with_room : (a b c : LogFilesState Deferred) (result : Result ℕ Unread) → MakesWhileFull a b
-    → has_log_room b ≡ true → IfErr result (λ e. StopsAtCommit b e c) → IfErr result (λ e. StopsCommit a e c)
+    → has_log_room b ≡ true → IfErr result (λ e. StopsAtCommit b e c) → IfErr result (λ e. StopsLogCommit a e c)
 stops_with_room a b c (Ok mark) steps room stop = tt
 stops_with_room a b c (Err e) steps room stop = WithRoom steps.0 e b c steps.1 room stop
 
@@ -113,10 +113,10 @@ acknowledges_on a b c (Err e) leads commits runs = tt
 
 -- a step without one is made where each commit is home
 abbrev IdlesHome : LogFilesState Deferred → LogFilesState Deferred → Type 0
-IdlesHome old new = StepsBy old.pager.store old.pager.store.stage new.pager.store steps.Idle → IsHome old
+IdlesHome old new = StepsBy old.pager.store old.pager.store.stage new.pager.store steps.Idle → IsAllHome old
 
 steps_idle : (old new : LogFilesState Deferred) (progress : Progress) → IdlesHome old new
-    → IsLogFilesStep deferred_disk old progress new → progress ≡ steps.Idle → IsHome old
+    → IsLogFilesStep deferred_disk old progress new → progress ≡ steps.Idle → IsAllHome old
 steps_idle old new progress idle step is =
     idle (subst (λ (p : Progress). StepsBy old.pager.store old.pager.store.stage new.pager.store p) is step.steps)
 
@@ -127,7 +127,7 @@ pub not_idle : (old new : LogFilesState Deferred) (progress : Progress) → has_
 not_idle old new progress full empty idle step = λ is.
     not_both (has_log_room old) (empty (steps_idle old new progress idle step is).0) full
 
-pub left_not_idle : (old new : LogFilesState Deferred) (progress : Progress) (home : Bool) → IsTrue home ↔ IsHome old
+pub left_not_idle : (old new : LogFilesState Deferred) (progress : Progress) (home : Bool) → IsTrue home ↔ IsAllHome old
     → home ≡ false → IdlesHome old new → IsLogFilesStep deferred_disk old progress new → progress ≢ steps.Idle
 left_not_idle old new progress home told not_home idle step = λ is.
     iff_false told not_home (steps_idle old new progress idle step is)

@@ -23,7 +23,7 @@ LeavesByOpening before after = IsSuppliedWell before
 -- An open volume with a log, as an opening of this disk leaves it, where a commit takes at most this many pages of
 -- files: as `LogFiles::open`.
 pub record OpensLogVolume (disk : Deferred) (most : ℕ) (e : EmbeddedLogState) : Type 0 where
-  pub fresh : e ≡ log_just_opened (fresh_log_files e.files.table e.files.lengths e.files.most
+  pub begins : e ≡ log_just_opened (fresh_log_files e.files.table e.files.lengths e.files.most
       e.files.pager.store.tail.start e.files.pager.store.second e.files.pager.device)
   pub most_is : (limit : ℕ) → IsCommitSize e.files.table.ring limit
       → ((n : ℕ) → IsCommitSize e.files.table.ring n → n ≤ limit) → e.files.most ≡ min most (limit - 1)

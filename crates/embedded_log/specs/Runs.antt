@@ -51,7 +51,7 @@ TellsLeft (RunOn trusting events more s next goes run) c = TellsLeft run c × Tr
 -- What calls led to: a run; or a run, then a commit or a step of which a device call failed, after which the device was
 -- only read.
 pub data HasServedLog (start : LogFilesState Deferred) : List Event → LogFilesState Deferred → Type 0 where
-  GoesOn : (events : List Event) (s : LogFilesState Deferred) → HasRunLog start events s → HasServedLog start events s
+  Unfailed : (events : List Event) (s : LogFilesState Deferred) → HasRunLog start events s → HasServedLog start events s
   StoppedInCommit : (events : List Event) (last s : LogFilesState Deferred) (mid : Deferred)
       → IsLogCommitting deferred_disk last false mid → IsOnlyRead deferred_disk mid s.pager.device
       → s.pager.store.tail.spent ≡ true → HasRunLog start events last
@@ -62,12 +62,12 @@ pub data HasServedLog (start : LogFilesState Deferred) : List Event → LogFiles
 
 abbrev pub IsToldServed : {start : LogFilesState Deferred} {events : List Event} {s : LogFilesState Deferred}
     → HasServedLog start events s → Type 0
-IsToldServed (GoesOn events s run) = IsToldRun run
+IsToldServed (Unfailed events s run) = IsToldRun run
 IsToldServed (StoppedInCommit events last s mid call read spent run) = IsToldRun run
 IsToldServed (StoppedInStep events last s mid call read spent run) = IsToldRun run
 
 abbrev pub TellsServed : {start : LogFilesState Deferred} {events : List Event} {s : LogFilesState Deferred}
     → HasServedLog start events s → List ℕ → Type 0
-TellsServed (GoesOn events s run) c = TellsLeft run c
+TellsServed (Unfailed events s run) c = TellsLeft run c
 TellsServed (StoppedInCommit events last s mid call read spent run) c = TellsLeft run c × TellsCommit last c
 TellsServed (StoppedInStep events last s mid call read spent run) c = TellsLeft run c × TrustsStep last c

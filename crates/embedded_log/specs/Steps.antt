@@ -15,8 +15,8 @@ use Rattle.embedded.specs.Recorded.{deferred_disk}
 use Rattle.embedded_log.specs.Needs.{lacked_by_step, lacked_by_commit}
 
 -- each commit is written home, and no step is under way
-abbrev pub IsHome : LogFilesState Deferred → Type 0
-IsHome s = (s.pager.store.tail.used ≡ 0) × (s.pager.store.stage ≡ Resting)
+abbrev pub IsAllHome : LogFilesState Deferred → Type 0
+IsAllHome s = (s.pager.store.tail.used ≡ 0) × (s.pager.store.stage ≡ Resting)
 
 -- the log has room for a commit of what was put
 abbrev pub has_log_room : LogFilesState Deferred → Bool
@@ -83,22 +83,22 @@ pub record CommitsLog (old : LogFilesState Deferred) (mark : ℕ) (new : LogFile
   pub commit : CommitsPut last mark new
 
 -- A commit stopped, for this reason. The steps that were made stay.
-pub data StopsCommit (old : LogFilesState Deferred) : Unread → LogFilesState Deferred → Type 0 where
+pub data StopsLogCommit (old : LogFilesState Deferred) : Unread → LogFilesState Deferred → Type 0 where
   -- It needs a step that isn't made.
   WithoutRoom : (waits : ℕ) (e : Unread) (last new : LogFilesState Deferred) → MakesLogSteps WhileFull old waits last
-      → has_log_room last ≡ false → StopsAtStep last e new → StopsCommit old e new
+      → has_log_room last ≡ false → StopsAtStep last e new → StopsLogCommit old e new
   -- It isn't made itself.
   WithRoom : (waits : ℕ) (e : Unread) (last new : LogFilesState Deferred) → MakesLogSteps WhileFull old waits last
-      → has_log_room last ≡ true → StopsAtCommit last e new → StopsCommit old e new
+      → has_log_room last ≡ true → StopsAtCommit last e new → StopsLogCommit old e new
 
 -- Of at most this many steps all were made, or as many as were left; and whether one is left now.
-pub record WritesHome (most : ℕ) (old : LogFilesState Deferred) (left : Bool) (new : LogFilesState Deferred)
+pub record WritesCommitsHome (most : ℕ) (old : LogFilesState Deferred) (left : Bool) (new : LogFilesState Deferred)
     : Type 0 where
   pub n : ℕ
   pub few : n ≤ most
   pub steps : MakesLogSteps AnyLogStep old n new
   pub all : left ≡ true → n ≡ most
-  pub is_left : IsTrue left ↔ (IsHome new → ⊥)
+  pub is_left : IsTrue left ↔ (IsAllHome new → ⊥)
 
 -- Steps stopped before all were made, for this reason. Those that were made stay.
 pub record StopsSteps (most : ℕ) (old : LogFilesState Deferred) (e : Unread) (new : LogFilesState Deferred)
@@ -107,5 +107,5 @@ pub record StopsSteps (most : ℕ) (old : LogFilesState Deferred) (e : Unread) (
   pub few : n < most
   pub last : LogFilesState Deferred
   pub steps : MakesLogSteps AnyLogStep old n last
-  pub is_left : IsHome last → ⊥
+  pub is_left : IsAllHome last → ⊥
   pub stop : StopsAtStep last e new

@@ -13,7 +13,7 @@ ghost use Rattle.log_files.specs.Calls.{last_log_page, after_log_length};
 ghost use Rattle.embedded.specs.Reading.{pager_refusal, ReportsWanted};
 ghost use Rattle.embedded.specs.Recorded.{deferred_disk};
 ghost use Rattle.embedded_log.specs.State.{with_files, with_log_mark};
-ghost use Rattle.embedded_log.specs.Steps.{CommitsLog, StopsCommit, WritesHome, StopsSteps};
+ghost use Rattle.embedded_log.specs.Steps.{CommitsLog, StopsLogCommit, WritesCommitsHome, StopsSteps};
 
 use crate::steps;
 use crate::volume::EmbeddedLog;
@@ -96,7 +96,7 @@ impl<A: Allocator + Copy> EmbeddedLog<A> {
     pub fn commit(&mut self) -> Result<u32, Unread>
         ensures commits { IfOk result (λ mark. CommitsLog self.old.files mark self.new.files) }
         ensures mark { IfOk result (λ mark. self.new ≡ with_log_mark self.old mark self.new.files) }
-        ensures stopped { IfErr result (λ e. StopsCommit self.old.files e self.new.files) }
+        ensures stopped { IfErr result (λ e. StopsLogCommit self.old.files e self.new.files) }
         ensures unmarked { OnErr result (self.new ≡ with_files self.old self.new.files) }
         ensures carried { carried_moment self.new.files.pager.device ≡ carried_moment self.old.files.pager.device }
     {
@@ -120,7 +120,7 @@ impl<A: Allocator + Copy> EmbeddedLog<A> {
     /// Those that were made stay. `Device` where a device call failed, and `Broken` where one had failed earlier.
     /// `OutOfMemory`: steps can be made again.
     pub fn write_out(&mut self, most: u32) -> Result<bool, Unread>
-        ensures steps { IfOk result (λ left. WritesHome most self.old.files left self.new.files) }
+        ensures steps { IfOk result (λ left. WritesCommitsHome most self.old.files left self.new.files) }
         ensures stopped { IfErr result (λ e. StopsSteps most self.old.files e self.new.files) }
         ensures rest { self.new ≡ with_files self.old self.new.files }
         ensures carried { carried_moment self.new.files.pager.device ≡ carried_moment self.old.files.pager.device }

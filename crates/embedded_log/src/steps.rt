@@ -3,7 +3,7 @@ ghost use Rattle.std.specs.Prelude.{◌≡◌, ◌↔◌, true, None, Some, IsTr
 ghost use Rattle.embedded.specs.Recorded.{deferred_disk};
 ghost use Rattle.log_files.specs.Calls.{IsLogFilesStep};
 ghost use Rattle.embedded_log.specs.Needs.{if_lacking, lacked_by_step, lacked_by_commit};
-ghost use Rattle.embedded_log.specs.Steps.{CommitsLog, CommitsPut, StopsCommit, StopsAtCommit, WritesHome, StopsSteps};
+ghost use Rattle.embedded_log.specs.Steps.{CommitsLog, CommitsPut, StopsLogCommit, StopsAtCommit, WritesCommitsHome, StopsSteps};
 ghost use Rattle.embedded_log.specs.Steps.{StopsAtStep, has_log_room};
 ghost use Rattle.embedded_log.specs.inside.Leading.{HasAcknowledgedMark, LeadsLog, RunsLog};
 ghost use Rattle.embedded_log.specs.inside.Rounds.{EndsRound, MakesWhileFull, StopsWhileFull};
@@ -143,7 +143,7 @@ fn commit_put<A: Allocator + Copy>(files: &mut DeferredFiles<A>) -> Result<u32, 
 // Commits what was put, after steps that make room for it in the log.
 pub(crate) fn commit<A: Allocator + Copy>(files: &mut DeferredFiles<A>) -> Result<u32, Unread>
     ensures commits { IfOk result (λ mark. CommitsLog files.old mark files.new) }
-    ensures stopped { IfErr result (λ e. StopsCommit files.old e files.new) }
+    ensures stopped { IfErr result (λ e. StopsLogCommit files.old e files.new) }
     ensures acknowledges { IfOk result (λ mark. RunsLog (HasAcknowledgedMark mark) files.old files.new) }
     ensures leads { LeadsLog files.old files.new }
 {
@@ -158,7 +158,7 @@ pub(crate) fn write_out<A: Allocator + Copy>(
     files: &mut DeferredFiles<A>,
     most: u32,
 ) -> Result<bool, Unread>
-    ensures steps { IfOk result (λ left. WritesHome most files.old left files.new) }
+    ensures steps { IfOk result (λ left. WritesCommitsHome most files.old left files.new) }
     ensures stopped { IfErr result (λ e. StopsSteps most files.old e files.new) }
     ensures leads { LeadsLog files.old files.new }
 {

@@ -35,15 +35,15 @@ pub record MayCommit (t : TailValue) (homes : List ℕ) (room : ℕ) : Type 0 wh
   pub free : t.used + log_commit_blocks (length homes) + spare_blocks t.log.sealing ≤ t.log.ring
 
 -- why it may not, by name. A device call may fail in any commit that may begin.
-abbrev pub RefusesCommit : TailValue → List ℕ → ℕ → CommitFault → Type 0
-RefusesCommit t homes room Spent = t.spent ≡ true
-RefusesCommit t homes room Count = IsCommitSize t.log.ring (length homes) → ⊥
-RefusesCommit t homes room Homes = RiseWithin (first_log_home t.log.ring) t.log.blocks homes → ⊥
-RefusesCommit t homes room Room = room ≢ 4096 * log_commit_blocks (length homes) + 1
-RefusesCommit t homes room Number = 2 ^ 64 ≤ t.number + 1
-RefusesCommit t homes room Busy = IsFull t (length homes)
-RefusesCommit t homes room Start = ⊥
-RefusesCommit t homes room Device = MayCommit t homes room
+abbrev pub RefusesTailCommit : TailValue → List ℕ → ℕ → CommitFault → Type 0
+RefusesTailCommit t homes room Spent = t.spent ≡ true
+RefusesTailCommit t homes room Count = IsCommitSize t.log.ring (length homes) → ⊥
+RefusesTailCommit t homes room Homes = RiseWithin (first_log_home t.log.ring) t.log.blocks homes → ⊥
+RefusesTailCommit t homes room Room = room ≢ 4096 * log_commit_blocks (length homes) + 1
+RefusesTailCommit t homes room Number = 2 ^ 64 ≤ t.number + 1
+RefusesTailCommit t homes room Busy = IsFull t (length homes)
+RefusesTailCommit t homes room Start = ⊥
+RefusesTailCommit t homes room Device = MayCommit t homes room
 
 -- the commit under way
 abbrev pub next_logged : TailValue → List ℕ → LogDescriptor

@@ -9,7 +9,7 @@ use Rattle.log_commits.specs.declared.behind.OldCommits.{OldCommits}
 use Rattle.log_commits.specs.declared.fault.CommitFault.{CommitFault}
 use Rattle.log_commits.specs.declared.fault.CommitFault.TheVariants.{Start, Device}
 use Rattle.log_commits.specs.Tail.{TailValue}
-use Rattle.log_commits.specs.Commit.{MayCommit, RefusesCommit, commit_bytes, works_with}
+use Rattle.log_commits.specs.Commit.{MayCommit, RefusesTailCommit, commit_bytes, works_with}
 use Rattle.log_commits.specs.Behind.{MayMove, select_works}
 
 -- the last device calls of a commit: it selects the start that doesn't count, where the second or the first one counts
@@ -28,7 +28,7 @@ abbrev pub RefusesSelecting : TailValue → OldCommits → List ℕ → ℕ → 
 RefusesSelecting t oldest homes room Start =
     (t.used < oldest.blocks) ⊎ (oldest.below < t.start.number) ⊎ (t.number < oldest.below)
 RefusesSelecting t oldest homes room Device = MayCommit t homes room × MayMove t oldest
-RefusesSelecting t oldest homes room fault = RefusesCommit t homes room fault
+RefusesSelecting t oldest homes room fault = RefusesTailCommit t homes room fault
 
 -- Before such a commit the start is written. Where a byte seals, its first sync makes sure of that. Where a digest
 -- seals, it makes no sync before the byte, so all has to be sure already.

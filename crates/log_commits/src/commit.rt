@@ -10,7 +10,7 @@ ghost use Rattle.log_codec.specs.Commit.{LogDescriptor};
 ghost use Rattle.log_commits.specs.Tail.{HoldsLog};
 ghost use Rattle.log_commits.specs.Behind.{HoldsCommits, IsSameOutside};
 ghost use Rattle.log_commits.specs.Selecting.{last_works};
-ghost use Rattle.log_commits.specs.Commit.{MayCommit, RefusesCommit, CommitLeaves, TellsTorn, committed_to, next_logged, commit_bytes, commit_works, works_with, records_in, tail_after};
+ghost use Rattle.log_commits.specs.Commit.{MayCommit, RefusesTailCommit, CommitLeaves, TellsTorn, committed_to, next_logged, commit_bytes, commit_works, works_with, records_in, tail_after};
 
 use crate::behind::select_other;
 use crate::fault::CommitFault;
@@ -112,7 +112,7 @@ impl LogTail {
     pub(crate) fn judge(&self, homes: &[u32], room: usize) -> Result<u32, CommitFault>
         ensures ok { IfOk result (λ blocks. (blocks ≡ log_descriptor_blocks (length homes.now))
             × MayCommit self.now homes.now room) }
-        ensures refused { IfErr result (RefusesCommit self.now homes.now room) }
+        ensures refused { IfErr result (RefusesTailCommit self.now homes.now room) }
         ensures early { IfErr result (λ fault. fault ≢ Device) }
     {
         if self.spent {
@@ -192,7 +192,7 @@ impl LogTail {
     ) -> Result<(), CommitFault>
         requires long { 4096 * self.old.log.blocks ≤ length (D.seen device.old) }
         ensures may { OnOk result (MayCommit self.old homes.now (length room.old)) }
-        ensures refused { IfErr result (RefusesCommit self.old homes.now (length room.old)) }
+        ensures refused { IfErr result (RefusesTailCommit self.old homes.now (length room.old)) }
         ensures unchanged { IfErr result (λ fault. fault ≢ Device
             → (self.new ≡ self.old) × (device.new ≡ device.old) × (room.new ≡ room.old)) }
         ensures value { OnOk result (self.new ≡ tail_after self.old homes.now) }

@@ -76,11 +76,11 @@ keeps_opened disk files before s is files_are =
       acknowledged = λ n there. absurd (omega (arith, there.1));
       has = has;
       current = subst (λ (n : LogFilesState _). HaveLogFiles files v (contents_put contents n.pager.staged) [])
-          (sym is.fresh) has;
+          (sym is.begins) has;
       lengths = lengths_start (lower v) (lowered v contents) s.lengths files whole has_lengths are said;
       named = named_start (lower v) (lowered v contents) s.lengths files whole has_lengths are said;
       fits = fits;
-      log = ap (λ (n : LogFilesState _). n.pager.store.tail.log) is.fresh;
+      log = ap (λ (n : LogFilesState _). n.pager.store.tail.log) is.begins;
       first = λ c may. ap (λ (l : List ℕ). block_at l 0) (opened.synced c may) ∙ opened.around.super_block
           ∙ is.opened.super_block.spelled;
     }

@@ -139,7 +139,7 @@ pub data HasGoneLog {D : Type 0} (disk : Ghosts D) (start : LogFilesState D)
 -- a volume was just opened: what `open` ensures
 pub record IsJustOpened {D : Type 0} (disk : Ghosts D) (before : D) (s : LogFilesState D) : Type 0 where
   pub opened : HasOpenedVolume disk before s.table s.lengths s.pager.store.tail.start s.pager.device
-  pub fresh : s
+  pub begins : s
       ≡ fresh_log_files s.table s.lengths s.most s.pager.store.tail.start s.pager.store.second s.pager.device
   pub over : IsPagerOver disk s.pager (block_at (disk.seen s.pager.device))
 

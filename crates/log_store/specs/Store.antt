@@ -11,7 +11,7 @@ use Rattle.log_codec.specs.declared.sealing.Sealing.TheVariants.{ByByte, ByDiges
 use Rattle.log_codec.specs.Log.{log_descriptor_blocks}
 use Rattle.log_codec.specs.Commit.{LogDescriptor}
 use Rattle.log_commits.specs.Tail.{TailValue}
-use Rattle.log_commits.specs.Commit.{RefusesCommit, commit_works, tail_after}
+use Rattle.log_commits.specs.Commit.{RefusesTailCommit, commit_works, tail_after}
 use Rattle.log_commits.specs.Homes.{IsLoggedHome}
 use Rattle.log_commits.specs.declared.behind.OldCommits.{OldCommits}
 use Rattle.log_commits.specs.Behind.{HoldsCommits, AreOldest, IsReadyToMove, StaysLast, MayMove, RefusesMove}
@@ -152,7 +152,7 @@ pub record HasNoted (old new : StoreValue) (homes : List ℕ) : Type 0 where
 
 -- why a commit isn't made: as the tail's; memory may be refused for any
 abbrev pub RefusesStoreCommit : StoreValue → List ℕ → ℕ → StoreFault → Type 0
-RefusesStoreCommit s homes room (Commit fault) = RefusesCommit s.tail homes room fault
+RefusesStoreCommit s homes room (Commit fault) = RefusesTailCommit s.tail homes room fault
 RefusesStoreCommit s homes room OutOfMemory = ⊤
 RefusesStoreCommit s homes room other = ⊥
 

@@ -8,7 +8,7 @@ ghost use Rattle.log_codec.specs.Chain.{IsLogHome, LogRecovers};
 ghost use Rattle.log_recovery.specs.Reading.{ReadsAlone};
 ghost use Rattle.log_commits.specs.Calls.{DidAll};
 ghost use Rattle.log_codec.specs.Commit.{LogDescriptor};
-ghost use Rattle.log_commits.specs.Commit.{CommitLeaves, MayCommit, RefusesCommit, TellsTorn, committed_to};
+ghost use Rattle.log_commits.specs.Commit.{CommitLeaves, MayCommit, RefusesTailCommit, TellsTorn, committed_to};
 ghost use Rattle.log_commits.specs.Commit.{next_logged, records_in, tail_after};
 ghost use Rattle.log_home.specs.Index.{find_in, recorded_or};
 ghost use Rattle.log_home.specs.Work.{next_copy, stepped};
@@ -90,7 +90,7 @@ fn make<D: Device>(
     requires long { 4096 * tail.old.log.blocks ≤ length (D.seen device.old) }
     requires of_log { IfSome select (IsOfLog tail.old) }
     ensures may { OnOk result (MayCommit tail.old homes.now (length room.old)) }
-    ensures refused { IfErr result (RefusesCommit tail.old homes.now (length room.old)) }
+    ensures refused { IfErr result (RefusesTailCommit tail.old homes.now (length room.old)) }
     ensures unchanged { IfErr result (λ fault. fault ≢ CommitFault.Device
         → (tail.new ≡ tail.old) × (device.new ≡ device.old)) }
     ensures value { OnOk result (tail.new ≡ tail_after (tail_by tail.old select) homes.now) }
