@@ -46,7 +46,10 @@
  *       memcpy(page, "hello", 5);
  *       if (famsync_core_write(core, 0, 0, page, 4096, &core.at) != FAMSYNC_CORE_OK)
  *           return 1;
- *       if (famsync_core_commit(core, &mark, &core.at) != FAMSYNC_CORE_OK)
+ *       int32_t code;
+ *       while ((code = famsync_core_commit(core, &mark, &wanted, &core.at)) == FAMSYNC_CORE_WANTED)
+ *           supply(&core, file, wanted);
+ *       if (code != FAMSYNC_CORE_OK)
  *           return 1;
  *       make_calls(&core, file);
  *       if (famsync_core_acknowledged(core, &core.at) != mark)
@@ -101,7 +104,7 @@ enum famsync_core_code {
     FAMSYNC_CORE_BROKEN = -29,  /* DEVICE was returned earlier: close the session, and open the volume again */
     FAMSYNC_CORE_EINVAL = -30,  /* the page begins past the file's end, or the length is more than the capacity */
     FAMSYNC_CORE_NOFILE = -34,  /* the volume has no such file */
-    FAMSYNC_CORE_BUSY = -35,    /* the session has made 2^32 - 1 commits */
+    FAMSYNC_CORE_BUSY = -35,    /* the session has made 2^32 - 1 commits, or a log's numbers are used up */
     FAMSYNC_CORE_OTHER = -38    /* any other refusal; these calls never return it */
 };
 
@@ -120,21 +123,22 @@ int32_t famsync_core_supply(famsync_core core, uint32_t block, const uint8_t *by
 /* Whether a block is known: 1 or 0. You may call it at any time. */
 int32_t famsync_core_is_known(famsync_core core, uint32_t block, uint8_t **at);
 
-/* Opens the volume. A commit has at most `pages` pages. If `pages` is 0, or more than the volume's journals allow, the
-   limit is what the journals allow. If a crash left a commit that isn't written home, opening records calls. OK,
-   WANTED, NOTAVOLUME, DAMAGED, NOMEMORY (close the handle, and begin again), ORDER.
+/* Opens the volume, of any layout. A commit has at most `pages` pages. If `pages` is 0, or more than the volume's
+   journals or log allow, the limit is what these allow. If a crash left a commit that isn't written home, opening
+   records calls. Opening a volume with a log always records calls. OK, WANTED, NOTAVOLUME, DAMAGED, NOMEMORY (close the
+   handle, and begin again), BUSY (a volume with a log: its epochs are used up), ORDER.
 
-   WANTED: a block is missing, nothing is open, and no call was recorded. Opening wants block 0, the gates, the lengths,
-   and the blocks of open journals, one after the other. */
+   WANTED: a block is missing, nothing is open, and no call was recorded. Opening wants blocks one after the other:
+   block 0, then the lengths, and the gates and open journals, or the start of the log and the commits behind it. */
 int32_t famsync_core_open(famsync_core core, uint32_t pages, uint32_t *wanted, uint8_t **at);
 
 /* The number of files of the volume, which are numbered from 0. The most pages of one commit. The number of blocks
-   before the first file. ORDER. */
+   before the first file: those of the journals, or of the log, are among them. ORDER. */
 int64_t famsync_core_files(famsync_core core, uint8_t **at);
 int64_t famsync_core_frames(famsync_core core, uint8_t **at);
 int64_t famsync_core_head(famsync_core core, uint8_t **at);
 
-/* Whether commits share their syncs, as in a volume of layout 4: 1 or 0. ORDER. */
+/* Whether commits share their syncs, as in a volume of layout 4 or with a log: 1 or 0. ORDER. */
 int32_t famsync_core_shares_syncs(famsync_core core, uint8_t **at);
 
 /* The length of a file in bytes, as it was last set, and the most pages that it can have. OK, ARGUMENT (no such file),
@@ -162,8 +166,13 @@ int32_t famsync_core_is_staged(famsync_core core, uint32_t file, uint64_t page, 
 
 /* Makes a commit of all waiting pages and lengths, and records the calls that its acknowledgement needs. If nothing
    waits, it records none. `*mark` is the commit's number, counted from 1 in each session. The commit is durable once
-   famsync_core_acknowledged returns this number. OK, BROKEN, DEVICE, BUSY, ORDER. */
-int32_t famsync_core_commit(famsync_core core, uint32_t *mark, uint8_t **at);
+   famsync_core_acknowledged returns this number. OK, WANTED, NOMEMORY (make the same call again), BROKEN, DEVICE, BUSY,
+   ORDER.
+
+   WANTED and NOMEMORY: only in a volume with a log. If the log has no room for the commit, the call first makes steps,
+   which write older commits home. A step or the commit may need a block that isn't known. The steps that were made
+   stay. Nothing is lost: the pages still wait for the commit. */
+int32_t famsync_core_commit(famsync_core core, uint32_t *mark, uint32_t *wanted, uint8_t **at);
 
 /* The number of the last durable commit; 0 if there is none. A commit is durable when the host has carried out all
    calls that waited when famsync_core_commit returned. Calls recorded later may still wait. If a second commit is made
@@ -171,11 +180,19 @@ int32_t famsync_core_commit(famsync_core core, uint32_t *mark, uint8_t **at);
 int64_t famsync_core_acknowledged(famsync_core core, uint8_t **at);
 
 /* Makes up to `most` further steps of earlier commits, which write their pages home, and records their calls. OK (steps
-   remain), NONE (no step remains), BROKEN, DEVICE, ORDER. */
-int32_t famsync_core_write_out(famsync_core core, uint32_t most, uint8_t **at);
+   remain), NONE (no step remains), WANTED, NOMEMORY (make the same call again), BROKEN, DEVICE, ORDER.
 
-/* The number of pages that commits still have to write home. ORDER. */
+   WANTED and NOMEMORY: only in a volume with a log, as in famsync_core_commit. The steps that were made stay. */
+int32_t famsync_core_write_out(famsync_core core, uint32_t most, uint32_t *wanted, uint8_t **at);
+
+/* The number of pages that commits still have to write home. In a volume with a log: the number of blocks of the log
+   that are in use, which is `*used` of famsync_core_log. ORDER. */
 int64_t famsync_core_unwritten(famsync_core core, uint8_t **at);
+
+/* Of a volume with a log: the number of blocks of its log, how many of them are in use, and the number of commits in
+   these. A block is in use until the start of the log moves past it. OK, NONE (a volume with journals; nothing is
+   changed), ORDER. */
+int32_t famsync_core_log(famsync_core core, uint64_t *blocks, uint64_t *used, uint64_t *commits, uint8_t **at);
 
 /* Sets the length of a file, up to its capacity. The length is durable with the next commit. The pages that the file
    grows by count as written, and so does its old last page. OK, WANTED (the last page isn't in memory: supply the
@@ -198,8 +215,8 @@ int32_t famsync_core_call(famsync_core core, uint32_t index, uint32_t *kind, uin
 int32_t famsync_core_carried_out(famsync_core core, uint32_t count, uint8_t **at);
 
 /* Forgets a block. The next read of it wants it again. A block isn't forgotten if a waiting call writes to it. Once the
-   volume is open, blocks before the files aren't forgotten either. OK, NONE (it isn't forgotten), ARGUMENT (no such
-   block). You may call it at any time. */
+   volume is open, blocks before the files aren't forgotten either, except those of a log. OK, NONE (it isn't
+   forgotten), ARGUMENT (no such block). You may call it at any time. */
 int32_t famsync_core_forget(famsync_core core, uint32_t block, uint8_t **at);
 
 /* Frees the session, and drops its waiting calls. You may call it at any time, but only once. */

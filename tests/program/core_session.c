@@ -301,7 +301,8 @@ static void store(uint64_t address, const char *text)
 static void commit(void)
 {
     uint32_t mark = 0;
-    int32_t code = famsync_core_commit(core, &mark, &core.at);
+    uint32_t wanted;
+    int32_t code = famsync_core_commit(core, &mark, &wanted, &core.at);
     bool early = famsync_core_waiting(core, &core.at) > 0 && famsync_core_acknowledged(core, &core.at) == mark;
     make_calls();
     if (code != FAMSYNC_CORE_OK)
@@ -356,7 +357,8 @@ static void write_out(const char *line)
     uint32_t most = 0;
     for (const char *at = line; (at = strstr(at, "\"flush\"")); at++)
         most++;
-    int32_t code = famsync_core_write_out(core, most, &core.at);
+    uint32_t wanted;
+    int32_t code = famsync_core_write_out(core, most, &wanted, &core.at);
     make_calls();
     bool written = code == FAMSYNC_CORE_OK || code == FAMSYNC_CORE_NONE;
     if (written)

@@ -16,7 +16,7 @@ use Rattle.embedded.specs.Embedded.{EmbeddedState, over_device, with_pager}
 use Rattle.embedded.specs.Reading.{ReportsWanted, pager_refusal}
 use Rattle.famsync_core.specs.Codes.{reading_code, wanted_block}
 use Rattle.famsync_core.specs.Held.{is_block}
-use Rattle.famsync_core.specs.Requests.{OnlyReads, ReadsPage, AnswersRead, SetsLength, AnswersLength}
+use Rattle.famsync_core.specs.Journals.{OnlyReads, ReadsPage, AnswersRead, SetsLength, AnswersLength}
 use Rattle.famsync_core.proofs.Cases.{on_true}
 
 -- the bytes that are answered are those that were read, or if none were, they stay

@@ -7,7 +7,7 @@ use Rattle.pager.specs.Calls.{RefusesPut, put_refusal, after_put}
 use Rattle.embedded.specs.Embedded.{EmbeddedState, with_pager}
 use Rattle.famsync_core.specs.Codes.{argument_code, outcome_code}
 use Rattle.famsync_core.specs.Held.{is_block}
-use Rattle.famsync_core.specs.Requests.{WritesPage, AnswersWrite}
+use Rattle.famsync_core.specs.Journals.{WritesPage, AnswersWrite}
 
 made : (e e' : EmbeddedState) (page : FilePage) (bytes : List ℕ) (outcome : Result (Unit {0}) Refusal)
     → OnOk outcome (put_refusal e.pager page ≡ None) → OnOk outcome (e' ≡ with_pager e (after_put e.pager page bytes))

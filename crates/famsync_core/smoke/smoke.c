@@ -1,6 +1,7 @@
 /*
- * The core over a volume in memory: pages are written and committed, and the bytes are found again, in the core and in
- * a session after it. With an argument it measures: `smoke PAGES` writes that many pages and commits them, twice.
+ * The core over a volume in memory, with a journal and then with a log: pages are written and committed, and the bytes
+ * are found again, in the core and in a session after it. With an argument it measures: `smoke PAGES` writes that many
+ * pages to the volume with a journal and commits them, twice.
  */
 #include "../famsync_core.h"
 
@@ -9,9 +10,11 @@
 #include <string.h>
 
 enum { PAGE = 4096, SLOTS = 300, PAGES = 1000, HOME = 1 + 2 + SLOTS, BLOCKS = HOME + PAGES };
+enum { RING = 64, LOG_PAGES = 100, LOG_HOME = 5 + RING, LOG_BLOCKS = LOG_HOME + LOG_PAGES };
 
-/* The volume, and how many calls were made on it. */
+/* The volume, its number of blocks, and how many calls were made on it. */
 static uint8_t volume[(size_t)BLOCKS * PAGE];
+static uint32_t blocks;
 static unsigned writes, syncs;
 
 #define HAVE(condition)                                                                                                \
@@ -54,6 +57,7 @@ static void put(size_t at, uint64_t number, unsigned bytes)
 static void format(void)
 {
     memset(volume, 0, sizeof volume);
+    blocks = BLOCKS;
     memcpy(volume, "FAMSYNC1", 8);
     put(8, 1, 4);
     put(12, SLOTS, 4);
@@ -64,10 +68,29 @@ static void format(void)
     put(76, PAGES, 4);
 }
 
+/* A volume of layout 5 with one file "a", of zeros, and an empty log. */
+static void format_log(void)
+{
+    memset(volume, 0, sizeof volume);
+    blocks = LOG_BLOCKS;
+    memcpy(volume, "FAMSYNC5", 8);
+    put(8, 1, 4);
+    put(12, RING, 4);
+    put(16, LOG_BLOCKS, 4);
+    put(20, 4, 4);
+    volume[32] = 'a';
+    put(64, (uint64_t)LOG_PAGES * PAGE, 8);
+    put(72, LOG_HOME - (RING + 1), 4);
+    put(76, LOG_PAGES, 4);
+    put((size_t)2 * PAGE, 1, 8);     /* the oldest commit will have number 1, */
+    put((size_t)2 * PAGE + 8, 1, 8); /* in epoch 1 */
+    put((size_t)(4 + RING) * PAGE, (uint64_t)LOG_PAGES * PAGE, 8);
+}
+
 /* What a host does with a block that is wanted. */
 static void supply(famsync_core *core, uint32_t block)
 {
-    HAVE(block < BLOCKS);
+    HAVE(block < blocks);
     HAVE(famsync_core_supply(*core, block, volume + (size_t)block * PAGE, PAGE, &core->at) == FAMSYNC_CORE_OK);
     HAVE(famsync_core_is_known(*core, block, &core->at) == 1);
 }
@@ -99,24 +122,52 @@ static void drain(famsync_core *core)
     HAVE(famsync_core_waiting(*core, &core->at) == 0);
 }
 
+/* Opens a session, and returns the answer. */
+static int32_t answer_of_open(famsync_core *core)
+{
+    uint32_t wanted = 0;
+    int32_t code;
+    HAVE(famsync_core_begin(blocks, &core->at) == FAMSYNC_CORE_OK);
+    HAVE(famsync_core_head(*core, &core->at) == FAMSYNC_CORE_ORDER);
+    HAVE(famsync_core_files(*core, &core->at) == FAMSYNC_CORE_ORDER);
+    while ((code = famsync_core_open(*core, 0, &wanted, &core->at)) == FAMSYNC_CORE_WANTED) {
+        HAVE(famsync_core_waiting(*core, &core->at) == 0);
+        supply(core, wanted);
+    }
+    return code;
+}
+
 static famsync_core begin(void)
 {
     famsync_core core = {0};
     uint32_t wanted = 0;
-    int32_t code;
-    HAVE(famsync_core_begin(BLOCKS, &core.at) == FAMSYNC_CORE_OK);
-    HAVE(famsync_core_head(core, &core.at) == FAMSYNC_CORE_ORDER);
-    HAVE(famsync_core_files(core, &core.at) == FAMSYNC_CORE_ORDER);
-    while ((code = famsync_core_open(core, 0, &wanted, &core.at)) == FAMSYNC_CORE_WANTED) {
-        HAVE(famsync_core_waiting(core, &core.at) == 0);
-        supply(&core, wanted);
-    }
-    HAVE(code == FAMSYNC_CORE_OK);
+    HAVE(answer_of_open(&core) == FAMSYNC_CORE_OK);
     HAVE(famsync_core_open(core, 0, &wanted, &core.at) == FAMSYNC_CORE_ORDER);
-    HAVE(famsync_core_head(core, &core.at) == HOME);
-    HAVE(famsync_core_shares_syncs(core, &core.at) == 0);
+    HAVE(famsync_core_head(core, &core.at) == (blocks == LOG_BLOCKS ? LOG_HOME : HOME));
+    HAVE(famsync_core_shares_syncs(core, &core.at) == (blocks == LOG_BLOCKS ? 1 : 0));
     drain(&core);
     return core;
+}
+
+static void refuses(int32_t code)
+{
+    famsync_core core = {0};
+    HAVE(answer_of_open(&core) == code && famsync_core_waiting(core, &core.at) == 0);
+    HAVE(famsync_core_is_known(core, 0, &core.at) == 1);
+    famsync_core_close(core);
+}
+
+static void refuses_what_is_no_volume(void)
+{
+    format();
+    volume[7] = '7';
+    refuses(FAMSYNC_CORE_NOTAVOLUME);
+    format();
+    put(8, 0, 4); /* no file */
+    refuses(FAMSYNC_CORE_DAMAGED);
+    format_log();
+    put(12, 3, 4); /* a log of 3 blocks */
+    refuses(FAMSYNC_CORE_DAMAGED);
 }
 
 static void write_page(famsync_core *core, uint64_t page, const uint8_t *bytes)
@@ -134,11 +185,30 @@ static void read_page(famsync_core *core, uint64_t page, uint8_t *bytes)
     HAVE(code == FAMSYNC_CORE_OK);
 }
 
-static uint32_t commit(famsync_core *core)
+/* Only a volume with a log wants blocks for this. */
+static uint32_t commit(famsync_core *core, unsigned *supplied)
 {
-    uint32_t mark = 0;
-    HAVE(famsync_core_commit(*core, &mark, &core->at) == FAMSYNC_CORE_OK);
+    uint32_t mark = 0, wanted = 0;
+    int32_t code;
+    while ((code = famsync_core_commit(*core, &mark, &wanted, &core->at)) == FAMSYNC_CORE_WANTED) {
+        supply(core, wanted);
+        (*supplied)++;
+    }
+    HAVE(code == FAMSYNC_CORE_OK);
     return mark;
+}
+
+static void write_home(famsync_core *core)
+{
+    uint32_t wanted = 0;
+    int32_t code;
+    while ((code = famsync_core_write_out(*core, 100, &wanted, &core->at)) != FAMSYNC_CORE_NONE) {
+        HAVE(code == FAMSYNC_CORE_OK || code == FAMSYNC_CORE_WANTED);
+        if (code == FAMSYNC_CORE_WANTED)
+            supply(core, wanted);
+        drain(core);
+    }
+    drain(core);
 }
 
 static void refuses_what_is_not_there(famsync_core *core)
@@ -175,7 +245,9 @@ static void finds_what_was_committed(void)
         write_page(&core, i, bytes[i]);
     }
     HAVE(famsync_core_staged(core, &core.at) == 3 && famsync_core_acknowledged(core, &core.at) == 0);
-    uint32_t mark = commit(&core);
+    unsigned supplied = 0;
+    uint32_t mark = commit(&core, &supplied);
+    HAVE(supplied == 0);
     HAVE(famsync_core_waiting(core, &core.at) > 0 && famsync_core_acknowledged(core, &core.at) == 0);
     HAVE(famsync_core_staged(core, &core.at) == 0 && famsync_core_unwritten(core, &core.at) == 3);
     drain(&core);
@@ -189,8 +261,10 @@ static void finds_what_was_committed(void)
         read_page(&core, i, found);
         HAVE(memcmp(found, i < 3 ? bytes[i] : zeros, PAGE) == 0);
     }
-    while (famsync_core_write_out(core, 100, &core.at) == FAMSYNC_CORE_OK)
-        drain(&core);
+    write_home(&core);
+    uint64_t ring = 1, used = 2, commits = 3;
+    HAVE(famsync_core_log(core, &ring, &used, &commits, &core.at) == FAMSYNC_CORE_NONE);
+    HAVE(ring == 1 && used == 2 && commits == 3);
     famsync_core_close(core);
 }
 
@@ -202,9 +276,10 @@ static void acknowledges_before_later_calls(void)
     format();
     core = begin();
     write_page(&core, 0, bytes);
-    uint32_t mark = commit(&core);
+    unsigned supplied = 0;
+    uint32_t mark = commit(&core, &supplied), wanted = 0;
     int64_t needed = famsync_core_waiting(core, &core.at);
-    HAVE(famsync_core_write_out(core, 100, &core.at) == FAMSYNC_CORE_NONE);
+    HAVE(famsync_core_write_out(core, 100, &wanted, &core.at) == FAMSYNC_CORE_NONE);
     HAVE(needed > 0 && famsync_core_waiting(core, &core.at) > needed);
     for (int64_t made = 0; made < needed; made++) {
         HAVE(famsync_core_acknowledged(core, &core.at) == 0);
@@ -216,9 +291,75 @@ static void acknowledges_before_later_calls(void)
     famsync_core_close(core);
 }
 
+static void have_log(famsync_core *core, uint64_t in_use, uint64_t in_log)
+{
+    uint64_t ring = 0, used = 0, commits = 0;
+    HAVE(famsync_core_log(*core, &ring, &used, &commits, &core->at) == FAMSYNC_CORE_OK);
+    HAVE(ring == RING && used == in_use && commits == in_log);
+    HAVE(famsync_core_unwritten(*core, &core->at) == (int64_t)in_use);
+}
+
+/* Commits that each take 21 blocks of a log of 64: a fourth one has room only after steps. The host keeps no block of
+   the log, so both want some. */
+static void fills_a_log(famsync_core *core)
+{
+    static uint8_t bytes[PAGE];
+    unsigned supplied = 0;
+    for (uint32_t i = 0; i < 4; i++) {
+        have_log(core, 21 * i, i);
+        for (uint32_t page = 0; page < 20; page++) {
+            memset(bytes, (int)(i + 1), sizeof bytes);
+            write_page(core, page + i, bytes);
+        }
+        for (uint32_t block = 4; block < 4 + RING; block++)
+            famsync_core_forget(*core, block, &core->at);
+        uint32_t mark = commit(core, &supplied);
+        HAVE(famsync_core_acknowledged(*core, &core->at) == mark - 1);
+        drain(core);
+        HAVE(famsync_core_acknowledged(*core, &core->at) == mark && mark == i + 1);
+    }
+    HAVE(supplied > 0);
+}
+
+static void finds_what_a_log_has(void)
+{
+    static uint8_t found[PAGE];
+    uint64_t length = 0, pages = 0;
+    uint32_t wanted = 0;
+    unsigned supplied = 0;
+    famsync_core core;
+    format_log();
+    core = begin();
+    HAVE(famsync_core_frames(core, &core.at) == RING - 3);
+    fills_a_log(&core);
+    HAVE(famsync_core_set_length(core, 0, PAGE + 1, &wanted, &core.at) == FAMSYNC_CORE_OK);
+    HAVE(famsync_core_staged(core, &core.at) == 0);
+    commit(&core, &supplied);
+    drain(&core);
+    famsync_core_close(core);
+
+    core = begin();
+    have_log(&core, 0, 0);
+    HAVE(famsync_core_file(core, 0, &length, &pages, &core.at) == FAMSYNC_CORE_OK);
+    HAVE(length == PAGE + 1 && pages == LOG_PAGES);
+    read_page(&core, 0, found);
+    HAVE(found[0] == 1 && found[PAGE - 1] == 1);
+    read_page(&core, 1, found);
+    HAVE(found[0] == 2 && found[1] == 0);
+    write_page(&core, 0, found);
+    commit(&core, &supplied);
+    drain(&core);
+    have_log(&core, 2, 1);
+    write_home(&core);
+    have_log(&core, 0, 0);
+    HAVE(volume[(size_t)LOG_HOME * PAGE] == 2);
+    famsync_core_close(core);
+}
+
 static void measure(uint32_t count)
 {
     static uint8_t page[PAGE];
+    unsigned supplied = 0;
     famsync_core core;
     format();
     core = begin();
@@ -226,11 +367,9 @@ static void measure(uint32_t count)
         memset(page, (int)round + 1, sizeof page);
         for (uint32_t i = 0; i < count; i++)
             write_page(&core, i, page);
-        commit(&core);
+        commit(&core, &supplied);
         drain(&core);
-        while (famsync_core_write_out(core, 1000, &core.at) == FAMSYNC_CORE_OK)
-            drain(&core);
-        drain(&core);
+        write_home(&core);
     }
     famsync_core_close(core);
 }
@@ -240,8 +379,10 @@ int main(int count, char **argument)
     if (count > 1) {
         measure((uint32_t)strtoul(argument[1], NULL, 10));
     } else {
+        refuses_what_is_no_volume();
         finds_what_was_committed();
         acknowledges_before_later_calls();
+        finds_what_a_log_has();
     }
     printf("%u writes, %u syncs\n", writes, syncs);
     return 0;

@@ -5,33 +5,71 @@ use Rattle.std.specs.Option.{option_map, option_map_or, option_or, option_and_th
 use Rattle.page_entry.specs.declared.numbers.FilePage.{FilePage}
 use Rattle.device.specs.Memory.{DiskChange}
 use Rattle.deferred_disk.specs.Deferred.{Deferred, after_forget, waits_behind, with_waiting}
-use Rattle.embedded.specs.Embedded.{EmbeddedState, over_device, with_pager, with_call_made}
+use Rattle.volume_codec.specs.Super.{SuperValue}
+use Rattle.log_volume.specs.Super.{table_of}
+use Rattle.log_files.specs.State.{on_device}
+use Rattle.embedded.specs.Embedded.{over_device, with_pager, with_call_made}
 use Rattle.embedded.specs.Supplying.{is_of_disk, is_free, may_forget, with_supplied}
+use Rattle.embedded_log.specs.State.{with_files, with_log_call_made}
+use Rattle.embedded_log.specs.Supplying.{may_forget_log}
+use Rattle.famsync_core.specs.declared.volume.OpenVolume.{OpenVolume}
+use Rattle.famsync_core.specs.declared.volume.OpenVolume.TheVariants.{Journals, Log}
 
--- The disk of a volume that isn't open yet, or an open volume.
+-- The disk of a volume that isn't open yet, or an open volume, of either kind.
 pub record HeldVolume : Type 0 where
   pub disk : Option Deferred
-  pub volume : Option EmbeddedState
+  pub volume : Option OpenVolume
 
 -- before the opening, and after it
 abbrev pub unopened : Deferred → HeldVolume
 unopened disk = record { disk = Some disk; volume = None }
 
-abbrev pub holding : EmbeddedState → HeldVolume
+abbrev pub holding : OpenVolume → HeldVolume
 holding volume = record { disk = None; volume = Some volume }
+
+-- ---- an open volume
+
+-- its table of files, and their lengths
+abbrev pub table_in : OpenVolume → SuperValue
+table_in (Journals e) = e.pager.table
+table_in (Log e) = table_of e.files.table
+
+abbrev pub file_lengths : OpenVolume → List ℕ
+file_lengths (Journals e) = e.pager.lengths
+file_lengths (Log e) = e.files.lengths
+
+-- its disk, and the same volume over another disk
+abbrev pub disk_of : OpenVolume → Deferred
+disk_of (Journals e) = e.pager.device
+disk_of (Log e) = e.files.pager.device
+
+abbrev pub over_disk : OpenVolume → Deferred → OpenVolume
+over_disk (Journals e) disk = Journals (with_pager e (over_device e.pager disk))
+over_disk (Log e) disk = Log (with_files e (on_device e.files disk))
+
+-- whether the host needn't keep a block
+abbrev pub may_lose : OpenVolume → ℕ → Bool
+may_lose (Journals e) block = may_forget e.pager block
+may_lose (Log e) block = may_forget_log e.files block
+
+-- the disk without its oldest waiting call, which the host has made; and the volume then
+abbrev pub without_oldest : Deferred → Deferred
+without_oldest disk = with_waiting disk (disk.waiting - 1)
+
+abbrev pub without_oldest_call : OpenVolume → OpenVolume
+without_oldest_call (Journals e) = Journals (with_call_made e (without_oldest e.pager.device))
+without_oldest_call (Log e) = Log (with_log_call_made e (without_oldest e.files.pager.device))
+
+-- ---- either
 
 -- the open volume's disk, or that of one that isn't open
 abbrev pub disk_in : HeldVolume → Option Deferred
-disk_in held = option_or (option_map (λ e. e.pager.device) held.volume) held.disk
-
--- an open volume over another disk
-abbrev pub over_disk : EmbeddedState → Deferred → EmbeddedState
-over_disk volume disk = with_pager volume (over_device volume.pager disk)
+disk_in held = option_or (option_map (λ v. disk_of v) held.volume) held.disk
 
 -- the same after a change of the disk: of the open volume's, or if none is open, of that of one that isn't open yet
 abbrev pub on_disk : (Deferred → Deferred) → HeldVolume → HeldVolume
 on_disk change held = option_map_or
-    (λ e. record held { volume = Some (over_disk e (change e.pager.device)) }) held.volume
+    (λ v. record held { volume = Some (over_disk v (change (disk_of v))) }) held.volume
     (record held { disk = option_map change held.disk })
 
 -- with this block, as the host has read it; without a block
@@ -43,7 +81,7 @@ after_forgotten block held = on_disk (λ disk. after_forget disk block) held
 
 -- whether the host needn't keep a block
 abbrev pub needs_no : HeldVolume → ℕ → Bool
-needs_no held block = option_map_or (λ e. may_forget e.pager block) held.volume
+needs_no held block = option_map_or (λ v. may_lose v block) held.volume
     (option_map_or (λ disk. is_free disk block) held.disk false)
 
 -- how many calls wait, and the one that waits behind so many others
@@ -54,12 +92,9 @@ abbrev pub waits_in : ℕ → HeldVolume → Option DiskChange
 waits_in others held = option_and_then (λ disk. waits_behind others disk) (disk_in held)
 
 -- the host has made the oldest call that waited
-abbrev pub without_oldest : Deferred → Deferred
-without_oldest disk = with_waiting disk (disk.waiting - 1)
-
 abbrev pub after_call_made : HeldVolume → HeldVolume
 after_call_made held = option_map_or
-    (λ e. record held { volume = Some (with_call_made e (without_oldest e.pager.device)) }) held.volume
+    (λ v. record held { volume = Some (without_oldest_call v) }) held.volume
     (record held { disk = option_map without_oldest held.disk })
 
 -- this many, one after the other

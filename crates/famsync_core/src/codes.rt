@@ -1,7 +1,8 @@
 // The codes that the calls answer, as famsync_core.h has them.
 ghost use Rattle.std.specs.Prelude.{◌≡◌};
-ghost use Rattle.famsync_core.specs.Codes.{refusal_code, outcome_code};
+ghost use Rattle.famsync_core.specs.Codes.{refusal_code, outcome_code, reading_code, unread_block, unread_code, wanted_block};
 
+use embedded::Unread;
 use page_entry::Refusal;
 
 pub(crate) const OK: i32 = 0;
@@ -57,5 +58,30 @@ pub(crate) fn code_of_outcome(outcome: &Result<(), Refusal>) -> i32
     match outcome {
         Ok(()) => OK,
         Err(refusal) => code_of_refusal(refusal),
+    }
+}
+
+// Why a request wasn't carried out, and the block that is wanted for it.
+pub(crate) fn code_of_unread(why: &Unread, wanted: &mut u32) -> i32
+    ensures code { result ≡ unread_code why.now }
+    ensures wanted { wanted.new ≡ unread_block why.now wanted.old }
+{
+    match why {
+        Unread::Wanted(block) => {
+            *wanted = *block;
+            WANTED
+        }
+        Unread::Refused(refusal) => code_of_refusal(refusal),
+    }
+}
+
+// What a reading came to, and the block that is wanted for it.
+pub(crate) fn code_of_reading(outcome: &Result<(), Unread>, wanted: &mut u32) -> i32
+    ensures code { result ≡ reading_code outcome.now }
+    ensures wanted { wanted.new ≡ wanted_block outcome.now wanted.old }
+{
+    match outcome {
+        Ok(()) => OK,
+        Err(why) => code_of_unread(why, wanted),
     }
 }

@@ -169,9 +169,14 @@ pub extern "C" fn famsync_core_is_staged(
 }
 
 #[unsafe(no_mangle)]
-pub extern "C" fn famsync_core_commit(handle: Handle, mark: &mut u32, at: &mut *mut u8) -> i32 {
+pub extern "C" fn famsync_core_commit(
+    handle: Handle,
+    mark: &mut u32,
+    wanted: &mut u32,
+    at: &mut *mut u8,
+) -> i32 {
     let mut state = handle.into_box();
-    let answer = state.commit(mark);
+    let answer = state.commit(mark, wanted);
     *at = Box::into_raw(state) as *mut u8;
     answer
 }
@@ -185,9 +190,14 @@ pub extern "C" fn famsync_core_acknowledged(handle: Handle, at: &mut *mut u8) ->
 }
 
 #[unsafe(no_mangle)]
-pub extern "C" fn famsync_core_write_out(handle: Handle, most: u32, at: &mut *mut u8) -> i32 {
+pub extern "C" fn famsync_core_write_out(
+    handle: Handle,
+    most: u32,
+    wanted: &mut u32,
+    at: &mut *mut u8,
+) -> i32 {
     let mut state = handle.into_box();
-    let answer = state.write_out(most);
+    let answer = state.write_out(most, wanted);
     *at = Box::into_raw(state) as *mut u8;
     answer
 }
@@ -196,6 +206,20 @@ pub extern "C" fn famsync_core_write_out(handle: Handle, most: u32, at: &mut *mu
 pub extern "C" fn famsync_core_unwritten(handle: Handle, at: &mut *mut u8) -> i64 {
     let state = handle.into_box();
     let answer = state.unwritten();
+    *at = Box::into_raw(state) as *mut u8;
+    answer
+}
+
+#[unsafe(no_mangle)]
+pub extern "C" fn famsync_core_log(
+    handle: Handle,
+    blocks: &mut u64,
+    used: &mut u64,
+    commits: &mut u64,
+    at: &mut *mut u8,
+) -> i32 {
+    let state = handle.into_box();
+    let answer = state.log(blocks, used, commits);
     *at = Box::into_raw(state) as *mut u8;
     answer
 }

@@ -46,7 +46,7 @@ impl State {
         ensures { result ≡ has_block self.now block }
     {
         match (&self.volume, &self.disk) {
-            (Some(volume), _) => is_of_disk(volume.pager().device(), block),
+            (Some(volume), _) => is_of_disk(volume.disk(), block),
             (None, Some(disk)) => is_of_disk(disk, block),
             (None, None) => false,
         }
@@ -57,7 +57,7 @@ impl State {
         ensures { result ≡ knows self.now block }
     {
         match (&self.volume, &self.disk) {
-            (Some(volume), _) => volume.is_known(block),
+            (Some(volume), _) => volume.disk().is_known(block),
             (None, Some(disk)) => disk.is_known(block),
             (None, None) => false,
         }
@@ -89,7 +89,7 @@ impl State {
         ensures { result ≡ waiting_in self.now }
     {
         match (&self.volume, &self.disk) {
-            (Some(volume), _) => volume.waiting(),
+            (Some(volume), _) => volume.disk().waiting(),
             (None, Some(disk)) => disk.waiting(),
             (None, None) => 0,
         }
@@ -100,7 +100,7 @@ impl State {
         ensures { option_map change_lent result ≡ waits_in others self.now }
     {
         match (&self.volume, &self.disk) {
-            (Some(volume), _) => volume.call(others),
+            (Some(volume), _) => volume.disk().call(others),
             (None, Some(disk)) => disk.call(others),
             (None, None) => None,
         }

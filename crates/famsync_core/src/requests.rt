@@ -1,16 +1,20 @@
 // What is asked of an open volume, and how one is opened.
-ghost use Rattle.std.specs.Prelude.{◌≡◌, ℕ, ◌-◌, ◌^◌, min, is_some, IfSome, IfNone, Some, None};
+ghost use Rattle.std.specs.Prelude.{◌≡◌, ◌↔◌, ℕ, ◌-◌, ◌^◌, min, is_some, IfSome, IfNone, IsTrue, Some, None};
 ghost use Rattle.std.specs.Option.{option_map};
+ghost use Rattle.page_entry.specs.declared.refusal.Refusal.TheVariants.{NotAVolume};
 ghost use Rattle.deferred_disk.specs.Deferred.{carried_moment};
-ghost use Rattle.famsync_core.specs.Codes.{order_code, outcome_code, reading_code, unread_block, unread_code, wanted_block};
-ghost use Rattle.famsync_core.specs.Held.{page_numbered};
-ghost use Rattle.famsync_core.specs.Requests.{AnswersOpen, AnswersRead, AnswersWrite, AnswersLength, AnswersCommit, AnswersSteps, most_pages};
+ghost use Rattle.embedded.specs.declared.reading.Unread.TheVariants.{Refused};
+ghost use Rattle.famsync_core.specs.Codes.{order_code};
+ghost use Rattle.famsync_core.specs.Held.{disk_of, page_numbered};
+ghost use Rattle.famsync_core.specs.Opening.{AnswersOpen, OpensLog, TellsRefused, most_pages};
+ghost use Rattle.famsync_core.specs.Requests.{IsRead, IsWritten, IsLengthSet, IsCommitted, IsWrittenOut};
 
-use crate::codes::{ARGUMENT, NONE, OK, ORDER, WANTED, code_of_outcome, code_of_refusal};
+use crate::codes::{OK, ORDER, code_of_unread};
 use crate::state::State;
+use crate::volume::OpenVolume;
 use deferred_disk::DeferredDisk;
-use embedded::{Embedded, Unread};
-use page_entry::{FileNumber, FilePage, Refusal};
+use embedded::Unread;
+use page_entry::{FilePage, Refusal};
 use std::alloc::Global;
 
 // The page of a file with these numbers. One that is too large for its type is the largest, which no volume has.
@@ -23,74 +27,18 @@ pub(crate) fn page_numbered(file: u32, page: u64) -> FilePage
     }
 }
 
-// Why a request wasn't carried out, and the block that is wanted for it.
-fn code_of_unread(why: &Unread, wanted: &mut u32) -> i32
-    ensures code { result ≡ unread_code why.now }
-    ensures wanted { wanted.new ≡ unread_block why.now wanted.old }
-{
-    match why {
-        Unread::Wanted(block) => {
-            *wanted = *block;
-            WANTED
-        }
-        Unread::Refused(refusal) => code_of_refusal(refusal),
-    }
-}
-
-// What a reading came to, and the block that is wanted for it.
-fn code_of_reading(outcome: &Result<(), Unread>, wanted: &mut u32) -> i32
-    ensures code { result ≡ reading_code outcome.now }
-    ensures wanted { wanted.new ≡ wanted_block outcome.now wanted.old }
-{
-    match outcome {
-        Ok(()) => OK,
-        Err(why) => code_of_unread(why, wanted),
-    }
-}
-
-// The most pages of a commit, where 0 stands for as many as its journals take.
+// The most pages of a commit, where 0 stands for as many as its journals or its log take.
 fn most_pages(pages: u32) -> u32
     ensures { result ≡ most_pages pages }
 {
     if pages == 0 { u32::MAX } else { pages }
 }
 
-// Reads a page, if there is room for as many bytes as a page has.
-fn read_page(volume: &mut Embedded<Global>, page: FilePage, to: &mut [u8], wanted: &mut u32) -> i32
-    ensures { AnswersRead volume.old page to.old to.new result wanted.old wanted.new volume.new }
+// Whether a disk has no volume with journals.
+fn is_not_a_volume(why: &Unread) -> bool
+    ensures { IsTrue result ↔ (why.now ≡ Refused NotAVolume) }
 {
-    if to.len() != 4096 {
-        return ARGUMENT;
-    }
-    let mut buffer = [0; 4096];
-    let outcome = volume.read(page, &mut buffer);
-    if outcome.is_ok() {
-        to.copy_from_slice(&buffer);
-    }
-    code_of_reading(&outcome, wanted)
-}
-
-// Sets the length of a file.
-fn change_length(
-    volume: &mut Embedded<Global>,
-    file: FileNumber,
-    length: u64,
-    wanted: &mut u32,
-) -> i32
-    ensures { AnswersLength volume.old file length result wanted.old wanted.new volume.new }
-{
-    let outcome = volume.set_length(file, length);
-    code_of_reading(&outcome, wanted)
-}
-
-// Writes a page of these bytes, if there are as many as a page has.
-fn write_page(volume: &mut Embedded<Global>, page: FilePage, bytes: &[u8]) -> i32
-    ensures { AnswersWrite volume.old page bytes.now result volume.new }
-{
-    match bytes.as_array() {
-        Some(block) => code_of_outcome(&volume.put(page, block)),
-        None => ARGUMENT,
-    }
+    matches!(why, Unread::Refused(Refusal::NotAVolume))
 }
 
 impl State {
@@ -120,14 +68,44 @@ impl State {
     {
         match embedded::open(alloc, disk, most) {
             Ok(volume) => {
-                self.volume = Some(volume);
+                self.volume = Some(OpenVolume::Journals(volume));
                 OK
             }
             Err((why, disk)) => {
-                self.disk = Some(disk);
-                code_of_unread(&why, wanted)
+                if is_not_a_volume(&why) {
+                    return self.open_log(alloc, disk, most, wanted);
+                }
+                self.keep(disk, &why, wanted)
             }
         }
+    }
+
+    // Opens the volume with a log of a disk, or keeps the disk.
+    fn open_log(
+        &mut self,
+        alloc: Global,
+        disk: DeferredDisk<Global>,
+        most: u32,
+        wanted: &mut u32,
+    ) -> i32
+        requires { self.old.disk ≡ None }
+        ensures { OpensLog self.old disk most result wanted.old wanted.new self.new }
+    {
+        match embedded_log::open(alloc, disk, most) {
+            Ok(volume) => {
+                self.volume = Some(OpenVolume::Log(volume));
+                OK
+            }
+            Err((why, disk)) => self.keep(disk, &why, wanted),
+        }
+    }
+
+    // Keeps a disk that wasn't opened.
+    fn keep(&mut self, disk: DeferredDisk<Global>, why: &Unread, wanted: &mut u32) -> i32
+        ensures { TellsRefused self.old why.now disk result wanted.old wanted.new self.new }
+    {
+        self.disk = Some(disk);
+        code_of_unread(why, wanted)
     }
 
     /// Reads a page of a file.
@@ -136,13 +114,13 @@ impl State {
             ((result ≡ order_code) × (to.new ≡ to.old) × (wanted.new ≡ wanted.old) × (self.new ≡ self.old)) }
         ensures open { is_some self.new.volume ≡ is_some self.old.volume }
         ensures disk { self.new.disk ≡ self.old.disk }
-        ensures answers { IfSome self.old.volume (λ e. IfSome self.new.volume
-            (AnswersRead e (page_numbered file page) to.old to.new result wanted.old wanted.new)) }
+        ensures answers { IfSome self.old.volume (λ v. IfSome self.new.volume
+            (IsRead v (page_numbered file page) to.old to.new result wanted.old wanted.new)) }
     {
         let Some(volume) = &mut self.volume else {
             return ORDER;
         };
-        read_page(volume, page_numbered(file, page), to, wanted)
+        volume.read(page_numbered(file, page), to, wanted)
     }
 
     /// Writes a page of a file.
@@ -150,55 +128,48 @@ impl State {
         ensures order { IfNone self.old.volume ((result ≡ order_code) × (self.new ≡ self.old)) }
         ensures open { is_some self.new.volume ≡ is_some self.old.volume }
         ensures disk { self.new.disk ≡ self.old.disk }
-        ensures answers { IfSome self.old.volume (λ e. IfSome self.new.volume
-            (AnswersWrite e (page_numbered file page) bytes.now result)) }
+        ensures answers { IfSome self.old.volume (λ v. IfSome self.new.volume
+            (IsWritten v (page_numbered file page) bytes.now result)) }
     {
         let Some(volume) = &mut self.volume else {
             return ORDER;
         };
-        write_page(volume, page_numbered(file, page), bytes)
+        volume.write(page_numbered(file, page), bytes)
     }
 
-    /// Makes a commit, up to its acknowledgement by the pager.
-    pub(crate) fn commit(&mut self, mark: &mut u32) -> i32
+    /// Makes a commit. In a volume with a log it may want a block: the steps that were made stay.
+    pub(crate) fn commit(&mut self, mark: &mut u32, wanted: &mut u32) -> i32
+        ensures order { IfNone self.old.volume ((result ≡ order_code) × (mark.new ≡ mark.old)
+            × (wanted.new ≡ wanted.old) × (self.new ≡ self.old)) }
+        ensures open { is_some self.new.volume ≡ is_some self.old.volume }
+        ensures disk { self.new.disk ≡ self.old.disk }
+        ensures answers { IfSome self.old.volume (λ v. IfSome self.new.volume
+            (IsCommitted v result mark.old mark.new wanted.old wanted.new)) }
+        ensures carried { option_map (λ v. carried_moment (disk_of v)) self.new.volume
+            ≡ option_map (λ v. carried_moment (disk_of v)) self.old.volume }
+    {
+        let Some(volume) = &mut self.volume else {
+            return ORDER;
+        };
+        volume.commit(mark, wanted)
+    }
+
+    /// Makes further steps of the commits that were made. In a volume with a log it may want a block: the steps that
+    /// were made stay.
+    pub(crate) fn write_out(&mut self, most: u32, wanted: &mut u32) -> i32
         ensures order { IfNone self.old.volume
-            ((result ≡ order_code) × (mark.new ≡ mark.old) × (self.new ≡ self.old)) }
+            ((result ≡ order_code) × (wanted.new ≡ wanted.old) × (self.new ≡ self.old)) }
         ensures open { is_some self.new.volume ≡ is_some self.old.volume }
         ensures disk { self.new.disk ≡ self.old.disk }
-        ensures answers { IfSome self.old.volume (λ e. IfSome self.new.volume
-            (AnswersCommit e result mark.old mark.new)) }
-        ensures carried { option_map (λ e. carried_moment e.pager.device) self.new.volume
-            ≡ option_map (λ e. carried_moment e.pager.device) self.old.volume }
+        ensures answers { IfSome self.old.volume (λ v. IfSome self.new.volume
+            (IsWrittenOut most v result wanted.old wanted.new)) }
+        ensures carried { option_map (λ v. carried_moment (disk_of v)) self.new.volume
+            ≡ option_map (λ v. carried_moment (disk_of v)) self.old.volume }
     {
         let Some(volume) = &mut self.volume else {
             return ORDER;
         };
-        match volume.commit() {
-            Ok(number) => {
-                *mark = number;
-                OK
-            }
-            Err(refusal) => code_of_refusal(&refusal),
-        }
-    }
-
-    /// Makes further steps of the commits that were made.
-    pub(crate) fn write_out(&mut self, most: u32) -> i32
-        ensures order { IfNone self.old.volume ((result ≡ order_code) × (self.new ≡ self.old)) }
-        ensures open { is_some self.new.volume ≡ is_some self.old.volume }
-        ensures disk { self.new.disk ≡ self.old.disk }
-        ensures answers { IfSome self.old.volume (λ e. IfSome self.new.volume (AnswersSteps most e result)) }
-        ensures carried { option_map (λ e. carried_moment e.pager.device) self.new.volume
-            ≡ option_map (λ e. carried_moment e.pager.device) self.old.volume }
-    {
-        let Some(volume) = &mut self.volume else {
-            return ORDER;
-        };
-        match volume.write_out(most) {
-            Ok(true) => OK,
-            Ok(false) => NONE,
-            Err(refusal) => code_of_refusal(&refusal),
-        }
+        volume.write_out(most, wanted)
     }
 
     /// Sets the length of a file.
@@ -207,12 +178,12 @@ impl State {
             ((result ≡ order_code) × (wanted.new ≡ wanted.old) × (self.new ≡ self.old)) }
         ensures open { is_some self.new.volume ≡ is_some self.old.volume }
         ensures disk { self.new.disk ≡ self.old.disk }
-        ensures answers { IfSome self.old.volume (λ e. IfSome self.new.volume
-            (AnswersLength e (min file (2 ^ 16 - 1)) length result wanted.old wanted.new)) }
+        ensures answers { IfSome self.old.volume (λ v. IfSome self.new.volume
+            (IsLengthSet v (min file (2 ^ 16 - 1)) length result wanted.old wanted.new)) }
     {
         let Some(volume) = &mut self.volume else {
             return ORDER;
         };
-        change_length(volume, file.min(0xFFFF) as u16, length, wanted)
+        volume.set_length(file.min(0xFFFF) as u16, length, wanted)
     }
 }

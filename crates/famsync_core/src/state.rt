@@ -3,8 +3,8 @@ ghost use Rattle.std.specs.Prelude.{◌≡◌, ℕ, ◌*◌, List, length};
 ghost use Rattle.deferred_disk.specs.Deferred.{deferred};
 ghost use Rattle.famsync_core.specs.Held.{unopened};
 
+use crate::volume::OpenVolume;
 use deferred_disk::DeferredDisk;
-use embedded::Embedded;
 use std::alloc::{Allocator, Global};
 use std::marker::Model;
 
@@ -12,7 +12,7 @@ use std::marker::Model;
 #[derive(Drop)]
 pub struct State {
     pub(crate) disk: Option<DeferredDisk<Global>>,
-    pub(crate) volume: Option<Embedded<Global>>,
+    pub(crate) volume: Option<OpenVolume>,
 }
 
 impl Model for State {

@@ -1,15 +1,15 @@
 // What is told of an open volume.
-ghost use Rattle.std.specs.Prelude.{◌≡◌, ℕ, ◌-◌, ◌^◌, min, pos, IfSome, IfNone};
+ghost use Rattle.std.specs.Prelude.{◌≡◌, ℕ, ◌-◌, ◌^◌, min, pos, unwrap_or, IfSome, IfNone};
 ghost use Rattle.famsync_core.specs.Codes.{order_code};
 ghost use Rattle.famsync_core.specs.Held.{page_numbered};
-ghost use Rattle.famsync_core.specs.Requests.{AnswersFile, AnswersName, told, files_told, frames_told, head_told, shares_told, acknowledged_told, staged_told, is_staged_told, unwritten_told};
+ghost use Rattle.famsync_core.specs.Told.{AnswersFile, AnswersLog, AnswersName, told, files_told, frames_told, head_told};
+ghost use Rattle.famsync_core.specs.Told.{shares_told, acknowledged_told, staged_told, is_staged_told, unwritten_told};
 
-use crate::codes::{ARGUMENT, OK, ORDER};
+use crate::codes::{ARGUMENT, NONE, OK, ORDER};
 use crate::requests::page_numbered;
 use crate::state::State;
+use crate::volume::OpenVolume;
 use device::put;
-use embedded::Embedded;
-use std::alloc::Global;
 
 /// A count as C gets it.
 pub(crate) fn number_of(count: u64) -> i64
@@ -18,26 +18,35 @@ pub(crate) fn number_of(count: u64) -> i64
     i64::try_from(count).unwrap_or(i64::MAX)
 }
 
+// A mark as C gets it, 0 where there is none.
+fn mark_of(mark: Option<u32>) -> i64
+    ensures { result ≡ pos (unwrap_or mark 0) }
+{
+    match mark {
+        Some(mark) => i64::from(mark),
+        None => 0,
+    }
+}
+
 // The length of a file, and how many pages it can have.
-fn tell_file(volume: &Embedded<Global>, file: u32, length: &mut u64, pages: &mut u64) -> i32
+fn tell_file(volume: &OpenVolume, file: u32, length: &mut u64, pages: &mut u64) -> i32
     ensures { AnswersFile volume.now file result length.old length.new pages.old pages.new }
 {
-    let pager = volume.pager();
-    let table = pager.table();
+    let table = volume.table();
     let place = file as usize;
     if place >= table.file_count() {
         return ARGUMENT;
     }
-    *length = pager.lengths()[place];
+    *length = volume.lengths()[place];
     *pages = u64::from(table.pages(place));
     OK
 }
 
 // Copies the name of a file, if it has room, and answers its length.
-fn tell_name(volume: &Embedded<Global>, file: u32, to: &mut [u8]) -> i64
+fn tell_name(volume: &OpenVolume, file: u32, to: &mut [u8]) -> i64
     ensures { AnswersName volume.now file result to.old to.new }
 {
-    let table = volume.pager().table();
+    let table = volume.table();
     let place = file as usize;
     if place >= table.file_count() {
         return i64::from(ARGUMENT);
@@ -50,13 +59,28 @@ fn tell_name(volume: &Embedded<Global>, file: u32, to: &mut [u8]) -> i64
     number_of(name.len() as u64)
 }
 
+// Of a log: its number of blocks, how many of these are in use, and how many commits it has.
+fn tell_log(volume: &OpenVolume, blocks: &mut u64, used: &mut u64, commits: &mut u64) -> i32
+    ensures { AnswersLog volume.now result blocks.old blocks.new used.old used.new commits.old commits.new }
+{
+    match volume {
+        OpenVolume::Journals(_) => NONE,
+        OpenVolume::Log(volume) => {
+            *blocks = u64::from(volume.ring());
+            *used = u64::from(volume.used());
+            *commits = volume.commits();
+            OK
+        }
+    }
+}
+
 impl State {
     /// How many files the volume has.
     pub(crate) fn files(&self) -> i64
         ensures { result ≡ told files_told self.now }
     {
         match &self.volume {
-            Some(volume) => number_of(volume.pager().table().file_count() as u64),
+            Some(volume) => number_of(volume.table().file_count() as u64),
             None => i64::from(ORDER),
         }
     }
@@ -66,7 +90,8 @@ impl State {
         ensures { result ≡ told frames_told self.now }
     {
         match &self.volume {
-            Some(volume) => i64::from(volume.pager().most()),
+            Some(OpenVolume::Journals(volume)) => i64::from(volume.pager().most()),
+            Some(OpenVolume::Log(volume)) => i64::from(volume.files().most()),
             None => i64::from(ORDER),
         }
     }
@@ -76,7 +101,12 @@ impl State {
         ensures { result ≡ told head_told self.now }
     {
         match &self.volume {
-            Some(volume) => i64::from(volume.pager().table().geometry().first_file_home()),
+            Some(OpenVolume::Journals(volume)) => {
+                i64::from(volume.pager().table().geometry().first_file_home())
+            }
+            Some(OpenVolume::Log(volume)) => {
+                i64::from(volume.files().table().log().first_file_home())
+            }
             None => i64::from(ORDER),
         }
     }
@@ -86,7 +116,10 @@ impl State {
         ensures { result ≡ told shares_told self.now }
     {
         match &self.volume {
-            Some(volume) => i32::from(volume.pager().table().geometry().journals() == 4),
+            Some(OpenVolume::Journals(volume)) => {
+                i32::from(volume.pager().table().geometry().journals() == 4)
+            }
+            Some(OpenVolume::Log(_)) => 1,
             None => ORDER,
         }
     }
@@ -95,8 +128,8 @@ impl State {
     pub(crate) fn file(&self, file: u32, length: &mut u64, pages: &mut u64) -> i32
         ensures order { IfNone self.now.volume
             ((result ≡ order_code) × (length.new ≡ length.old) × (pages.new ≡ pages.old)) }
-        ensures answers { IfSome self.now.volume (λ e.
-            AnswersFile e file result length.old length.new pages.old pages.new) }
+        ensures answers { IfSome self.now.volume (λ v.
+            AnswersFile v file result length.old length.new pages.old pages.new) }
     {
         match &self.volume {
             Some(volume) => tell_file(volume, file, length, pages),
@@ -107,7 +140,7 @@ impl State {
     /// Copies the name of a file, and answers its length.
     pub(crate) fn file_name(&self, file: u32, to: &mut [u8]) -> i64
         ensures order { IfNone self.now.volume ((result ≡ order_code) × (to.new ≡ to.old)) }
-        ensures answers { IfSome self.now.volume (λ e. AnswersName e file result to.old to.new) }
+        ensures answers { IfSome self.now.volume (λ v. AnswersName v file result to.old to.new) }
     {
         match &self.volume {
             Some(volume) => tell_name(volume, file, to),
@@ -120,10 +153,8 @@ impl State {
         ensures { result ≡ told acknowledged_told self.now }
     {
         match &self.volume {
-            Some(volume) => match volume.acknowledged() {
-                Some(mark) => i64::from(mark),
-                None => 0,
-            },
+            Some(OpenVolume::Journals(volume)) => mark_of(volume.acknowledged()),
+            Some(OpenVolume::Log(volume)) => mark_of(volume.acknowledged()),
             None => i64::from(ORDER),
         }
     }
@@ -133,7 +164,8 @@ impl State {
         ensures { result ≡ told staged_told self.now }
     {
         match &self.volume {
-            Some(volume) => number_of(volume.pager().staged_pages() as u64),
+            Some(OpenVolume::Journals(volume)) => number_of(volume.pager().staged_pages() as u64),
+            Some(OpenVolume::Log(volume)) => number_of(volume.files().staged_pages() as u64),
             None => i64::from(ORDER),
         }
     }
@@ -142,19 +174,35 @@ impl State {
     pub(crate) fn is_staged(&self, file: u32, page: u64) -> i32
         ensures { result ≡ told (is_staged_told (page_numbered file page)) self.now }
     {
+        let page = page_numbered(file, page);
         match &self.volume {
-            Some(volume) => i32::from(volume.pager().is_staged(page_numbered(file, page))),
+            Some(OpenVolume::Journals(volume)) => i32::from(volume.pager().is_staged(page)),
+            Some(OpenVolume::Log(volume)) => i32::from(volume.files().is_staged(page)),
             None => ORDER,
         }
     }
 
-    /// How many pages are to be written home still.
+    /// How many pages are to be written home still; of a log, how many of its blocks are in use.
     pub(crate) fn unwritten(&self) -> i64
         ensures { result ≡ told unwritten_told self.now }
     {
         match &self.volume {
-            Some(volume) => number_of(volume.pager().unwritten() as u64),
+            Some(OpenVolume::Journals(volume)) => number_of(volume.pager().unwritten() as u64),
+            Some(OpenVolume::Log(volume)) => i64::from(volume.unwritten()),
             None => i64::from(ORDER),
+        }
+    }
+
+    /// Of a log: its number of blocks, how many of these are in use, and how many commits it has.
+    pub(crate) fn log(&self, blocks: &mut u64, used: &mut u64, commits: &mut u64) -> i32
+        ensures order { IfNone self.now.volume ((result ≡ order_code) × (blocks.new ≡ blocks.old)
+            × (used.new ≡ used.old) × (commits.new ≡ commits.old)) }
+        ensures answers { IfSome self.now.volume (λ v.
+            AnswersLog v result blocks.old blocks.new used.old used.new commits.old commits.new) }
+    {
+        match &self.volume {
+            Some(volume) => tell_log(volume, blocks, used, commits),
+            None => ORDER,
         }
     }
 }

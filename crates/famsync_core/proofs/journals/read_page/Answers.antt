@@ -5,8 +5,8 @@ use Rattle.std.proofs.Math.Facts.{to_z-of_z}
 use Rattle.std.proofs.lemmas.Bool.{eq-eqb}
 use Rattle.std.specs.Prelude.{length}
 use Rattle.famsync_core.proofs.Reading.{Copied, answers_read, copied_none, copied_some}
-use Rattle.famsync_core.proofs.requests.read_page.Goals.{then-is_ok, else-is_ok}
-use Rattle.famsync_core.proofs.requests.read_page.Goals as goal
+use Rattle.famsync_core.proofs.journals.read_page.Goals.{then-is_ok, else-is_ok}
+use Rattle.famsync_core.proofs.journals.read_page.Goals as goal
 
 pub returns : goal.returns
 returns c =

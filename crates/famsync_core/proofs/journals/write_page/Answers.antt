@@ -7,7 +7,7 @@ use Rattle.std.specs.Prelude.{length}
 use Rattle.pager.specs.Calls.{after_put}
 use Rattle.embedded.specs.Embedded.{with_pager}
 use Rattle.famsync_core.proofs.Writing.{answers_write}
-use Rattle.famsync_core.proofs.requests.write_page.Goals as goal
+use Rattle.famsync_core.proofs.journals.write_page.Goals as goal
 
 pub returns-in-Some : goal.returns-in-Some
 returns-in-Some c =

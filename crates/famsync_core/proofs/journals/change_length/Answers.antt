@@ -3,7 +3,7 @@ use mir.Syntax.{w32}
 use Rattle.std.proofs.Common.{◌∙◌, arith}
 use Rattle.std.proofs.Math.Facts.{to_z-of_z}
 use Rattle.famsync_core.proofs.Reading.{answers_length}
-use Rattle.famsync_core.proofs.requests.change_length.Goals as goal
+use Rattle.famsync_core.proofs.journals.change_length.Goals as goal
 
 pub returns : goal.returns
 returns c =
