@@ -123,13 +123,16 @@ struct famsync_new_file {
 /* A new volume. Set `size` to the size of this structure: a later version of the library adds fields at the end. */
 struct famsync_plan {
     size_t size;
-    unsigned layout; /* 1 to 4; 0 means 4 */
-    unsigned slots;  /* of each journal: 1 to 1,020; layout 3: 2 to 1,020; layout 4: 2 to 65,535; 0 means 1,024 */
+    unsigned layout; /* 1 to 6; 0 means 4 */
+    unsigned slots;  /* of each journal: 1 to 1,020; layout 3: 2 to 1,020; layout 4: 2 to 65,535; 0 means 1,024.
+                        Layouts 5 and 6 have no journals: 0 */
     unsigned files;  /* the number of files, 1 to 64 */
     const struct famsync_new_file *file; /* the files */
     int preallocate;                     /* not 0: takes the disk's blocks now; 0: when they are written */
     char *message;                       /* receives a line with the reason if the volume isn't made */
     size_t message_size;                 /* its size in bytes; a longer line is cut off */
+    unsigned log; /* layouts 5 and 6: the number of blocks of the log, 4 to 2^24; 0 means 16,384, which is 64 MB */
+    uint64_t key; /* layout 6: the key of its digests; 0 means a random one */
 };
 
 /* Makes a volume in a new file. Its files contain zeros. When the call returns, the volume is durable. Its bytes are
@@ -137,8 +140,14 @@ struct famsync_plan {
    volume, or doesn't exist. On a file system without unnamed files (O_TMPFILE) the library makes the volume in a file
    with a name that ends in `.new`. A crash may leave that file.
 
-   A commit has at most as many pages as there are slots, or one less in layouts 3 and 4. Without `preallocate` a full
-   disk ends a session that writes to a block for the first time (FAMSYNC_DEVICE).
+   In layouts 1 to 4 a commit has at most as many pages as there are slots, or one less in layouts 3 and 4. In layouts 5
+   and 6 a commit and its descriptor have to fit into the log, which keeps one block free. A log of 16,384 blocks takes
+   16,366 pages. Without `preallocate` a full disk ends a session that writes to a block for the first time
+   (FAMSYNC_DEVICE).
+
+   In layouts 5 and 6 a commit writes its pages to the log, and many commits are written to their places together. A
+   commit makes two syncs in layout 5. In layout 6 it makes one, and needs a premise that the other layouts don't: what
+   a crash leaves of a commit doesn't have the digest of the whole commit by chance.
 
    FAMSYNC_ARGUMENT: a volume can't be made by this plan; `message` has the reason. FAMSYNC_SYSTEM: errno has the cause.
    It is EEXIST if a file with this name, or with `.new` after it, already exists. */
@@ -221,8 +230,8 @@ int famsync_write(famsync *handle, unsigned file, uint64_t offset, const void *b
    the next session doesn't know of the failed sync.
 
    A part of a commit's writes comes after its acknowledgement. A thread of the library makes these writes while no call
-   is in progress, or the next commit makes them. In layout 4 the thread waits until no commit has come for 10 ms. With
-   `foreground` there is no thread. */
+   is in progress, or the next commit makes them. In layouts 4 to 6 the thread waits until no commit has come for 10 ms.
+   In layouts 5 and 6 it doesn't wait once half of the log is in use. With `foreground` there is no thread. */
 int famsync_msync(famsync *handle, uint64_t *mark);
 
 /* Undoes all changes of this session since the last famsync_msync: writes, lengths and stores to plain memory. Other
@@ -250,7 +259,8 @@ struct famsync_stat {
     uint64_t commits;       /* the number of the last acknowledged commit */
     uint64_t frames;        /* the most pages of one commit */
     uint64_t staged;        /* pages that wait for a commit, including those of plain memory */
-    uint64_t unwritten;     /* pages of commits that wait to be written to their places */
+    uint64_t unwritten;     /* pages of commits that wait to be written to their places; layouts 5 and 6: blocks of
+                               the log that are in use */
     uint64_t reads;         /* reads of the volume's file */
     uint64_t writes;        /* writes to the volume's file */
     uint64_t syncs;         /* syncs of the volume's file */
@@ -280,7 +290,8 @@ int famsync_backup(famsync *handle, int descriptor);
  * handler notes the page and opens it for writing. It passes other faults to the handler that was installed before.
  *
  * A page that was stored to is memory of this process. Once it is committed and written to its place, the library may
- * return it to the system. It does so if such pages, with a copy of each, exceed `budget` bytes.
+ * return it to the system. It does so if such pages, with a copy of each, exceed `budget` bytes. In layouts 5 and 6
+ * pages in the log aren't yet in their places. So the memory can exceed the budget by twice the log's length.
  *
  * A load raises SIGBUS if the volume's file can't be read or was truncated, as with each mapped file. In a forked
  * process, a page that wasn't stored to before the fork may show later commits. With `resident` the call reads the

@@ -90,6 +90,14 @@ static int read_files(famsync *handle)
     return home <= handle->blocks ? FAMSYNC_OK : FAMSYNC_DAMAGED;
 }
 
+/* The number of blocks of the log; 0 if the volume has journals. */
+static uint64_t blocks_of_log(famsync *handle)
+{
+    uint64_t blocks = 0, used, commits;
+    int32_t answer = famsync_core_log(handle->core, &blocks, &used, &commits, &handle->core.at);
+    return answer == FAMSYNC_CORE_OK ? blocks : 0;
+}
+
 /* What the core says of a volume that it has opened. It takes a number of pages that a commit can't have for the most
    that it can have. */
 static int read_volume(famsync *handle, unsigned wanted)
@@ -105,15 +113,16 @@ static int read_volume(famsync *handle, unsigned wanted)
     handle->frames = (unsigned)frames;
     handle->head = (uint32_t)head;
     handle->shares_syncs = famsync_core_shares_syncs(handle->core, &handle->core.at) == 1;
+    handle->log.blocks = blocks_of_log(handle);
     return read_files(handle);
 }
 
-/* What opening recorded, in a session that only reads: where it is a write, a crash left a commit, which this session
-   can't carry out. Its syncs count as made, as nothing was written. */
+/* What opening recorded, in a session that only reads: if commits are carried out, a crash left them, and this session
+   can't write. Otherwise the calls count as made: syncs, and in a volume with a log a new start behind no commit. */
 static int judge_recovery(famsync *handle)
 {
     int64_t waiting = famsync_core_waiting(handle->core, &handle->core.at);
-    if (has_write(handle))
+    if (carries_out_commits(handle))
         return FAMSYNC_NEEDSOPENING;
     return code_of(famsync_core_carried_out(handle->core, (uint32_t)waiting, &handle->core.at));
 }
@@ -144,13 +153,19 @@ int begin_core(famsync *handle, unsigned frames)
     return code == FAMSYNC_OK ? open_with_blocks(handle, frames) : code;
 }
 
-/* Opens the volume in the core, and makes what that records: what a crash left of a commit is carried out. Between two
-   syncs no more is written than two journals have, or one where there aren't four, before the files. */
+/* How many writes are gathered: between two syncs no more is written than two journals have, or one where there aren't
+   four, before the files. With a log there may be more, and the rest is made after them. */
+static unsigned most_gathered(const famsync *handle)
+{
+    return handle->log.blocks > 0 ? MOST_WAITING : handle->head;
+}
+
+/* Opens the volume in the core, and makes what that records: what a crash left of a commit is carried out. */
 static int open_core(famsync *handle, const struct famsync_options *options)
 {
     int code = begin_core(handle, options->frames);
     if (code == FAMSYNC_OK)
-        code = begin_gathering(&handle->gathered, handle->head);
+        code = begin_gathering(&handle->gathered, most_gathered(handle));
     if (code != FAMSYNC_OK)
         return code;
     return handle->volume.readonly ? judge_recovery(handle) : drain(handle);
@@ -162,8 +177,6 @@ int open_other_core(famsync *handle, famsync_core *other)
     int code;
     handle->core = (famsync_core){0};
     code = begin_core(handle, handle->frames);
-    if (code == FAMSYNC_OK)
-        code = drain(handle);
     *other = handle->core;
     handle->core = own;
     return code;

@@ -3,7 +3,8 @@
    At first all commits are written home, so that the home blocks have these files. Then the home blocks are copied,
    some at a time, and other calls come in between. Whatever is to overwrite a home block that isn't copied yet has its
    old bytes copied before (`save_for_backup`). The super block comes last, after a sync: a file that lacks a part of
-   its backup is no volume. What is zeros, as the closed journals, is left as a hole. */
+   its backup is no volume. What is zeros, as the closed journals or an empty log, is left as a hole. A log begins again
+   with the start of a new volume. */
 #include "inside.h"
 
 #include <errno.h>
@@ -19,7 +20,7 @@
 struct backup {
     int file;                  /* what it is written to */
     bool locked;               /* that is locked */
-    uint32_t next;             /* home blocks before this one are copied; those of journals never are */
+    uint32_t next;             /* home blocks before this one are copied; no block of a journal or log ever is */
     unsigned char *saved;      /* a bit for each block: it was copied before its turn */
     size_t room;               /* the bytes of that */
     int code, error;           /* what went wrong as a block was copied before its turn, and errno */
@@ -231,6 +232,8 @@ static int end(famsync *handle, const struct backup *backup, int code)
 static int write_backup(famsync *handle, struct backup *backup)
 {
     int code = end(handle, backup, copy_homes(handle, backup));
+    if (code == FAMSYNC_OK && handle->log.blocks > 0)
+        code = write_first_start(backup->file);
     if (code == FAMSYNC_OK)
         code = sync_backup(backup);
     if (code == FAMSYNC_OK)

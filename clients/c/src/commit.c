@@ -4,10 +4,29 @@
 
 #include <errno.h>
 
-/* Where the commit before was begun to be written home, its writes wait for a sync: they get one of their own. */
+/* Where the commit before was begun to be written home, its writes wait for a sync: they get one of their own. Those of
+   a volume with a log need none. */
 static int end_write_out(famsync *handle)
 {
-    return famsync_core_waiting(handle->core, &handle->core.at) > 0 ? write_out(handle, false) : FAMSYNC_OK;
+    if (famsync_core_waiting(handle->core, &handle->core.at) == 0)
+        return FAMSYNC_OK;
+    return handle->log.blocks > 0 ? drain_all(handle) : write_out(handle, false);
+}
+
+/* Has the core make a commit, with the blocks that it wants. With a log it may first write earlier commits home: then
+   calls are made when there are many, since they take memory. */
+static int make_commit(famsync *handle, uint32_t *number)
+{
+    for (;;) {
+        uint32_t wanted = 0;
+        int32_t answer = famsync_core_commit(handle->core, number, &wanted, &handle->core.at);
+        int code = answer == FAMSYNC_CORE_WANTED ? supply(handle, wanted, 1) : answer_of(handle, answer);
+        if (answer != FAMSYNC_CORE_WANTED || code != FAMSYNC_OK)
+            return code;
+        code = drain_many(handle);
+        if (code != FAMSYNC_OK)
+            return code;
+    }
 }
 
 void forget_staged(famsync *handle)
@@ -23,14 +42,23 @@ void forget_staged(famsync *handle)
 static int commit(famsync *handle, uint64_t *mark)
 {
     uint32_t number = 0;
-    bool has_pages = famsync_core_staged(handle->core, &handle->core.at) > 0;
+    int64_t pages = famsync_core_staged(handle->core, &handle->core.at);
     int code = handle->shares_syncs ? FAMSYNC_OK : end_write_out(handle), drained;
+    bool counts = pages > 0;
+    int error;
     if (code != FAMSYNC_OK)
         return code;
-    code = answer_of(handle, famsync_core_commit(handle->core, &number, &handle->core.at));
+    code = write_some_out(handle, (uint64_t)pages);
+    if (code != FAMSYNC_OK)
+        return code;
+    code = make_commit(handle, &number);
+    if (handle->log.blocks > 0) /* before, no sync waited */
+        counts = ends_with_sync(handle);
+    error = errno;
     drained = drain(handle);
     if (drained != FAMSYNC_OK)
         return drained;
+    errno = error;
     if (code == FAMSYNC_OK)
         code = end_write_out(handle);
     if (code != FAMSYNC_OK)
@@ -41,8 +69,9 @@ static int commit(famsync *handle, uint64_t *mark)
     *mark = handle->earlier + number;
     atomic_store(&handle->acknowledged, *mark);
     forget_staged(handle);
-    handle->numbered += has_pages;
+    handle->numbered += counts;
     handle->left = true;
+    note_log(handle);
     return FAMSYNC_OK;
 }
 

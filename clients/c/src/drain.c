@@ -126,20 +126,39 @@ static bool look_at(famsync *handle, uint32_t others, struct call *call)
                              &handle->core.at) == FAMSYNC_CORE_OK;
 }
 
-bool has_write(famsync *handle)
+/* The newest call that waits, if there is one. */
+static bool look_at_newest(famsync *handle, struct call *newest)
+{
+    int64_t waiting = famsync_core_waiting(handle->core, &handle->core.at);
+    return waiting > 0 && look_at(handle, (uint32_t)waiting - 1, newest);
+}
+
+/* Whether a call writes only to the blocks of the starts. */
+static bool writes_start(const famsync *handle, const struct call *call)
+{
+    return handle->log.blocks > 0 && call->kind != FAMSYNC_CORE_CALL_SYNC && call->offset >= PAGE &&
+           call->offset + call->length <= FIRST_OF_LOG * PAGE;
+}
+
+bool carries_out_commits(famsync *handle)
 {
     struct call call;
     for (uint32_t others = 0; look_at(handle, others, &call); others++)
-        if (call.kind != FAMSYNC_CORE_CALL_SYNC)
+        if (call.kind != FAMSYNC_CORE_CALL_SYNC && !writes_start(handle, &call))
             return true;
     return false;
 }
 
 bool ends_with_sync(famsync *handle)
 {
-    int64_t waiting = famsync_core_waiting(handle->core, &handle->core.at);
     struct call newest;
-    return waiting > 0 && look_at(handle, (uint32_t)waiting - 1, &newest) && newest.kind == FAMSYNC_CORE_CALL_SYNC;
+    return look_at_newest(handle, &newest) && newest.kind == FAMSYNC_CORE_CALL_SYNC;
+}
+
+bool ends_with_start(famsync *handle)
+{
+    struct call newest;
+    return handle->log.blocks > 0 && look_at_newest(handle, &newest) && writes_start(handle, &newest);
 }
 
 /* Gathers the oldest writes, up to a sync or to one that can't go with them. */
@@ -182,14 +201,24 @@ static int write_gathered(famsync *handle)
     return code;
 }
 
-/* The core needs a block of a file no longer once it is written: it is read again where it is wanted. */
+/* Forgets the blocks of a write. Where a write of several blocks ends within one, a log's next commit begins there, and
+   the core would want that block again. So it is kept, unless the write is long: the core keeps all of its bytes then.
+ */
+static void forget_piece(famsync *handle, const struct piece *piece)
+{
+    uint64_t block = piece->offset / PAGE, end = (piece->offset + piece->length) / PAGE;
+    if (end == block || end - block > MOST_READ)
+        end = (piece->offset + piece->length + PAGE - 1) / PAGE;
+    for (; block < end; block++)
+        if (block >= first_forgettable(handle) && block < handle->blocks)
+            famsync_core_forget(handle->core, (uint32_t)block, &handle->core.at);
+}
+
+/* The core needs a block of a file or of a log no longer once it is written: it is read again where it is wanted. */
 static void forget_gathered(famsync *handle)
 {
-    for (unsigned i = 0; i < handle->gathered.pieces; i++) {
-        uint64_t block = handle->gathered.piece[i].offset / PAGE;
-        if (block >= handle->head && block < handle->blocks)
-            famsync_core_forget(handle->core, (uint32_t)block, &handle->core.at);
-    }
+    for (unsigned i = 0; i < handle->gathered.pieces; i++)
+        forget_piece(handle, &handle->gathered.piece[i]);
 }
 
 /* Makes the oldest writes together, and reports them to the core when all of them are made. */
@@ -206,13 +235,23 @@ static int make_writes(famsync *handle)
     return code;
 }
 
-int drain(famsync *handle)
+int drain_all(famsync *handle)
 {
     struct call oldest;
-    int code = FAMSYNC_OK;
-    if (!ends_with_sync(handle))
-        return FAMSYNC_OK;
+    int code = handle->ended;
+    if (code != FAMSYNC_OK)
+        errno = handle->error;
     while (code == FAMSYNC_OK && look_at(handle, 0, &oldest))
         code = oldest.kind == FAMSYNC_CORE_CALL_SYNC ? make_sync(handle) : make_writes(handle);
     return code;
+}
+
+int drain(famsync *handle)
+{
+    return ends_with_sync(handle) ? drain_all(handle) : FAMSYNC_OK;
+}
+
+int drain_many(famsync *handle)
+{
+    return famsync_core_waiting(handle->core, &handle->core.at) >= MOST_WAITING ? drain_all(handle) : FAMSYNC_OK;
 }

@@ -1,6 +1,6 @@
-/* Makes volumes. The bytes are laid out here, by the rules of docs/FORMATS.md: all but the super block and the lengths
-   block are zeros, and a new file is that by its length. A volume has one spelling, and the core knows it: before the
-   file gets its name, the core opens it, and finds what was asked for. */
+/* Makes volumes. The bytes are laid out here, by the rules of docs/FORMATS.md: all but the super block, the lengths
+   block and the start of a log are zeros, and a new file is that by its length. A volume has one spelling, and the core
+   knows it: before the file gets its name, the core opens it, and finds what was asked for. */
 #include "inside.h"
 
 #include <errno.h>
@@ -8,12 +8,24 @@
 #include <stdio.h>
 #include <stdlib.h>
 #include <string.h>
+#include <sys/random.h>
 #include <sys/stat.h>
 #include <sys/syscall.h>
 #include <unistd.h>
 
 #define DEFAULT_LAYOUT 4u
 #define DEFAULT_SLOTS 1024u
+#define DEFAULT_LOG 16384u
+
+/* The first layouts with lengths, with commits that share syncs, and with a log; and the last one, which has a key. */
+#define FIRST_WITH_LENGTHS 3u
+#define FIRST_THAT_SHARES 4u
+#define FIRST_WITH_LOG 5u
+#define LAST_LAYOUT 6u
+
+/* The most blocks of a log, and the most records of a commit in it. */
+#define MOST_LOG (1u << 24)
+#define MOST_RECORDS 65535u
 
 /* The most bytes of the name of a volume's file: `.suspect` fits behind it. */
 #define LONGEST_NAME 247u
@@ -28,8 +40,9 @@
 /* A volume that is to be made. */
 struct made {
     struct famsync_plan plan;
-    uint32_t journals, lengths; /* how many there are; and lengths blocks */
-    uint64_t head, blocks;      /* the blocks before those of the first file, and all */
+    uint32_t lengths;      /* how many lengths blocks there are */
+    uint32_t records;      /* the most records of a commit */
+    uint64_t head, blocks; /* the blocks before those of the first file, and all */
     unsigned char super[PAGE], lengths_block[PAGE];
 };
 
@@ -75,20 +88,59 @@ static const char *judge_file(const struct made *made, const struct famsync_new_
     return NULL;
 }
 
-static const char *judge_plan(struct made *made)
+static bool has_log(const struct famsync_plan *plan)
+{
+    return plan->layout >= FIRST_WITH_LOG;
+}
+
+/* The most records that a commit has in a log, with its descriptor. One block of the log stays free. */
+static uint32_t most_records(uint64_t log)
+{
+    uint32_t records = log < MOST_RECORDS ? (uint32_t)log : MOST_RECORDS;
+    while (pages_of(32 + 4 * (uint64_t)records) + records > log - 1)
+        records--;
+    return records;
+}
+
+/* Finds the most records of a commit, and the blocks before the lengths block and the files. */
+static const char *judge_journals(struct made *made)
 {
     static const uint32_t JOURNALS[] = {1, 2, 2, 4}, MOST_SLOTS[] = {1020, 1020, 1020, 65535};
     const struct famsync_plan *plan = &made->plan;
-    const char *fault = NULL;
-    if (plan->layout < 1 || plan->layout > 4)
-        return "there are layouts 1 to 4";
-    if (plan->files < 1 || plan->files > MOST_FILES || !plan->file)
-        return "a volume has 1 to 64 files";
-    made->journals = JOURNALS[plan->layout - 1];
-    made->lengths = plan->layout >= 3;
+    if (plan->log != 0 || plan->key != 0)
+        return "only layouts 5 and 6 have a log, and only layout 6 has a key";
     if (plan->slots <= made->lengths || plan->slots > MOST_SLOTS[plan->layout - 1])
         return "this layout hasn't so many slots";
-    made->head = 1 + made->journals * (1 + pages_of(16 + 4 * (uint64_t)plan->slots) + plan->slots) + made->lengths;
+    made->records = plan->slots;
+    made->head = 1 + JOURNALS[plan->layout - 1] * (1 + pages_of(16 + 4 * (uint64_t)plan->slots) + plan->slots);
+    return NULL;
+}
+
+static const char *judge_log(struct made *made)
+{
+    const struct famsync_plan *plan = &made->plan;
+    if (plan->slots != 0)
+        return "layouts 5 and 6 have a log, and no slots";
+    if (plan->key != 0 && plan->layout != LAST_LAYOUT)
+        return "only layout 6 has a key";
+    if (plan->log < FIRST_OF_LOG || plan->log > MOST_LOG)
+        return "a log has 4 to 16,777,216 blocks";
+    made->records = most_records(plan->log);
+    made->head = FIRST_OF_LOG + plan->log;
+    return NULL;
+}
+
+static const char *judge_plan(struct made *made)
+{
+    const struct famsync_plan *plan = &made->plan;
+    const char *fault;
+    if (plan->layout < 1 || plan->layout > LAST_LAYOUT)
+        return "there are layouts 1 to 6";
+    if (plan->files < 1 || plan->files > MOST_FILES || !plan->file)
+        return "a volume has 1 to 64 files";
+    made->lengths = plan->layout >= FIRST_WITH_LENGTHS;
+    fault = has_log(plan) ? judge_log(made) : judge_journals(made);
+    made->head += made->lengths;
     made->blocks = made->head;
     for (unsigned i = 0; i < plan->files && !fault; i++) {
         fault = judge_file(made, &plan->file[i]);
@@ -102,12 +154,15 @@ static const char *judge_plan(struct made *made)
 static void lay_out(struct made *made)
 {
     const struct famsync_plan *plan = &made->plan;
-    uint64_t home = made->head;
+    /* With a log the table has the blocks of a volume that has one slot in place of the log. */
+    uint64_t home = has_log(plan) ? FIRST_OF_LOG : made->head;
     memcpy(made->super, "FAMSYNC", 7);
     made->super[7] = (unsigned char)('0' + plan->layout);
     put_number(made->super + 8, 4, plan->files);
-    put_number(made->super + 12, 4, plan->slots);
+    put_number(made->super + 12, 4, has_log(plan) ? plan->log : plan->slots);
     put_number(made->super + 16, 4, made->blocks);
+    put_number(made->super + 20, 4, has_log(plan) ? FIRST_OF_LOG : 0);
+    put_number(made->super + 24, 8, plan->key);
     for (unsigned i = 0; i < plan->files; i++) {
         const struct famsync_new_file *file = &plan->file[i];
         unsigned char *row = made->super + 32 + 48 * (size_t)i;
@@ -129,10 +184,21 @@ static int set_size(const struct made *made, int file)
     return errno == 0 ? FAMSYNC_OK : FAMSYNC_SYSTEM;
 }
 
+/* Commit 1 comes at position 0 of the log, in epoch 1. This is the first start, in block 2. */
+int write_first_start(int file)
+{
+    unsigned char start[PAGE] = {0};
+    put_number(start, 8, 1);
+    put_number(start + 8, 8, 1);
+    return write_whole(file, start, PAGE, 2 * PAGE);
+}
+
 /* The super block comes last, after a sync. */
 static int write_volume(const struct made *made, int file)
 {
     int code = set_size(made, file);
+    if (code == FAMSYNC_OK && has_log(&made->plan))
+        code = write_first_start(file);
     if (code == FAMSYNC_OK && made->lengths > 0)
         code = write_whole(file, made->lengths_block, PAGE, (made->head - 1) * PAGE);
     if (code == FAMSYNC_OK && sync_file(file) != 0)
@@ -148,8 +214,9 @@ static bool is_as_asked(famsync *handle, const struct made *made)
     const struct famsync_plan *plan = &made->plan;
     uint64_t home = made->head;
     bool same = handle->files == plan->files && handle->head == made->head &&
-                handle->frames == plan->slots - made->lengths && handle->shares_syncs == (made->journals == 4) &&
-                !has_write(handle);
+                handle->frames == made->records - made->lengths &&
+                handle->shares_syncs == (plan->layout >= FIRST_THAT_SHARES) && handle->log.blocks == plan->log &&
+                !carries_out_commits(handle);
     for (unsigned i = 0; i < plan->files && same; i++) {
         const struct file *file = &handle->file[i];
         same = strcmp(file->name, plan->file[i].name) == 0 && file->length == plan->file[i].length &&
@@ -227,15 +294,22 @@ static void close_unnamed(const struct volume *volume, struct unnamed *new)
     errno = error;
 }
 
-/* Gives it its name, unless another file has that. */
+/* Gives it its name, unless another file has that. Then nothing of it has the name before: that may be of another one.
+ */
 static int name_file(const struct volume *volume, struct unnamed *new)
 {
     char path[64];
+    int named;
     if (!new->name) {
         snprintf(path, sizeof path, "/proc/self/fd/%d", new->file);
         return linkat(AT_FDCWD, path, volume->folder, volume->name, AT_SYMLINK_FOLLOW);
     }
-    return (int)syscall(SYS_renameat2, volume->folder, new->name, volume->folder, volume->name, RENAME_NOREPLACE);
+    named = (int)syscall(SYS_renameat2, volume->folder, new->name, volume->folder, volume->name, RENAME_NOREPLACE);
+    if (named == 0) {
+        free(new->name);
+        new->name = NULL;
+    }
+    return named;
 }
 
 static int write_and_name(const struct made *made, const struct volume *volume, struct unnamed *new)
@@ -297,9 +371,23 @@ static bool take_plan(const struct famsync_plan *given, struct famsync_plan *pla
     memcpy(plan, given, given->size < sizeof *plan ? given->size : sizeof *plan);
     if (plan->layout == 0)
         plan->layout = DEFAULT_LAYOUT;
-    if (plan->slots == 0)
+    if (plan->slots == 0 && !has_log(plan))
         plan->slots = DEFAULT_SLOTS;
+    if (plan->log == 0 && has_log(plan))
+        plan->log = DEFAULT_LOG;
     return true;
+}
+
+/* Draws the key of a volume of layout 6, if none is given. */
+static int draw_key(struct famsync_plan *plan)
+{
+    ssize_t drawn;
+    if (plan->layout != LAST_LAYOUT || plan->key != 0)
+        return FAMSYNC_OK;
+    do
+        drawn = getrandom(&plan->key, sizeof plan->key, 0);
+    while (drawn < 0 && errno == EINTR);
+    return drawn == (ssize_t)sizeof plan->key ? FAMSYNC_OK : FAMSYNC_SYSTEM;
 }
 
 static int format(const char *path, const struct famsync_plan *plan, struct made *made)
@@ -313,6 +401,10 @@ static int format(const char *path, const struct famsync_plan *plan, struct made
     if (fault) {
         say(&message, "\"%s\": %s", path, fault);
         return FAMSYNC_ARGUMENT;
+    }
+    if (draw_key(&made->plan) != FAMSYNC_OK) {
+        say(&message, "\"%s\": no key can be drawn: %s", path, strerror(errno));
+        return FAMSYNC_SYSTEM;
     }
     lay_out(made);
     return make_volume_at(path, made, &message);

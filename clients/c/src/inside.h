@@ -20,6 +20,10 @@
 #define MOST_READ 64u
 /* The number of such reads whose blocks stay in the core. A further read makes it forget those of the oldest. */
 #define READS_KEPT 4u
+/* The number of waiting calls at which those of a volume with a log are made, though no sync ends them. */
+#define MOST_WAITING 1024u
+/* The first block of a log. The blocks before it are the super block and the starts of the log. */
+#define FIRST_OF_LOG 4u
 
 /* Room for a line about a fault; `text` may be a null pointer. */
 struct message {
@@ -98,6 +102,15 @@ struct counts {
     uint64_t reads, writes, syncs, bytes_written;
 };
 
+/* The log of a volume of layout 5 or 6. A commit in it that isn't home is read from there, and its blocks aren't free.
+ */
+struct log {
+    uint64_t blocks;    /* the number of its blocks; 0 if the volume has journals */
+    uint64_t used;      /* the number of those in use */
+    uint32_t home;      /* the newest numbered commit such that it and all earlier ones are home */
+    bool start_written; /* a start behind commits that are home is written, but doesn't count yet */
+};
+
 /* A backup that is being made: backup.c. */
 struct backup;
 
@@ -126,7 +139,8 @@ struct famsync {
     unsigned frames;
     uint32_t blocks;   /* the number of blocks of the volume */
     uint32_t head;     /* the first block of a file; 0 until the core has opened the volume */
-    bool shares_syncs; /* the volume has four journals: the syncs of a commit serve earlier commits, too */
+    bool shares_syncs; /* the syncs of a commit serve earlier commits, too: the volume has four journals, or a log */
+    struct log log;
     struct gathered gathered;
     struct counts counts;
     struct backup *backup; /* the backup that is being made; null if there is none */
@@ -136,11 +150,12 @@ struct famsync {
     _Atomic uint64_t acknowledged;
     uint64_t earlier;  /* the number of those commits that were made before the core began; a rollback begins another */
     bool resized;      /* a new length waits for a commit */
-    uint32_t numbered; /* the number of commits that had pages */
+    uint32_t numbered; /* the number of commits that had pages; with a log, of those that recorded calls */
     bool is_tracked;   /* the kernel notes stores to plain memory, instead of the handler of SIGSEGV */
     struct tracker tracker;
     bool resident;            /* plain memory is read whole, instead of mapping the volume's file */
     uint64_t budget;          /* the most bytes of committed pages that plain memory keeps */
+    uint32_t given_up_to;     /* with a log: what `newest_home` was when pages were last given back */
     famsync_memory *memories; /* open memories, linked by `next_one` */
     atomic_uint closing;      /* a lock to open and close pages of plain memory; the handler of SIGSEGV takes it, too */
     /* commits: the waiting threads, and whether a commit is being made; under `queue` */
@@ -156,6 +171,12 @@ struct famsync {
     bool left;             /* a part of a commit is still to be written */
     famsync *next, **link; /* in the list of this process's handles */
 };
+
+/* The first block that the core can forget. */
+static inline uint32_t first_forgettable(const famsync *handle)
+{
+    return handle->log.blocks > 0 ? FIRST_OF_LOG : handle->head;
+}
 
 /* codes.c: the library's code for a code of the core. `answer_of` is for the answer to a request of the session. If the
    core had no memory to record a call, now or earlier, it ends the session with errno ENOMEM. */
@@ -184,8 +205,9 @@ int leave(famsync *handle, int code);
 unsigned number_of(const famsync *handle, const char *name);
 /* Begins a core, and opens the volume of a handle in it. The first time the handle gets what the core says of it. */
 int begin_core(famsync *handle, unsigned frames);
-/* Opens the volume in another core, which has the last commit and nothing that waits; all commits are written out. The
-   handle keeps its own core. */
+/* Opens the volume in another core, which has the last commit; all commits are written out. The handle keeps its own
+   core. What the opening has recorded is made once the other core takes its place: from then on a log's start is the
+   one of that core, and its own core can't go on. */
 int open_other_core(famsync *handle, famsync_core *other);
 
 /* volume_file.c: moves a file to a descriptor above 2, and opens one there. The descriptor is close-on-exec. If a
@@ -218,9 +240,16 @@ int flag_suspect(const struct volume *volume);
 /* drain.c: makes the calls that the core has recorded. It makes none if the newest of them is a write: such writes wait
    for their sync. An error ends the session. */
 int drain(famsync *handle);
-/* Whether the newest waiting call is a sync; whether any waiting call is a write. */
+/* Makes all calls that wait; with `drain_many` only if they are MOST_WAITING or more. Once the session is over, no call
+   is made any more. */
+int drain_all(famsync *handle);
+int drain_many(famsync *handle);
+/* Whether the newest waiting call is a sync; whether it writes a start of the log. */
 bool ends_with_sync(famsync *handle);
-bool has_write(famsync *handle);
+bool ends_with_start(famsync *handle);
+/* Whether the opening of a volume has recorded that commits are carried out. The opening of a volume with a log always
+   writes a start. */
+bool carries_out_commits(famsync *handle);
 int begin_gathering(struct gathered *gathered, unsigned pieces);
 void end_gathering(struct gathered *gathered);
 
@@ -266,6 +295,9 @@ int write_memory(famsync_memory *memory, uint64_t offset, const unsigned char *b
 int begin_tracking(struct tracker *tracker);
 void end_tracking(struct tracker *tracker);
 
+/* format.c: writes the start of a log without commits to the file of a new volume. */
+int write_first_start(int file);
+
 /* backup.c: writes all the bytes to a file. */
 int write_whole(int file, const unsigned char *bytes, size_t count, uint64_t offset);
 /* Copies blocks that the next calls overwrite to the backup that is being made, if there is one. */
@@ -280,9 +312,14 @@ void forget_staged(famsync *handle);
 /* background.c: the thread that writes the remaining part of a commit. */
 void begin_background(famsync *handle);
 void end_background(famsync *handle);
-/* Writes the remaining part of a commit, up to its next sync. With `gives_way` it ends early if another call comes. The
-   caller has the turn. */
+/* Writes the remaining part of a commit, up to its next sync. With a log it ends behind the write of a start, too. With
+   `gives_way` it ends early if another call comes. The caller has the turn. */
 int write_out(famsync *handle, bool gives_way);
+/* With a log: writes a part of earlier commits home before a commit of so many pages, if it is time for that. Only a
+   failure that ends the session is returned. */
+int write_some_out(famsync *handle, uint64_t pages);
+/* With a log: finds out what is home. Call it after the waiting calls are made. */
+void note_log(famsync *handle);
 /* Writes the remaining parts of all commits. */
 int write_all_out(famsync *handle);
 /* The newest numbered commit such that its pages and those of all earlier commits are in their home blocks. */

@@ -15,6 +15,7 @@
 /* Another core, which has the lengths of the last commit; a null pointer if the handle's own has no more than that. */
 struct other {
     famsync_core core;
+    bool took_over; /* the handle has it now, and `core` is the one before */
     size_t length[MOST_FILES];
 };
 
@@ -127,11 +128,12 @@ static int undo_memory(famsync_memory *memory, const struct other *other)
     return memory->home ? undo_mapped(memory) : begin_memory_again(memory, memory->length);
 }
 
-/* From here on the handle has the other core, in which nothing waits. A file whose memory is open gets its length as
-   that is undone. */
+/* From here on the handle has the other core, in which nothing waits for a commit. A file whose memory is open gets its
+   length as that is undone. */
 static void use_other(famsync *handle, struct other *other)
 {
     exchange(handle, other);
+    other->took_over = true;
     handle->earlier = handle->acknowledged;
     forget_staged(handle);
     for (famsync_memory *memory = handle->memories; memory; memory = memory->next_one)
@@ -155,6 +157,14 @@ static int undo(famsync *handle, struct other *other)
     return code;
 }
 
+/* Makes what the other core recorded as it opened the volume. */
+static int end_taking_over(famsync *handle, int code)
+{
+    int drained = drain(handle);
+    note_log(handle);
+    return drained != FAMSYNC_OK ? drained : code;
+}
+
 static int roll_back(famsync *handle)
 {
     struct other other = {.core = {NULL}};
@@ -168,6 +178,8 @@ static int roll_back(famsync *handle)
         code = undo(handle, &other);
         unlock_pages(handle, &blocked);
     }
+    if (other.took_over)
+        code = end_taking_over(handle, code);
     drop_spares(handle);
     if (other.core.at)
         famsync_core_close(other.core);

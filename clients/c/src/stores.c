@@ -186,6 +186,15 @@ static void give_back_spare(famsync_memory *memory, uint32_t newest)
     }
 }
 
+/* Whether it is worth looking for pages to give back: with a log many commits become home at once. */
+static bool is_more_home(famsync *handle)
+{
+    uint32_t home = newest_home(handle);
+    bool more = handle->log.blocks == 0 || home != handle->given_up_to;
+    handle->given_up_to = home;
+    return more;
+}
+
 /* A page that is kept is there twice: as the program has it, and as it was committed. */
 static void give_back_above_budget(famsync *handle)
 {
@@ -194,7 +203,7 @@ static void give_back_above_budget(famsync *handle)
     uint64_t bytes = 0;
     for (memory = handle->memories; memory; memory = memory->next_one)
         bytes += 2 * memory->kept * memory->grain;
-    if (bytes <= handle->budget)
+    if (bytes <= handle->budget || !is_more_home(handle))
         return;
     for (memory = handle->memories; memory; memory = memory->next_one) {
         lock_pages(handle, &blocked);

@@ -61,16 +61,28 @@ int supply_to_open(famsync *handle, uint32_t block, struct opening *opening)
 
 void forget_supplied(famsync *handle, const struct opening *opening)
 {
-    for (uint32_t block = handle->head; block < opening->end; block++)
+    for (uint32_t block = first_forgettable(handle); block < opening->end; block++)
         famsync_core_forget(handle->core, block, &handle->core.at);
 }
 
-/* Makes room for another read: what was read for the oldest is read again where it is wanted. */
+/* Whether a block is one of those that were read by the reads that are kept. */
+static bool is_kept(const famsync *handle, uint32_t block)
+{
+    for (unsigned i = 0; i < READS_KEPT; i++)
+        if (block >= handle->reading[i].first && block - handle->reading[i].first < handle->reading[i].count)
+            return true;
+    return false;
+}
+
+/* Makes room for another read: what was read for the oldest is read again where it is wanted. A block that was read
+   again since then stays: the core wants two at once for a commit to a log. */
 static void forget_oldest(famsync *handle, struct reading *reading)
 {
-    for (uint32_t i = 0; i < reading->count; i++)
-        famsync_core_forget(handle->core, reading->first + i, &handle->core.at);
+    struct reading oldest = *reading;
     reading->count = 0;
+    for (uint32_t i = 0; i < oldest.count; i++)
+        if (!is_kept(handle, oldest.first + i))
+            famsync_core_forget(handle->core, oldest.first + i, &handle->core.at);
 }
 
 int supply(famsync *handle, uint32_t block, uint64_t pages)
@@ -83,7 +95,7 @@ int supply(famsync *handle, uint32_t block, uint64_t pages)
     if (count > handle->blocks - block)
         count = handle->blocks - block;
     forget_oldest(handle, reading);
-    if (block >= handle->head) {
+    if (block >= first_forgettable(handle)) {
         *reading = (struct reading){block, count};
         handle->readings++;
     }

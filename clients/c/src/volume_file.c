@@ -320,7 +320,8 @@ static int sync_opened(const struct volume *volume, struct message *message)
 }
 
 /* A reader can't sync the file: the error of a write that failed would be told to it alone, and no writer would hear of
-   it. It needs no sync, as all that is written home was synced before its gate was closed. */
+   it. It needs no sync, as all that is written home was synced before its gate was closed, or before the start of a log
+   moved behind it. */
 static int judge_flag(const struct volume *volume, bool trust, struct message *message)
 {
     bool flagged;

@@ -111,6 +111,9 @@ int main(void)
         stays_below(1, tracking, 0);
         stays_below(4, tracking, 0);
         stays_below(4, tracking, 1);
+        for (unsigned layout = JOURNAL_LAYOUTS + 1; layout <= LAYOUTS; layout++)
+            for (int foreground = 0; foreground < 2; foreground++)
+                stays_below(layout, tracking, foreground);
     }
     free(model);
     printf("clients/c: budget: as it should be\n");

@@ -33,7 +33,7 @@ static void in_the_foreground(unsigned layout)
         WANT_CODE(famsync_write(handle, 0, round * 4096, &round, 8, NULL), FAMSYNC_OK);
         WANT_CODE(famsync_msync(handle, NULL), FAMSYNC_OK);
         usleep(2000);
-        WANT(open_gates(layout, 16) == gates_left(layout, (unsigned)round));
+        WANT(may_be_left(layout, 16, (unsigned)round, open_gates(layout, 16)));
     }
     WANT_CODE(famsync_close(handle), FAMSYNC_OK);
     WANT(open_gates(layout, 16) == 0);
@@ -64,7 +64,7 @@ static void cut_off(void)
                 kill(getpid(), SIGKILL);
             }
             WANT(waitpid(child, &status, 0) == child && WIFSIGNALED(status));
-            WANT(open_gates(layout, 16) == gates_left(layout, (unsigned)rounds));
+            WANT(may_be_left(layout, 16, (unsigned)rounds, open_gates(layout, 16)));
             famsync *handle = opened();
             WANT(open_gates(layout, 16) == 0);
             uint64_t value;
@@ -105,7 +105,7 @@ static void large_commits(void)
         kill(getpid(), SIGKILL);
     }
     WANT(waitpid(child, &status, 0) == child && WIFSIGNALED(status));
-    WANT(open_gates(4, LARGE + 1) == gates_left(4, 3));
+    WANT(may_be_left(4, LARGE + 1, 3, open_gates(4, LARGE + 1)));
     famsync *handle = opened();
     WANT(open_gates(4, LARGE + 1) == 0);
     WANT(famsync_frames(handle) == LARGE && famsync_file_length(handle, 1) == 4997);

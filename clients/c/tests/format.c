@@ -10,11 +10,14 @@
 static char message[FAMSYNC_MESSAGE_SIZE];
 static struct famsync_new_file files[65];
 
+/* The log of a layout that has one is as long as `make_volume_of` makes it. */
 static struct famsync_plan plan_of(unsigned layout, unsigned slots, unsigned count)
 {
     return (struct famsync_plan){.size = sizeof(struct famsync_plan),
                                  .layout = layout,
-                                 .slots = slots,
+                                 .slots = has_log(layout) ? 0 : slots,
+                                 .log = has_log(layout) ? log_blocks(slots) : 0,
+                                 .key = layout == 6 ? LOG_KEY : 0,
                                  .files = count,
                                  .file = files,
                                  .message = message,
@@ -96,7 +99,7 @@ static void each_layout(void)
     for (unsigned layout = 1; layout <= LAYOUTS; layout++) {
         files[0] = (struct famsync_new_file){"a", 1, 0};
         same_bytes(layout, 1 + has_lengths(layout), 1);
-        same_bytes(layout, layout == 4 ? 5000 : 1020, 1);
+        same_bytes(layout, layout >= 4 ? 5000 : 1020, 1);
         files[0] = (struct famsync_new_file){"!~names_of-32.characters,at+most", 8192, 8192};
         files[1] = (struct famsync_new_file){"b", 4097, has_lengths(layout) ? 20000 : 4097};
         files[2] = (struct famsync_new_file){"c", has_lengths(layout) ? 0 : 4096, 4096};
@@ -130,6 +133,28 @@ static void is_used(void)
     WANT_CODE(famsync_close(handle), FAMSYNC_OK);
 }
 
+/* In layouts 5 and 6 it has a log of 64 MB by default, and in layout 6 a key that is drawn. */
+static void has_default_log(unsigned layout)
+{
+    unsigned char key[2][8];
+    files[0] = (struct famsync_new_file){"a", 5000, 100000};
+    struct famsync_plan plan = plan_of(layout, 1, 1);
+    plan.log = 0;
+    plan.key = 0;
+    for (unsigned i = 0; i < 2; i++) {
+        remove_volume();
+        WANT_CODE(famsync_format(volume, &plan), FAMSYNC_OK);
+        int file = open(volume, O_RDONLY | O_CLOEXEC);
+        WANT(file >= 0 && number_at(file, 12, 4) == 16384 && pread(file, key[i], 8, 24) == 8 && close(file) == 0);
+        famsync *handle = opened();
+        WANT(famsync_frames(handle) == 16366);
+        WANT_CODE(famsync_write(handle, 0, 0, "hello", 5, NULL), FAMSYNC_OK);
+        WANT_CODE(famsync_msync(handle, NULL), FAMSYNC_OK);
+        WANT_CODE(famsync_close(handle), FAMSYNC_OK);
+    }
+    WANT((memcmp(key[0], key[1], 8) != 0) == (layout == 6));
+}
+
 static void is_refused(const struct famsync_plan *plan, const char *why)
 {
     message[0] = 0;
@@ -148,9 +173,34 @@ static void bad_files(unsigned layout, struct famsync_new_file file, const char 
     is_refused(&plan, why);
 }
 
-static void refusals(void)
+/* A log that is too short or too long, or in a layout without one, and a key in a layout without one. */
+static void bad_logs(unsigned layout)
 {
     static const unsigned MOST[] = {1020, 1020, 1020, 65535};
+    struct famsync_plan plan = plan_of(layout, 20, 1);
+    if (!has_log(layout)) {
+        plan.log = 64;
+        is_refused(&plan, "have a log");
+        plan = plan_of(layout, MOST[layout - 1] + 1, 1);
+        is_refused(&plan, "slots");
+    } else {
+        plan.log = 3;
+        is_refused(&plan, "4 to");
+        plan.log = (1u << 24) + 1;
+        is_refused(&plan, "4 to");
+        plan = plan_of(layout, 20, 1);
+        plan.slots = 20;
+        is_refused(&plan, "no slots");
+    }
+    if (layout != 6) {
+        plan = plan_of(layout, 20, 1);
+        plan.key = 1;
+        is_refused(&plan, "key");
+    }
+}
+
+static void refusals(void)
+{
     struct famsync_plan plan = plan_of(4, 20, 1);
     struct {
         struct famsync_plan plan;
@@ -167,8 +217,7 @@ static void refusals(void)
     longer.more = 1;
     WANT_CODE(famsync_format(volume, &longer.plan), FAMSYNC_ARGUMENT);
     for (unsigned layout = 1; layout <= LAYOUTS; layout++) {
-        plan = plan_of(layout, MOST[layout - 1] + 1, 1);
-        is_refused(&plan, "slots");
+        bad_logs(layout);
         plan = plan_of(layout, 20, 0);
         is_refused(&plan, "files");
         plan = plan_of(layout, 20, 65);
@@ -193,8 +242,13 @@ static void refusals(void)
     }
     plan = plan_of(3, 1, 1);
     is_refused(&plan, "slots");
-    plan = plan_of(5, 20, 1);
+    plan = plan_of(7, 20, 1);
     is_refused(&plan, "layouts");
+    plan = plan_of(4, 20, 1);
+    plan.size = offsetof(struct famsync_plan, log); /* as an older program has it, whose bytes behind are others */
+    plan.log = 5;
+    WANT_CODE(famsync_format(volume, &plan), FAMSYNC_OK);
+    remove_volume();
     longer.plan = plan_of(1, 1, 1);
     longer.plan.size = sizeof longer;
     longer.more = 0;
@@ -336,6 +390,8 @@ int main(void)
         all_are_named = way == 1;
         each_layout();
         is_used();
+        for (unsigned layout = JOURNAL_LAYOUTS + 1; layout <= LAYOUTS; layout++)
+            has_default_log(layout);
         refusals();
         names();
         at_once();

@@ -1,7 +1,8 @@
 /*
  * A core for tests of the host alone: it keeps the calls of famsync_core.h over a volume in the format of
- * docs/FORMATS.md, in each layout, by plain code that nobody proved. What it is for: the host is linked with it where
- * the real core isn't built, and its recorded calls can be logged and compared with those that the host makes.
+ * docs/FORMATS.md, in layouts 1 to 4, by plain code that nobody proved. Volumes with a log aren't volumes to it. What
+ * it is for: the host is linked with it where the real core isn't built, and its recorded calls can be logged and
+ * compared with those that the host makes.
  *
  *   MOCK_LOG=PATH   each call that is recorded is written there, a line each: core W OFFSET HEX, or core S; and how
  * many are said to be made: core made COUNT
@@ -597,6 +598,15 @@ int32_t famsync_core_shares_syncs(famsync_core handle, uint8_t **at)
     return core_of(handle)->open ? journals(core_of(handle)) == 4 : FAMSYNC_CORE_ORDER;
 }
 
+int32_t famsync_core_log(famsync_core handle, uint64_t *blocks, uint64_t *used, uint64_t *commits, uint8_t **at)
+{
+    *at = handle.at;
+    (void)blocks;
+    (void)used;
+    (void)commits;
+    return core_of(handle)->open ? FAMSYNC_CORE_NONE : FAMSYNC_CORE_ORDER;
+}
+
 int32_t famsync_core_file(famsync_core handle, uint32_t file, uint64_t *length, uint64_t *pages, uint8_t **at)
 {
     struct core *core = core_of(handle);
@@ -747,10 +757,11 @@ static bool step(struct core *core)
     return true;
 }
 
-int32_t famsync_core_write_out(famsync_core handle, uint32_t most, uint8_t **at)
+int32_t famsync_core_write_out(famsync_core handle, uint32_t most, uint32_t *wanted, uint8_t **at)
 {
     struct core *core = core_of(handle);
     *at = handle.at;
+    (void)wanted;
     if (!core->open || core->broken)
         return core->open ? FAMSYNC_CORE_BROKEN : FAMSYNC_CORE_ORDER;
     for (; most > 0; most--) {
@@ -821,12 +832,13 @@ static void begin_write_out(struct core *core, struct journal *journal)
     core->under_way++;
 }
 
-int32_t famsync_core_commit(famsync_core handle, uint32_t *mark, uint8_t **at)
+int32_t famsync_core_commit(famsync_core handle, uint32_t *mark, uint32_t *wanted, uint8_t **at)
 {
     struct core *core = core_of(handle);
     struct journal *journal = &core->journal[core->next];
     int32_t told;
     *at = handle.at;
+    (void)wanted;
     if (is_told(&told))
         return told;
     if (!core->open || core->broken)

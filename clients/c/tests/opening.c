@@ -131,7 +131,7 @@ static void spoilt_volumes(void)
     make_volume(16, "a=65536");
     set_bytes(64, "\377\377\377\377\377\377\377\377", 8); /* a capacity */
     WANT_CODE(code_of(volume), FAMSYNC_DAMAGED);
-    for (unsigned layout = 1; layout <= LAYOUTS; layout++) { /* an open gate of the last journal, and no descriptor */
+    for (unsigned layout = 1; layout <= JOURNAL_LAYOUTS; layout++) { /* an open gate without a descriptor */
         make_volume_of(layout, 16, "a=65536");
         set_bytes((off_t)gate_block(16, journals_of(layout) - 1) * 4096, "\247", 1);
         WANT_CODE(code_of(volume), FAMSYNC_DAMAGED);
@@ -141,7 +141,7 @@ static void spoilt_volumes(void)
 /* An open gate with a descriptor that counts more records than there are slots. */
 static void too_many_records(void)
 {
-    for (unsigned layout = 1; layout <= LAYOUTS; layout++)
+    for (unsigned layout = 1; layout <= JOURNAL_LAYOUTS; layout++)
         for (unsigned count = 17; count < 1000; count += 200) {
             unsigned char descriptor[16] = {0};
             off_t gate = (off_t)gate_block(16, 0) * 4096;
@@ -154,10 +154,41 @@ static void too_many_records(void)
         }
 }
 
+/* A volume with a log of 20 blocks in which these bytes are other ones. */
+static int code_of_log(unsigned layout, off_t at, const char *bytes, size_t count)
+{
+    make_volume_of(layout, 18, "a=65536");
+    set_bytes(at, bytes, count);
+    return code_of(volume);
+}
+
+/* The super block of a volume with a log, and its starts. Behind the start that counts there may be anything in layout
+   6, whose digest tells it from a commit; in layout 5 a seal has to be a commit's. */
+static void spoilt_logs(void)
+{
+    for (unsigned layout = JOURNAL_LAYOUTS + 1; layout <= LAYOUTS; layout++) {
+        WANT_CODE(code_of_log(layout, 12, "\0\0\0\24", 4), FAMSYNC_OK);
+        WANT_CODE(code_of_log(layout, 12, "\0\0\0\3", 4), FAMSYNC_DAMAGED); /* blocks of the log */
+        WANT_CODE(code_of_log(layout, 12, "\1\0\0\1", 4), FAMSYNC_DAMAGED);
+        WANT_CODE(code_of_log(layout, 12, "\0\0\0\25", 4), FAMSYNC_DAMAGED);
+        WANT_CODE(code_of_log(layout, 20, "\0\0\0\5", 4), FAMSYNC_DAMAGED);                      /* where it begins */
+        WANT_CODE(code_of_log(layout, 24, "\1", 1), layout == 6 ? FAMSYNC_OK : FAMSYNC_DAMAGED); /* the key */
+        WANT_CODE(code_of_log(layout, 8192, "\0\0\0\0\0\0\0\0", 8), FAMSYNC_DAMAGED); /* the number of a commit */
+        WANT_CODE(code_of_log(layout, 8200, "\0\0\0\0\0\0\0\0", 8), FAMSYNC_DAMAGED); /* the epoch */
+        WANT_CODE(code_of_log(layout, 8208, "\0\0\0\23", 4), FAMSYNC_OK);             /* the position */
+        WANT_CODE(code_of_log(layout, 8208, "\0\0\0\24", 4), FAMSYNC_DAMAGED);
+        WANT_CODE(code_of_log(layout, 8292, "\1", 1), FAMSYNC_DAMAGED);   /* behind it */
+        WANT_CODE(code_of_log(layout, 4096, "\247", 1), FAMSYNC_DAMAGED); /* the other start, which is none */
+        WANT_CODE(code_of_log(layout, 4096, "\1", 1), FAMSYNC_OK);
+        WANT_CODE(code_of_log(layout, 16384, "\247", 1), layout == 6 ? FAMSYNC_OK : FAMSYNC_DAMAGED); /* a seal */
+        WANT_CODE(code_of_log(layout, 16385, "\247", 1), FAMSYNC_OK);
+    }
+}
+
 /* The least number of slots and 1,020 of them are served; one less and one more than there may be make it no volume. */
 static void numbers_of_slots(void)
 {
-    for (unsigned layout = 1; layout <= LAYOUTS; layout++) {
+    for (unsigned layout = 1; layout <= JOURNAL_LAYOUTS; layout++) {
         unsigned char head[4];
         unsigned least = has_lengths(layout) ? 2 : 1, most = layout == 4 ? 65535 : 1020;
         make_volume_of(layout, least, "a=4096");
@@ -331,6 +362,7 @@ int main(void)
     other_files();
     spoilt_volumes();
     too_many_records();
+    spoilt_logs();
     numbers_of_slots();
     other_lengths();
     other_names();

@@ -198,16 +198,19 @@ static int find(bool trust)
     return 0;
 }
 
+/* The same bytes as those of `make`. */
 static int formats(unsigned layout)
 {
     struct famsync_new_file file[] = {{"a", 163840, 0}, {"b", 0, 5000}, {"c", 163840, 0}};
+    struct famsync_plan plan = {.size = sizeof plan, .layout = layout, .slots = 48, .files = 3, .file = file};
     if (layout == 1 || layout == 2)
         file[B].length = file[B].capacity;
-    return report(
-        "format",
-        famsync_format(
-            volume, &(struct famsync_plan){
-                        .size = sizeof(struct famsync_plan), .layout = layout, .slots = 48, .files = 3, .file = file}));
+    if (has_log(layout)) {
+        plan.slots = 0;
+        plan.log = log_blocks(48);
+        plan.key = layout == 6 ? LOG_KEY : 0;
+    }
+    return report("format", famsync_format(volume, &plan));
 }
 
 static int reads(void)

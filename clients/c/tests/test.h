@@ -93,8 +93,17 @@ static inline void put_number(unsigned char *bytes, unsigned count, uint64_t num
         bytes[i - 1] = (unsigned char)number;
 }
 
-/* Layouts 1 to LAYOUTS, as docs/FORMATS.md has them. */
-#define LAYOUTS 4u
+/* Layouts 1 to LAYOUTS, as docs/FORMATS.md has them: with journals up to JOURNAL_LAYOUTS, and then with a log. The core
+   of tests/mock_core.c has no logs, so with it LAYOUTS is JOURNAL_LAYOUTS. */
+#define JOURNAL_LAYOUTS 4u
+#ifndef LAYOUTS
+#define LAYOUTS 6u
+#endif
+
+static inline bool has_log(unsigned layout)
+{
+    return layout > JOURNAL_LAYOUTS;
+}
 
 static inline bool has_lengths(unsigned layout)
 {
@@ -109,7 +118,7 @@ static inline unsigned journals_of(unsigned layout)
 /* Whether commits share their syncs. */
 static inline bool shares_syncs(unsigned layout)
 {
-    return journals_of(layout) == 4;
+    return layout >= 4;
 }
 
 /* How many blocks the descriptor of a journal with so many slots has, and which block the gate of a journal is. */
@@ -123,10 +132,25 @@ static inline uint32_t gate_block(unsigned slots, unsigned journal)
     return 1 + journal * (1 + descriptor_blocks(slots) + slots);
 }
 
-/* The first block after the journals: the lengths block, or where there is none a file's first one. */
+/* How many blocks a log has in which a commit has at most so many records, and how many of its blocks such a commit
+   takes. The key of layout 6. */
+#define LOG_KEY 0x0123456789abcdefu
+
+static inline uint32_t commit_blocks(unsigned records)
+{
+    return (32 + 4 * records + 4095) / 4096 + records;
+}
+
+static inline uint32_t log_blocks(unsigned slots)
+{
+    uint32_t blocks = commit_blocks(slots) + 1;
+    return blocks < 4 ? 4 : blocks;
+}
+
+/* The first block after the journals or the log: the lengths block, or where there is none a file's first one. */
 static inline uint32_t first_home(unsigned layout, unsigned slots)
 {
-    return gate_block(slots, journals_of(layout));
+    return has_log(layout) ? 4 + log_blocks(slots) : gate_block(slots, journals_of(layout));
 }
 
 /* The super block and the lengths block of a volume with these files, `NAME=LENGTH` or `NAME=LENGTH/CAPACITY`, with
@@ -136,6 +160,7 @@ static inline uint32_t lay_out(unsigned layout, unsigned slots, const char *file
                                unsigned char lengths[4096], uint32_t *lengths_at)
 {
     uint32_t next = first_home(layout, slots) + has_lengths(layout);
+    uint32_t behind = has_log(layout) ? log_blocks(slots) + 1 : 0; /* the block that the table has for a home block */
     unsigned count = 0;
     *lengths_at = has_lengths(layout) ? next - 1 : 0;
     for (const char *at = files; *at; at += strspn(at, " "), count++) {
@@ -152,7 +177,7 @@ static inline uint32_t lay_out(unsigned layout, unsigned slots, const char *file
         }
         memcpy(row, name, strlen(name));
         put_number(row + 32, 8, capacity);
-        put_number(row + 40, 4, next);
+        put_number(row + 40, 4, next - behind);
         put_number(row + 44, 4, (capacity + 4095) / 4096);
         put_number(lengths + 8 * count, 8, length);
         next += (uint32_t)((capacity + 4095) / 4096);
@@ -160,9 +185,25 @@ static inline uint32_t lay_out(unsigned layout, unsigned slots, const char *file
     memcpy(super, "FAMSYNC", 7);
     super[7] = (unsigned char)('0' + layout);
     put_number(super + 8, 4, count);
-    put_number(super + 12, 4, slots);
+    put_number(super + 12, 4, has_log(layout) ? log_blocks(slots) : slots);
     put_number(super + 16, 4, next);
+    put_number(super + 20, 4, has_log(layout) ? 4 : 0);
+    put_number(super + 24, 8, layout == 6 ? LOG_KEY : 0);
     return next;
+}
+
+/* Writes what a new volume has besides zeros. */
+static inline void write_new(int file, unsigned layout, const unsigned char *super, const unsigned char *lengths,
+                             uint32_t lengths_at)
+{
+    unsigned char start[4096] = {0};
+    put_number(start, 8, 1);
+    put_number(start + 8, 8, 1);
+    WANT(pwrite(file, super, 4096, 0) == 4096);
+    if (lengths_at)
+        WANT(pwrite(file, lengths, 4096, (off_t)lengths_at * 4096) == 4096);
+    if (has_log(layout))
+        WANT(pwrite(file, start, 4096, 2 * 4096) == 4096);
 }
 
 /* Makes a volume of a layout with these files in a folder of its own. */
@@ -180,9 +221,7 @@ static inline void make_volume_of(unsigned layout, unsigned slots, const char *f
         WANT(written > 0);
         done += (uint64_t)written;
     }
-    WANT(pwrite(file, super, 4096, 0) == 4096);
-    if (lengths_at)
-        WANT(pwrite(file, lengths, 4096, (off_t)lengths_at * 4096) == 4096);
+    write_new(file, layout, super, lengths, lengths_at);
     WANT(close(file) == 0);
 }
 
@@ -194,9 +233,7 @@ static inline void make_hole_of(unsigned layout, unsigned slots, const char *fil
     make_folder();
     int file = open(volume, O_RDWR | O_CREAT | O_TRUNC | O_CLOEXEC, 0600);
     WANT(file >= 0 && ftruncate(file, (off_t)blocks * 4096) == 0);
-    WANT(pwrite(file, super, 4096, 0) == 4096);
-    if (lengths_at)
-        WANT(pwrite(file, lengths, 4096, (off_t)lengths_at * 4096) == 4096);
+    write_new(file, layout, super, lengths, lengths_at);
     WANT(close(file) == 0);
 }
 
@@ -205,16 +242,43 @@ static inline void make_volume(unsigned slots, const char *files)
     make_volume_of(1, slots, files);
 }
 
-/* How many gates of a volume with so many slots are open. */
+/* The bytes of a volume as a number. */
+static inline uint64_t number_at(int file, uint64_t offset, unsigned count)
+{
+    unsigned char bytes[8];
+    uint64_t number = 0;
+    WANT(pread(file, bytes, count, (off_t)offset) == (ssize_t)count);
+    for (unsigned i = 0; i < count; i++)
+        number = number << 8 | bytes[i];
+    return number;
+}
+
+/* How many commits are in the log of a volume, behind the start that counts: each has the next number. */
+static inline unsigned commits_in_log(int file)
+{
+    uint64_t start = number_at(file, 4096, 1) == 0xA7 ? 3 * 4096 : 2 * 4096, ring = number_at(file, 12, 4);
+    uint64_t number = number_at(file, start, 8), position = number_at(file, start + 16, 4), used = 0;
+    unsigned commits = 0;
+    for (; used < ring; commits++, number++) {
+        uint64_t at = (4 + (position + used) % ring) * 4096;
+        bool sealed = number_at(file, 7, 1) == '6' || number_at(file, at, 1) == 0xA7;
+        if (!sealed || number_at(file, at + 8, 8) != number)
+            break;
+        used += commit_blocks((unsigned)number_at(file, at + 16, 4));
+    }
+    return commits;
+}
+
+/* How many commits of a volume with so many slots aren't home: gates that are open, or commits of its log. */
 static inline unsigned open_gates(unsigned layout, unsigned slots)
 {
     unsigned count = 0;
     int file = open(volume, O_RDONLY | O_CLOEXEC);
-    for (unsigned journal = 0; journal < journals_of(layout); journal++) {
-        unsigned char gate = 0;
-        WANT(pread(file, &gate, 1, (off_t)gate_block(slots, journal) * 4096) == 1);
-        count += gate == 0xA7;
-    }
+    WANT(file >= 0);
+    for (unsigned journal = 0; !has_log(layout) && journal < journals_of(layout); journal++)
+        count += number_at(file, (uint64_t)gate_block(slots, journal) * 4096, 1) == 0xA7;
+    if (has_log(layout))
+        count = commits_in_log(file);
     WANT(close(file) == 0);
     return count;
 }
@@ -225,6 +289,14 @@ static inline unsigned gates_left(unsigned layout, unsigned commits)
 {
     unsigned most = shares_syncs(layout) ? 2 : journals_of(layout);
     return commits < most ? commits : most;
+}
+
+/* Whether that many commits may be left then, also in a log: the newest one, and as many more as it has room for. */
+static inline bool may_be_left(unsigned layout, unsigned slots, unsigned commits, unsigned left)
+{
+    if (!has_log(layout))
+        return left == gates_left(layout, commits);
+    return left >= 1 && left <= commits && left <= log_blocks(slots) / commit_blocks(1);
 }
 
 static inline famsync *opened_with(struct famsync_options options)

@@ -1,7 +1,7 @@
 /* How many calls of the system a commit is, counted to the end of its write-out: four writes and one more for each
    further run of neighbouring pages, and four syncs; whoever calls meanwhile, and however many pages it has, as long as
    a run is no longer than one call can write. In layout 4 commits share their syncs: where one comes right after
-   another, it makes two, and the last one of all two more. */
+   another, it makes two, and the last one of all two more. Volumes with a log are counted by log.c. */
 #include "test.h"
 
 #include <stdatomic.h>
@@ -341,7 +341,7 @@ static void count_in_layout(unsigned layout)
 
 int main(void)
 {
-    for (unsigned layout = 1; layout <= LAYOUTS; layout++)
+    for (unsigned layout = 1; layout <= JOURNAL_LAYOUTS; layout++)
         count_in_layout(layout);
     count_commits(LARGE, BY_POINTER);
     count_in_a_row(LARGE, BY_CALL);

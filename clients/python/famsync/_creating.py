@@ -3,7 +3,7 @@
 from __future__ import annotations
 
 import ctypes
-from typing import Mapping, Tuple, Union
+from typing import Mapping, Optional, Tuple, Union
 
 from . import _library
 from ._errors import Argument, check
@@ -19,13 +19,23 @@ def _new_file(name: str, length: Length) -> _library.NewFile:
 
 
 def create(
-    path: Path, files: Mapping[str, Length], *, layout: int = 4, slots: int = 1024, preallocate: bool = False
+    path: Path,
+    files: Mapping[str, Length],
+    *,
+    layout: int = 4,
+    slots: Optional[int] = None,
+    preallocate: bool = False,
+    log: Optional[int] = None,
+    key: int = 0,
 ) -> None:
     """Makes a volume at `path`, where no file is yet: else System, whose errno is EEXIST. `files` has the length of
-    each file, or a pair of its length and its capacity, the length up to which it may grow. A commit has at most as
-    many pages as there are slots, or one less in layouts 3 and 4.
+    each file, or a pair of its length and its capacity, the length up to which it may grow.
 
         famsync.create("bank.vol", {"bank": 8192, "log": (0, 1 << 40)})
+
+    In layouts 1 to 4 a commit has at most as many pages as there are `slots`, or one less in layouts 3 and 4; without
+    `slots` there are 1,024. In layouts 5 and 6 it has to fit into the log of `log` blocks; without `log` there are
+    16,384. `key` is the key of the digests in layout 6; 0 means a random one.
 
     With `preallocate` the disk's blocks are taken now; else as they are written. Argument if no volume is like that."""
     made = [_new_file(name, length) for name, length in files.items()]
@@ -33,12 +43,14 @@ def create(
     plan = _library.Plan(
         size=ctypes.sizeof(_library.Plan),
         layout=_at_least_one(layout, "the layout"),
-        slots=_at_least_one(slots, "the number of slots"),
+        slots=0 if slots is None else _at_least_one(slots, "the number of slots"),
         files=len(made),
         file=(_library.NewFile * len(made))(*made),
         preallocate=bool(preallocate),
         message=ctypes.addressof(said),
         message_size=ctypes.sizeof(said),
+        log=0 if log is None else _at_least_one(log, "the number of blocks of the log"),
+        key=_number(key, 64, "the key"),
     )
     check(library.famsync_format(_path(path), ctypes.byref(plan)), said.value.decode("utf-8", "replace"))
 

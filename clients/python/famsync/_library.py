@@ -46,6 +46,8 @@ class Plan(ctypes.Structure):
         ("preallocate", c_int),
         ("message", c_void_p),
         ("message_size", c_size_t),
+        ("log", c_uint),
+        ("key", c_uint64),
     ]
 
 

@@ -260,7 +260,7 @@ class Volume:
         _sync_folder(path)
 
     def set_length(self, name: str, length: int) -> None:
-        """Sets the length of a file, up to its capacity, in a volume of layout 3 or 4; else Invalid. Bytes past a new
+        """Sets the length of a file, up to its capacity, from layout 3 on; else Invalid. Bytes past a new
         end are gone, and what a file grows by is zeros; the pages that it grows by go into the next commit, and NoFrame
         says that one can't have them all. Like a write it is durable after that commit.
 

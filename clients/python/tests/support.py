@@ -31,8 +31,32 @@ def has_lengths(layout):
     return layout >= 3
 
 
+def has_log(layout):
+    return layout >= 5
+
+
+KEY = 0x0123456789ABCDEF
+
+
+def log_blocks(slots):
+    """How many blocks a log has in which a commit has at most so many records."""
+    return max(4, -(-(32 + 4 * slots) // PAGE) + slots + 1)
+
+
+def layouts_with_log():
+    """The layouts with a log, if the library's core has logs; the core of plain code has none."""
+    with tempfile.TemporaryDirectory() as folder:
+        try:
+            famsync.create(os.path.join(folder, "v.img"), {"a": 1}, layout=5)
+        except famsync.System:
+            return ()
+    return (5, 6)
+
+
 def first_home(layout, slots):
-    """The first block after the journals, each of which has a gate, its descriptor and its slots."""
+    """The first block after the journals, each of which has a gate, its descriptor and its slots; or after the log."""
+    if has_log(layout):
+        return 4 + log_blocks(slots)
     journals, descriptor = {1: 1, 2: 2, 3: 2, 4: 4}[layout], -(-(16 + 4 * slots) // PAGE)
     return 1 + journals * (1 + descriptor + slots)
 
@@ -42,6 +66,7 @@ def make_volume(path, slots, *files, layout=1):
     head, lengths = bytearray(PAGE), bytearray(PAGE)
     lengths_at = first_home(layout, slots)
     home = lengths_at + has_lengths(layout)
+    behind = log_blocks(slots) + 1 if has_log(layout) else 0
     for number, file in enumerate(files):
         name, _, length = file.partition("=")
         length, _, capacity = length.partition("/")
@@ -49,19 +74,24 @@ def make_volume(path, slots, *files, layout=1):
         pages = -(-capacity // PAGE)
         head[row : row + len(name)] = name.encode()
         put(head, row + 32, 8, capacity)
-        put(head, row + 40, 4, home)
+        put(head, row + 40, 4, home - behind)
         put(head, row + 44, 4, pages)
         put(lengths, 8 * number, 8, int(length))
         home += pages
     head[:8] = b"FAMSYNC%d" % layout
-    for at, value in ((8, len(files)), (12, slots), (16, home)):
+    for at, value in ((8, len(files)), (12, log_blocks(slots) if has_log(layout) else slots), (16, home)):
         put(head, at, 4, value)
+    put(head, 20, 4, 4 if has_log(layout) else 0)
+    put(head, 24, 8, KEY if layout == 6 else 0)
     with open(path, "wb") as volume:
         volume.truncate(home * PAGE)
         volume.write(head)
         if has_lengths(layout):
             volume.seek(lengths_at * PAGE)
             volume.write(lengths)
+        if has_log(layout):
+            volume.seek(2 * PAGE)
+            volume.write((1).to_bytes(8, "big") * 2)
 
 
 def run_python(code, *words, **options):

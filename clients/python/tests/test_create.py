@@ -4,7 +4,7 @@ import errno
 import os
 import unittest
 
-from support import InAFolder, famsync, make_volume
+from support import KEY, InAFolder, famsync, layouts_with_log, log_blocks, make_volume
 
 
 class Creating(InAFolder):
@@ -15,6 +15,26 @@ class Creating(InAFolder):
             famsync.create(f"{layout}.img", {"bank": 8192, "log": given}, layout=layout, slots=20)
             with open("theirs.img", "rb") as theirs, open(f"{layout}.img", "rb") as ours:
                 self.assertEqual(ours.read(), theirs.read())
+
+    def test_same_bytes_with_a_log(self):
+        for layout in layouts_with_log():
+            make_volume("theirs.img", 20, "bank=8192", "log=0/5000", layout=layout)
+            how = {"log": log_blocks(20), "key": KEY if layout == 6 else 0}
+            famsync.create(f"{layout}.img", {"bank": 8192, "log": (0, 5000)}, layout=layout, **how)
+            with open("theirs.img", "rb") as theirs, open(f"{layout}.img", "rb") as ours:
+                self.assertEqual(ours.read(), theirs.read())
+
+    def test_a_log_is_used(self):
+        for layout in layouts_with_log():
+            famsync.create(f"{layout}.img", {"bank": 8192, "log": (0, 100000)}, layout=layout)
+            with famsync.open(f"{layout}.img") as volume:
+                self.assertEqual(volume.frames, 16366)
+                volume.set_length("log", 100000)
+                for number in range(50):
+                    volume.write("log", 99999, bytes((number,)))
+                    volume.commit()
+            with famsync.open(f"{layout}.img", readonly=True) as volume:
+                self.assertEqual(volume.read("log", 99999), b"1")
 
     def test_is_used(self):
         famsync.create("new.img", {"bank": 8192, "log": (0, 100000)}, preallocate=True)
@@ -37,7 +57,13 @@ class Creating(InAFolder):
             ({"a b": 1}, {}, "name"),
             ({"a": (2, 1)}, {}, "capacity"),
             ({"a": 1 << 63}, {}, "blocks"),
-            ({"a": 1}, {"layout": 5}, "layouts"),
+            ({"a": 1}, {"layout": 7}, "layouts"),
+            ({"a": 1}, {"layout": 5, "slots": 20}, "no slots"),
+            ({"a": 1}, {"layout": 5, "log": 3}, "4 to"),
+            ({"a": 1}, {"layout": 5, "log": 0}, "log"),
+            ({"a": 1}, {"layout": 5, "key": 1}, "key"),
+            ({"a": 1}, {"layout": 4, "log": 64}, "have a log"),
+            ({"a": 1}, {"layout": 6, "key": 1 << 64}, "key"),
             ({"a": (1, 2)}, {"layout": 1, "slots": 2}, "layout"),
             ({"a": 1}, {"slots": 65536}, "slots"),
             ({"a": 1}, {"slots": 0}, "slots"),

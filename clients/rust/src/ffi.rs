@@ -47,6 +47,8 @@ pub struct FamsyncPlan {
     pub preallocate: c_int,
     pub message: *mut c_char,
     pub message_size: usize,
+    pub log: c_uint,
+    pub key: u64,
 }
 
 #[repr(C)]

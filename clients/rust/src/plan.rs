@@ -21,14 +21,16 @@ use std::path::Path;
 #[derive(Clone, Debug)]
 pub struct Plan {
     layout: u32,
-    slots: u32,
+    slots: Option<u32>,
+    log: Option<u32>,
+    key: u64,
     files: Vec<(String, u64, u64)>,
     preallocate: bool,
 }
 
 impl Default for Plan {
     fn default() -> Plan {
-        Plan { layout: 4, slots: 1024, files: Vec::new(), preallocate: false }
+        Plan { layout: 4, slots: None, log: None, key: 0, files: Vec::new(), preallocate: false }
     }
 }
 
@@ -38,15 +40,28 @@ impl Plan {
         Plan::default()
     }
 
-    /// The layout, 1 to 4.
+    /// The layout, 1 to 6.
     pub fn layout(&mut self, layout: u32) -> &mut Plan {
         self.layout = layout;
         self
     }
 
-    /// The slots of each journal. A commit has at most as many pages, or one less in layouts 3 and 4.
+    /// The slots of each journal, in layouts 1 to 4; 1,024 by default. A commit has at most as many pages, or one less
+    /// in layouts 3 and 4.
     pub fn slots(&mut self, slots: u32) -> &mut Plan {
-        self.slots = slots;
+        self.slots = Some(slots);
+        self
+    }
+
+    /// The blocks of the log, in layouts 5 and 6, 4 to 2^24; 16,384 by default. A commit has to fit into it.
+    pub fn log(&mut self, blocks: u32) -> &mut Plan {
+        self.log = Some(blocks);
+        self
+    }
+
+    /// The key of the digests, in layout 6. By default, and with 0, it is a random one.
+    pub fn key(&mut self, key: u64) -> &mut Plan {
+        self.key = key;
         self
     }
 
@@ -55,7 +70,7 @@ impl Plan {
         self.growing(name, length, length)
     }
 
-    /// One more file, which may grow up to a capacity, in layouts 3 and 4.
+    /// One more file, which may grow up to a capacity, from layout 3 on.
     pub fn growing(&mut self, name: impl Into<String>, length: u64, capacity: u64) -> &mut Plan {
         self.files.push((name.into(), length, capacity));
         self
@@ -70,8 +85,8 @@ impl Plan {
     /// Makes the volume in a new file. [`Code::System`], with `AlreadyExists`, if there is one of this name;
     /// [`Code::Argument`] if no volume is like that. The error says in words what is wrong.
     pub fn make(&self, path: impl AsRef<Path>) -> Result<(), Error> {
-        if self.layout == 0 || self.slots == 0 {
-            return Err(Error::with_message(Code::Argument, "a volume has a layout and slots".to_string()));
+        if self.layout == 0 || self.slots == Some(0) || self.log == Some(0) {
+            return Err(Error::with_message(Code::Argument, "a volume has a layout, and slots or a log".to_string()));
         }
         let text = |bytes: &[u8]| CString::new(bytes).map_err(|_| Error::new(Code::Argument));
         let path = text(path.as_ref().as_os_str().as_bytes())?;
@@ -85,12 +100,14 @@ impl Plan {
         let plan = ffi::FamsyncPlan {
             size: mem::size_of::<ffi::FamsyncPlan>(),
             layout: c_uint::from(self.layout),
-            slots: c_uint::from(self.slots),
+            slots: c_uint::from(self.slots.unwrap_or(0)),
             files: c_uint::try_from(files.len()).unwrap_or(c_uint::MAX),
             file: files.as_ptr(),
             preallocate: c_int::from(self.preallocate),
             message: message.as_mut_ptr().cast(),
             message_size: message.len(),
+            log: c_uint::from(self.log.unwrap_or(0)),
+            key: self.key,
         };
         // Safety: the path and the names end with null bytes, and the plan has the files and the room that it says.
         check(unsafe { ffi::famsync_format(path.as_ptr(), &plan) }).map_err(|error| error.saying(&message))

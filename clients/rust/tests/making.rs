@@ -5,7 +5,7 @@ mod volumes;
 use famsync::{Code, Options, Plan, Volume};
 use std::fs;
 use std::io::ErrorKind;
-use volumes::make_volume;
+use volumes::{layouts_with_log, log_blocks, make_volume, KEY};
 
 #[test]
 fn same_bytes() {
@@ -18,6 +18,37 @@ fn same_bytes() {
         plan.layout(u32::from(layout)).slots(20).file("a", 8192);
         plan.growing("b", if layout < 3 { 5000 } else { 0 }, 5000).make(made.path()).unwrap();
         assert!(fs::read(made.path()).unwrap() == written, "layout {layout}");
+    }
+}
+
+#[test]
+fn same_bytes_with_a_log() {
+    for layout in layouts_with_log() {
+        let made = make_volume(layout, 20, "a=8192 b=0/5000");
+        let written = fs::read(made.path()).unwrap();
+        fs::remove_file(made.path()).unwrap();
+        let mut plan = Plan::new();
+        plan.layout(u32::from(layout)).log(log_blocks(20) as u32).file("a", 8192).growing("b", 0, 5000);
+        plan.key(if layout == 6 { KEY } else { 0 }).make(made.path()).unwrap();
+        assert!(fs::read(made.path()).unwrap() == written, "layout {layout}");
+    }
+}
+
+#[test]
+fn a_log_is_used() {
+    for layout in layouts_with_log() {
+        let made = make_volume(1, 2, "a=1");
+        fs::remove_file(made.path()).unwrap();
+        let plan = Plan::new().layout(u32::from(layout)).file("bank", 8192).clone();
+        let mut volume = Volume::create(made.path(), &plan).unwrap();
+        assert_eq!(volume.frames(), 16366);
+        for number in 0..50 {
+            volume.memory_mut("bank").unwrap()[8191] = number;
+            volume.commit().unwrap();
+        }
+        drop(volume);
+        let volume = Options::new().readonly(true).open(made.path()).unwrap();
+        assert_eq!(volume.memory("bank").unwrap()[8191], 49);
     }
 }
 
@@ -52,7 +83,12 @@ fn refused() {
         Plan::new().growing("a", 2, 1).clone(),
         Plan::new().file("a", u64::MAX).clone(),
         Plan::new().file("a", 1).layout(0).clone(),
-        Plan::new().file("a", 1).layout(5).clone(),
+        Plan::new().file("a", 1).layout(7).clone(),
+        Plan::new().file("a", 1).layout(5).slots(20).clone(),
+        Plan::new().file("a", 1).layout(5).log(3).clone(),
+        Plan::new().file("a", 1).layout(5).log(0).clone(),
+        Plan::new().file("a", 1).layout(5).key(1).clone(),
+        Plan::new().file("a", 1).log(64).clone(),
         Plan::new().file("a", 1).slots(0).clone(),
         Plan::new().file("a", 1).slots(65536).clone(),
         Plan::new().growing("a", 1, 2).layout(1).slots(2).clone(),

@@ -3,7 +3,7 @@
  *
  *   session VOLUME make LAYOUT SLOTS FILES    makes a volume
  *   session VOLUME work SEED COMMITS MOST     commits at random: each commit stores to at most MOST pages, in plain
- *                                             memory or by famsync_write, and in layouts 3 and 4 some set a length
+ *                                             memory or by famsync_write, and from layout 3 on some set a length
  *   session VOLUME find                       reads paths of volumes, a line each, and prints what each one contains
  *
  * What a volume contains is printed as a digest of the lengths and the bytes of all files. `work` computes it from a
