@@ -1,6 +1,6 @@
 # Completion of famsync for bash: source it, or put it into a folder of bash-completion as `famsync`.
 # tests/program/help compares these words with --help.
-# words: format migrate run threads serve replay dump info check export crashes help --help --version --layout --preallocate --trust --json --html
+# words: format migrate run threads serve replay dump info check export crashes help --help --version --layout --log --key --preallocate --trust --json --html
 
 _famsync() {
     local word=${COMP_WORDS[COMP_CWORD]} command=${COMP_WORDS[1]:-} words=
@@ -9,11 +9,11 @@ _famsync() {
     elif [ "$command" = help ]; then
         words='format migrate run threads serve replay dump info check export crashes'
     elif [ "${COMP_WORDS[COMP_CWORD - 1]}" = --layout ]; then
-        words='1 2 3 4'
+        words='1 2 3 4 5 6'
         [ "$command" != migrate ] || words='3 4'
     elif [[ $word == -* ]]; then
         case $command in
-        format) words='--layout --preallocate --json --help' ;;
+        format) words='--layout --log --key --preallocate --json --help' ;;
         run | threads | serve | replay) words='--trust --help' ;;
         migrate) words='--layout --preallocate --trust --json --help' ;;
         dump | info | check | export) words='--trust --json --help' ;;

@@ -6,6 +6,14 @@ use Rattle.std.specs.Str.Parse.{IsNumeral, digits_value}
 abbrev pub IsDecimal : List ℕ → Type 0
 IsDecimal digits = IsNumeral 10 digits × (digits_value 10 digits < 2 ^ 64)
 
+-- one or more hexadecimal digits, of a number below 2^64
+abbrev pub IsHexadecimal : List ℕ → Type 0
+IsHexadecimal digits = IsNumeral 16 digits × (digits_value 16 digits < 2 ^ 64)
+
+-- 16 hexadecimal digits
+abbrev pub IsKey : List ℕ → Type 0
+IsKey word = IsHexadecimal word × (length word ≡ 16)
+
 -- no element is c
 abbrev pub Lacks : ℕ → List ℕ → Type 0
 Lacks c word = (i : ℕ) → i < length word → slice_index word i ≢ c

@@ -1,17 +1,21 @@
 // The command line: what the words ask for.
 ghost use Rattle.std.specs.Prelude.{◌≡◌, ◌↔◌, ◌<◌, IsTrue};
 ghost use Rattle.volume_codec.specs.Layout.{number_of, lengths_blocks};
+ghost use Rattle.command_line.specs.Logs.{seal_in};
 ghost use Rattle.volume_codec.specs.declared.layout.Layout.{Layout as AnyLayout};
 
 use crate::commands::program;
-use crate::job::{Export, Form, Job, Look, Make, Migration, Scripted, Sight};
+use crate::job::{Export, Form, Job, Logged, Look, Make, Migration, Scripted, Seal, Sight};
 use crate::word_fault::WordFault;
-use crate::words::{decimal, file_spec};
+use crate::words::{decimal, file_spec, key};
 use clap::error::ErrorKind;
 use clap::{ArgMatches, Error};
 use std::alloc::{AllocError, Allocator, Global};
 use std::convert::AsStr;
-use volume_codec::Layout;
+use volume_codec::{FileSpec, Layout};
+
+/// The number of blocks of a log where none is given: 64 MiB.
+const LOG_BLOCKS: u64 = 16_384;
 
 /// Reads the words of a command line, of which the first is the program's name.
 pub fn read_words<'a, A: Allocator + Copy, S: AsStr>(
@@ -104,31 +108,137 @@ fn may_grow(layout: u64) -> bool
     }
 }
 
+// The layout of this number as one with a log, if it is one: 5 seals commits by a byte, and 6 by a digest.
+fn log_layout(layout: u64, key: Option<u64>) -> Option<Seal>
+    ensures { result ≡ seal_in layout key }
+{
+    match layout {
+        5 => Some(Seal::Byte),
+        6 => Some(Seal::Digest(key)),
+        _ => None,
+    }
+}
+
 fn format_job<'a, A: Allocator + Copy>(
     alloc: A,
     words: &ArgMatches<'a>,
 ) -> Result<Job<'a, A>, WordFault<'a>> {
-    let (layout, slots) = layout_and_slots(words)?;
-    let grows = may_grow(layout);
-    let mut files = Vec::new(alloc);
-    for word in words.get_strs("FILE").unwrap_or(&[]) {
-        let file = file_spec(word, grows);
-        files.push(file.ok_or(WordFault::FileSpec(word))?)?;
+    let layout = layout_of(words)?;
+    let key = key_of(words, layout)?;
+    match log_layout(layout, key) {
+        Some(seal) => log_job(alloc, words, seal),
+        None => journals_job(alloc, words, layout),
     }
+}
+
+// A volume with journals.
+fn journals_job<'a, A: Allocator + Copy>(
+    alloc: A,
+    words: &ArgMatches<'a>,
+    layout: u64,
+) -> Result<Job<'a, A>, WordFault<'a>> {
+    if words.contains_id("log") {
+        return Err(WordFault::OtherLayout {
+            option: "--log",
+            layouts: "layouts 5 and 6",
+            found: layout,
+        });
+    }
+    let Some(slots) = words.get_str("SLOTS") else {
+        return Err(WordFault::Missing("<SLOTS> <FILE>..."));
+    };
+    let slots = slots_of(slots)?;
+    let mut files = Vec::new(alloc);
+    more_files(words, may_grow(layout), &mut files)?;
     Ok(Job::Make(Make::Volume {
         layout,
         disk: text(words, "DISK"),
         slots,
-        files,
+        files: some_files(files)?,
         preallocate: words.get_flag("preallocate"),
         json: words.get_flag("json"),
     }))
 }
 
+// A volume with a log. Its files follow DISK at once.
+fn log_job<'a, A: Allocator + Copy>(
+    alloc: A,
+    words: &ArgMatches<'a>,
+    seal: Seal,
+) -> Result<Job<'a, A>, WordFault<'a>> {
+    let log = log_blocks(words)?;
+    let mut files = Vec::new(alloc);
+    if let Some(first) = words.get_str("SLOTS") {
+        files.push(file_of(first, true)?)?;
+    }
+    more_files(words, true, &mut files)?;
+    Ok(Job::Make(Make::Logged(Logged {
+        seal,
+        disk: text(words, "DISK"),
+        log,
+        files: some_files(files)?,
+        preallocate: words.get_flag("preallocate"),
+        json: words.get_flag("json"),
+    })))
+}
+
+// The words for files, as files.
+fn more_files<'a, A: Allocator + Copy>(
+    words: &ArgMatches<'a>,
+    grows: bool,
+    files: &mut Vec<FileSpec<'a>, A>,
+) -> Result<(), WordFault<'a>> {
+    for word in words.get_strs("FILE").unwrap_or(&[]) {
+        files.push(file_of(word, grows)?)?;
+    }
+    Ok(())
+}
+
+fn file_of<'a>(word: &'a str, grows: bool) -> Result<FileSpec<'a>, WordFault<'a>> {
+    file_spec(word, grows).ok_or(WordFault::FileSpec(word))
+}
+
+// These files, if there are any.
+fn some_files<'a, A: Allocator + Copy>(
+    files: Vec<FileSpec<'a>, A>,
+) -> Result<Vec<FileSpec<'a>, A>, WordFault<'a>> {
+    if files.is_empty() {
+        return Err(WordFault::Missing("<FILE>..."));
+    }
+    Ok(files)
+}
+
+// The number of blocks of a log.
+fn log_blocks<'a>(words: &ArgMatches<'a>) -> Result<u64, WordFault<'a>> {
+    match words.get_str("log") {
+        Some(word) => decimal(word).ok_or(WordFault::Blocks(word)),
+        None => Ok(LOG_BLOCKS),
+    }
+}
+
+// The key that is given for the digests of a log, which only layout 6 has.
+fn key_of<'a>(words: &ArgMatches<'a>, layout: u64) -> Result<Option<u64>, WordFault<'a>> {
+    let Some(word) = words.get_str("key") else {
+        return Ok(None);
+    };
+    if !matches!(log_layout(layout, None), Some(Seal::Digest(_))) {
+        return Err(WordFault::OtherLayout {
+            option: "--key",
+            layouts: "layout 6",
+            found: layout,
+        });
+    }
+    match key(word) {
+        Some(key) => Ok(Some(key)),
+        None => Err(WordFault::Key(word)),
+    }
+}
+
 fn migrate_job<'a, A: Allocator + Copy>(
     words: &ArgMatches<'a>,
 ) -> Result<Job<'a, A>, WordFault<'a>> {
-    let (layout, slots) = layout_and_slots(words)?;
+    let layout = layout_of(words)?;
+    let slots = slots_of(text(words, "SLOTS"))?;
     Ok(Job::Make(Make::Migration(Migration {
         old: text(words, "OLD"),
         new: text(words, "NEW"),
@@ -140,13 +250,15 @@ fn migrate_job<'a, A: Allocator + Copy>(
     })))
 }
 
-// The number of a new volume's layout, and the record slots of each of its journals.
-fn layout_and_slots<'a>(words: &ArgMatches<'a>) -> Result<(u64, u64), WordFault<'a>> {
+// The number of a new volume's layout.
+fn layout_of<'a>(words: &ArgMatches<'a>) -> Result<u64, WordFault<'a>> {
     let layout = text(words, "layout");
-    let layout = decimal(layout).ok_or(WordFault::Layout(layout))?;
-    let slots = text(words, "SLOTS");
-    let slots = decimal(slots).ok_or(WordFault::Slots(slots))?;
-    Ok((layout, slots))
+    decimal(layout).ok_or(WordFault::Layout(layout))
+}
+
+// The record slots of each journal of a new volume.
+fn slots_of(slots: &str) -> Result<u64, WordFault<'_>> {
+    decimal(slots).ok_or(WordFault::Slots(slots))
 }
 
 // How the crashes of a script are printed.

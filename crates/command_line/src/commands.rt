@@ -6,6 +6,8 @@ use std::alloc::{AllocError, Global};
 #[derive(Clone, Copy)]
 enum Choice {
     Layout,
+    Log,
+    Key,
     NewLayout,
     Preallocate,
     Trust,
@@ -14,14 +16,16 @@ enum Choice {
     Html,
 }
 
-// A command: its name, what it does, its options, its words, and the word that may come more than once after them. A
-// word has its name and its help.
+// A command: its name, what it does, its line of use where that isn't made of the rest, its options, its words, those
+// that may be left out, and the word that may come more than once after them. A word has its name and its help.
 #[derive(Clone, Copy)]
 struct Shape {
     name: &'static str,
     about: &'static str,
+    usage: Option<&'static str>,
     options: &'static [Choice],
     words: &'static [(&'static str, &'static str)],
+    optional: &'static [(&'static str, &'static str)],
     last: Option<(&'static str, &'static str)>,
 }
 
@@ -33,22 +37,30 @@ const COMMANDS: &[Shape] = &[
     Shape {
         name: "format",
         about: "Makes or replaces the file DISK by a volume whose files are all zeros",
-        options: &[Choice::Layout, Choice::Preallocate, Choice::Json],
-        words: &[
-            ("DISK", "The file to make"),
-            (
-                "SLOTS",
-                "Record slots of each journal, 1 to 1020, in layout 3 from 2 on, in layout 4 from 2 to 65535: the most blocks that one commit can have",
-            ),
+        usage: Some(
+            "famsync format [OPTIONS] <DISK> <SLOTS> <FILE>...\n       famsync format --layout <5|6> [OPTIONS] <DISK> <FILE>...",
+        ),
+        options: &[
+            Choice::Layout,
+            Choice::Log,
+            Choice::Key,
+            Choice::Preallocate,
+            Choice::Json,
         ],
+        words: &[("DISK", "The file to make")],
+        optional: &[(
+            "SLOTS",
+            "In layouts 1 to 4 alone: record slots of each journal, 1 to 1020, in layout 3 from 2 on, in layout 4 from 2 to 65535: the most blocks that one commit can have",
+        )],
         last: Some((
             "FILE",
-            "A file of the volume, as NAME=LENGTH in bytes, in layouts 3 and 4 also as NAME=LENGTH/CAPACITY",
+            "A file of the volume, as NAME=LENGTH in bytes, in layouts 3 to 6 also as NAME=LENGTH/CAPACITY",
         )),
     },
     Shape {
         name: "migrate",
         about: "Makes or replaces the file NEW by a volume whose files may grow, with the files of the volume in OLD",
+        usage: None,
         options: &[
             Choice::NewLayout,
             Choice::Preallocate,
@@ -63,18 +75,22 @@ const COMMANDS: &[Shape] = &[
                 "Record slots of each journal of the new volume, 2 to 1020, in layout 4 to 65535",
             ),
         ],
+        optional: &[],
         last: None,
     },
     Shape {
         name: "run",
         about: "Runs a script of steps on a volume, and prints a reply for each step",
+        usage: None,
         options: &[Choice::Trust],
         words: &[DISK, SCRIPT],
+        optional: &[],
         last: None,
     },
     Shape {
         name: "threads",
         about: "Runs a program for each processor in a thread of its own, and prints a trace of all steps",
+        usage: None,
         options: &[Choice::Trust],
         words: &[
             DISK,
@@ -83,59 +99,74 @@ const COMMANDS: &[Shape] = &[
                 "The file that holds the script with the programs, a JSON object",
             ),
         ],
+        optional: &[],
         last: None,
     },
     Shape {
         name: "serve",
         about: "Answers requests on a volume: the first line of the input is the shape of a machine, and each further one a request",
+        usage: None,
         options: &[Choice::Trust],
         words: &[DISK],
+        optional: &[],
         last: None,
     },
     Shape {
         name: "replay",
         about: "Runs a trace again on a copy of a volume, and prints whether each reply is the same",
+        usage: None,
         options: &[Choice::Trust],
         words: &[DISK, ("TRACE", "The file that holds the trace")],
+        optional: &[],
         last: None,
     },
     Shape {
         name: "dump",
         about: "Prints the files of a volume as it would be opened, and leaves it as it is",
+        usage: None,
         options: &[Choice::Trust, Choice::Json],
         words: &[DISK],
+        optional: &[],
         last: None,
     },
     Shape {
         name: "info",
         about: "Prints what the bytes of a volume say: its shape, its files, its journals, and what opening would do",
+        usage: None,
         options: &[Choice::Trust, Choice::Json],
         words: &[DISK],
+        optional: &[],
         last: None,
     },
     Shape {
         name: "check",
         about: "Prints whether a volume is clean, needs opening or is damaged, with status 0, 1 or 3",
+        usage: None,
         options: &[Choice::Trust, Choice::Json],
         words: &[DISK],
+        optional: &[],
         last: None,
     },
     Shape {
         name: "export",
         about: "Copies a file of a volume, as it would be opened, to the file OUT, and leaves the volume as it is",
+        usage: None,
         options: &[Choice::Trust, Choice::Json],
         words: &[
             DISK,
             ("FILE", "The name of the file in the volume"),
             ("OUT", "The file to make or replace"),
         ],
+        optional: &[],
         last: None,
     },
     Shape {
         name: "crashes",
         about: "Prints what a crash within each device call of a script leaves of a copy of a volume",
+        usage: None,
         options: &[Choice::Trust, Choice::JsonLines, Choice::Html],
         words: &[DISK, SCRIPT],
+        optional: &[],
         last: None,
     },
 ];
@@ -163,16 +194,27 @@ fn with<'a>(
 }
 
 fn command_of<'a>(alloc: Global, shape: &Shape) -> Result<Command<'a>, AllocError> {
-    let command = Command::new(alloc, shape.name).about(shape.about);
+    let command = with_usage(
+        Command::new(alloc, shape.name).about(shape.about),
+        shape.usage,
+    );
     let command = with_options(alloc, command, shape.options)?;
-    let command = with_words(alloc, command, shape.words)?;
+    let command = with_words(alloc, command, shape.words, true)?;
+    let command = with_words(alloc, command, shape.optional, false)?;
     match shape.last {
         Some((name, help)) => command.arg(
-            word(alloc, name, help)
+            word(alloc, name, help, false)
                 .action(ArgAction::Append)
                 .num_args(1..),
         ),
         None => Ok(command),
+    }
+}
+
+fn with_usage<'a>(command: Command<'a>, usage: Option<&'static str>) -> Command<'a> {
+    match usage {
+        Some(usage) => command.override_usage(usage),
+        None => command,
     }
 }
 
@@ -196,7 +238,19 @@ fn with_option<'a>(
         Choice::Layout => command.arg(layout(
             alloc,
             "1",
-            "The number of the volume's layout: 1 has one journal, 2 has two, 3 has two and files that may grow, and 4 has four, such files, and room for larger commits",
+            "The number of the volume's layout: 1 has one journal, 2 has two, 3 has two and files that may grow, 4 has four, such files, and room for larger commits, and 5 and 6 have such files and a log, in which 5 seals commits by a byte, and 6 by a digest",
+        )),
+        Choice::Log => command.arg(value(
+            alloc,
+            "log",
+            "BLOCKS",
+            "The number of the log's blocks in layouts 5 and 6, 4 to 16777216 [default: 16384]",
+        )),
+        Choice::Key => command.arg(value(
+            alloc,
+            "key",
+            "KEY",
+            "The key of the digests in layout 6, 16 hexadecimal digits [default: drawn at random]",
         )),
         Choice::NewLayout => command.arg(layout(
             alloc,
@@ -229,9 +283,10 @@ fn with_words<'a>(
     alloc: Global,
     mut command: Command<'a>,
     words: &[(&'static str, &'static str)],
+    required: bool,
 ) -> Result<Command<'a>, AllocError> {
     for &(name, help) in words {
-        command = command.arg(word(alloc, name, help))?;
+        command = command.arg(word(alloc, name, help, required))?;
     }
     Ok(command)
 }
@@ -244,6 +299,13 @@ fn layout<'a>(alloc: Global, default: &'a str, help: &'a str) -> Arg<'a> {
         .help(help)
 }
 
+fn value<'a>(alloc: Global, name: &'a str, value: &'a str, help: &'a str) -> Arg<'a> {
+    Arg::new(alloc, name)
+        .long(name)
+        .value_name(value)
+        .help(help)
+}
+
 fn flag<'a>(alloc: Global, name: &'a str, help: &'a str) -> Arg<'a> {
     Arg::new(alloc, name)
         .long(name)
@@ -251,6 +313,6 @@ fn flag<'a>(alloc: Global, name: &'a str, help: &'a str) -> Arg<'a> {
         .help(help)
 }
 
-fn word<'a>(alloc: Global, name: &'a str, help: &'a str) -> Arg<'a> {
-    Arg::new(alloc, name).required(true).help(help)
+fn word<'a>(alloc: Global, name: &'a str, help: &'a str, required: bool) -> Arg<'a> {
+    Arg::new(alloc, name).required(required).help(help)
 }

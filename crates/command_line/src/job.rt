@@ -36,10 +36,32 @@ pub enum Make<'a, A: Allocator + Copy> {
         preallocate: bool,
         json: bool,
     },
+    /// A volume with a log.
+    Logged(Logged<'a, A>),
     /// A volume whose files can grow, of another.
     Migration(Migration<'a>),
     /// A copy of a file of a volume.
     Copy(Export<'a>),
+}
+
+/// How a volume with a log seals its commits: by a byte in layout 5, and by a digest in layout 6, under this key, or
+/// under one that is drawn.
+#[derive(Clone, Copy, Debug, PartialEq, Eq)]
+pub enum Seal {
+    Byte,
+    Digest(Option<u64>),
+}
+
+/// A volume with a log that is made: how it seals its commits, the path of its file, the blocks of its log, its files,
+/// whether its blocks are taken on the disk at once, and whether what is printed is JSON.
+#[derive(Drop)]
+pub struct Logged<'a, A: Allocator + Copy> {
+    pub seal: Seal,
+    pub disk: &'a str,
+    pub log: u64,
+    pub files: Vec<FileSpec<'a>, A>,
+    pub preallocate: bool,
+    pub json: bool,
 }
 
 /// A volume on which what another file says is run: the paths of the volume's file and of the script or the trace, and

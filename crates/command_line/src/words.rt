@@ -1,7 +1,7 @@
 // Numbers and files, as words of the command line.
 ghost use Rattle.std.specs.Prelude.{◌≡◌, SomeIff, MatchOption};
 ghost use Rattle.std.specs.Str.Parse.{digits_value};
-ghost use Rattle.command_line.specs.Words.{IsDecimal, IsFile, IsNoFile, AreSizes, AreNoSizes};
+ghost use Rattle.command_line.specs.Words.{IsDecimal, IsHexadecimal, IsKey, IsFile, IsNoFile, AreSizes, AreNoSizes};
 
 use volume_codec::FileSpec;
 
@@ -13,6 +13,26 @@ pub fn decimal(word: &str) -> Option<u64>
         return None;
     }
     word.parse().ok()
+}
+
+// The number that one or more hexadecimal digits write, and nothing else, up to 2^64 - 1.
+fn hexadecimal(word: &str) -> Option<u64>
+    ensures { SomeIff result (IsHexadecimal word.now) (digits_value 16 word.now) }
+{
+    if word.starts_with('+') {
+        return None;
+    }
+    u64::from_str_radix(word, 16).ok()
+}
+
+/// The number that 16 hexadecimal digits write, and nothing else.
+pub fn key(word: &str) -> Option<u64>
+    ensures { SomeIff result (IsKey word.now) (digits_value 16 word.now) }
+{
+    if word.len() != 16 {
+        return None;
+    }
+    hexadecimal(word)
 }
 
 // A length, which is the capacity too; where files may grow, or a length, `/` and a capacity.

@@ -2,6 +2,9 @@ pub mod Found
 pub mod Health
 pub mod Json
 pub mod Lines
+pub mod LogHealth
+pub mod LogJson
+pub mod LogText
 pub mod Places
 pub mod Reading
 pub mod Text

@@ -97,7 +97,8 @@ fn write_file_text<W: io::Write>(
     write_capacity(bytes, capacity, out)
 }
 
-fn write_file_name<W: io::Write>(name: &str, out: &mut W) -> io::Result<()>
+/// The name of a file, before its size.
+pub fn write_file_name<W: io::Write>(name: &str, out: &mut W) -> io::Result<()>
     ensures { OnOk result (Appends (W.contents out.old) (W.contents out.new) (file_name name.now)) }
 {
     write!(out, "file {name}: ")
@@ -109,8 +110,8 @@ fn write_file_size<W: io::Write>(bytes: u64, pages: u32, home: u32, out: &mut W)
     write!(out, "{bytes} bytes, {pages} pages, home {home}")
 }
 
-// The capacity of a file where that isn't its length, and the line's end.
-fn write_capacity<W: io::Write>(bytes: u64, capacity: u64, out: &mut W) -> io::Result<()>
+/// The capacity of a file where that isn't its length, and the line's end.
+pub fn write_capacity<W: io::Write>(bytes: u64, capacity: u64, out: &mut W) -> io::Result<()>
     ensures { OnOk result (Appends (W.contents out.old) (W.contents out.new) (capacity_text bytes capacity)) }
 {
     if capacity == bytes {

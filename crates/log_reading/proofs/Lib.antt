@@ -1,3 +1,4 @@
+mod ChainBlocks
 mod Homes
 mod Newest
 mod Read

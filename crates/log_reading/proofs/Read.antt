@@ -1,7 +1,7 @@
 -- Reading a volume with a log.
 use Rattle.std.proofs.Common.{◌≡◌, ◌⊎◌, inl, inr, ℕ, List, take, sym, ap, subst}
 use Rattle.page_entry.specs.declared.refusal.Refusal.{Refusal}
-use Rattle.page_entry.specs.declared.refusal.Refusal.TheVariants.{Device, OutOfMemory, NotAVolume, Damaged}
+use Rattle.page_entry.specs.declared.refusal.Refusal.TheVariants.{Device, OutOfMemory, Damaged}
 use Rattle.volume_codec.specs.Layout.{block_at}
 use Rattle.volume_codec.specs.Lengths.{IsLengths}
 use Rattle.volume_codec.specs.Recovery.{files_from}
@@ -9,7 +9,7 @@ use Rattle.volume_codec.specs.Refusals.{RefusesLengths}
 use Rattle.volume_codec.proofs.Public.{reads_lengths}
 use Rattle.log_codec.specs.Log.{first_log_home, first_log_file_home}
 use Rattle.log_codec.specs.Chain.{LogRecovers}
-use Rattle.log_volume.specs.Super.{LogSuperValue, IsLogSuper, RefusesLogSuper, table_of, log_of, log_magic}
+use Rattle.log_volume.specs.Super.{LogSuperValue, IsLogSuper, table_of, log_of, log_magic}
 use Rattle.log_volume.specs.Files.{RecoversToLog, log_lengths_in}
 use Rattle.log_recovery.specs.Reading.{RefusesLog}
 use Rattle.log_opening.proofs.Public.{refuses_look, refuses_lengths}

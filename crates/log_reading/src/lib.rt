@@ -2,7 +2,9 @@
 #![tactic(auto)]
 
 mod pages;
+mod used;
 mod volume;
 
 pub use pages::read_page;
+pub use used::used_blocks;
 pub use volume::{LoggedVolume, read_log_volume};

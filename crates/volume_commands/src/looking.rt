@@ -1,15 +1,18 @@
 // Telling what the bytes of the volume in a file say, and printing its files. The file is only read. What is done once
 // the disk is open is written for any device, which costs the prover less than the device by its name.
 ghost use Rattle.std.specs.Prelude.{◌≡◌, ◌≤◌, length, IfOk};
+ghost use Rattle.log_volume.specs.Super.{log_of};
+ghost use Rattle.log_recovery.specs.Reading.{IsFoundLog};
 ghost use Rattle.volume_commands.specs.inside.Health.{health_status};
 
 use crate::print::print_value;
 use command_line::{Look, Sight};
 use device::Device;
 use inspection::{
-    Found, Health, damage_value, examine, found_value, health_value, inspect, write_file_lines,
-    write_found,
+    Found, Health, damage_value, examine, examine_log, found_value, health_value, inspect,
+    log_found_value, write_file_lines, write_found, write_log_found,
 };
+use log_reading::{LoggedVolume, read_log_volume};
 use page_entry::Refusal;
 use std::alloc::{Allocator, Global};
 use std::fs::File;
@@ -17,7 +20,7 @@ use std::io;
 use std::rt::Files;
 use volume_files::{
     Access, FileFailure, Refused, SyncNote, dump, not_listed, not_opened, not_read, open_disk,
-    place, refused_to_open,
+    place, refused_to_open, refused_to_read_log,
 };
 
 /// Prints what is looked at of a volume, and answers the status: 0, and of a volume's health 0, 1 or 3. `note` gets
@@ -53,8 +56,7 @@ where
     match look.sight {
         Sight::Health => check_disk(global, alloc, look, &mut disk, out),
         Sight::Bytes => {
-            let found = found_on(alloc, look.disk, &mut disk)?;
-            print_found(global, look.json, &found, out)?;
+            print_bytes(global, alloc, look, &mut disk, out)?;
             Ok(0)
         }
         Sight::Files => {
@@ -68,17 +70,32 @@ where
     }
 }
 
-// What is found of the volume of a device.
-fn found_on<'a, D: Device, A: Allocator + Copy>(
+// Prints what the bytes of the volume of a device say.
+fn print_bytes<'a, D: Device, A: Allocator + Copy, W: io::Write>(
+    global: Global,
     alloc: A,
-    path: &'a str,
+    look: Look<'a>,
     disk: &mut D,
-) -> Result<Found<A>, FileFailure<'a>>
-    ensures count { IfOk result (λ found. length found.lengths.items ≡ length found.table.files) }
-{
+    out: &mut W,
+) -> Result<(), FileFailure<'a>> {
     match inspect(alloc, disk) {
-        Ok(found) => Ok(found),
-        Err(refusal) => Err(not_opened(path, refused_to_open(alloc, refusal, disk))),
+        Ok(found) => print_found(global, look.json, &found, out),
+        Err(Refusal::NotAVolume) => print_log_bytes(global, alloc, look, disk, out),
+        Err(refusal) => Err(not_opened(look.disk, refused_to_open(alloc, refusal, disk))),
+    }
+}
+
+// Prints what the bytes of the volume with a log of a device say.
+fn print_log_bytes<'a, D: Device, A: Allocator + Copy, W: io::Write>(
+    global: Global,
+    alloc: A,
+    look: Look<'a>,
+    disk: &mut D,
+    out: &mut W,
+) -> Result<(), FileFailure<'a>> {
+    match read_log_volume(alloc, disk) {
+        Ok(found) => print_log_found(global, look.json, &found, out),
+        Err(refusal) => Err(not_opened(look.disk, refused_to_read_log(alloc, refusal, disk))),
     }
 }
 
@@ -98,6 +115,23 @@ fn print_found<'a, A: Allocator + Copy, W: io::Write>(
     Ok(())
 }
 
+fn print_log_found<'a, A: Allocator + Copy, W: io::Write>(
+    global: Global,
+    json: bool,
+    found: &LoggedVolume<A>,
+    out: &mut W,
+) -> Result<(), FileFailure<'a>>
+    requires count { length found.now.lengths.items ≡ length found.now.table.files }
+    requires log { IsFoundLog (log_of found.now.table) found.now.log }
+{
+    if json {
+        let value = log_found_value(global, found)?;
+        return print_value(global, &value, out);
+    }
+    write_log_found(found, out)?;
+    Ok(())
+}
+
 // Prints how the volume of a device is, and answers the status.
 fn check_disk<'a, D: Device, A: Allocator + Copy, W: io::Write>(
     global: Global,
@@ -109,10 +143,8 @@ fn check_disk<'a, D: Device, A: Allocator + Copy, W: io::Write>(
     ensures { IfOk result (λ status. status ≤ 3) }
 {
     match examine(alloc, disk) {
-        Ok(health) => {
-            print_health(global, look.json, health, out)?;
-            Ok(status_of(health))
-        }
+        Ok(health) => tell_health(global, look.json, health, out),
+        Err(Refusal::NotAVolume) => check_log(global, alloc, look, disk, out),
         Err(Refusal::Damaged) => {
             let cause = refused_to_open(alloc, Refusal::Damaged, disk);
             print_damage(global, look.json, &cause, out)?;
@@ -120,6 +152,41 @@ fn check_disk<'a, D: Device, A: Allocator + Copy, W: io::Write>(
         }
         Err(refusal) => Err(not_opened(look.disk, refused_to_open(alloc, refusal, disk))),
     }
+}
+
+// Prints how the volume with a log of a device is, and answers the status.
+fn check_log<'a, D: Device, A: Allocator + Copy, W: io::Write>(
+    global: Global,
+    alloc: A,
+    look: Look<'a>,
+    disk: &mut D,
+    out: &mut W,
+) -> Result<u8, FileFailure<'a>>
+    ensures { IfOk result (λ status. status ≤ 3) }
+{
+    match examine_log(alloc, disk) {
+        Ok(health) => tell_health(global, look.json, health, out),
+        Err(Refusal::Damaged) => {
+            let cause = refused_to_read_log(alloc, Refusal::Damaged, disk);
+            print_damage(global, look.json, &cause, out)?;
+            Ok(3)
+        }
+        Err(refusal) => Err(not_opened(look.disk, refused_to_read_log(alloc, refusal, disk))),
+    }
+}
+
+// Prints how a volume is that isn't damaged, and answers the status.
+fn tell_health<'a, W: io::Write>(
+    global: Global,
+    json: bool,
+    health: Health,
+    out: &mut W,
+) -> Result<u8, FileFailure<'a>>
+    ensures status { IfOk result (λ status. status ≡ health_status health) }
+    ensures small { IfOk result (λ status. status ≤ 3) }
+{
+    print_health(global, json, health, out)?;
+    Ok(status_of(health))
 }
 
 fn status_of(health: Health) -> u8

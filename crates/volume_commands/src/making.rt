@@ -1,15 +1,16 @@
 // Making a volume, migrating one, and copying a file out of one; each prints how much was made.
-ghost use Rattle.std.specs.Prelude.{◌≡◌};
+ghost use Rattle.std.specs.Prelude.{◌≡◌, ℕ, Some, IsOkAnd};
 
 use crate::print::print_count;
 use crate::progress::Progress;
-use command_line::{Export, Make, Migration};
+use command_line::{Export, Logged, Make, Migration, Seal};
+use log_codec::Sealing;
 use std::alloc::Allocator;
 use std::fs::File;
 use std::io;
 use std::io::IsTerminal;
 use std::rt::Files;
-use volume_files::{ExportPlan, FileFailure, MigrationPlan, Plan, SyncNote};
+use volume_files::{ExportPlan, FileFailure, LogPlan, MigrationPlan, Plan, SyncNote, draw_key};
 
 /// Makes what is asked for: a volume, one of another, or a copy of a file of one; and prints how many blocks or bytes
 /// that has. `note` gets what is to be said of a sync that failed. Where `err` is a terminal, it shows how much of a
@@ -47,6 +48,10 @@ where
             let blocks = volume_files::format(rt, alloc, disk, plan)?;
             print_count(global, json, "formatted", blocks, "blocks", out)
         }
+        Make::Logged(asked) => {
+            let blocks = logged(rt, alloc, &asked)?;
+            print_count(global, asked.json, "formatted", blocks, "blocks", out)
+        }
         Make::Migration(asked) => {
             let blocks = migrated(rt, alloc, &asked, err, note)?;
             print_count(global, asked.json, "migrated", blocks, "blocks", out)
@@ -54,6 +59,37 @@ where
         Make::Copy(asked) => {
             let bytes = exported(rt, alloc, asked, err, note)?;
             print_count(global, asked.json, "exported", bytes, "bytes", out)
+        }
+    }
+}
+
+// Makes a volume with a log, and counts its blocks.
+fn logged<'a, R, A>(rt: &R, alloc: A, asked: &Logged<'a, A>) -> Result<u64, FileFailure<'a>>
+where
+    R: Files<File = File> + AllocGlobal,
+    A: Allocator + Copy,
+{
+    let plan = LogPlan {
+        sealing: sealing(rt, asked.seal)?,
+        files: &asked.files,
+        ring: asked.log,
+        preallocate: asked.preallocate,
+    };
+    volume_files::format_log(rt, alloc, asked.disk, plan)
+}
+
+// How a volume with a log seals its commits. A key that isn't given is drawn.
+fn sealing<'a, R: Files<File = File>>(rt: &R, seal: Seal) -> Result<Sealing, FileFailure<'a>>
+    ensures byte { seal ≡ Seal.Byte → IsOkAnd result (λ sealing. sealing ≡ Sealing.ByByte) }
+    ensures given { (key : ℕ) → seal ≡ Seal.Digest (Some key)
+        → IsOkAnd result (λ sealing. sealing ≡ Sealing.ByDigest key) }
+{
+    match seal {
+        Seal::Byte => Ok(Sealing::ByByte),
+        Seal::Digest(Some(key)) => Ok(Sealing::ByDigest(key)),
+        Seal::Digest(None) => {
+            let key = draw_key(rt)?;
+            Ok(Sealing::ByDigest(key))
         }
     }
 }

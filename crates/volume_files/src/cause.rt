@@ -1,9 +1,10 @@
 // Why a volume is refused, as far as it can be told: what was found, and what is allowed.
-ghost use Rattle.std.specs.Prelude.{◌≡◌, ◌+◌};
+ghost use Rattle.std.specs.Prelude.{◌≡◌, ◌≢◌, ◌+◌, ◌⊎◌, true, false, take, codes};
 ghost use Rattle.volume_codec.specs.Layout.{lengths_blocks, max_slots as most_slots};
 ghost use Rattle.recovery.specs.Reading.{IsOnlyRead};
 
 use device::Device;
+use log_volume::read_log_super;
 use page_entry::{PAGE, Refusal};
 use recovery::reading::read;
 use std::alloc::Allocator;
@@ -30,7 +31,7 @@ impl fmt::Display for Refused<'_> {
 /// What was found, and what is allowed. What it is shown as for debugging is its text.
 #[derive(Clone, Copy, Error)]
 pub enum Cause<'a> {
-    #[error("LAYOUT is {0}, and 1 to 4 are served")]
+    #[error("LAYOUT is {0}, and 1 to 6 are served")]
     Layout(u64),
     #[error("LAYOUT is {0}, and a volume is migrated to 3 or 4")]
     NewLayout(u64),
@@ -45,6 +46,8 @@ pub enum Cause<'a> {
         least: u64,
         most: u64,
     },
+    #[error("BLOCKS is {0}, and 4 to 16777216 are allowed")]
+    Blocks(u64),
     #[error("{0} files are asked for, and 1 to 64 are allowed")]
     FileCount(usize),
     #[error("the name {0:?} isn't 1 to 32 characters from ! to ~")]
@@ -67,6 +70,10 @@ pub enum Cause<'a> {
     TooShort(u64),
     #[error("the file doesn't begin with FAMSYNC1, FAMSYNC2, FAMSYNC3 or FAMSYNC4")]
     Magic,
+    #[error("the file doesn't begin with FAMSYNC1, FAMSYNC2, FAMSYNC3, FAMSYNC4, FAMSYNC5 or FAMSYNC6")]
+    AnyMagic,
+    #[error("the volume is in layout 5 or 6, which this command doesn't serve")]
+    HasLog,
     #[error("the super block breaks the format")]
     SuperBlock,
     #[error("the file has {found} bytes, and its super block says {wanted}")]
@@ -78,6 +85,8 @@ pub enum Cause<'a> {
     Journal,
     #[error("the descriptor of an open journal or the lengths break the format, or two journals have one mark")]
     JournalOrLengths,
+    #[error("the log or the lengths break the format")]
+    LogOrLengths,
     #[error("a read, a write or a sync of the file failed")]
     Call,
 }
@@ -108,6 +117,23 @@ pub fn refused_to_format<'a>(
     slots: u64,
 ) -> Refused<'a> {
     Refused::to_make(refusal, cause_in_files(layout, files, slots))
+}
+
+/// Why no volume with a log of so many blocks is made of these files.
+pub fn refused_to_format_log<'a>(
+    refusal: Refusal,
+    files: &[FileSpec<'a>],
+    ring: u64,
+) -> Refused<'a> {
+    Refused::to_make(refusal, cause_in_log(files, ring))
+}
+
+// What is outside the limits of volumes with a log.
+fn cause_in_log<'a>(files: &[FileSpec<'a>], ring: u64) -> Cause<'a> {
+    if !(4..=1 << 24).contains(&ring) {
+        return Cause::Blocks(ring);
+    }
+    cause_in_list(true, files)
 }
 
 /// Why no volume in the layout of this number and with so many slots is made of the files of one in another layout.
@@ -168,6 +194,11 @@ fn cause_in_files<'a>(layout: u64, files: &[FileSpec<'a>], slots: u64) -> Cause<
     if let Some(cause) = cause_in_slots(layout, slots) {
         return cause;
     }
+    cause_in_list(layout.lengths_blocks() > 0, files)
+}
+
+// What is outside the limits of files, which may grow or not.
+fn cause_in_list<'a>(grows: bool, files: &[FileSpec<'a>]) -> Cause<'a> {
     if !(1..=64).contains(&files.len()) {
         return Cause::FileCount(files.len());
     }
@@ -178,7 +209,7 @@ fn cause_in_files<'a>(layout: u64, files: &[FileSpec<'a>], slots: u64) -> Cause<
         if files[..i].iter().any(|other| other.name == file.name) {
             return Cause::SameName(file.name);
         }
-        if let Some(cause) = cause_in_extent(layout, file) {
+        if let Some(cause) = cause_in_extent(grows, file) {
             return cause;
         }
     }
@@ -186,11 +217,11 @@ fn cause_in_files<'a>(layout: u64, files: &[FileSpec<'a>], slots: u64) -> Cause<
 }
 
 // What is outside the limits of a file's length and capacity.
-fn cause_in_extent<'a>(layout: Layout, file: &FileSpec<'a>) -> Option<Cause<'a>> {
+fn cause_in_extent<'a>(grows: bool, file: &FileSpec<'a>) -> Option<Cause<'a>> {
     let name = file.name;
     let length = file.length;
     let capacity = file.capacity;
-    if capacity == 0 && layout.lengths_blocks() > 0 {
+    if capacity == 0 && grows {
         Some(Cause::NoCapacity(name))
     } else if capacity == 0 {
         Some(Cause::NoLength(name))
@@ -236,10 +267,93 @@ fn cause_in_bytes<D: Device, A: Allocator + Copy>(
     let found = device.len();
     match refusal {
         Refusal::NotAVolume if found < PAGE => Some(Cause::TooShort(found)),
-        Refusal::NotAVolume => Some(Cause::Magic),
+        Refusal::NotAVolume => Some(cause_of_magic(device)),
         Refusal::Damaged => cause_of_damage(alloc, found, &first_block(device)?),
         Refusal::Device => Some(Cause::Call),
         _ => None,
+    }
+}
+
+// What else than a volume without a log a device has.
+fn cause_of_magic<D: Device>(device: &mut D) -> Cause<'static>
+    ensures { IsOnlyRead D.Device device.old device.new }
+{
+    match first_block(device) {
+        Some(block) => {
+            if begins_with_log_magic(&block) {
+                Cause::HasLog
+            } else {
+                Cause::Magic
+            }
+        }
+        None => Cause::Magic,
+    }
+}
+
+// Whether a block begins with the magic of a layout with a log.
+fn begins_with_log_magic(block: &[u8; 4096]) -> bool
+    ensures yes { result ≡ true → (take 8 block.now ≡ codes "FAMSYNC5") ⊎ (take 8 block.now ≡ codes "FAMSYNC6") }
+    ensures no { result ≡ false → (take 8 block.now ≢ codes "FAMSYNC5") × (take 8 block.now ≢ codes "FAMSYNC6") }
+{
+    let mut magic = [0; 8];
+    magic.copy_from_slice(&block[..8]);
+    if magic == *b"FAMSYNC5" {
+        return true;
+    }
+    if magic == *b"FAMSYNC6" {
+        return true;
+    }
+    false
+}
+
+/// Why the volume with a log of a device isn't read.
+pub fn refused_to_read_log<'a, D: Device, A: Allocator + Copy>(
+    alloc: A,
+    refusal: Refusal,
+    device: &mut D,
+) -> Refused<'a>
+    ensures refusal { result.refusal ≡ refusal }
+    ensures read { IsOnlyRead D.Device device.old device.new }
+{
+    let cause = cause_in_log_bytes(alloc, refusal, device);
+    Refused { refusal, cause }
+}
+
+// What breaks the format of volumes with a log on a device.
+fn cause_in_log_bytes<D: Device, A: Allocator + Copy>(
+    alloc: A,
+    refusal: Refusal,
+    device: &mut D,
+) -> Option<Cause<'static>>
+    ensures read { IsOnlyRead D.Device device.old device.new }
+{
+    let found = device.len();
+    match refusal {
+        Refusal::NotAVolume if found < PAGE => Some(Cause::TooShort(found)),
+        Refusal::NotAVolume => Some(Cause::AnyMagic),
+        Refusal::Damaged => cause_of_log_damage(alloc, found, &first_block(device)?),
+        Refusal::Device => Some(Cause::Call),
+        _ => None,
+    }
+}
+
+// What is damaged on a device of this length with this super block of a volume with a log.
+fn cause_of_log_damage<A: Allocator + Copy>(
+    alloc: A,
+    found: u64,
+    block: &[u8; 4096],
+) -> Option<Cause<'static>> {
+    match read_log_super(alloc, block) {
+        Ok(table) => {
+            let wanted = PAGE * u64::from(table.log().block_count());
+            if found < wanted {
+                Some(Cause::CutOff { found, wanted })
+            } else {
+                Some(Cause::LogOrLengths)
+            }
+        }
+        Err(Refusal::OutOfMemory) => None,
+        Err(_) => Some(Cause::SuperBlock),
     }
 }
 

@@ -7,6 +7,7 @@ mod disk;
 mod exporting;
 mod failure;
 mod listing;
+mod logged;
 mod making;
 mod marker;
 mod migrating;
@@ -17,13 +18,14 @@ mod thread_disk;
 mod volume_file;
 mod watched_file;
 
-pub use cause::{Cause, Refused, first_block, refused_to_open};
+pub use cause::{Cause, Refused, first_block, refused_to_open, refused_to_read_log};
 pub use disk::{
     VolumeDisk, dump, not_listed, not_opened, not_opened_on_copy, not_read, open_disk,
     open_to_write, read_file, refused_on_copy, unreadable,
 };
 pub use exporting::{ExportPlan, export};
 pub use failure::FileFailure;
+pub use logged::{LogPlan, draw_key, format_log};
 pub use making::{Plan, format};
 pub use marker::{Marker, Noted};
 pub use migrating::{MigrationPlan, migrate};

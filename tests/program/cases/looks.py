@@ -33,8 +33,8 @@ OPEN_AS_JSON = (
 )
 
 NO_VOLUME_AS_JSON = (
-    '{"fault":"disk \\"hurt.img\\": notavolume: the file doesn\'t begin with FAMSYNC1, FAMSYNC2, FAMSYNC3 or FAMSYNC4",'
-    '"status":3}\n'
+    '{"fault":"disk \\"hurt.img\\": notavolume: the file doesn\'t begin with FAMSYNC1, FAMSYNC2, FAMSYNC3, FAMSYNC4, '
+    'FAMSYNC5 or FAMSYNC6","status":3}\n'
 )
 
 DAMAGED = "damaged: the super block breaks the format"

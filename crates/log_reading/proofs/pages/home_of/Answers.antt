@@ -1,7 +1,6 @@
-use Rattle.std.proofs.Common.{◌≡◌, ◌∙◌, ap, arith}
+use Rattle.std.proofs.Common.{◌∙◌, ap, arith}
 use Rattle.volume_codec.specs.Super.{SuperValue, first_home_of}
 use Rattle.log_codec.specs.Log.{LogValue}
-use Rattle.log_volume.specs.Super.{table_of}
 use Rattle.log_reading.proofs.Homes.{page_below}
 use Rattle.log_reading.proofs.pages.home_of.Goals as goal
 

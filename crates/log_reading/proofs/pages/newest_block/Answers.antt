@@ -1,4 +1,4 @@
-use Rattle.std.proofs.Common.{◌≡◌, ◌<◌, ◌∙◌, length, sym, ap, arith}
+use Rattle.std.proofs.Common.{◌<◌, ◌∙◌, length, sym, ap, arith}
 use Rattle.log_codec.specs.Chain.{logged_or, records_position}
 use Rattle.log_recovery.specs.Reading.{logged_of}
 use Rattle.log_opening.proofs.Public.{placed_at}

@@ -1,0 +1,262 @@
+"""Volumes with a log, in layouts 5 and 6: made, looked at, and refused by the commands that don't serve them."""
+
+import subprocess
+
+from files.program import PROGRAM, Outcome, bytes_of, write
+from lib.xxh64 import xxh64
+from cases.images import change_file, changed, made_of
+from cases.trial import agree, complained, complains, holds, leaves, prints, shows, words_of, write_bytes
+
+# What isn't zero in a volume of layout 5 of the files `a` of 5,000 bytes, which may grow to 12,288, and `b` of 4,096,
+# with a log of 9 blocks. It has 18 blocks. The starts are in blocks 2 and 3, the log is in blocks 4 to 12, the lengths
+# are in block 13, `a` is in blocks 14 to 16, and `b` in block 17.
+FIVE = (
+    (0, b"FAMSYNC5"),
+    (8, bytes([0, 0, 0, 2, 0, 0, 0, 9, 0, 0, 0, 18, 0, 0, 0, 4])),
+    (32, b"a"),
+    (64, bytes([0, 0, 0, 0, 0, 0, 0x30, 0, 0, 0, 0, 4, 0, 0, 0, 3])),
+    (80, b"b"),
+    (112, bytes([0, 0, 0, 0, 0, 0, 0x10, 0, 0, 0, 0, 7, 0, 0, 0, 1])),
+    (8192, bytes([0, 0, 0, 0, 0, 0, 0, 1, 0, 0, 0, 0, 0, 0, 0, 1])),
+    (53_248, bytes([0, 0, 0, 0, 0, 0, 0x13, 0x88, 0, 0, 0, 0, 0, 0, 0x10, 0])),
+)
+
+# The same in layout 6, with a key.
+SIX = ((0, b"FAMSYNC6"), *FIVE[1:2], (24, bytes([1, 0x23, 0x45, 0x67, 0x89, 0xAB, 0xCD, 0xEF])), *FIVE[2:])
+
+KEY = 0x0123456789ABCDEF
+
+# Commit 1 has 65 in the first page of `a`, and 66 in `b`: its descriptor is in block 4, and its records follow. Commit
+# 2 has the lengths 4,097 and 4,096, and 67 in the first page of `a`: its descriptor is in block 7.
+FIRST = (
+    (16_392, bytes([0, 0, 0, 0, 0, 0, 0, 1, 0, 0, 0, 2])),
+    (16_416, bytes([0, 0, 0, 14, 0, 0, 0, 17])),
+    (20_480, bytes([65])),
+    (24_576, bytes([66])),
+)
+SECOND = (
+    (28_680, bytes([0, 0, 0, 0, 0, 0, 0, 2, 0, 0, 0, 2])),
+    (28_704, bytes([0, 0, 0, 13, 0, 0, 0, 14])),
+    (32_768, bytes([0, 0, 0, 0, 0, 0, 0x10, 1, 0, 0, 0, 0, 0, 0, 0x10, 0])),
+    (36_864, bytes([67])),
+)
+
+# Both commits of layout 5 are sealed.
+SEALED = (*FIRST, *SECOND, (16_384, bytes([0xA7])), (28_672, bytes([0xA7])))
+
+FRESH = """\
+layout {}, log of 9 blocks, 18 blocks, 73728 bytes
+file a: 5000 bytes, 3 pages, home 14, capacity 12288
+file b: 4096 bytes, 1 pages, home 17
+log: 0 commits in 0 blocks, epoch 1
+"""
+
+FRESH_AS_JSON = (
+    '{{"blocks":18,"bytes":73728,"files":[{{"capacity":12288,"home":14,"length":5000,"name":"a","pages":3}},'
+    '{{"capacity":4096,"home":17,"length":4096,"name":"b","pages":1}}],"layout":{},'
+    '"log":{{"blocks":9,"commits":0,"epoch":1,"used":0}}}}\n'
+)
+
+WRITTEN = """\
+layout {}, log of 9 blocks, 18 blocks, 73728 bytes
+file a: 4097 bytes, 3 pages, home 14, capacity 12288
+file b: 4096 bytes, 1 pages, home 17
+log: 2 commits in 6 blocks, epoch 1
+"""
+
+SPOILT = "damaged: the super block breaks the format"
+SPOILT_LOG = "damaged: the log or the lengths break the format"
+
+# What is changed in the image of the volume of layout 5, and the fault then.
+SPOILT_IMAGES = [
+    # No files, a log of 3 blocks, a block too many, another first block of the log, and a key.
+    ([(11, 0)], SPOILT),
+    ([(15, 3)], SPOILT),
+    ([(19, 19)], SPOILT),
+    ([(23, 5)], SPOILT),
+    ([(31, 1)], SPOILT),
+    ([(4095, 1)], SPOILT),
+    # The length of `a` is above its capacity, and a byte after the lengths isn't zero.
+    ([(53_254, 0x31)], SPOILT_LOG),
+    ([(53_264, 1)], SPOILT_LOG),
+    # The start has the number 0, the epoch 0, a position past the log, and a byte behind it. Start 1 counts, and is all
+    # zeros.
+    ([(8199, 0)], SPOILT_LOG),
+    ([(8207, 0)], SPOILT_LOG),
+    ([(8211, 9)], SPOILT_LOG),
+    ([(8212, 1)], SPOILT_LOG),
+    ([(4096, 0xA7)], SPOILT_LOG),
+    # A seal over a descriptor of zeros.
+    ([(16_384, 0xA7)], SPOILT_LOG),
+]
+
+# The words that make no volume with a log, and the fault of each.
+BAD_WORDS = [
+    ("format|--layout|5|none.img", "the following required arguments were not provided: <FILE>..."),
+    ("format|--layout|5|none.img|4", 'FILE is "4"'),
+    ("format|--layout|5|none.img|4|a=1", 'FILE is "4"'),
+    ("format|--layout|5|none.img|a=1|b=5/", 'FILE is "b=5/"'),
+    ("format|--layout|5|--log|4x|none.img|a=1", 'BLOCKS is "4x"'),
+    ("format|--layout|5|--log=|none.img|a=1", 'BLOCKS is ""'),
+    ("format|--layout|4|--log|4|none.img|4|a=1", "--log is for layouts 5 and 6, and LAYOUT is 4"),
+    ("format|--log|4|none.img|4|a=1", "--log is for layouts 5 and 6, and LAYOUT is 1"),
+    ("format|--layout|5|--key|0123456789abcdef|none.img|a=1", "--key is for layout 6, and LAYOUT is 5"),
+    ("format|--layout|3|--key|0123456789abcdef|none.img|4|a=1", "--key is for layout 6, and LAYOUT is 3"),
+    ("format|--layout|6|--key|0123456789abcde|none.img|a=1", 'KEY is "0123456789abcde"'),
+    ("format|--layout|6|--key|0123456789abcdefa|none.img|a=1", 'KEY is "0123456789abcdefa"'),
+    ("format|--layout|6|--key|+123456789abcdef|none.img|a=1", 'KEY is "+123456789abcdef"'),
+    ("format|--layout|6|--key|0123456789abcdeg|none.img|a=1", 'KEY is "0123456789abcdeg"'),
+]
+
+# Volumes with a log that aren't made, and the fault of each.
+REFUSALS = [
+    ("format|--layout|5|--log|3|none.img|a=1", "BLOCKS is 3, and 4 to 16777216 are allowed\n"),
+    ("format|--layout|6|--log|16777217|none.img|a=1", "BLOCKS is 16777217, and 4 to 16777216 are allowed\n"),
+    ("format|--layout|5|none.img|a=0", 'the capacity of "a" is 0, and capacities begin at 1\n'),
+    ("format|--layout|5|none.img|a=6/5", 'the length of "a" is 6, and its capacity is 5\n'),
+    ("format|--layout|5|none.img|a=1|a=2", 'two files have the name "a"\n'),
+    ("format|--layout|5|none.img|a=18446744073709551615", "the volume would have more than 4294967295 blocks\n"),
+]
+
+NOT_SERVED = 'disk "log.img": notavolume: the volume is in layout 5 or 6, which this command doesn\'t serve\n'
+
+NO_STEPS = '{"cpus":1,"tlb":8,"frames":4,"copies":0,"steps":[]}'
+NO_PROGRAM = '{"cpus":1,"tlb":8,"frames":4,"copies":0,"trace":9,"steps":[],"programs":[[]]}'
+NO_ENTRY = '{"copies":0,"cpus":1,"frames":4,"tlb":8,"trace":9}\n'
+
+# Commands that don't serve these layouts.
+OTHERS = [
+    "run|log.img|log.json", "threads|log.img|threads.json", "replay|log.img|log.trace", "crashes|log.img|log.json",
+    "migrate|log.img|new.img|4", "dump|log.img", "export|log.img|a|a.copy",
+]
+
+
+def image_of_five(parts=(), changes=()):
+    return made_of(73_728, (*FIVE, *parts), changes)
+
+
+def image_of_six(parts=(), changes=()):
+    return made_of(73_728, (*SIX, *parts), changes)
+
+
+def sealed_by_digest(image, block, blocks, epoch=1):
+    """The image, with the digest of this many blocks in front of them."""
+    at, end = 4096 * block, 4096 * (block + blocks)
+    digest = xxh64(image[at + 8 : end], KEY ^ epoch)
+    return image[:at] + digest.to_bytes(8, "big") + image[at + 8 :]
+
+
+def a_volume_has_a_log():
+    """A volume of layout 5 is made, and looked at. With `--preallocate` it has the same bytes."""
+    make = "format|--layout|5|--log|9|five.img|a=5000/12288|b=4096"
+    yield from prints(make, 0, "formatted 18 blocks\n")
+    yield from holds("five.img", image_of_five())
+    yield from prints("info|five.img", 0, FRESH.format(5))
+    yield from prints("info|--json|five.img", 0, FRESH_AS_JSON.format(5))
+    yield from prints("check|five.img", 0, "clean\n")
+    yield from prints("check|--json|five.img", 0, '{"state":"clean"}\n')
+    make = "format|--layout=5|--preallocate|--json|--log=9|five.img|a=5000/12288|b=4096"
+    yield from prints(make, 0, '{"blocks":18}\n')
+    yield from holds("five.img", image_of_five())
+    yield from leaves("five.img")
+
+
+def a_key_is_given_or_drawn():
+    """A volume of layout 6 is made. Without `--key` two volumes differ in their keys alone."""
+    make = "format|--layout|6|--key|0123456789ABCdef|--log|9|six.img|a=5000/12288|b=4096"
+    yield from prints(make, 0, "formatted 18 blocks\n")
+    yield from holds("six.img", image_of_six())
+    yield from prints("info|six.img", 0, FRESH.format(6))
+    yield from prints("check|six.img", 0, "clean\n")
+    for path in ("one.img", "two.img"):
+        yield from prints(f"format|--layout|6|--log|9|{path}|a=5000/12288|b=4096", 0, "formatted 18 blocks\n")
+    one, two = bytes_of("one.img"), bytes_of("two.img")
+    yield from agree("two keys", False, one[24:32] == two[24:32])
+    for image in (one, two):
+        yield from agree("the rest", image_of_six(), image[:24] + image_of_six()[24:32] + image[32:])
+    yield from leaves("six.img", "one.img", "two.img")
+
+
+def a_log_has_16384_blocks_by_default():
+    """An old volume of any layout is replaced, and formatting one of another layout replaces a volume with a log."""
+    yield from prints("format|old.img|4|a=1", 0, "formatted 8 blocks\n")
+    yield from prints("format|--layout|5|old.img|a=1", 0, "formatted 16390 blocks\n")
+    yield from shows("info|old.img", "layout 5, log of 16384 blocks, 16390 blocks, 67133440 bytes\n")
+    yield from prints("format|old.img|4|a=1", 0, "formatted 8 blocks\n")
+    yield from shows("info|old.img", "layout 1, 4 slots, 8 blocks, 32768 bytes\n")
+    yield from leaves("old.img")
+
+
+def commits_in_the_log_are_seen():
+    """Two commits: sealed by bytes, and by digests. With the second one's seal or record spoilt the log ends before
+    it, or is damaged."""
+    write_bytes("five.img", image_of_five(SEALED))
+    yield from prints("info|five.img", 0, WRITTEN.format(5))
+    yield from prints("check|five.img", 1, "needs opening\n")
+    yield from holds("five.img", image_of_five(SEALED))
+    change_file("five.img", [(28_672, 0)])
+    yield from shows("info|five.img", "log: 1 commits in 3 blocks, epoch 1\n")
+    change_file("five.img", [(28_672, 0xA7), (28_687, 3)])
+    yield from prints("check|five.img", 3, f"{SPOILT_LOG}\n")
+
+    image = sealed_by_digest(sealed_by_digest(image_of_six((*FIRST, *SECOND)), 4, 3), 7, 3)
+    write_bytes("six.img", image)
+    yield from prints("info|six.img", 0, WRITTEN.format(6))
+    yield from prints("check|--json|six.img", 1, '{"state":"needs opening"}\n')
+    write_bytes("six.img", changed(image, [(36_864, 68)]))
+    yield from shows("info|six.img", "log: 1 commits in 3 blocks, epoch 1\n")
+    yield from leaves("five.img", "six.img")
+
+
+def images_with_a_log_are_refused():
+    """Images that no volume with a log has, the fault of each, and that none is written to."""
+    for changes, cause in SPOILT_IMAGES:
+        image = image_of_five((), changes)
+        write_bytes("spoilt.img", image)
+        yield from prints("check|spoilt.img", 3, f"{cause}\n")
+        yield from complains("info|spoilt.img", 3, f'disk "spoilt.img": {cause}\n')
+        yield from holds("spoilt.img", image)
+    write_bytes("spoilt.img", image_of_five()[:69_632])
+    cut = "damaged: the file has 69632 bytes, and its super block says 73728"
+    yield from prints("check|spoilt.img", 3, f"{cut}\n")
+    yield from leaves("spoilt.img")
+
+
+def words_are_refused():
+    """Words that make no volume with a log. None makes a file."""
+    for line, cause in BAD_WORDS:
+        yield from complains(line, 2, cause)
+    for line, cause in REFUSALS:
+        yield from complains(line, 3, f'disk "none.img": badshape: {cause}')
+    yield from leaves()
+
+
+def other_commands_refuse_a_log():
+    """The commands that don't serve these layouts say so, and leave the file as it is."""
+    for name, text in (("log.json", NO_STEPS), ("threads.json", NO_PROGRAM), ("log.trace", NO_ENTRY)):
+        write(name, text)
+    for image in (image_of_five(SEALED), image_of_six()):
+        write_bytes("log.img", image)
+        for line in OTHERS:
+            yield from complains(line, 3, NOT_SERVED)
+        yield from complained("serve|log.img", served("serve|log.img"), 3, NOT_SERVED)
+        yield from holds("log.img", image)
+    yield from leaves("log.img", "log.json", "threads.json", "log.trace")
+
+
+def served(line):
+    """A run with the shape of a machine as its input."""
+    ran = subprocess.run([PROGRAM, *words_of(line)], input='{"cpus":1,"tlb":8,"frames":4,"copies":0}\n',
+                         capture_output=True, text=True, timeout=120)
+    return Outcome(ran.returncode, ran.stdout, ran.stderr)
+
+
+GROUPS = [
+    a_volume_has_a_log,
+    a_key_is_given_or_drawn,
+    a_log_has_16384_blocks_by_default,
+    commits_in_the_log_are_seen,
+    images_with_a_log_are_refused,
+    words_are_refused,
+    other_commands_refuse_a_log,
+]
