@@ -113,8 +113,8 @@ pub fn formatted(alloc: Global, plan: Plan<'_>) -> Result<Vec<u8>, Failure> {
     }
 }
 
-// What the files are to be.
-fn specs_of(alloc: Global, files: &[File]) -> Result<Vec<FileSpec<'_>>, AllocError> {
+/// What the files are to be.
+pub fn specs_of(alloc: Global, files: &[File]) -> Result<Vec<FileSpec<'_>>, AllocError> {
     let mut specs = Vec::new(alloc);
     for file in files {
         specs.push(FileSpec {

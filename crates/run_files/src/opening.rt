@@ -19,7 +19,8 @@ pub struct Calls {
 }
 
 impl Calls {
-    fn with(self, gates: u64) -> u64 {
+    /// The number of calls where so many gates are open.
+    pub fn with(self, gates: u64) -> u64 {
         self.closed.saturating_add(self.open.saturating_mul(gates))
     }
 }
@@ -77,10 +78,8 @@ fn read_refused(alloc: Global, word: &Value, calls: Option<&Value>) -> Result<Wa
 
 fn read_opened(alloc: Global, value: &Value) -> Result<Wanted, Failure> {
     let calls = read_calls(alloc, member(alloc, value, "opens")?)?;
-    let parts = list_of(alloc, value, "bytes")?;
-    let lengths = list_of(alloc, value, "lengths")?;
-    let lengths = read_lists(alloc, lengths, "a length", file_length)?;
-    let bytes = read_lists(alloc, parts, "bytes", file_bytes)?;
+    let lengths = read_file_lengths(alloc, value)?;
+    let bytes = read_file_bytes(alloc, value)?;
     match read_writes(alloc, value) {
         Ok(writes) => Ok(Wanted::Opens {
             calls,
@@ -90,6 +89,18 @@ fn read_opened(alloc: Global, value: &Value) -> Result<Wanted, Failure> {
         }),
         Err(failure) => Err(failure),
     }
+}
+
+/// The lengths of files that a line names.
+pub fn read_file_lengths(alloc: Global, value: &Value) -> Result<Vec<FileLength>, Failure> {
+    let lengths = list_of(alloc, value, "lengths")?;
+    read_lists(alloc, lengths, "a length", file_length)
+}
+
+/// The bytes of files that a line names.
+pub fn read_file_bytes(alloc: Global, value: &Value) -> Result<Vec<FileBytes>, Failure> {
+    let parts = list_of(alloc, value, "bytes")?;
+    read_lists(alloc, parts, "bytes", file_bytes)
 }
 
 // What the opening changes on the disk, where that is said.
@@ -334,8 +345,13 @@ fn is_untouched(alloc: Global, disk: &mut MemDisk<Global>, before: &[u8]) -> Res
     }
 }
 
-// Compares a disk with what it was before, but for these bytes.
-fn compare_image(alloc: Global, before: &[u8], writes: &[Put], came: &[u8]) -> Result<(), Failure> {
+/// Compares a disk with what it was before, but for these bytes.
+pub fn compare_image(
+    alloc: Global,
+    before: &[u8],
+    writes: &[Put],
+    came: &[u8],
+) -> Result<(), Failure> {
     let mut wanted = before.to_vec(alloc)?;
     for write in writes {
         write.write(alloc, &mut wanted)?;
@@ -446,8 +462,8 @@ fn read_whole<D: Device>(
     }
 }
 
-// How long a file is to be: as it was made, where nothing else is said.
-fn length_of(file: &File, lengths: &[FileLength]) -> u64 {
+/// How long a file is to be: as it was made, where nothing else is said.
+pub fn length_of(file: &File, lengths: &[FileLength]) -> u64 {
     for said in lengths {
         if said.file.as_str() == file.name.as_str() {
             return said.length;
@@ -456,8 +472,8 @@ fn length_of(file: &File, lengths: &[FileLength]) -> u64 {
     file.length
 }
 
-// The bytes that a file of this length is to have.
-fn file_of(
+/// The bytes that a file of this length is to have.
+pub fn file_of(
     alloc: Global,
     file: &File,
     length: u64,

@@ -1,0 +1,86 @@
+// What a crash leaves of the places that weren't synced.
+use crate::taped::{Point, Tape};
+use run_files::{Choice, Failure, Put, halves, read_choice_of};
+use serde_json::Value;
+use std::alloc::Global;
+use std::fmt;
+
+/// What a crash leaves there.
+#[derive(Clone, Copy)]
+pub enum Kept {
+    /// The bytes at the last sync.
+    None,
+    /// In blocks of even numbers the bytes that a read returns, and in the others those at the last sync.
+    Even,
+    /// The same with odd numbers.
+    Odd,
+    /// A choice of all runs. A step back is a device call.
+    Choice(Choice),
+}
+
+impl fmt::Display for Kept {
+    fn fmt<W: fmt::Write>(&self, f: &mut fmt::Formatter<W>) -> fmt::Result {
+        match self {
+            Kept::None => f.write_str("none"),
+            Kept::Even => f.write_str("even"),
+            Kept::Odd => f.write_str("odd"),
+            Kept::Choice(choice) => write!(f, "{choice}"),
+        }
+    }
+}
+
+/// What a value names.
+pub fn read_kept(alloc: Global, value: &Value) -> Result<Kept, Failure> {
+    match value.as_str() {
+        Some("none") => Ok(Kept::None),
+        Some("even") => Ok(Kept::Even),
+        Some("odd") => Ok(Kept::Odd),
+        _ => Ok(Kept::Choice(read_choice_of(alloc, value)?)),
+    }
+}
+
+/// What each value of a list names.
+pub fn read_all_kept(alloc: Global, items: &[Value]) -> Result<Vec<Kept>, Failure> {
+    let mut all = Vec::new(alloc);
+    for item in items {
+        all.push(read_kept(alloc, item)?)?;
+    }
+    Ok(all)
+}
+
+/// What a crash after so many calls leaves, at this point: what is kept, but for some bytes, where nothing was synced.
+pub fn crashed(
+    alloc: Global,
+    tape: &Tape,
+    count: usize,
+    point: &Point,
+    kept: Kept,
+    puts: &[Put],
+) -> Result<Vec<u8>, Failure> {
+    let mut bytes = match kept {
+        Kept::None => point.synced.to_vec(alloc)?,
+        Kept::Even => alternate(alloc, &point.content, &point.synced)?,
+        Kept::Odd => alternate(alloc, &point.synced, &point.content)?,
+        Kept::Choice(Choice::Old) => tape.first.to_vec(alloc)?,
+        Kept::Choice(Choice::New) => point.content.to_vec(alloc)?,
+        Kept::Choice(Choice::Halves) => halves(alloc, &point.content, &tape.first)?,
+        Kept::Choice(Choice::Byte(byte)) => vec![in alloc; byte; tape.first.len()]?,
+        Kept::Choice(Choice::Back(calls)) => {
+            let earlier = tape.after(alloc, count.saturating_sub(calls as usize))?;
+            earlier.content.to_vec(alloc)?
+        }
+    };
+    for put in puts {
+        put.write(alloc, &mut bytes)?;
+    }
+    point.crashed(alloc, &bytes)
+}
+
+// The blocks of even numbers of the one, and those of odd numbers of the other.
+fn alternate(alloc: Global, even: &[u8], odd: &[u8]) -> Result<Vec<u8>, Failure> {
+    let mut bytes = Vec::new(alloc);
+    for (i, (even, odd)) in even.chunks(4096).zip(odd.chunks(4096)).enumerate() {
+        bytes.extend_from_slice(if i % 2 == 0 { even } else { odd })?;
+    }
+    Ok(bytes)
+}

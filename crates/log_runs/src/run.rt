@@ -1,0 +1,242 @@
+// A run: an opening and steps, which can be made again and again from the same beginning.
+use crate::step::{Answer, Calls, Said, Step, make};
+use crate::taped::{Disk, Tape, taped};
+use device::Device;
+use log_files::LogFiles;
+use page_entry::Refusal;
+use run_files::{Failure, compare_count, compare_refusal};
+use std::alloc::Global;
+
+/// A run, as a file says it.
+#[derive(Drop)]
+pub struct Run {
+    /// The most pages of files that a commit takes.
+    pub most: u32,
+    pub fails: u64,
+    /// The device calls of the opening.
+    pub opens: Calls,
+    pub steps: Vec<Said>,
+    /// The number of the line that has the first step.
+    pub line: u64,
+}
+
+/// How a run is to end: how many device calls it makes and how many of them fail, and why its opening is refused, if
+/// it is.
+#[derive(Drop)]
+pub struct Ended {
+    pub calls: Option<u64>,
+    pub faults: Option<u64>,
+    pub refused: Option<String>,
+}
+
+/// A run that was made.
+#[derive(Drop)]
+pub struct Made {
+    pub refused: Option<Refusal>,
+    pub answers: Vec<Answer>,
+    /// The number of device calls after the opening, and after each step.
+    pub counts: Vec<usize>,
+    pub tape: Tape,
+    pub faults: u64,
+}
+
+// A step after a device call failed is answered so.
+fn is_failed(answer: &Answer) -> bool {
+    answer.is("device")
+}
+
+impl Run {
+    /// Makes the run on a disk of these bytes, whose call of this number fails. If `stops`, it is over after the step
+    /// whose call failed, but a commit and a step follow.
+    fn make(&self, alloc: Global, image: &[u8], fails: u64, stops: bool) -> Result<Made, Failure> {
+        match LogFiles::open(alloc, taped(alloc, image, fails)?, self.most) {
+            Ok(files) => self.make_steps(alloc, image, fails, files, stops),
+            Err((refusal, disk)) => {
+                let counts = Vec::new(alloc);
+                made_on(
+                    alloc,
+                    image,
+                    fails,
+                    Some(refusal),
+                    Vec::new(alloc),
+                    counts,
+                    disk,
+                )
+            }
+        }
+    }
+
+    fn make_steps(
+        &self,
+        alloc: Global,
+        image: &[u8],
+        fails: u64,
+        files: LogFiles<Disk, Global>,
+        stops: bool,
+    ) -> Result<Made, Failure> {
+        let mut files = files;
+        let mut answers = Vec::new(alloc);
+        let mut counts = Vec::new(alloc);
+        counts.push(files.device().calls() as usize)?;
+        for said in &self.steps {
+            let answer = make(alloc, &mut files, &said.step)?;
+            let is_over = stops && is_failed(&answer);
+            answers.push(answer)?;
+            counts.push(files.device().calls() as usize)?;
+            if is_over {
+                if matches!(said.step, Step::Commit | Step::Step) {
+                    answers.push(make(alloc, &mut files, &Step::Commit)?)?;
+                    answers.push(make(alloc, &mut files, &Step::Step)?)?;
+                }
+                break;
+            }
+        }
+        made_on(
+            alloc,
+            image,
+            fails,
+            None,
+            answers,
+            counts,
+            files.into_device(),
+        )
+    }
+
+    /// Makes the whole run, and compares it with what is said of it.
+    pub fn whole(&self, alloc: Global, image: &[u8], ended: &Ended) -> Result<Made, Failure> {
+        let made = self.make(alloc, image, self.fails, false)?;
+        self.compare(alloc, &made, ended)?;
+        Ok(made)
+    }
+
+    fn compare(&self, alloc: Global, made: &Made, ended: &Ended) -> Result<(), Failure> {
+        let calls = made.tape.calls.len() as u64;
+        match (made.refused, &ended.refused) {
+            (None, None) => {
+                self.compare_opened(alloc, made)?;
+                self.compare_steps(alloc, made, self.steps.len())?;
+            }
+            (Some(refusal), Some(word)) => compare_refusal(alloc, refusal, word.as_str())?,
+            (None, Some(word)) => {
+                return Err(Failure::differs(alloc, "the run", word, &"a volume"));
+            }
+            (Some(refusal), None) => {
+                return Err(Failure::differs(alloc, "the run", &"a volume", &refusal));
+            }
+        }
+        compare_count(alloc, "device calls", ended.calls.unwrap_or(calls), calls)?;
+        let faults = ended.faults.unwrap_or(made.faults);
+        compare_count(alloc, "calls that failed", faults, made.faults)
+    }
+
+    // Compares the device calls of the opening.
+    fn compare_opened(&self, alloc: Global, made: &Made) -> Result<(), Failure> {
+        let opened = made.counts.first().copied().unwrap_or(0);
+        match made.tape.calls.get(..opened) {
+            Some(calls) => self.opens.compare(alloc, calls),
+            None => Err(Failure::line(alloc, "the opening made fewer calls")),
+        }
+    }
+
+    // Compares the first so many steps.
+    fn compare_steps(&self, alloc: Global, made: &Made, count: usize) -> Result<(), Failure> {
+        let spans = made.counts.iter().zip(made.counts.iter().skip(1));
+        let came = made.answers.iter().zip(spans);
+        for (number, (said, (answer, (from, to)))) in self.steps.iter().zip(came).enumerate() {
+            if number < count {
+                let calls = made.tape.calls.get(*from..*to).unwrap_or(&[]);
+                let compared = match said.answer.compare(alloc, answer) {
+                    Ok(()) => said.calls.compare(alloc, calls),
+                    Err(failure) => Err(failure),
+                };
+                self.placed(alloc, number, compared)?;
+            }
+        }
+        Ok(())
+    }
+
+    // Says in which line a step is that differs.
+    fn placed(
+        &self,
+        alloc: Global,
+        number: usize,
+        compared: Result<(), Failure>,
+    ) -> Result<(), Failure> {
+        match compared {
+            Err(Failure::Differs(text)) => {
+                let line = self.line.saturating_add(number as u64);
+                Err(Failure::Differs(format!(in alloc; "the step in line {line}: {text}")?))
+            }
+            other => other,
+        }
+    }
+
+    /// Makes the run where the device call of this number fails. The step, or the opening, is refused for that. If it
+    /// was a commit or a step, later ones are answered `broken`, without a call.
+    pub fn failing(&self, alloc: Global, image: &[u8], call: u64) -> Result<Made, Failure> {
+        let made = self.make(alloc, image, call, true)?;
+        if let Some(refusal) = made.refused {
+            compare_refusal(alloc, refusal, "device")?;
+        } else {
+            self.compare_failed(alloc, &made)?;
+        }
+        compare_count(alloc, "device calls", call, made.tape.calls.len() as u64)?;
+        compare_count(alloc, "calls that failed", 1, made.faults)?;
+        Ok(made)
+    }
+
+    // Compares the answers of a run in which a call of a step failed.
+    fn compare_failed(&self, alloc: Global, made: &Made) -> Result<(), Failure> {
+        let before = made.counts.len().saturating_sub(2);
+        self.compare_steps(alloc, made, before)?;
+        let Some([failed, later @ ..]) = made.answers.get(before..) else {
+            return Err(Failure::line(alloc, "no step makes this call"));
+        };
+        compare_word(alloc, "device", failed)?;
+        for answer in later {
+            compare_word(alloc, "broken", answer)?;
+        }
+        Ok(())
+    }
+
+    /// The numbers of device calls at which each commit that is acknowledged, or that failed, begins and ends.
+    pub fn commits(&self, alloc: Global, made: &Made) -> Result<Vec<(usize, usize)>, Failure> {
+        let mut commits = Vec::new(alloc);
+        let spans = made.counts.iter().zip(made.counts.iter().skip(1));
+        let came = made.answers.iter().zip(spans);
+        for (said, (answer, (from, to))) in self.steps.iter().zip(came) {
+            if matches!(said.step, Step::Commit) {
+                if is_failed(answer) {
+                    commits.push((*from, usize::MAX))?;
+                } else if !answer.is("busy") && !answer.is("broken") {
+                    commits.push((*from, *to))?;
+                }
+            }
+        }
+        Ok(commits)
+    }
+}
+
+fn compare_word(alloc: Global, word: &str, came: &Answer) -> Result<(), Failure> {
+    Answer::Text(String::from_str(alloc, word)?).compare(alloc, came)
+}
+
+// A run of a disk that began with these bytes.
+fn made_on(
+    alloc: Global,
+    image: &[u8],
+    fails: u64,
+    refused: Option<Refusal>,
+    answers: Vec<Answer>,
+    counts: Vec<usize>,
+    disk: Disk,
+) -> Result<Made, Failure> {
+    let faults = disk.faults();
+    Ok(Made {
+        refused,
+        answers,
+        counts,
+        tape: Tape::of(image.to_vec(alloc)?, fails, disk)?,
+        faults,
+    })
+}

@@ -1,0 +1,130 @@
+// A crash after each device call of a run. What is found has the acknowledged commits, and maybe the one under way.
+use crate::ending::Trial;
+use crate::finding::{Found, State, find, read_state};
+use crate::kept::{Kept, crashed, read_all_kept};
+use run_files::{Failure, File, list_of};
+use serde_json::Value;
+use std::alloc::Global;
+
+/// What crashes leave, and the files after each number of commits. If `then` isn't empty, each opening is stopped, too,
+/// by crashes that leave these.
+#[derive(Drop)]
+pub struct Sweep {
+    each: Vec<Kept>,
+    then: Vec<Kept>,
+    states: Vec<State>,
+}
+
+impl Sweep {
+    /// What a line says.
+    pub fn read(alloc: Global, value: &Value) -> Result<Self, Failure> {
+        let mut states = Vec::new(alloc);
+        for state in list_of(alloc, value, "states")? {
+            states.push(read_state(alloc, state)?)?;
+        }
+        let each = read_all_kept(alloc, list_of(alloc, value, "each")?)?;
+        match read_all_kept(alloc, list_of(alloc, value, "then")?) {
+            Ok(then) => Ok(Sweep { each, then, states }),
+            Err(failure) => Err(failure),
+        }
+    }
+
+    /// Makes all crashes, and tells how many openings these are.
+    pub fn make(&self, alloc: Global, trial: &Trial) -> Result<u64, Failure> {
+        let Some((run, made)) = &trial.run else {
+            return Err(Failure::line(alloc, "there is no run"));
+        };
+        let commits = run.commits(alloc, made)?;
+        if commits.len().saturating_add(1) != self.states.len() {
+            return Err(Failure::line(alloc, "there is a state for each number of commits"));
+        }
+        let mut openings = 0u64;
+        for count in 0..made.tape.calls.len().saturating_add(1) {
+            let allowed = self.allowed(&commits, count);
+            let point = made.tape.after(alloc, count)?;
+            for kept in &self.each {
+                let image = crashed(alloc, &made.tape, count, &point, *kept, &[])?;
+                let more = self.make_one(alloc, &trial.files, &image, allowed);
+                openings = openings.saturating_add(placed(alloc, count, *kept, more)?);
+            }
+        }
+        Ok(openings)
+    }
+
+    // The states that may be found after so many calls: that of the acknowledged commits, and that with the one under
+    // way.
+    fn allowed(
+        &self,
+        commits: &[(usize, usize)],
+        count: usize,
+    ) -> (Option<&State>, Option<&State>) {
+        let mut acknowledged = 0usize;
+        let mut begun = 0usize;
+        for (from, to) in commits {
+            if *to <= count {
+                acknowledged = acknowledged.saturating_add(1);
+            }
+            if *to <= count || *from < count {
+                begun = begun.saturating_add(1);
+            }
+        }
+        (self.states.get(acknowledged), self.states.get(begun))
+    }
+
+    // The opening after a crash, and each crash of it.
+    fn make_one(
+        &self,
+        alloc: Global,
+        files: &[File],
+        image: &[u8],
+        allowed: (Option<&State>, Option<&State>),
+    ) -> Result<u64, Failure> {
+        let found = find(alloc, image)?;
+        compare(alloc, &found, files, allowed)?;
+        if self.then.is_empty() {
+            return Ok(1);
+        }
+        let mut openings = 1u64;
+        for count in 0..found.tape.calls.len().saturating_add(1) {
+            let point = found.tape.after(alloc, count)?;
+            for kept in &self.then {
+                let image = crashed(alloc, &found.tape, count, &point, *kept, &[])?;
+                let again = find(alloc, &image)?;
+                placed(alloc, count, *kept, again.compare_with(alloc, &found))?;
+                openings = openings.saturating_add(1);
+            }
+        }
+        Ok(openings)
+    }
+}
+
+// One of two states is found.
+fn compare(
+    alloc: Global,
+    found: &Found,
+    files: &[File],
+    allowed: (Option<&State>, Option<&State>),
+) -> Result<(), Failure> {
+    let (Some(least), Some(most)) = allowed else {
+        return Err(Failure::line(alloc, "there is a state for each number of commits"));
+    };
+    match found.compare_state(alloc, files, least) {
+        Err(Failure::Differs(_)) => found.compare_state(alloc, files, most),
+        compared => compared,
+    }
+}
+
+// Says of which crash something differs.
+fn placed<T: Drop>(
+    alloc: Global,
+    count: usize,
+    kept: Kept,
+    compared: Result<T, Failure>,
+) -> Result<T, Failure> {
+    match compared {
+        Err(Failure::Differs(text)) => {
+            Err(Failure::Differs(format!(in alloc; "after {count} calls, left {kept}: {text}")?))
+        }
+        compared => compared,
+    }
+}
