@@ -1,5 +1,5 @@
 /*
- * What the library does up to a commit's acknowledgement, by hand and for one file: a volume of layout 1
+ * What the library does up to a commit's acknowledgement, by hand and for one file: a volume of layout 1, 5 or 6
  * (docs/FORMATS.md), whose pages are stored to and committed by the same faults, copies and calls of the system, with
  * nothing around them.
  *
@@ -8,6 +8,8 @@
  * and to its record. Pages that are written by a call are copied twice.
  */
 #include "peers.h"
+
+#include "log_by_hand.h"
 
 #include <fcntl.h>
 #include <signal.h>
@@ -32,7 +34,7 @@ struct volume {
     int file;
     uint64_t mark;
     unsigned char *kept;
-    int stored[SLOTS]; /* the pages that were stored to since the last commit, going up */
+    int *stored; /* the pages that were stored to since the last commit, going up */
     int count;
 };
 
@@ -56,10 +58,13 @@ static unsigned char *memory_of(size_t bytes)
 static void begin(struct volume *volume)
 {
     size_t bytes = bytes_of_file();
-    must(volumes.layout == 1 && volumes.slots == SLOTS, "by hand there is no other volume");
+    must(has_log_by_hand() || (volumes.layout == 1 && volumes.slots == SLOTS), "by hand there is no other volume");
     make_volume_file(volume->path);
+    if (has_log_by_hand())
+        open_log(volume->path);
     volume->file = open(volume->path, O_RDWR);
-    must(volume->file >= 0, volume->path);
+    volume->stored = calloc(bytes / PAGE, sizeof *volume->stored);
+    must(volume->file >= 0 && volume->stored, volume->path);
     volume->kept = memory_of(bytes);
     memset(volume->kept, 0, bytes);
     memset(journal, 0, sizeof journal);
@@ -68,6 +73,9 @@ static void begin(struct volume *volume)
 static void end(struct volume *volume)
 {
     munmap(volume->kept, bytes_of_file());
+    free(volume->stored);
+    if (has_log_by_hand())
+        close_log();
     must(close(volume->file) == 0, "close");
 }
 
@@ -113,6 +121,16 @@ static void write_home(struct volume *volume)
     }
     must(fdatasync(volume->file) == 0, "fdatasync");
     put_gate(volume, 0);
+    volume->count = 0;
+}
+
+static void write_commit(struct volume *volume)
+{
+    if (!has_log_by_hand()) {
+        write_journal(volume);
+        return;
+    }
+    append_to_log(volume->stored, volume->count, volume->kept);
     volume->count = 0;
 }
 
@@ -179,22 +197,27 @@ static void close_pages(void)
 static void commit_plain(int number)
 {
     for (int i = 0; i < pages.count; i++)
-        memcpy(memory + (size_t)i * pages.apart * PAGE, &number, sizeof number);
+        memcpy(memory + page_of(i, number) * PAGE, &number, sizeof number);
     close_pages();
     for (int i = 0; i < plain.count; i++) {
         size_t at = (size_t)plain.stored[i] * PAGE;
         memcpy(copy + at, memory + at, PAGE);
     }
+    if (has_log_by_hand())
+        write_commits_home(plain.kept);
     for (int i = 0; i < plain.count; i++) {
         size_t at = (size_t)plain.stored[i] * PAGE;
         memcpy(plain.kept + at, copy + at, PAGE);
     }
-    write_journal(&plain);
+    write_commit(&plain);
 }
 
 static void finish_plain(void)
 {
-    write_home(&plain);
+    if (has_log_by_hand())
+        empty_log(plain.kept);
+    else
+        write_home(&plain);
 }
 
 static void begin_called(void)
@@ -207,10 +230,10 @@ static void commit_called(int number)
     static unsigned char page[PAGE];
     memcpy(page, &number, sizeof number);
     for (int i = 0; i < pages.count; i++) {
-        memcpy(called.kept + (size_t)i * pages.apart * PAGE, page, PAGE);
-        called.stored[called.count++] = i * pages.apart;
+        memcpy(called.kept + page_of(i, number) * PAGE, page, PAGE);
+        called.stored[called.count++] = (int)page_of(i, number);
     }
-    write_journal(&called);
+    write_commit(&called);
 }
 
 static void finish_called(void)

@@ -1,6 +1,7 @@
 /*
- * Commits of several ways to make pages durable, for bench/peers. Each commit stores to PAGES pages, of which every
- * APART-th of a file is one. Volumes are of a layout, and have so many slots in a journal.
+ * Commits of several ways to make pages durable, for bench/peers. Each commit stores to PAGES pages. Every APART-th of
+ * a file is one of them; or with `aside` or `anywhere` in the place of APART, each commit has other pages of a file of
+ * 64 MB, side by side or anywhere. Volumes are of a layout, and have so many slots in a journal.
  *
  *   peers turns LAYOUT SLOTS PAGES APART TURNS WAY ..
  *           the ways take turns, a commit each, and what comes after its acknowledgement is waited for; prints for each
@@ -29,6 +30,8 @@
 #define MOST_WAYS 16
 /* How many commits come before those that are timed or counted. */
 #define BEFORE 2
+/* The pages of a file of 64 MB, a power of two. */
+#define PAGES_OF_OTHERS 16384
 
 struct pages pages;
 struct volumes volumes;
@@ -41,9 +44,25 @@ void must(bool holds, const char *what)
     exit(1);
 }
 
+static size_t pages_of_file(void)
+{
+    size_t least = pages.apart > 0 ? 0 : PAGES_OF_OTHERS, count = (size_t)pages.count;
+    count *= pages.apart > 0 ? (size_t)pages.apart : 1;
+    return count > least ? count : least;
+}
+
 size_t bytes_of_file(void)
 {
-    return (size_t)pages.count * (size_t)pages.apart * PAGE;
+    return pages_of_file() * PAGE;
+}
+
+/* An odd number times the pages that were stored to before meets each page of the file once. */
+size_t page_of(int index, int number)
+{
+    size_t before = (size_t)number * (size_t)pages.count + (size_t)index;
+    if (pages.apart > 0)
+        return (size_t)index * (size_t)pages.apart;
+    return before * (pages.anywhere ? 7919 : 1) % pages_of_file();
 }
 
 void make_volume_file(const char *path)
@@ -64,13 +83,15 @@ void make_hole(const char *path)
     blocks = lay_out(volumes.layout, volumes.slots, files, super, lengths, &lengths_at);
     int file = open(path, O_RDWR | O_CREAT | O_TRUNC, 0666);
     must(file >= 0 && ftruncate(file, (off_t)blocks * PAGE) == 0, path);
-    must(pwrite(file, super, PAGE, 0) == PAGE, path);
-    must(lengths_at == 0 || pwrite(file, lengths, PAGE, (off_t)lengths_at * PAGE) == PAGE, path);
+    write_new(file, volumes.layout, super, lengths, lengths_at);
     must(close(file) == 0, path);
 }
 
+/* Whether a commit isn't written home. */
 static bool has_open_gate(int file)
 {
+    if (has_log(volumes.layout))
+        return commits_in_log(file) > 0;
     for (unsigned journal = 0; journal < journals_of(volumes.layout); journal++) {
         off_t at = (off_t)gate_block(volumes.slots, journal) * PAGE;
         unsigned char gate;
@@ -196,15 +217,17 @@ static void print_counts(const long sums[COUNTS], const long whole[COUNTS])
     printf("%ld %ld %ld\n", whole[WRITES], whole[BYTES], whole[SYNCS]);
 }
 
-/* The last sync of a commit comes after its gate is closed, where a way may end its wait: it is waited for. */
+/* The last sync of a commit comes after its gate is closed, or the start of its log counts, where a way may end its
+   wait: it is waited for. A commit of layout 6 has one less. */
 static void wait_for_syncs(long before)
 {
+    long syncs = volumes.layout == 6 ? 3 : 4;
     for (int tries = 0; tries < 5000; tries++) {
-        if (counts_now().all[SYNCS] - before >= 4)
+        if (counts_now().all[SYNCS] - before >= syncs)
             return;
         usleep(1000);
     }
-    must(false, "fewer than four syncs");
+    must(false, "too few syncs");
 }
 
 /* Makes a commit, and adds to the counts of this thread up to its acknowledgement, and to those of all. */
@@ -236,7 +259,7 @@ static void check_volume(const char *path, int number)
     WANT_CODE(famsync_open(path, NULL, &handle), FAMSYNC_OK);
     for (int i = 0; i < pages.count; i++) {
         int found;
-        uint64_t at = (uint64_t)i * (unsigned)pages.apart * PAGE;
+        uint64_t at = page_of(i, number) * PAGE;
         WANT_CODE(famsync_read(handle, 0, at, &found, sizeof found, NULL), FAMSYNC_OK);
         WANT(found == number);
     }
@@ -278,8 +301,9 @@ static void take_shapes(char **words)
     int layout = atoi(words[0]), slots = atoi(words[1]);
     must(layout >= 1 && layout <= (int)LAYOUTS && slots > 0, "LAYOUT and SLOTS");
     volumes = (struct volumes){(unsigned)layout, (unsigned)slots};
-    pages = (struct pages){atoi(words[2]), atoi(words[3])};
-    must(pages.count > 0 && pages.count + has_lengths(volumes.layout) <= slots && pages.apart > 0, "PAGES and APART");
+    pages = (struct pages){atoi(words[2]), atoi(words[3]), strcmp(words[3], "anywhere") == 0};
+    must(pages.count > 0 && pages.count + has_lengths(volumes.layout) <= slots, "PAGES");
+    must(pages.apart > 0 || pages.anywhere || strcmp(words[3], "aside") == 0, "APART");
 }
 
 int main(int count, char **words)

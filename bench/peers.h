@@ -17,12 +17,17 @@ struct way {
     void (*end)(void);
 };
 
-/* The pages of a commit: `count` of them, neighbours where `apart` is 1; page i of a file is the i-th times `apart`. */
+/* The pages of a commit: `count` of them. If `apart` isn't 0, they are the same for each commit, neighbours where it is
+   1; else those of commits in a row are others, of a file of 64 MB: side by side, or anywhere. */
 struct pages {
     int count, apart;
+    bool anywhere;
 };
 
 extern struct pages pages;
+
+/* Page `index` of the commit of this number. */
+size_t page_of(int index, int number);
 
 /* The volumes: of this layout, with so many slots in a journal. */
 struct volumes {

@@ -56,7 +56,7 @@ static void begin_memory(struct session *session)
 static void store_words(unsigned char *at, int number)
 {
     for (int i = 0; i < pages.count; i++)
-        memcpy(at + (size_t)i * pages.apart * PAGE, &number, sizeof number);
+        memcpy(at + page_of(i, number) * PAGE, &number, sizeof number);
 }
 
 static void commit_memory(struct session *session, int number)
@@ -110,7 +110,7 @@ static void commit_called(int number)
     static unsigned char page[PAGE];
     memcpy(page, &number, sizeof number);
     for (int i = 0; i < pages.count; i++) {
-        uint64_t at = (uint64_t)i * (unsigned)pages.apart * PAGE;
+        uint64_t at = page_of(i, number) * PAGE;
         must(famsync_write(called.handle, 0, at, page, PAGE, NULL) == FAMSYNC_OK, "famsync_write");
     }
     must(famsync_msync(called.handle, NULL) == FAMSYNC_OK, "famsync_msync");
@@ -148,6 +148,19 @@ static void end_msync(void)
     munmap(mapped, bytes_of_file());
 }
 
+#if defined HAVE_SQLITE || defined HAVE_LMDB
+/* Of the same pages each time there are no others. */
+static int rows(void)
+{
+    return pages.apart > 0 ? pages.count : (int)(bytes_of_file() / PAGE);
+}
+
+static int row_of(int index, int number)
+{
+    return pages.apart > 0 ? index : (int)page_of(index, number);
+}
+#endif
+
 #ifdef HAVE_SQLITE
 /* Two databases, of which the first has a WAL. */
 static sqlite3 *databases[2];
@@ -170,7 +183,7 @@ static void begin_sqlite(int which, const char *path, const char *journal)
     snprintf(statement, sizeof statement,
              "WITH RECURSIVE number(n) AS (SELECT 0 UNION ALL SELECT n + 1 FROM number WHERE n + 1 < %d) "
              "INSERT INTO page SELECT n, 0, randomblob(3900) FROM number",
-             pages.count);
+             rows());
     run(database, statement);
     must(sqlite3_prepare_v2(database, update, -1, &updates[which], NULL) == SQLITE_OK, update);
     databases[which] = database;
@@ -179,9 +192,9 @@ static void begin_sqlite(int which, const char *path, const char *journal)
 static void commit_sqlite(int which, int number)
 {
     run(databases[which], "BEGIN");
-    for (int page = 0; page < pages.count; page++) {
+    for (int i = 0; i < pages.count; i++) {
         sqlite3_bind_int(updates[which], 1, number);
-        sqlite3_bind_int(updates[which], 2, page);
+        sqlite3_bind_int(updates[which], 2, row_of(i, number));
         must(sqlite3_step(updates[which]) == SQLITE_DONE && sqlite3_reset(updates[which]) == SQLITE_OK, "UPDATE");
     }
     run(databases[which], "COMMIT");
@@ -233,7 +246,8 @@ static void commit_lmdb(int number)
     static char rest[4000];
     MDB_txn *transaction;
     must(mdb_txn_begin(environment, NULL, 0, &transaction) == 0, "mdb_txn_begin");
-    for (int page = 0; page < pages.count; page++) {
+    for (int i = 0; i < pages.count; i++) {
+        int page = row_of(i, number);
         MDB_val key = {sizeof page, &page}, value = {sizeof rest, rest};
         memcpy(rest, &number, sizeof number);
         must(mdb_put(transaction, table, &key, &value, 0) == 0, "mdb_put");
