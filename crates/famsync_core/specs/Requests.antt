@@ -45,8 +45,8 @@ IsCommitted v code before mark before' wanted v' = ByKind
     (λ e e'. AnswersCommit e code before mark e' × (wanted ≡ before'))
     (λ e e'. AnswersLogCommit e code before mark before' wanted e') v v'
 
-abbrev pub IsWrittenOut : ℕ → OpenVolume → ℤ → (before wanted : ℕ) → OpenVolume → Type 0
-IsWrittenOut most v code before wanted v' = ByKind
+abbrev pub AnswersWriteOut : ℕ → OpenVolume → ℤ → (before wanted : ℕ) → OpenVolume → Type 0
+AnswersWriteOut most v code before wanted v' = ByKind
     (λ e e'. AnswersSteps most e code e' × (wanted ≡ before))
     (λ e e'. AnswersLogSteps most e code before wanted e') v v'
 

@@ -7,7 +7,7 @@ ghost use Rattle.embedded.specs.declared.reading.Unread.TheVariants.{Refused};
 ghost use Rattle.famsync_core.specs.Codes.{order_code};
 ghost use Rattle.famsync_core.specs.Held.{disk_of, page_numbered};
 ghost use Rattle.famsync_core.specs.Opening.{AnswersOpen, OpensLog, TellsRefused, most_pages};
-ghost use Rattle.famsync_core.specs.Requests.{IsRead, IsWritten, IsLengthSet, IsCommitted, IsWrittenOut};
+ghost use Rattle.famsync_core.specs.Requests.{IsRead, IsWritten, IsLengthSet, IsCommitted, AnswersWriteOut};
 
 use crate::codes::{OK, ORDER, code_of_unread};
 use crate::state::State;
@@ -162,7 +162,7 @@ impl State {
         ensures open { is_some self.new.volume ≡ is_some self.old.volume }
         ensures disk { self.new.disk ≡ self.old.disk }
         ensures answers { IfSome self.old.volume (λ v. IfSome self.new.volume
-            (IsWrittenOut most v result wanted.old wanted.new)) }
+            (AnswersWriteOut most v result wanted.old wanted.new)) }
         ensures carried { option_map (λ v. carried_moment (disk_of v)) self.new.volume
             ≡ option_map (λ v. carried_moment (disk_of v)) self.old.volume }
     {

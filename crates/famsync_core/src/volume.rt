@@ -4,7 +4,7 @@ ghost use Rattle.deferred_disk.specs.Deferred.{after_forget, carried_moment};
 ghost use Rattle.volume_codec.specs.Lengths.{AreLengths};
 ghost use Rattle.embedded.specs.Supplying.{with_supplied};
 ghost use Rattle.famsync_core.specs.Held.{disk_of, file_lengths, may_lose, over_disk, table_in, without_oldest_call};
-ghost use Rattle.famsync_core.specs.Requests.{IsRead, IsWritten, IsLengthSet, IsCommitted, IsWrittenOut};
+ghost use Rattle.famsync_core.specs.Requests.{IsRead, IsWritten, IsLengthSet, IsCommitted, AnswersWriteOut};
 
 use crate::journals::{change_length, commit_journals, read_page, write_out_journals, write_page};
 use crate::logs::{change_log_length, commit_log, read_log_page, write_log_page, write_out_log};
@@ -132,7 +132,7 @@ impl OpenVolume {
 
     /// Makes further steps of the commits that were made.
     pub(crate) fn write_out(&mut self, most: u32, wanted: &mut u32) -> i32
-        ensures answers { IsWrittenOut most self.old result wanted.old wanted.new self.new }
+        ensures answers { AnswersWriteOut most self.old result wanted.old wanted.new self.new }
         ensures carried { carried_moment (disk_of self.new) ≡ carried_moment (disk_of self.old) }
     {
         match self {
