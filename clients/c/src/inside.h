@@ -91,10 +91,12 @@ struct reading {
     uint32_t first, count;
 };
 
-/* The blocks that were supplied to open a volume: the last ones, and the end of all of them. */
+/* The blocks that were supplied to open a volume: the last ones, and the end of all of them; and how often in a row a
+   block was wanted that lies a little behind the last ones. */
 struct opening {
     struct reading last;
     uint32_t end;
+    unsigned hops;
 };
 
 /* The system calls on the volume's file since the session began, and the bytes that they wrote. */

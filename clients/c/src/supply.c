@@ -35,22 +35,37 @@ static int read_and_supply(famsync *handle, uint32_t block, uint32_t count)
     return code;
 }
 
-/* The core opens the volume from the beginning after each block that it lacked. So where it wants the block behind
-   those that it wanted last, as it does for the records of an open journal, MORE times as many are read, up to MOST. */
-enum { MORE = 32, MOST = 1024 };
+/* The core opens the volume from the beginning after each block that it lacked. So if it goes through the volume, MORE
+   times as many blocks are read as the time before, up to MOST, and then twice as many. It goes through the records of
+   an open journal block by block. In a log it wants the next descriptor a few blocks behind the last one: then HOPS
+   times come before. */
+enum { MORE = 32, MOST = 1024, NEAR = 64, HOPS = 4 };
+
+/* The number of blocks to read from this one on, which the core wants. */
+static uint32_t count_to_open(const famsync *handle, uint32_t block, struct opening *opening)
+{
+    const struct reading *last = &opening->last;
+    uint32_t end = last->first + last->count, left = handle->blocks - block;
+    uint64_t count = 1;
+    if (last->count == 0 || block < end || block - end > NEAR)
+        opening->hops = 0;
+    else if (block > end)
+        opening->hops++;
+    if (last->count > 0 && (block == end || opening->hops >= HOPS))
+        count = (uint64_t)last->count * (last->count < MOST ? MORE : 2);
+    if (last->count < MOST && count > MOST)
+        count = MOST;
+    return count < left ? (uint32_t)count : left;
+}
 
 int supply_to_open(famsync *handle, uint32_t block, struct opening *opening)
 {
-    const struct reading *last = &opening->last;
-    uint32_t count = last->count > 0 && block == last->first + last->count ? MORE * last->count : 1, end;
+    uint32_t count, end;
     int code = FAMSYNC_OK;
     /* what is known isn't wanted: it would be asked for again and again */
     if (block >= handle->blocks || famsync_core_is_known(handle->core, block, &handle->core.at) != 0)
         return FAMSYNC_DEVICE;
-    if (count > MOST)
-        count = MOST;
-    if (count > handle->blocks - block)
-        count = handle->blocks - block;
+    count = count_to_open(handle, block, opening);
     opening->last = (struct reading){block, count};
     end = block + count;
     opening->end = end > opening->end ? end : opening->end;

@@ -447,6 +447,39 @@ static void killed(void)
     printf("clients/c: log: layout %u: %u commits beside kills\n", layout, (unsigned)number);
 }
 
+/* An opening after a kill goes through a log of small commits in few reads. */
+static void open_many_commits(void)
+{
+    enum { COMMITS = 400, RECORDS = 2000 };
+    unsigned before;
+    int status;
+    pid_t child;
+    make_volume_of(layout, RECORDS, "a=40960");
+    child = fork();
+    WANT(child >= 0);
+    if (child == 0) {
+        begin(1, false);
+        for (uint64_t number = 1; number <= COMMITS; number++) {
+            WANT_CODE(famsync_write(handle, 0, number % 10 * 4096, &number, sizeof number, NULL), FAMSYNC_OK);
+            WANT_CODE(famsync_msync(handle, NULL), FAMSYNC_OK);
+        }
+        _exit(0);
+    }
+    WANT(waitpid(child, &status, 0) == child && WIFEXITED(status) && WEXITSTATUS(status) == 0);
+    WANT(open_gates(layout, RECORDS) == COMMITS);
+    atomic_store(&fails_read, 1u << 30);
+    before = atomic_load(&reads);
+    handle = opened();
+    WANT(atomic_load(&reads) - before <= 60);
+    atomic_store(&fails_read, 0);
+    for (uint64_t page = 0; page < 10; page++) {
+        uint64_t found;
+        WANT_CODE(famsync_read(handle, 0, page * 4096, &found, sizeof found, NULL), FAMSYNC_OK);
+        WANT(found == COMMITS - (COMMITS - page) % 10);
+    }
+    WANT_CODE(famsync_close(handle), FAMSYNC_OK);
+}
+
 int main(void)
 {
     acknowledged = mmap(NULL, 4096, PROT_READ | PROT_WRITE, MAP_SHARED | MAP_ANONYMOUS, -1, 0);
@@ -465,6 +498,7 @@ int main(void)
         failing_calls();
         failing_reads();
         refused_rollback();
+        open_many_commits();
         atomic_store(acknowledged, 0);
         killed();
     }
