@@ -146,8 +146,8 @@ struct famsync_plan {
    (FAMSYNC_DEVICE).
 
    In layouts 5 and 6 a commit writes its pages to the log, and many commits are written to their places together. A
-   commit makes two syncs in layout 5. In layout 6 it makes one, and needs a premise that the other layouts don't: what
-   a crash leaves of a commit doesn't have the digest of the whole commit by chance.
+   commit makes two syncs in layout 5, and one in layout 6. Layout 6 has a premise of its own: what a crash leaves of a
+   commit doesn't have the digest of the whole commit by chance.
 
    FAMSYNC_ARGUMENT: a volume can't be made by this plan; `message` has the reason. FAMSYNC_SYSTEM: errno has the cause.
    It is EEXIST if a file with this name, or with `.new` after it, already exists. */
@@ -222,7 +222,7 @@ int famsync_write(famsync *handle, unsigned file, uint64_t offset, const void *b
    wrote to other files can be committed.
 
    FAMSYNC_DEVICE: a read, a write or a sync failed, and nothing is acknowledged. errno has the cause: ENOMEM means
-   that memory was refused, and the disk isn't to blame. After a failed read the session goes on, and you may call
+   that memory was refused, and the disk isn't to blame. After a failed read the session continues, and you may call
    again. After a failed write or sync the session is over: each later call returns FAMSYNC_BROKEN.
 
    After a failed sync the library flags the volume as suspect, as the program does: it makes the file VOLUME.suspect
@@ -280,7 +280,7 @@ int famsync_stat(famsync *handle, struct famsync_stat *stat);
    has it locked.
 
    FAMSYNC_SYSTEM: the file couldn't be written; errno has the cause. FAMSYNC_DEVICE: the volume couldn't be read (the
-   session goes on), or couldn't be written (the session is over). In both cases the file is no volume. Commits during
+   session continues), or couldn't be written (the session is over). In both cases the file is no volume. Commits during
    the backup don't fail because of it. */
 int famsync_backup(famsync *handle, int descriptor);
 
