@@ -1,9 +1,9 @@
 /*
  * libfamsync: files in a volume whose changes become durable together. It runs in the caller's process.
  *
- * A handle is a session with one volume, which famsync_format or the command `famsync format` made. The library opens
- * and locks the volume's file itself. A volume has one session that writes, or any number of sessions that only read.
- * Sessions of the program `famsync` count, too.
+ * A handle is a session with one volume. famsync_format or the command `famsync format` makes volumes. The library
+ * opens and locks the volume's file itself. A volume has one session that writes, or any number of sessions that only
+ * read. Sessions of the program `famsync` count, too.
  *
  * A program can access the bytes of a file in two ways. It may use both in one session, even for the same file:
  *
@@ -218,7 +218,7 @@ int famsync_write(famsync *handle, unsigned file, uint64_t offset, const void *b
    the next call commits them.
 
    FAMSYNC_NOFRAME: the pages changed by famsync_write and in plain memory, together, are more than one commit can have.
-   Nothing is committed, and no later call can commit them either. After you close the plain memory, what famsync_write
+   Nothing is committed, and no later call can commit these changes. After you close the plain memory, what famsync_write
    wrote to other files can be committed.
 
    FAMSYNC_DEVICE: a read, a write or a sync failed, and nothing is acknowledged. errno has the cause: ENOMEM means
@@ -328,7 +328,7 @@ int famsync_backup(famsync *handle, int descriptor);
 int famsync_memory_open(famsync *handle, const char *file, famsync_memory **memory);
 
 /* Does the same at a given address, so that the file can contain pointers into itself. A null pointer means any
-   address. The memory takes the file's capacity, and one page before and behind it.
+   address. It needs room for the file's capacity, and one page before and behind it.
    FAMSYNC_ADDRESS: the address isn't a multiple of the page size. Or these pages begin below address 65,536, end above
    the highest address, or contain other memory. */
 int famsync_memory_open_at(famsync *handle, const char *file, void *address, famsync_memory **memory);
