@@ -218,8 +218,8 @@ int famsync_write(famsync *handle, unsigned file, uint64_t offset, const void *b
    the next call commits them.
 
    FAMSYNC_NOFRAME: the pages changed by famsync_write and in plain memory, together, are more than one commit can have.
-   Nothing is committed, and no later call can commit these changes. After you close the plain memory, what famsync_write
-   wrote to other files can be committed.
+   Nothing is committed, and no later call can commit these changes. After you close the plain memory, what
+   famsync_write wrote to other files can be committed.
 
    FAMSYNC_DEVICE: a read, a write or a sync failed, and nothing is acknowledged. errno has the cause: ENOMEM means
    that memory was refused, and the disk isn't to blame. After a failed read the session continues, and you may call
