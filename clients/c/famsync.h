@@ -308,8 +308,8 @@ int famsync_backup(famsync *handle, int descriptor);
  * - The kernel doesn't use the handler: read(2) and the like fail with EFAULT if they read into a page that wasn't
  *   stored to.
  * - A thread that blocks SIGSEGV can't store.
- * - A handler of SIGSEGV that the program installs later gets the library's faults. It should call the handler before
- *   it.
+ * - A handler of SIGSEGV that the program installs later gets the library's faults. It should pass them to the previous
+ *   handler.
  *
  * For all three, famsync_memory_touch opens pages ahead. famsync_memory_open installs the library's handler again if
  * another one took its place. Faults that aren't the library's are passed on to that other handler.
