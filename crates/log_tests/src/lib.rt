@@ -4,8 +4,6 @@
 #[cfg(test)]
 mod commits;
 #[cfg(test)]
-mod counting;
-#[cfg(test)]
 mod moves;
 #[cfg(test)]
 mod sharing;

@@ -1,6 +1,5 @@
 // A log in steady use makes no sync of its own: moves of the start share those of commits.
 use crate::commits::{BY_DIGEST, disk_of, start_at};
-use crate::counting::CountingDisk;
 use crate::stores::{byte_of, commits, steps};
 use device::{Device, MemDisk};
 use log_codec::{LogGeometry, Sealing};
@@ -8,6 +7,7 @@ use log_commits::LogTail;
 use log_store::{HomeStage, LogStore, Progress};
 use std::alloc::Global;
 use std::process::Abort;
+use taped_disk::{Call, TapedDisk};
 
 // Makes steps until the start is written: whether it succeeds.
 fn writes_start<D: Device>(store: &mut LogStore<Global>, disk: &mut D) -> bool {
@@ -30,29 +30,59 @@ fn tends<D: Device>(store: &mut LogStore<Global>, disk: &mut D) -> bool {
     true
 }
 
+// The first home block of a log of this many blocks.
+fn first_home(ring: u32) -> u32 {
+    ring.min(64) + 4
+}
+
 // A store over a log of this many blocks with seven home blocks.
 fn store_of<R: Abort + AllocGlobal>(
     rt: &R,
     sealing: Sealing,
     ring: u32,
-) -> (LogStore<Global>, CountingDisk<MemDisk<Global>>) {
-    let homes = ring.min(64) + 4;
-    let log = LogGeometry::new(sealing, u64::from(ring), u64::from(homes) + 7).expect(rt, "a log");
+) -> (LogStore<Global>, TapedDisk<MemDisk<Global>>) {
+    let blocks = u64::from(first_home(ring)) + 7;
+    let log = LogGeometry::new(sealing, u64::from(ring), blocks).expect(rt, "a log");
     let start = start_at(0);
-    let disk = CountingDisk {
-        inner: disk_of(rt, &log, start),
-        homes_at: 4096 * u64::from(homes),
-        syncs: 0,
-        home_writes: 0,
-    };
+    let disk = TapedDisk::new(rt.alloc(), disk_of(rt, &log, start));
     (
         LogStore::new(rt.alloc(), LogTail::new(log, start), false),
         disk,
     )
 }
 
+// The number of syncs, if each call was recorded.
+fn count_syncs<D: Device>(disk: &TapedDisk<D>) -> Option<usize> {
+    if !disk.is_whole {
+        return None;
+    }
+    let mut syncs = 0usize;
+    for call in &disk.tape {
+        if let Call::Sync = call {
+            syncs = syncs.saturating_add(1);
+        }
+    }
+    Some(syncs)
+}
+
+// The number of writes of home blocks, which begin at this block, if each call was recorded.
+fn count_home_writes<D: Device>(disk: &TapedDisk<D>, homes: u32) -> Option<usize> {
+    if !disk.is_whole {
+        return None;
+    }
+    let mut writes = 0usize;
+    for call in &disk.tape {
+        if let Call::Write(at, _) = call {
+            if *at >= 4096 * u64::from(homes) {
+                writes = writes.saturating_add(1);
+            }
+        }
+    }
+    Some(writes)
+}
+
 // The number of syncs of 200 commits round a log of nine blocks, if all succeed and are read back.
-fn syncs_of<R: Abort + AllocGlobal>(rt: &R, sealing: Sealing) -> Option<u64> {
+fn syncs_of<R: Abort + AllocGlobal>(rt: &R, sealing: Sealing) -> Option<usize> {
     let (mut store, mut disk) = store_of(rt, sealing, 9);
     for round in 0..200 {
         let home = 13 + round % 7;
@@ -63,7 +93,7 @@ fn syncs_of<R: Abort + AllocGlobal>(rt: &R, sealing: Sealing) -> Option<u64> {
             return None;
         }
     }
-    Some(disk.syncs)
+    count_syncs(&disk)
 }
 
 #[test]
@@ -74,7 +104,7 @@ fn a_log_in_use_makes_no_sync_of_its_own(rt: HostRuntime) {
 }
 
 // How often 1,000 commits of the same block write it home, in a log of 64 blocks, if all succeed.
-fn home_writes_of<R: Abort + AllocGlobal>(rt: &R, sealing: Sealing) -> Option<u64> {
+fn home_writes_of<R: Abort + AllocGlobal>(rt: &R, sealing: Sealing) -> Option<usize> {
     let (mut store, mut disk) = store_of(rt, sealing, 64);
     for round in 0..1000u32 {
         let is_made = commits(rt, &mut store, &mut disk, &[70], (round % 256) as u8);
@@ -82,7 +112,7 @@ fn home_writes_of<R: Abort + AllocGlobal>(rt: &R, sealing: Sealing) -> Option<u6
             return None;
         }
     }
-    Some(disk.home_writes)
+    count_home_writes(&disk, first_home(64))
 }
 
 #[test]

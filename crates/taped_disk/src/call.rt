@@ -1,0 +1,67 @@
+// A call of a device.
+ghost use Rattle.std.specs.Prelude.{◌≡◌, ◌++◌, ◌∷◌, [], IsTrue, IfOk};
+ghost use Rattle.taped_disk.specs.Calls.DeviceCall.{write};
+ghost use Rattle.taped_disk.specs.Calls.{call_of, calls_of};
+
+use std::alloc::{AllocError, Global};
+use std::fmt;
+
+/// A call of a device: where it begins and how many bytes it reads, or what it writes.
+#[derive(Drop)]
+pub enum Call {
+    Read(u64, u64),
+    Write(u64, Vec<u8>),
+    Sync,
+}
+
+impl Call {
+    /// The same call.
+    pub fn copy(&self, alloc: Global) -> Result<Call, AllocError>
+        ensures { IfOk result (λ copy. call_of copy ≡ call_of self.now) }
+    {
+        match self {
+            Call::Read(at, count) => Ok(Call::Read(*at, *count)),
+            Call::Write(at, bytes) => Ok(Call::Write(*at, bytes.to_vec(alloc)?)),
+            Call::Sync => Ok(Call::Sync),
+        }
+    }
+}
+
+impl fmt::Display for Call {
+    ghost use Rattle.std.specs.Prelude.{Some};
+    ghost use Rattle.taped_disk.specs.Calls.{words_of, call_of};
+
+    ghost output = { λ call. Some (words_of (call_of call)) };
+
+    fn fmt<W: fmt::Write>(&self, f: &mut fmt::Formatter<W>) -> fmt::Result {
+        match self {
+            Call::Read(at, count) => write!(f, "read {at} {count}"),
+            Call::Write(at, bytes) => {
+                let count = bytes.len();
+                write!(f, "write {at} {count}")
+            }
+            Call::Sync => f.write_str("sync"),
+        }
+    }
+}
+
+/// Records a call: whether there was memory for it.
+#[tactic(auto, using(crate::proofs::Calls::calls_of_pushed))]
+pub fn record(tape: &mut Vec<Call>, call: Call) -> bool
+    ensures { IsTrue result → calls_of tape.new.items ≡ calls_of tape.old.items ++ call_of call ∷ [] }
+{
+    match tape.push(call) {
+        Ok(()) => true,
+        Err(_) => false,
+    }
+}
+
+/// Records a write.
+pub fn record_write(alloc: Global, tape: &mut Vec<Call>, at: u64, bytes: &[u8]) -> bool
+    ensures { IsTrue result → calls_of tape.new.items ≡ calls_of tape.old.items ++ write at bytes.now ∷ [] }
+{
+    match Vec::from_slice(alloc, bytes) {
+        Ok(bytes) => record(tape, Call::Write(at, bytes)),
+        Err(_) => false,
+    }
+}
