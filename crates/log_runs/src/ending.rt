@@ -1,8 +1,6 @@
 // Where a run is stopped, what a crash leaves then, and what is opened.
-use crate::finding::find;
-use crate::kept::{Kept, crashed, read_all_kept};
 use crate::run::{Made, Run};
-use crate::taped::Tape;
+use log_crashes::{Kept, Tape, crashed, find, read_all_kept};
 use run_files::{Failure, File, Span, Wanted, list_of, read_wanted, span_of};
 use serde_json::Value;
 use std::alloc::Global;

@@ -1,10 +1,10 @@
 // A run: an opening and steps, which can be made again and again from the same beginning.
 use crate::step::{Answer, Calls, Said, Step, make};
-use crate::taped::{Disk, Tape, taped};
 use device::Device;
+use log_crashes::{Disk, Tape, taped};
 use log_files::LogFiles;
 use page_entry::Refusal;
-use run_files::{Failure, compare_count, compare_refusal};
+use run_files::{Ended, Failure, compare_count, compare_refusal};
 use std::alloc::Global;
 
 /// A run, as a file says it.
@@ -18,15 +18,6 @@ pub struct Run {
     pub steps: Vec<Said>,
     /// The number of the line that has the first step.
     pub line: u64,
-}
-
-/// How a run is to end: how many device calls it makes and how many of them fail, and why its opening is refused, if
-/// it is.
-#[derive(Drop)]
-pub struct Ended {
-    pub calls: Option<u64>,
-    pub faults: Option<u64>,
-    pub refused: Option<String>,
 }
 
 /// A run that was made.
@@ -110,23 +101,12 @@ impl Run {
     }
 
     fn compare(&self, alloc: Global, made: &Made, ended: &Ended) -> Result<(), Failure> {
-        let calls = made.tape.calls.len() as u64;
-        match (made.refused, &ended.refused) {
-            (None, None) => {
-                self.compare_opened(alloc, made)?;
-                self.compare_steps(alloc, made, self.steps.len())?;
-            }
-            (Some(refusal), Some(word)) => compare_refusal(alloc, refusal, word.as_str())?,
-            (None, Some(word)) => {
-                return Err(Failure::differs(alloc, "the run", word, &"a volume"));
-            }
-            (Some(refusal), None) => {
-                return Err(Failure::differs(alloc, "the run", &"a volume", &refusal));
-            }
+        ended.compare_refused(alloc, made.refused, "a volume")?;
+        if made.refused.is_none() {
+            self.compare_opened(alloc, made)?;
+            self.compare_steps(alloc, made, self.steps.len())?;
         }
-        compare_count(alloc, "device calls", ended.calls.unwrap_or(calls), calls)?;
-        let faults = ended.faults.unwrap_or(made.faults);
-        compare_count(alloc, "calls that failed", faults, made.faults)
+        ended.compare_calls(alloc, made.tape.calls.len() as u64, made.faults)
     }
 
     // Compares the device calls of the opening.

@@ -1,11 +1,14 @@
 // A step of a run over the files of a volume with a log: a call of `LogFiles`.
-use crate::taped::{Call, Disk};
+use log_crashes::Disk;
 use log_files::LogFiles;
 use log_store::Progress;
 use page_entry::{FileNumber, FilePage, Refusal};
-use run_files::{Failure, Put, bytes, compare_bytes, compare_count, number, read_puts, text};
+use run_files::{
+    Failure, Put, bytes, compare_bytes, compare_count, compare_text, number, read_puts, text,
+};
 use serde_json::Value;
 use std::alloc::Global;
+use taped_disk::Call;
 
 /// A step.
 #[derive(Drop)]
@@ -210,11 +213,7 @@ impl Answer {
                 compare_bytes(alloc, "the page", wanted, came)
             }
             (Answer::Text(wanted), Answer::Text(came)) => {
-                if wanted.as_str() == came.as_str() {
-                    Ok(())
-                } else {
-                    Err(Failure::differs(alloc, "the answer", wanted, came))
-                }
+                compare_text(alloc, "the answer", wanted.as_str(), came.as_str())
             }
             (Answer::Text(wanted), Answer::Page(_)) => {
                 Err(Failure::differs(alloc, "the answer", wanted, &"a page"))
@@ -235,9 +234,7 @@ impl Calls {
             Calls::Each(wanted) => {
                 for (wanted, call) in wanted.iter().zip(came) {
                     let call = format!(in alloc; "{call}")?;
-                    if call.as_str() != wanted.as_str() {
-                        return Err(Failure::differs(alloc, "a device call", wanted, &call));
-                    }
+                    compare_text(alloc, "a device call", wanted.as_str(), call.as_str())?;
                 }
                 compare_count(
                     alloc,

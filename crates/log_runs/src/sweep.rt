@@ -1,7 +1,6 @@
 // A crash after each device call of a run. What is found has the acknowledged commits, and maybe the one under way.
 use crate::ending::Trial;
-use crate::finding::{Found, State, find, read_state};
-use crate::kept::{Kept, crashed, read_all_kept};
+use log_crashes::{Found, Kept, State, crashed, find, read_all_kept, read_state};
 use run_files::{Failure, File, list_of};
 use serde_json::Value;
 use std::alloc::Global;

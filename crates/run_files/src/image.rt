@@ -1,8 +1,6 @@
-// The bytes of a disk, with a volume or none.
+// The bytes of a disk, and the files of a volume.
 use crate::failure::Failure;
 use crate::form::{bytes, number, read_lists, text};
-use device::{Device, MemDisk};
-use page_entry::Refusal;
 use serde_json::Value;
 use std::alloc::{AllocError, Global};
 use volume_codec::FileSpec;
@@ -92,27 +90,6 @@ fn file_of(alloc: Global, name: &Value, length: &Value, capacity: &Value) -> Res
     })
 }
 
-/// A volume of these files that is made on a disk: the number of its layout, its record slots, how long the disk is,
-/// where that isn't as many bytes as the volume's blocks, and the byte that it was filled with.
-#[derive(Clone, Copy)]
-pub struct Plan<'a> {
-    pub layout: u64,
-    pub slots: u64,
-    pub files: &'a [File],
-    pub length: Option<u64>,
-    pub over: u8,
-}
-
-/// The disk's bytes then.
-pub fn formatted(alloc: Global, plan: Plan<'_>) -> Result<Vec<u8>, Failure> {
-    let specs = specs_of(alloc, plan.files)?;
-    let mut disk = filled_disk(alloc, plan, &specs)?;
-    match format_on(alloc, plan, &specs, &mut disk) {
-        Ok(()) => Ok(disk.bytes().to_vec(alloc)?),
-        Err(failure) => Err(failure),
-    }
-}
-
 /// What the files are to be.
 pub fn specs_of(alloc: Global, files: &[File]) -> Result<Vec<FileSpec<'_>>, AllocError> {
     let mut specs = Vec::new(alloc);
@@ -124,52 +101,4 @@ pub fn specs_of(alloc: Global, files: &[File]) -> Result<Vec<FileSpec<'_>>, Allo
         })?;
     }
     Ok(specs)
-}
-
-// A disk for the volume, filled with one byte.
-fn filled_disk(
-    alloc: Global,
-    plan: Plan<'_>,
-    specs: &[FileSpec<'_>],
-) -> Result<MemDisk<Global>, Failure> {
-    match recovery::blocks_as(plan.layout, specs, plan.slots) {
-        Ok(blocks) => {
-            let length = plan.length.unwrap_or(blocks.saturating_mul(4096));
-            let bytes = vec![in alloc; plan.over; length as usize]?;
-            Ok(MemDisk::from_bytes(alloc, bytes)?)
-        }
-        Err(refusal) => Err(no_volume(alloc, refusal)),
-    }
-}
-
-// Makes the volume on a device.
-fn format_on<D: Device>(
-    alloc: Global,
-    plan: Plan<'_>,
-    specs: &[FileSpec<'_>],
-    disk: &mut D,
-) -> Result<(), Failure> {
-    match recovery::format_as(alloc, disk, plan.layout, specs, plan.slots) {
-        Ok(()) => Ok(()),
-        Err(refusal) => Err(no_volume(alloc, refusal)),
-    }
-}
-
-fn no_volume(alloc: Global, refusal: Refusal) -> Failure {
-    Failure::differs(alloc, "the volume", &"one", &refusal)
-}
-
-/// The offset of the first place where bytes aren't those that are wanted.
-pub fn difference(wanted: &[u8], came: &[u8]) -> Option<u64> {
-    if wanted == came {
-        return None;
-    }
-    let mut at = 0u64;
-    for (byte, other) in wanted.iter().zip(came) {
-        if byte != other {
-            return Some(at);
-        }
-        at = at.saturating_add(1);
-    }
-    Some(at)
 }

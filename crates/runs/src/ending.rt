@@ -2,9 +2,10 @@
 use crate::trial::{Stopped, Trial};
 use device::MemDisk;
 use run_files::{
-    Choice, Failure, Put, Span, Wanted, compare, compare_bytes, compare_count, crash, cut, halves,
-    list_of, number, read_choices, read_wanted, span_of,
+    Choice, Failure, Put, Span, Wanted, compare_bytes, compare_count, halves, list_of, number,
+    read_choices, read_wanted, span_of,
 };
+use run_openings::{compare, crash, cut};
 use serde_json::Value;
 use std::alloc::Global;
 use std::fmt;

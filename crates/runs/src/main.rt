@@ -4,27 +4,13 @@
 
 mod ending;
 mod heard;
-mod judge;
+mod lines;
 mod trial;
 
-use judge::judge_all;
-use std::io::BufWriter;
+use lines::Lines;
+use run_files::judge_files;
 use std::process::ExitCode;
-use std::{env, io};
 
 fn main(rt: HostRuntime) -> ExitCode {
-    match started(&rt) {
-        Ok(status) => ExitCode::from(status),
-        Err(failure) => {
-            let _ = eprintln!(rt; "runs: {failure}");
-            ExitCode::from(3)
-        }
-    }
-}
-
-fn started(rt: &HostRuntime) -> io::Result<u8> {
-    let alloc = rt.alloc();
-    let words: Vec<String> = env::args(rt)?.collect(alloc)?;
-    let mut out = BufWriter::new(alloc, rt.stdout())?;
-    judge_all(rt, &words, &mut out)
+    judge_files::<Lines>(&rt, "runs")
 }

@@ -1,9 +1,13 @@
 // A disk in memory, and a run of a machine on it that can be made again and again from the same beginning.
+ghost use Rattle.std.specs.Prelude.{◌≡◌, length, OnOk};
+ghost use Rattle.machine.specs.Words.{reply_text};
+
 use crate::heard::Heard;
 use device::{Device, FailingDisk, MemDisk};
 use machine::{Act, Reply, Shape, Step};
 use page_entry::Refusal;
-use run_files::{Disk, Failure, File, compare_count, compare_refusal, number_of};
+use run_files::{Ended, Failure, File, compare_count, number_of};
+use run_openings::Disk;
 use serde_json::Value;
 use std::alloc::Global;
 
@@ -33,15 +37,6 @@ pub fn read_shape(alloc: Global, value: &Value) -> Result<Shape, Failure> {
         frames: number_of(alloc, value, "frames")?,
         copies: number_of(alloc, value, "copies")?,
     })
-}
-
-/// How a run is to end: how many device calls it makes and how many of them fail, where that is said, and why it is
-/// refused, if it is.
-#[derive(Drop)]
-pub struct Ended {
-    pub calls: Option<u64>,
-    pub faults: Option<u64>,
-    pub refused: Option<String>,
 }
 
 /// A disk of these bytes.
@@ -76,29 +71,15 @@ impl Run {
         disk: &Disk,
         ended: &Ended,
     ) -> Result<(), Failure> {
-        match (refusal, &ended.refused) {
-            (None, None) => (),
-            (Some(refusal), Some(word)) => compare_refusal(alloc, refusal, word.as_str())?,
-            (None, Some(word)) => {
-                return Err(Failure::differs(alloc, "the run", word, &"a machine"));
-            }
-            (Some(refusal), None) => {
-                return Err(Failure::differs(alloc, "the run", &"a machine", &refusal));
-            }
-        }
+        ended.compare_refused(alloc, refusal, "a machine")?;
         self.compare(alloc, heard, self.replies.len())?;
-        let (calls, faults) = (disk.calls(), disk.faults());
-        compare_count(alloc, "device calls", ended.calls.unwrap_or(calls), calls)?;
-        compare_count(
-            alloc,
-            "calls that failed",
-            ended.faults.unwrap_or(faults),
-            faults,
-        )
+        ended.compare_calls(alloc, disk.calls(), disk.faults())
     }
 
     // Compares what was heard with the first so many replies.
-    fn compare(&self, alloc: Global, heard: &[Reply], count: usize) -> Result<(), Failure> {
+    fn compare(&self, alloc: Global, heard: &[Reply], count: usize) -> Result<(), Failure>
+        ensures { OnOk result (count ≡ length heard.now) }
+    {
         for (i, (wanted, reply)) in self.replies.iter().zip(heard).enumerate() {
             if i < count {
                 self.compare_reply(alloc, i as u64, wanted.as_str(), reply)?;
@@ -222,7 +203,9 @@ impl Run {
         step: u64,
         wanted: &str,
         reply: &Reply,
-    ) -> Result<(), Failure> {
+    ) -> Result<(), Failure>
+        ensures { OnOk result (wanted.now ≡ reply_text reply.now) }
+    {
         let came = format!(in alloc; "{reply}")?;
         if came.as_str() == wanted {
             return Ok(());

@@ -1,5 +1,5 @@
 // What a crash leaves of the places that weren't synced.
-use crate::taped::{Point, Tape};
+use crate::tape::{Point, Tape};
 use run_files::{Choice, Failure, Put, halves, read_choice_of};
 use serde_json::Value;
 use std::alloc::Global;

@@ -1,130 +1,14 @@
-// A disk that records its calls, so that they can be made again up to any of them.
-use device::{Device, DeviceFault, FailingDisk, MemDisk};
+// The calls of a run on a disk, which can be made again up to any of them.
+ghost use Rattle.std.specs.Prelude.{◌≡◌, ◌+◌, ◌<◌, ◌≤◌, length};
+ghost use Rattle.device.specs.Device.{written};
+
+use device::{FailingDisk, MemDisk, put};
 use run_files::Failure;
 use std::alloc::{AllocError, Global};
-use std::fmt;
-
-/// A call of a device: where it begins and how many bytes it reads, or what it writes.
-#[derive(Drop)]
-pub enum Call {
-    Read(u64, u64),
-    Write(u64, Vec<u8>),
-    Sync,
-}
-
-impl Call {
-    fn copy(&self, alloc: Global) -> Result<Call, AllocError> {
-        match self {
-            Call::Read(at, count) => Ok(Call::Read(*at, *count)),
-            Call::Write(at, bytes) => Ok(Call::Write(*at, bytes.to_vec(alloc)?)),
-            Call::Sync => Ok(Call::Sync),
-        }
-    }
-}
-
-impl fmt::Display for Call {
-    fn fmt<W: fmt::Write>(&self, f: &mut fmt::Formatter<W>) -> fmt::Result {
-        match self {
-            Call::Read(at, count) => write!(f, "read {at} {count}"),
-            Call::Write(at, bytes) => {
-                let count = bytes.len();
-                write!(f, "write {at} {count}")
-            }
-            Call::Sync => f.write_str("sync"),
-        }
-    }
-}
-
-/// A disk over another that records the calls. Where a record is refused memory, `is_whole` is no longer true.
-#[derive(Drop)]
-pub struct TapedDisk<D: Device> {
-    pub inner: D,
-    pub tape: Vec<Call>,
-    pub is_whole: bool,
-    alloc: Global,
-}
+use taped_disk::{Call, TapedDisk};
 
 /// A disk in memory whose call of a chosen number fails, and whose calls are recorded.
 pub type Disk = TapedDisk<FailingDisk<MemDisk<Global>>>;
-
-impl<D: Device> TapedDisk<D> {
-    /// No call was made yet.
-    pub fn new(alloc: Global, inner: D) -> Self {
-        TapedDisk {
-            inner,
-            tape: Vec::new(alloc),
-            is_whole: true,
-            alloc,
-        }
-    }
-}
-
-// Records a write.
-fn record_write(
-    alloc: Global,
-    tape: &mut Vec<Call>,
-    at: u64,
-    bytes: &[u8],
-) -> Result<(), AllocError> {
-    tape.push(Call::Write(at, bytes.to_vec(alloc)?))?;
-    Ok(())
-}
-
-impl<D: Device> Device for TapedDisk<D> {
-    ghost seen = { λ disk. D.seen disk.inner };
-
-    ghost may_leave = { λ disk. D.may_leave disk.inner };
-
-    ghost moment = { λ disk. D.moment disk.inner };
-
-    ghost left_since = { λ disk. D.left_since disk.inner };
-
-    ghost calls_made = { λ disk. D.calls_made disk.inner };
-
-    ghost faults_met = { λ disk. D.faults_met disk.inner };
-
-    ghost carried = { λ disk. D.carried disk.inner };
-
-    ghost is_honest = { λ disk. D.is_honest disk.inner };
-
-    ghost seen_is_left = { λ disk. D.seen_is_left disk.inner };
-
-    ghost left_is_whole = { λ disk. D.left_is_whole disk.inner };
-
-    ghost now_is_since = { λ disk. D.now_is_since disk.inner };
-
-    ghost since_now = { λ disk. D.since_now disk.inner };
-
-    fn len(&self) -> u64 {
-        self.inner.len()
-    }
-
-    fn read(&mut self, at: u64, buffer: &mut [u8]) -> Result<(), DeviceFault> {
-        let recorded = self.tape.push(Call::Read(at, buffer.len() as u64));
-        self.is_whole = self.is_whole && recorded.is_ok();
-        self.inner.read(at, buffer)
-    }
-
-    fn write(&mut self, at: u64, bytes: &[u8]) -> Result<(), DeviceFault> {
-        let recorded = record_write(self.alloc, &mut self.tape, at, bytes);
-        self.is_whole = self.is_whole && recorded.is_ok();
-        self.inner.write(at, bytes)
-    }
-
-    fn sync(&mut self) -> Result<(), DeviceFault> {
-        let recorded = self.tape.push(Call::Sync);
-        self.is_whole = self.is_whole && recorded.is_ok();
-        self.inner.sync()
-    }
-
-    fn calls(&self) -> u64 {
-        self.inner.calls()
-    }
-
-    fn faults(&self) -> u64 {
-        self.inner.faults()
-    }
-}
 
 /// A disk of these bytes, whose call of this number fails.
 pub fn taped(alloc: Global, image: &[u8], fails: u64) -> Result<Disk, Failure> {
@@ -251,9 +135,13 @@ impl Point {
 }
 
 // Copies bytes over others, from a place on, if there are as many.
-fn copy_over(content: &mut [u8], from: usize, bytes: &[u8]) {
+fn copy_over(content: &mut [u8], from: usize, bytes: &[u8])
+    ensures fits { from + length bytes.now ≤ length content.old
+        → content.new ≡ written content.old from bytes.now }
+    ensures same { length content.old < from + length bytes.now → content.new ≡ content.old }
+{
     if from <= content.len() && bytes.len() <= content.len() - from {
-        content[from..from + bytes.len()].copy_from_slice(bytes);
+        put(content, from, bytes);
     }
 }
 

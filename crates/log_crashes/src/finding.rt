@@ -1,5 +1,5 @@
 // What an opening finds on a disk.
-use crate::taped::{Call, Disk, Tape, taped};
+use crate::tape::{Disk, Tape, taped};
 use log_files::LogFiles;
 use page_entry::{FilePage, Refusal};
 use run_files::{
@@ -8,6 +8,7 @@ use run_files::{
 };
 use serde_json::Value;
 use std::alloc::Global;
+use taped_disk::Call;
 
 // A file that was found.
 #[derive(Drop)]
