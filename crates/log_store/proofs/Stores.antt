@@ -1,47 +1,36 @@
 -- A store that is over a device stays so.
 use Rattle.std.proofs.Common.{◌≡◌, ℕ, ◌+◌, ◌%◌, List, [], ◌∷◌, ◌++◌, Bool, true, false}
 use Rattle.std.proofs.Common.{length, take, get_or, inl, inr, refl, sym, ap, subst, ◌∙◌, arith, append_assoc}
-use Rattle.std.specs.Prelude.{Option, Some, None, Result, Ok, Err, IfOk, OnOk, not}
-use Rattle.std.specs.List.{Contains}
+use Rattle.std.specs.Prelude.{Option, Some, None, not}
 use Rattle.std.proofs.lemmas.Bool.{false≢true}
-use Rattle.std.proofs.lemmas.List.{append-nil, take_all}
 use Rattle.volume_codec.specs.Layout.{block_at}
-use Rattle.device.specs.Device.{Only, LeavesOnly}
-use Rattle.device.proofs.Public.{leaves_at_start, leaves_weaker}
+use Rattle.device.specs.Device.{Only}
+use Rattle.device.proofs.Public.{leaves_at_start}
 use Rattle.device.specs.declared.device.Device.{Ghosts}
-use Rattle.device.specs.Did.{Did}
 use Rattle.log_codec.specs.declared.sealing.Sealing.{Sealing}
 use Rattle.log_codec.specs.declared.sealing.Sealing.TheVariants.{ByByte, ByDigest}
 use Rattle.log_codec.specs.declared.start.LogStart.{LogStart}
 use Rattle.log_codec.specs.Log.{LogValue, log_descriptor_blocks}
 use Rattle.log_codec.specs.Start.{counts_second}
 use Rattle.log_codec.specs.Commit.{LogDescriptor}
-use Rattle.log_codec.specs.Chain.{HasLog, IsLogHome, LogRecovers, newest_or, chain_end, chain_blocks}
+use Rattle.log_codec.specs.Chain.{HasLog, IsLogHome, newest_or, chain_end}
 use Rattle.log_commits.specs.declared.behind.OldCommits.{OldCommits}
-use Rattle.log_commits.specs.declared.behind.MoveFault.{MoveFault}
 use Rattle.log_commits.specs.Tail.{TailValue, tail_at}
-use Rattle.log_commits.specs.Commit.{CommitLeaves, LeftByCommit, committed_to, next_logged, tail_after}
-use Rattle.log_commits.specs.Homes.{AreWrittenHome}
-use Rattle.log_commits.specs.Behind.{HoldsCommits, AreOldest, IsReadyToMove, IsSameOutside, LeavesCommits, MoveLeaves}
-use Rattle.log_commits.specs.Behind.{MayMove, RefusesMove, StaysLast, start_work, tail_behind}
+use Rattle.log_commits.specs.Commit.{CommitLeaves, LeftByCommit, TellsTorn, committed_to, next_logged, tail_after}
+use Rattle.log_commits.specs.Behind.{HoldsCommits, AreOldest, IsReadyToMove, IsSameOutside}
+use Rattle.log_commits.specs.Behind.{tail_behind}
 use Rattle.log_commits.specs.Selecting.{IsSureBy}
-use Rattle.log_commits.specs.Calls.{DidAll}
-use Rattle.log_commits.proofs.Public.{newest_cases, recovers, did_one, ready_kept}
+use Rattle.log_commits.proofs.Public.{newest_cases, recovers, ready_kept}
 use Rattle.log_home.specs.declared.index.Newest.{Newest}
 use Rattle.log_home.specs.Index.{Entries, find_in, recorded_or, newest_of_chain, IsIndexOf}
-use Rattle.log_home.specs.Work.{HomeWorkValue, AreHome, MayStep, RefusesStep, copy_work, next_copy, stepped}
-use Rattle.log_home.proofs.Public.{none_some, newest_block, newest_some, home_in}
-use Rattle.log_home.proofs.Public.{index_noted, index_forgot, index_passed, home_kept}
+use Rattle.log_home.specs.Work.{HomeWorkValue, AreHome}
+use Rattle.log_home.proofs.Public.{none_some, newest_block, newest_some}
+use Rattle.log_home.proofs.Public.{index_noted, index_passed, home_kept}
 use Rattle.log_store.specs.declared.stage.HomeStage.{HomeStage}
 use Rattle.log_store.specs.declared.stage.HomeStage.TheVariants.{Resting, Copying, Written, Sure}
-use Rattle.log_store.specs.declared.fault.Progress.{Progress}
-use Rattle.log_store.specs.declared.fault.Progress.TheVariants.{Idle, Began, Copied, Wrote, Synced, Moved}
-use Rattle.log_store.specs.declared.fault.StoreFault.{StoreFault}
-use Rattle.log_store.specs.declared.fault.StoreFault.TheVariants.{Move, OutOfMemory}
 use Rattle.log_store.specs.Store.{StoreValue, IsStoreOver, IsStageOver, IsStartWritten, IsWritingHome, IsSelectable}
-use Rattle.log_store.specs.Store.{KeepsStore, HasMovedStart, block_by, store_block, begun_work, fresh_store, working}
+use Rattle.log_store.specs.Store.{KeepsStore, HasNoted, block_by, store_block, fresh_store}
 use Rattle.log_store.specs.Store.{committing_tail, selection, selection_by, second_by, stage_by, tail_by, unless_old}
-use Rattle.log_store.specs.Store.{StepsBy, MayStepBy, RefusesStepBy, step_works}
 
 module _ {D : Type 0} (disk : Ghosts D) where
   -- ---- a log without commits
@@ -76,7 +65,7 @@ module _ {D : Type 0} (disk : Ghosts D) where
 
   -- ---- a call that only reads
 
-  start_seen : (s : StoreValue) (oldest : OldCommits) (contents : ℕ → List ℕ) (chain : List LogDescriptor)
+  pub start_seen : (s : StoreValue) (oldest : OldCommits) (contents : ℕ → List ℕ) (chain : List LogDescriptor)
       (old new : D) → disk.seen new ≡ disk.seen old → IsStartWritten disk s oldest contents chain old
       → IsStartWritten disk s oldest contents chain new
   start_seen s oldest contents chain old new same is =
@@ -117,7 +106,7 @@ module _ {D : Type 0} (disk : Ghosts D) where
 
   -- ---- a call that is refused
 
-  start_kept : (s after : StoreValue) (oldest : OldCommits) (contents : ℕ → List ℕ) (chain : List LogDescriptor)
+  pub start_kept : (s after : StoreValue) (oldest : OldCommits) (contents : ℕ → List ℕ) (chain : List LogDescriptor)
       (device : D) → after.tail ≡ s.tail → after.second ≡ s.second
       → IsStartWritten disk s oldest contents chain device → IsStartWritten disk after oldest contents chain device
   start_kept s after oldest contents chain device tail second is =
@@ -158,7 +147,7 @@ module _ {D : Type 0} (disk : Ghosts D) where
       let W : HomeWorkValue → Type 0 = λ w. IsStartWritten disk after w.oldest contents chain device in
       (subst W (sym work) (start_kept s after s.work.oldest contents chain device tail second is.0), is.1)
 
-  pub kept_store : (s after : StoreValue) (contents : ℕ → List ℕ) (device : D) → KeepsStore s after
+  kept_store : (s after : StoreValue) (contents : ℕ → List ℕ) (device : D) → KeepsStore s after
       → IsStoreOver disk s contents device → IsStoreOver disk after contents device
   kept_store s after contents device kept over =
       let P : TailValue → Type 0 = λ t. (c : List ℕ) → disk.may_leave device c
@@ -174,6 +163,14 @@ module _ {D : Type 0} (disk : Ghosts D) where
         work = subst S (sym kept.stage)
             (stage_kept s after s.stage contents over.chain device kept.tail kept.second kept.work over.work);
       }
+
+  -- the same, where `b` is the store by its parts
+  pub kept_by : {b s after : StoreValue} {old new : D} → b ≡ s → KeepsStore b after → new ≡ old
+      → (contents : ℕ → List ℕ) → IsStoreOver disk s contents old → IsStoreOver disk after contents new
+  kept_by {b} {s} {after} {old} {new} is kept same contents over =
+      let P : D → Type 0 = λ device. IsStoreOver disk after contents device in
+      let Q : StoreValue → Type 0 = λ v. IsStoreOver disk v contents old in
+      subst P (sym same) (kept_store b after contents old kept (subst Q (sym is) over))
 
   -- what a read finds
   pub read_is : (s : StoreValue) (contents : ℕ → List ℕ) (device : D) → IsStoreOver disk s contents device
@@ -427,6 +424,92 @@ module _ {D : Type 0} (disk : Ghosts D) where
         by (Some oldest) may made outside holds =
             committed_selecting oldest is.ds is.younger is.parts may.0.oldest_are made holds
 
+  -- ---- the calls of the tail
+
+  -- A commit of a tail by its second start or by its first one, which selects what `o` says: what its calls leave, and
+  -- what the device holds then.
+  abbrev pub Commits : Bool → TailValue → Option OldCommits → List ℕ → List ℕ → Bool → D → D → Type 0
+  Commits second t o homes records done old new =
+      (contents : ℕ → List ℕ) (ds younger : List LogDescriptor) → disk.is_honest old
+      → ((c : List ℕ) → disk.may_leave old c → HoldsCommits second t contents (ds ++ younger) c)
+      → IsSelectable disk second t contents ds younger o old
+      → CommitLeaves disk (tail_by t o) contents homes records done old new
+
+  abbrev pub Then : Bool → TailValue → Option OldCommits → List ℕ → List ℕ → (ℕ → List ℕ) → List LogDescriptor → D
+      → Type 0
+  Then second t o homes records contents younger new =
+      TellsTorn (tail_by t o) homes records (disk.seen new)
+      → HoldsCommits (second_by second o) (tail_after (tail_by t o) homes) (committed_to contents homes records)
+      (younger ++ next_logged t homes ∷ []) (disk.seen new)
+
+  abbrev pub Holds : Bool → TailValue → Option OldCommits → List ℕ → List ℕ → D → D → Type 0
+  Holds second t o homes records old new =
+      (contents : ℕ → List ℕ) (ds younger : List LogDescriptor) → disk.is_honest old
+      → ((c : List ℕ) → disk.may_leave old c → HoldsCommits second t contents (ds ++ younger) c)
+      → IsSelectable disk second t contents ds younger o old → Then second t o homes records contents younger new
+
+  -- the log with its commits in the two parts
+  both_hold : (s : StoreValue) (contents : ℕ → List ℕ) (old : D) (over : IsStoreOver disk s contents old)
+      → (is : Parts s contents over.chain old)
+      → (c : List ℕ) → disk.may_leave old c → HoldsCommits s.second s.tail contents (is.ds ++ is.younger) c
+  both_hold s contents old over is c may =
+      let P : List LogDescriptor → Type 0 = λ l. HoldsCommits s.second s.tail contents l c in
+      subst P is.parts (over.holds c may)
+
+  pub commit_leaves : {b s : StoreValue} {o : Option OldCommits} {homes records : List ℕ} {done : Bool} {old new : D}
+      → b ≡ s → o ≡ selection b → Commits b.second b.tail o homes records done old new → (contents : ℕ → List ℕ)
+      → disk.is_honest old → IsStoreOver disk s contents old
+      → CommitLeaves disk (committing_tail s) contents homes records done old new
+  commit_leaves {b} {s} {o} {homes} {records} {done} {old} {new} is chosen commits contents honest over =
+      let Q : StoreValue → Type 0 = λ v. IsStoreOver disk v contents old
+      → CommitLeaves disk (committing_tail v) contents homes records done old new in
+      let own =
+      subst (λ (v : Option OldCommits). Commits b.second b.tail v homes records done old new) chosen commits in
+      subst Q is (λ whole.
+      let parts = parts_of b contents old whole in
+      own contents parts.ds parts.younger honest (both_hold b contents old whole parts) parts.may) over
+
+  pub commit_over : {b s after : StoreValue} {noted : Entries} {o : Option OldCommits} {homes records : List ℕ}
+      {old new : D} → b ≡ s → o ≡ selection b → (disk.is_honest old → disk.may_leave old (disk.seen old))
+      → Committed b after noted homes o
+      → (o ≡ None → disk.is_honest old → IsSameOutside b.tail.log (disk.seen old) (disk.seen new))
+      → Commits b.second b.tail o homes records true old new → Holds b.second b.tail o homes records old new
+      → (contents : ℕ → List ℕ)
+      → disk.is_honest old → IsStoreOver disk s contents old
+      → TellsTorn (committing_tail s) homes records (disk.seen new)
+      → IsStoreOver disk after (committed_to contents homes records) new
+  commit_over {b} {s} {after} {noted} {o} {homes} {records} {old} {new} is chosen seen made outside commits holds
+      contents honest over tells =
+      let Q : StoreValue → Type 0 = λ v. IsStoreOver disk v contents old
+      → TellsTorn (committing_tail v) homes records (disk.seen new)
+      → IsStoreOver disk after (committed_to contents homes records) new in
+      let O : Option OldCommits → Type 0 = λ v. v ≡ None
+      → IsSameOutside b.tail.log (disk.seen old) (disk.seen new) in
+      subst Q is (λ whole telling.
+      let parts = parts_of b contents old whole in
+      let held = both_hold b contents old whole parts in
+      let own =
+      subst (λ (v : Option OldCommits). Commits b.second b.tail v homes records true old new) chosen commits in
+      let then = subst (λ (v : Option OldCommits). Holds b.second b.tail v homes records old new) chosen holds in
+      committed_store b after noted contents old new homes records whole (seen honest)
+      ((own contents parts.ds parts.younger honest held parts.may).durable refl) parts
+      (subst (λ (v : Option OldCommits). Committed b after noted homes v) chosen made)
+      (subst O chosen (λ none. outside none honest))
+      (then contents parts.ds parts.younger honest held parts.may telling)) over tells
+
+  -- the commit is noted
+  pub has_noted : {b after : StoreValue} {noted : Entries} {o : Option OldCommits} {homes : List ℕ}
+      → o ≡ selection b → Committed b after noted homes o → HasNoted b after homes
+  has_noted {b} {after} {noted} {o} {homes} chosen made =
+      let own = subst (λ (v : Option OldCommits). Committed b after noted homes v) chosen made in
+      record {
+        tail = own.tail;
+        second = own.second;
+        stage = own.stage;
+        work = own.work;
+        found = λ k. own.found k ∙ ap (unless_old (selection b)) (own.records k);
+      }
+
   -- a commit that makes no call
   pub refused_commit : (s : StoreValue) (contents : ℕ → List ℕ) (homes records : List ℕ) (old : D)
       → ((c : List ℕ) → disk.left_since old (disk.moment old) c → disk.may_leave old c)
@@ -450,166 +533,3 @@ module _ {D : Type 0} (disk : Ghosts D) where
             durable = λ made. absurd (false≢true made);
             committed = λ made. absurd (false≢true made);
           }
-
-  -- ---- steps
-
-  pub begun_store : (s : StoreValue) (contents : ℕ → List ℕ) (device : D) → IsStoreOver disk s contents device
-      → disk.may_leave device (disk.seen device) → IsStoreOver disk (working s (begun_work s)) contents device
-  begun_store s contents device over seen =
-      let holds = over.holds (disk.seen device) seen in
-      let chain : List LogDescriptor = over.chain in
-      record {
-        chain = chain;
-        holds = over.holds;
-        index = over.index;
-        work = record {
-          ds = chain;
-          younger = [];
-          parts = sym (append-nil chain);
-          oldest = record {
-            number = holds.held.number_is
-                ∙ ap (λ (l : List LogDescriptor). s.tail.start.number + length l) holds.chain_is;
-            blocks = holds.held.used_is ∙ ap chain_blocks holds.chain_is;
-          };
-          all = λ b logged.
-              let some = newest_some chain b logged s.tail.log.ring None s.tail.start.position in
-              home_in s.entries b some.0 (over.index b ∙ some.1);
-          home = λ b has. absurd (nothing b has);
-        };
-      }
-    where
-      nothing : (b : ℕ) → Contains [] b → ⊥
-      nothing b (k, lt, is) = absurd (omega arith)
-
-  pub begun_any : (s after : StoreValue) (progress : Progress) (contents : ℕ → List ℕ) (device : D)
-      → StepsBy s Resting after progress → IsStoreOver disk s contents device
-      → disk.may_leave device (disk.seen device) → IsStoreOver disk after contents device
-  begun_any s after Idle contents device is over seen =
-      let P : StoreValue → Type 0 = λ v. IsStoreOver disk v contents device in subst P (sym is.1) over
-  begun_any s after Began contents device is over seen =
-      let P : StoreValue → Type 0 = λ v. IsStoreOver disk v contents device in
-      subst P (sym is.1) (begun_store s contents device over seen)
-  begun_any s after Copied contents device is over seen = absurd is
-  begun_any s after Wrote contents device is over seen = absurd is
-  begun_any s after Synced contents device is over seen = absurd is
-  begun_any s after Moved contents device is over seen = absurd is
-
-  pub begun_result : (r : Result Progress StoreFault) (s after : StoreValue) (contents : ℕ → List ℕ) (device : D)
-      (Q : Type 0) → IfOk r (StepsBy s Resting after) → IsStoreOver disk s contents device
-      → disk.may_leave device (disk.seen device) → OnOk r (Q → IsStoreOver disk after contents device)
-  begun_result (Ok progress) s after contents device Q is over seen =
-      λ q. begun_any s after progress contents device is over seen
-  begun_result (Err fault) s after contents device Q is over seen = tt
-
-  -- the stage of a store
-  pub at_stage : (s : StoreValue) (stage : HomeStage) (contents : ℕ → List ℕ) (device : D) → s.stage ≡ stage
-      → (over : IsStoreOver disk s contents device) → IsStageOver disk s stage contents over.chain device
-  at_stage s stage contents device is over =
-      let P : HomeStage → Type 0 = λ v. IsStageOver disk s v contents over.chain device in subst P is over.work
-
-  -- commits are copied home
-  module _ (s : StoreValue) (contents : ℕ → List ℕ) (old new : D) (over : IsStoreOver disk s contents old)
-      (seen : disk.may_leave old (disk.seen old))
-      (work : IsWritingHome disk s s.work contents over.chain old) where
-    abbrev w : HomeWorkValue
-    w = s.work
-
-    abbrev ds : List LogDescriptor
-    ds = work.ds
-
-    abbrev younger : List LogDescriptor
-    younger = work.younger
-
-    -- the same, with the chain in its two parts
-    pub parts_hold : (c : List ℕ) → disk.may_leave old c → HoldsCommits s.second s.tail contents (ds ++ younger) c
-    parts_hold c may =
-        let P : List LogDescriptor → Type 0 = λ l. HoldsCommits s.second s.tail contents l c in
-        subst P work.parts (over.holds c may)
-
-    pub parts_index : IsIndexOf s.tail.log s.tail.start.position (ds ++ younger) s.entries
-    parts_index =
-        let P : List LogDescriptor → Type 0 = λ l. IsIndexOf s.tail.log s.tail.start.position l s.entries in
-        subst P work.parts over.index
-
-    pub copied_store : LeavesCommits disk s.second s.tail contents over.chain old new
-        → (let after : HomeWorkValue = stepped w in
-        AreHome s.tail.log contents ds younger (take after.done w.homes) (disk.seen new)
-        → IsStoreOver disk (working s after) contents new)
-    copied_store leaves home = record {
-      chain = over.chain;
-      holds = leaves.left;
-      index = over.index;
-      work = record {
-        ds = ds;
-        younger = younger;
-        parts = work.parts;
-        oldest = work.oldest;
-        all = work.all;
-        home = home;
-      };
-    }
-
-    pub all_written : w.done ≡ length w.homes → AreWrittenHome s.tail.log contents ds younger (disk.seen old)
-    all_written done = λ b is_home logged.
-        let P : List ℕ → Type 0 = λ l. Contains l b in
-        let all : w.homes ≡ take w.done w.homes = sym (take_all w.done w.homes (omega (arith, done))) in
-        work.home b (subst P all (work.all b logged)) is_home logged
-
-    -- the start behind them is written
-    pub started_store : LeavesCommits disk s.second s.tail contents over.chain old new
-        → IsReadyToMove s.second s.tail w.oldest contents ds younger (disk.seen new)
-        → IsStoreOver disk (record s { stage = Written }) contents new
-    started_store leaves ready = record {
-      chain = over.chain;
-      holds = leaves.left;
-      index = over.index;
-      work = record { ds = ds; younger = younger; parts = work.parts; ready = ready };
-    }
-
-  pub crash_of : (s : StoreValue) (contents : ℕ → List ℕ) (chain : List LogDescriptor) (old new : D)
-      → LeavesCommits disk s.second s.tail contents chain old new
-      → LeavesOnly disk.moment disk.left_since old new (LogRecovers s.tail.log contents)
-  crash_of s contents chain old new leaves = leaves_weaker leaves.crash (λ c is. recovers s.tail contents c is.held)
-
-  -- the start is made sure of
-  pub sure_store : (s : StoreValue) (contents : ℕ → List ℕ) (old new : D) (over : IsStoreOver disk s contents old)
-      → IsStartWritten disk s s.work.oldest contents over.chain old
-      → LeavesCommits disk s.second s.tail contents over.chain old new → disk.seen new ≡ disk.seen old
-      → Only (disk.may_leave new) (disk.seen new) → IsStoreOver disk (record s { stage = Sure }) contents new
-  sure_store s contents old new over is leaves same only =
-      let after : StoreValue = record s { stage = Sure } in
-      let seen = start_seen s s.work.oldest contents over.chain old new same is in
-      record {
-        chain = over.chain;
-        holds = leaves.left;
-        index = over.index;
-        work = (start_kept s after s.work.oldest contents over.chain new refl refl seen, only);
-      }
-
-  -- the start is selected
-  pub moved_store : (s after : StoreValue) (contents : ℕ → List ℕ) (old new : D)
-      (over : IsStoreOver disk s contents old) → disk.may_leave old (disk.seen old)
-      → (is : IsStartWritten disk s s.work.oldest contents over.chain old)
-      → (done : Bool) → MoveLeaves disk s.second s.tail s.work.oldest contents is.younger done old new → done ≡ true
-      → StaysLast s.tail s.work.oldest (disk.seen new) → HasMovedStart s after s.work.oldest
-      → IsStoreOver disk after contents new
-  moved_store s after contents old new over seen is done leaves made last has =
-      let oldest : OldCommits = s.work.oldest in
-      let younger : List LogDescriptor = is.younger in
-      let moved = leaves.moved made last in
-      let P : TailValue → Type 0 = λ t. HoldsCommits after.second t contents younger (disk.seen new) in
-      let Q : Bool → Type 0 = λ v. HoldsCommits v (tail_behind s.tail oldest) contents younger (disk.seen new) in
-      let there : P after.tail = subst P (sym has.tail) (subst Q (sym has.second) moved) in
-      let R : List ℕ → Type 0 = λ l. HoldsCommits after.second after.tail contents younger l in
-      let S : TailValue → Type 0 = λ t. IsIndexOf t.log t.start.position younger after.entries in
-      let T : HomeStage → Type 0 = λ v. IsStageOver disk after v contents younger new in
-      let H : List LogDescriptor → Type 0 = λ l. HoldsCommits s.second s.tail contents l (disk.seen old) in
-      let I : List LogDescriptor → Type 0 = λ l. IsIndexOf s.tail.log s.tail.start.position l s.entries in
-      record {
-        chain = younger;
-        holds = λ c may. subst R (sym (leaves.durable made c may)) there;
-        index = subst S (sym has.tail) (index_forgot s.second s.tail contents oldest is.ds younger (disk.seen old)
-            s.entries after.entries (subst H is.parts (over.holds (disk.seen old) seen)) is.ready.oldest_are
-            (subst I is.parts over.index) has.found);
-        work = subst T (sym has.stage) tt;
-      }

@@ -1,4 +1,5 @@
 pub mod Store
+pub mod Step
 pub mod Needs
 pub mod Sound
 pub mod Rounds

@@ -1,25 +1,23 @@
 // The log of a volume in a session.
 ghost use Rattle.std.specs.Prelude.{◌≡◌, ◌≢◌, ◌↔◌, ◌<◌, ◌≤◌, ◌+◌, ◌-◌, ◌*◌, ◌^◌, ◌++◌, ℕ, Bool, true, List, [], ◌∷◌, None, Some, is_ok, length, IsTrue};
 ghost use Rattle.std.specs.Prelude.{IfOk, IfErr, OnOk, OnErr, IfSome, IfNone};
-ghost use Rattle.volume_codec.specs.Layout.{block_at};
-ghost use Rattle.device.specs.Device.{LeavesOnly};
 ghost use Rattle.log_codec.specs.Log.{log_descriptor_blocks, IsCommitSize};
-ghost use Rattle.log_codec.specs.Chain.{IsLogHome, LogRecovers};
+ghost use Rattle.log_codec.specs.Chain.{IsLogHome};
 ghost use Rattle.log_recovery.specs.Reading.{ReadsAlone};
 ghost use Rattle.log_commits.specs.Calls.{DidAll};
 ghost use Rattle.log_codec.specs.Commit.{LogDescriptor};
 ghost use Rattle.log_commits.specs.Commit.{CommitLeaves, MayCommit, RefusesTailCommit, TellsTorn, committed_to};
 ghost use Rattle.log_commits.specs.Commit.{next_logged, records_in, tail_after};
-ghost use Rattle.log_home.specs.Index.{find_in, recorded_or};
-ghost use Rattle.log_home.specs.Work.{next_copy, stepped};
+ghost use Rattle.log_home.specs.Index.{find_in};
+ghost use Rattle.log_home.specs.Work.{next_copy};
 ghost use Rattle.log_store.specs.Store.{IsStoreOver, RefusesStoreCommit, RefusesRead, HasNoted, KeepsStore};
-ghost use Rattle.log_store.specs.Store.{store_block, store_read_calls, fresh_store, working, StepsBy, MayStepBy};
-ghost use Rattle.log_store.specs.Store.{RefusesStepBy, TrustsBy, step_works};
+ghost use Rattle.log_store.specs.Store.{store_block, store_read_calls, fresh_store, StepsBy, RefusesStepBy};
+ghost use Rattle.log_store.specs.Step.{MakesStoreStep, StaysOver};
 ghost use Rattle.log_store.specs.Store.{IsSelectable, committing_tail, second_by, selection, stage_by};
 ghost use Rattle.log_store.specs.Store.{store_commit_works, tail_by, unless_old, works_selecting};
 ghost use Rattle.log_store.specs.Sound.{IsOfLog, IsStore};
 ghost use Rattle.log_store.specs.declared.stage.HomeStage.TheVariants.{Resting, Copying, Written, Sure};
-ghost use Rattle.log_commits.specs.Behind.{HoldsCommits, IsSameOutside, StaysLast};
+ghost use Rattle.log_commits.specs.Behind.{HoldsCommits, IsSameOutside};
 ghost use Rattle.log_store.specs.Needs.{commit_edges, copied_from, step_block};
 
 use crate::fault::{Progress, StoreFault};
@@ -417,23 +415,8 @@ impl<A: Allocator + Copy> LogStore<A> {
         requires long { 4096 * self.old.tail.log.blocks ≤ length (D.seen device.old) }
         requires stage { self.old.stage ≡ Copying }
         requires left { self.old.work.done ≢ length self.old.work.homes }
-        ensures may { OnOk result (MayStepBy self.old Copying) }
-        ensures value { IfOk result (StepsBy self.old Copying self.new) }
-        ensures did { MayStepBy self.old Copying
-            → DidAll D.Device device.old (step_works self.old Copying) (is_ok result) device.new }
-        ensures refused { IfErr result (RefusesStepBy self.old Copying) }
-        ensures unchanged { IfErr result (λ fault. fault ≢ StoreFault.Move MoveFault.Device
-            → (self.new ≡ self.old) × (device.new ≡ device.old)) }
-        ensures spent { IfErr result (λ fault. fault ≡ StoreFault.Move MoveFault.Device
-            → self.new.tail ≡ record self.old.tail { spent = true }) }
-        ensures len { length (D.seen device.new) ≡ length (D.seen device.old) }
-        ensures honest { D.is_honest device.new ↔ D.is_honest device.old }
-        ensures leaves { (contents : ℕ → List ℕ) → D.is_honest device.old
-            → IsStoreOver D.Device self.old contents device.old
-            → LeavesOnly D.moment D.left_since device.old device.new (LogRecovers self.old.tail.log contents) }
-        ensures store { (contents : ℕ → List ℕ) → D.is_honest device.old
-            → IsStoreOver D.Device self.old contents device.old
-            → OnOk result (IsStoreOver D.Device self.new contents device.new) }
+        ensures step { MakesStoreStep D.Device self.old Copying result self.new device.old device.new }
+        ensures over { StaysOver D.Device self.old Copying result self.new device.old device.new }
     {
         match self.work.step(&mut self.tail, &self.index, device) {
             Ok(()) => {}
@@ -447,23 +430,8 @@ impl<A: Allocator + Copy> LogStore<A> {
         requires long { 4096 * self.old.tail.log.blocks ≤ length (D.seen device.old) }
         requires stage { self.old.stage ≡ Copying }
         requires done { self.old.work.done ≡ length self.old.work.homes }
-        ensures may { OnOk result (MayStepBy self.old Copying) }
-        ensures value { IfOk result (StepsBy self.old Copying self.new) }
-        ensures did { MayStepBy self.old Copying
-            → DidAll D.Device device.old (step_works self.old Copying) (is_ok result) device.new }
-        ensures refused { IfErr result (RefusesStepBy self.old Copying) }
-        ensures unchanged { IfErr result (λ fault. fault ≢ StoreFault.Move MoveFault.Device
-            → (self.new ≡ self.old) × (device.new ≡ device.old)) }
-        ensures spent { IfErr result (λ fault. fault ≡ StoreFault.Move MoveFault.Device
-            → self.new.tail ≡ record self.old.tail { spent = true }) }
-        ensures len { length (D.seen device.new) ≡ length (D.seen device.old) }
-        ensures honest { D.is_honest device.new ↔ D.is_honest device.old }
-        ensures leaves { (contents : ℕ → List ℕ) → D.is_honest device.old
-            → IsStoreOver D.Device self.old contents device.old
-            → LeavesOnly D.moment D.left_since device.old device.new (LogRecovers self.old.tail.log contents) }
-        ensures store { (contents : ℕ → List ℕ) → D.is_honest device.old
-            → IsStoreOver D.Device self.old contents device.old
-            → OnOk result (IsStoreOver D.Device self.new contents device.new) }
+        ensures step { MakesStoreStep D.Device self.old Copying result self.new device.old device.new }
+        ensures over { StaysOver D.Device self.old Copying result self.new device.old device.new }
     {
         match self
             .tail
@@ -480,23 +448,8 @@ impl<A: Allocator + Copy> LogStore<A> {
     // Makes sure of the start.
     fn make_sure<D: Device>(&mut self, device: &mut D) -> Result<Progress, StoreFault>
         requires stage { self.old.stage ≡ Written }
-        ensures may { OnOk result (MayStepBy self.old Written) }
-        ensures value { IfOk result (StepsBy self.old Written self.new) }
-        ensures did { MayStepBy self.old Written
-            → DidAll D.Device device.old (step_works self.old Written) (is_ok result) device.new }
-        ensures refused { IfErr result (RefusesStepBy self.old Written) }
-        ensures unchanged { IfErr result (λ fault. fault ≢ StoreFault.Move MoveFault.Device
-            → (self.new ≡ self.old) × (device.new ≡ device.old)) }
-        ensures spent { IfErr result (λ fault. fault ≡ StoreFault.Move MoveFault.Device
-            → self.new.tail ≡ record self.old.tail { spent = true }) }
-        ensures len { length (D.seen device.new) ≡ length (D.seen device.old) }
-        ensures honest { D.is_honest device.new ↔ D.is_honest device.old }
-        ensures leaves { (contents : ℕ → List ℕ) → D.is_honest device.old
-            → IsStoreOver D.Device self.old contents device.old
-            → LeavesOnly D.moment D.left_since device.old device.new (LogRecovers self.old.tail.log contents) }
-        ensures store { (contents : ℕ → List ℕ) → D.is_honest device.old
-            → IsStoreOver D.Device self.old contents device.old
-            → OnOk result (IsStoreOver D.Device self.new contents device.new) }
+        ensures step { MakesStoreStep D.Device self.old Written result self.new device.old device.new }
+        ensures over { StaysOver D.Device self.old Written result self.new device.old device.new }
     {
         match self.tail.make_sure(device) {
             Ok(()) => {
@@ -511,25 +464,8 @@ impl<A: Allocator + Copy> LogStore<A> {
     fn select<D: Device>(&mut self, device: &mut D) -> Result<Progress, StoreFault>
         requires long { 4096 * self.old.tail.log.blocks ≤ length (D.seen device.old) }
         requires stage { self.old.stage ≡ Sure }
-        ensures may { OnOk result (MayStepBy self.old Sure) }
-        ensures value { IfOk result (StepsBy self.old Sure self.new) }
-        ensures did { MayStepBy self.old Sure
-            → DidAll D.Device device.old (step_works self.old Sure) (is_ok result) device.new }
-        ensures refused { IfErr result (RefusesStepBy self.old Sure) }
-        ensures unchanged { IfErr result (λ fault. fault ≢ StoreFault.Move MoveFault.Device
-            → (self.new ≡ self.old) × (device.new ≡ device.old)) }
-        ensures spent { IfErr result (λ fault. fault ≡ StoreFault.Move MoveFault.Device
-            → self.new.tail ≡ record self.old.tail { spent = true }) }
-        ensures len { length (D.seen device.new) ≡ length (D.seen device.old) }
-        ensures honest { D.is_honest device.new ↔ D.is_honest device.old }
-        ensures leaves { (contents : ℕ → List ℕ) → D.is_honest device.old
-            → IsStoreOver D.Device self.old contents device.old
-            → LeavesOnly D.moment D.left_since device.old device.new
-            (λ c. StaysLast self.old.tail self.old.work.oldest c → LogRecovers self.old.tail.log contents c) }
-        ensures store { (contents : ℕ → List ℕ) → D.is_honest device.old
-            → IsStoreOver D.Device self.old contents device.old
-            → OnOk result (StaysLast self.old.tail self.old.work.oldest (D.seen device.new)
-            → IsStoreOver D.Device self.new contents device.new) }
+        ensures step { MakesStoreStep D.Device self.old Sure result self.new device.old device.new }
+        ensures over { StaysOver D.Device self.old Sure result self.new device.old device.new }
     {
         let oldest = self.work.oldest();
         match self.tail.select_start(device, self.second, oldest) {
@@ -549,27 +485,8 @@ impl<A: Allocator + Copy> LogStore<A> {
     /// the move, and no step makes a sync.
     pub fn step<D: Device>(&mut self, device: &mut D) -> Result<Progress, StoreFault>
         requires long { 4096 * self.old.tail.log.blocks ≤ length (D.seen device.old) }
-        ensures may { OnOk result (MayStepBy self.old self.old.stage) }
-        ensures value { IfOk result (StepsBy self.old self.old.stage self.new) }
-        ensures did { IfErr result (λ fault. fault ≢ StoreFault.OutOfMemory) → MayStepBy self.old self.old.stage
-            → DidAll D.Device device.old (step_works self.old self.old.stage) (is_ok result) device.new }
-        ensures refused { IfErr result (RefusesStepBy self.old self.old.stage) }
-        ensures unchanged { IfErr result (λ fault. fault ≢ StoreFault.Move MoveFault.Device
-            → (self.new ≡ self.old) × (device.new ≡ device.old)) }
-        ensures spent { IfErr result (λ fault. fault ≡ StoreFault.Move MoveFault.Device
-            → self.new.tail ≡ record self.old.tail { spent = true }) }
-        ensures len { length (D.seen device.new) ≡ length (D.seen device.old) }
-        ensures honest { D.is_honest device.new ↔ D.is_honest device.old }
-
-        // The store is over the device: a crash leaves the same contents, and the store stays over it.
-        ensures leaves { (contents : ℕ → List ℕ) → D.is_honest device.old
-            → IsStoreOver D.Device self.old contents device.old
-            → LeavesOnly D.moment D.left_since device.old device.new
-            (λ c. TrustsBy self.old self.old.stage c → LogRecovers self.old.tail.log contents c) }
-        ensures store { (contents : ℕ → List ℕ) → D.is_honest device.old
-            → IsStoreOver D.Device self.old contents device.old
-            → OnOk result (TrustsBy self.old self.old.stage (D.seen device.new)
-            → IsStoreOver D.Device self.new contents device.new) }
+        ensures step { MakesStoreStep D.Device self.old self.old.stage result self.new device.old device.new }
+        ensures over { StaysOver D.Device self.old self.old.stage result self.new device.old device.new }
     {
         match self.stage {
             HomeStage::Resting => self.begin(),

@@ -11,4 +11,4 @@ returns-clause-leaves g c = λ contents honest over.
     let Q : LogPagerValue g.row.D.Denot → Type 0 = λ v. disk.is_honest v.device
     → IsStoreOver disk v.store contents v.device → LeavesOnly disk.moment disk.left_since v.device c.step.new.device
     (λ x. TrustsBy v.store v.store.stage x → LogRecovers v.store.tail.log contents x) in
-    subst Q c.self.view_is (c.step.ensures.leaves contents) honest over.store
+    subst Q c.self.view_is (c.step.ensures.over.leaves contents) honest over.store
