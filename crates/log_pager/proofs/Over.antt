@@ -1,6 +1,6 @@
 -- A pager that is over its device stays so.
-use Rattle.std.proofs.Common.{◌≡◌, ◌⊎◌, ℕ, ◌+◌, ◌-◌, ◌*◌, ◌<◌, ◌≤◌, List, [], ◌++◌, length, inl, inr, sym, ap, subst}
-use Rattle.std.proofs.Common.{◌∙◌, arith, Bool}
+use Rattle.std.proofs.Common.{◌≡◌, ◌⊎◌, ℕ, ◌+◌, ◌-◌, ◌*◌, ◌<◌, ◌≤◌, List, [], ◌++◌, length, inl, inr, refl, sym, ap}
+use Rattle.std.proofs.Common.{subst, ◌∙◌, arith, Bool}
 use Rattle.std.specs.Prelude.{Result, Ok, Err, OnOk, OnErr}
 use Rattle.device.specs.declared.device.Device.{Ghosts}
 use Rattle.volume_codec.specs.Descriptor.{RiseWithin}
@@ -14,9 +14,8 @@ use Rattle.log_commits.specs.declared.behind.OldCommits.{OldCommits}
 use Rattle.log_store.specs.declared.stage.HomeStage.{HomeStage}
 use Rattle.log_store.specs.declared.stage.HomeStage.TheVariants.{Resting, Copying, Written, Sure}
 use Rattle.log_store.specs.declared.fault.Progress.{Progress}
-use Rattle.log_store.specs.declared.fault.Progress.TheVariants.{Idle, Began, Copied, Wrote, Synced, Moved}
 use Rattle.log_store.specs.Store.{StoreValue, IsStoreOver, IsStageOver, IsStartWritten, StepsBy, committing_tail}
-use Rattle.log_store.proofs.Public.{committing_log}
+use Rattle.log_store.proofs.Public.{committing_log, step_cases}
 use Rattle.kept_blocks.specs.Blocks.{Blocks, AreWholeBlocks, homes_in, with_home, with_zeros, without_run, cut_in}
 use Rattle.kept_blocks.proofs.Public.{rising_put, rising_zeros, rising_without, homes_cut}
 use Rattle.log_pager.specs.Pager.{LogPagerValue, IsPagerOver, contents_put, records_put}
@@ -101,30 +100,10 @@ left_as s contents es whole c left tells =
 -- a step keeps the geometry
 pub steps_log : (old : StoreValue) (stage : HomeStage) (new : StoreValue) (progress : Progress)
     → StepsBy old stage new progress → new.tail.log ≡ old.tail.log
-steps_log old Resting new Idle is = ap (λ (v : StoreValue). v.tail.log) is.1
-steps_log old Resting new Began is = ap (λ (v : StoreValue). v.tail.log) is.1
-steps_log old Resting new Copied is = absurd is
-steps_log old Resting new Wrote is = absurd is
-steps_log old Resting new Synced is = absurd is
-steps_log old Resting new Moved is = absurd is
-steps_log old Copying new Idle is = absurd is
-steps_log old Copying new Began is = absurd is
-steps_log old Copying new Copied is = ap (λ (v : StoreValue). v.tail.log) is.1
-steps_log old Copying new Wrote is = ap (λ (v : StoreValue). v.tail.log) is.1
-steps_log old Copying new Synced is = absurd is
-steps_log old Copying new Moved is = absurd is
-steps_log old Written new Idle is = absurd is
-steps_log old Written new Began is = absurd is
-steps_log old Written new Copied is = absurd is
-steps_log old Written new Wrote is = absurd is
-steps_log old Written new Synced is = ap (λ (v : StoreValue). v.tail.log) is
-steps_log old Written new Moved is = absurd is
-steps_log old Sure new Idle is = absurd is
-steps_log old Sure new Began is = absurd is
-steps_log old Sure new Copied is = absurd is
-steps_log old Sure new Wrote is = absurd is
-steps_log old Sure new Synced is = absurd is
-steps_log old Sure new Moved is = ap (λ (t : TailValue). t.log) is.tail
+steps_log old stage new progress =
+    let P : HomeStage → Progress → StoreValue → Type 0 = λ v made s. s.tail.log ≡ old.tail.log in
+    step_cases old new P (λ none. refl) (λ used. refl) (λ apart. refl) (λ done. refl) refl
+    (λ has. ap (λ (t : TailValue). t.log) has.tail) stage progress
 
 module _ {D : Type 0} (disk : Ghosts D) (s t : LogPagerValue D) (contents : ℕ → List ℕ)
     (log : t.store.tail.log ≡ s.store.tail.log)

@@ -140,7 +140,18 @@ impl<D: Device, A: Allocator + Copy> LogPager<D, A> {
         if self.is_short() {
             return Err(PagerFault::Short);
         }
-        self.write_all()
+        let mut homes = Vec::new(self.alloc);
+        let mut room = match spell(self.alloc, &self.staged, &mut homes) {
+            Ok(room) => room,
+            Err(_) => return Err(PagerFault::Store(StoreFault::OutOfMemory)),
+        };
+        match self.store.commit(&mut self.device, &homes, &mut room) {
+            Ok(()) => {
+                self.staged.clear();
+                Ok(())
+            }
+            Err(fault) => Err(PagerFault::Store(fault)),
+        }
     }
 
     /// The next step by which commits are written home, as `LogStore::step`.
@@ -174,60 +185,6 @@ impl<D: Device, A: Allocator + Copy> LogPager<D, A> {
         }
         match self.store.step(&mut self.device) {
             Ok(progress) => Ok(progress),
-            Err(fault) => Err(PagerFault::Store(fault)),
-        }
-    }
-
-    // Commits the blocks, of which there are some.
-    fn write_all(&mut self) -> Result<(), PagerFault>
-        requires few { length self.old.staged ≤ 65535 }
-        requires long { 4096 * self.old.store.tail.log.blocks ≤ length (D.seen self.old.device) }
-        ensures value { OnOk result (self.new.staged ≡ []) }
-        ensures kept { OnErr result (self.new.staged ≡ self.old.staged) }
-        ensures refused { IfErr result (RefusesPagerCommit D.Device self.old) }
-        ensures may { OnOk result (self.old.staged ≢ [] → MayCommit self.old.store.tail (homes_in self.old.staged)
-            (4096 * log_commit_blocks (length self.old.staged) + 1)) }
-        ensures noted { OnOk result (self.old.staged ≢ []
-            → HasNoted self.old.store self.new.store (homes_in self.old.staged)) }
-        ensures did { OnOk result (self.old.staged ≢ [] → DidAll D.Device self.old.device
-            (store_commit_works self.old.store (homes_in self.old.staged) (records_put self.old.staged))
-            true self.new.device) }
-        ensures failed { IfErr result (λ fault. fault ≡ PagerFault.Store (StoreFault.Commit CommitFault.Device)
-            → DidAll D.Device self.old.device
-            (store_commit_works self.old.store (homes_in self.old.staged) (records_put self.old.staged))
-            false self.new.device) }
-        ensures unchanged { IfErr result (λ fault. fault ≢ PagerFault.Store (StoreFault.Commit CommitFault.Device)
-            → KeepsStore self.old.store self.new.store × (self.new.device ≡ self.old.device)) }
-        ensures spent { IfErr result (λ fault. fault ≡ PagerFault.Store (StoreFault.Commit CommitFault.Device)
-            → self.new.store.tail ≡ record self.old.store.tail { spent = true }) }
-        ensures len { length (D.seen self.new.device) ≡ length (D.seen self.old.device) }
-        ensures honest { D.is_honest self.new.device ↔ D.is_honest self.old.device }
-        ensures over { (contents : ℕ → List ℕ) → D.is_honest self.old.device
-            → IsPagerOver D.Device self.old contents
-            → OnOk result (TellsTorn (committing_tail self.old.store) (homes_in self.old.staged)
-            (records_put self.old.staged) (D.seen self.new.device)
-            → IsPagerOver D.Device self.new (contents_put contents self.old.staged)) }
-        ensures stays { (contents : ℕ → List ℕ) → D.is_honest self.old.device
-            → IsPagerOver D.Device self.old contents
-            → IfErr result (λ fault. fault ≢ PagerFault.Store (StoreFault.Commit CommitFault.Device)
-            → IsPagerOver D.Device self.new contents) }
-        ensures leaves { (contents : ℕ → List ℕ) → D.is_honest self.old.device
-            → IsPagerOver D.Device self.old contents
-            → LeavesOnly D.moment D.left_since self.old.device self.new.device
-            (λ c. TellsTorn (committing_tail self.old.store) (homes_in self.old.staged) (records_put self.old.staged) c
-            → LogRecovers self.old.store.tail.log contents c
-            ⊎ LogRecovers self.old.store.tail.log (contents_put contents self.old.staged) c) }
-    {
-        let mut homes = Vec::new(self.alloc);
-        let mut room = match spell(self.alloc, &self.staged, &mut homes) {
-            Ok(room) => room,
-            Err(_) => return Err(PagerFault::Store(StoreFault::OutOfMemory)),
-        };
-        match self.store.commit(&mut self.device, &homes, &mut room) {
-            Ok(()) => {
-                self.staged.clear();
-                Ok(())
-            }
             Err(fault) => Err(PagerFault::Store(fault)),
         }
     }
