@@ -13,4 +13,5 @@ pub mod Moving
 pub mod Committing
 pub mod Ready
 pub mod Selected
+pub mod InRoom
 pub mod Public

@@ -372,14 +372,14 @@ module _ {D : Type 0} (disk : Ghosts D) (t : TailValue) (contents : ℕ → List
 
 -- no call was made
 pub selecting_refused : {D : Type 0} (disk : Ghosts D) (t : TailValue) (contents : ℕ → List ℕ)
-    (homes records : List ℕ) (oldest : OldCommits) (second : Bool) (chain : List LogDescriptor) (old : D) (done : Bool)
-    → done ≡ false → ((c : List ℕ) → disk.left_since old (disk.moment old) c → disk.may_leave old c)
+    (homes records : List ℕ) (oldest : OldCommits) (second : Bool) (chain : List LogDescriptor) (old : D)
+    → ((c : List ℕ) → disk.left_since old (disk.moment old) c → disk.may_leave old c)
     → ((c : List ℕ) → disk.may_leave old c → HoldsCommits second t contents chain c)
-    → CommitLeaves disk (tail_behind t oldest) contents homes records done old old
-selecting_refused disk t contents homes records oldest second chain old done failed now held =
+    → CommitLeaves disk (tail_behind t oldest) contents homes records false old old
+selecting_refused disk t contents homes records oldest second chain old now held =
     let P : List ℕ → Type 0 = LeftByCommit (tail_behind t oldest) contents homes records in
     record {
       crash = leaves_at_start {P = P} (λ c left tells. inl (recovers t contents c (held c (now c left)).held));
-      durable = λ made. absurd (false≢true (sym failed ∙ made));
-      committed = λ made. absurd (false≢true (sym failed ∙ made));
+      durable = λ made. absurd (false≢true made);
+      committed = λ made. absurd (false≢true made);
     }

@@ -95,6 +95,11 @@ pub record HoldsCommits (second : Bool) (t : TailValue) (contents : ℕ → List
   pub chain_is : held.chain ≡ chain
   pub selected : second ≡ counts_second (slice_index bytes 4096)
 
+-- each list that a crash may leave of a device holds it
+abbrev pub HasCommits : {D : Type 0} → Ghosts D → Bool → TailValue → (ℕ → List ℕ) → List LogDescriptor → D → Type 0
+HasCommits disk second t contents chain device =
+    (c : List ℕ) → disk.may_leave device c → HoldsCommits second t contents chain c
+
 -- outside the log, new is old
 pub record IsSameOutside (g : LogValue) (old new : List ℕ) : Type 0 where
   pub same_length : length new ≡ length old
@@ -109,7 +114,7 @@ pub record AreOldest (t : TailValue) (oldest : OldCommits) (ds : List LogDescrip
 pub record LeavesCommits {D : Type 0} (disk : Ghosts D) (second : Bool) (t : TailValue) (contents : ℕ → List ℕ)
     (chain : List LogDescriptor) (old new : D) : Type 0 where
   pub crash : LeavesOnly disk.moment disk.left_since old new (HoldsCommits second t contents chain)
-  pub left : (c : List ℕ) → disk.may_leave new c → HoldsCommits second t contents chain c
+  pub left : HasCommits disk second t contents chain new
 
 -- new is old, but for these bytes in the home blocks from this one on
 pub record HasHomes (home : ℕ) (bytes old new : List ℕ) : Type 0 where

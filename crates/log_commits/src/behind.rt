@@ -8,8 +8,9 @@ ghost use Rattle.log_codec.specs.Commit.{LogDescriptor};
 ghost use Rattle.log_codec.specs.Start.{IsStartBlock, start_block, start_text};
 ghost use Rattle.log_commits.specs.declared.behind.MoveFault.TheVariants.{Device};
 ghost use Rattle.log_commits.specs.Calls.{DidAll};
+ghost use Rattle.log_commits.specs.Keeps.{KeepsTail};
 ghost use Rattle.log_commits.specs.Homes.{IsLoggedHome, AreWrittenHome};
-ghost use Rattle.log_commits.specs.Behind.{MayMove, RefusesMove, RefusesSure, MayWriteHome, RefusesHome, MayCopyHome, RefusesCopy, start_behind, tail_behind, selecting as selected, start_work, select_works, move_works, HoldsCommits, AreOldest, LeavesCommits, HasHomes, IsReadyToMove, MoveLeaves};
+ghost use Rattle.log_commits.specs.Behind.{MayMove, RefusesMove, RefusesSure, MayWriteHome, RefusesHome, MayCopyHome, RefusesCopy, start_behind, tail_behind, selecting as selected, start_work, select_works, move_works, HasCommits, AreOldest, LeavesCommits, HasHomes, IsReadyToMove, MoveLeaves};
 
 use crate::tail::LogTail;
 use device::{Device, DeviceFault, copy_block, make_durable, write_at};
@@ -150,13 +151,10 @@ impl LogTail {
         requires long { 4096 * self.old.log.blocks ≤ length (D.seen device.old) }
         ensures may { OnOk result (MayWriteHome self.old home (length bytes.now)) }
         ensures refused { IfErr result (RefusesHome self.old home (length bytes.now)) }
-        ensures unchanged { IfErr result (λ fault. fault ≢ Device
-            → (self.new ≡ self.old) × (device.new ≡ device.old)) }
+        ensures keeps { KeepsTail D.Device Device result self.old self.new device.old device.new }
         ensures value { OnOk result (self.new ≡ self.old) }
-        ensures spent { IfErr result (λ fault. fault ≡ Device → self.new ≡ record self.old { spent = true }) }
         ensures did { MayWriteHome self.old home (length bytes.now)
             → Did D.Device device.old (WriteAt (4096 * home) bytes.now) (is_ok result) device.new }
-        ensures len { length (D.seen device.new) ≡ length (D.seen device.old) }
         ensures written { D.is_honest device.old
             → OnOk result (HasHomes home bytes.now (D.seen device.old) (D.seen device.new)) }
 
@@ -164,7 +162,7 @@ impl LogTail {
         ensures leaves { (second : Bool) (contents : ℕ → List ℕ) (chain : List LogDescriptor)
             → D.is_honest device.old
             → ((b : ℕ) → home ≤ b → 4096 * b < 4096 * home + length bytes.now → IsLoggedHome chain b)
-            → ((c : List ℕ) → D.may_leave device.old c → HoldsCommits second self.old contents chain c)
+            → HasCommits D.Device second self.old contents chain device.old
             → LeavesCommits D.Device second self.old contents chain device.old device.new }
     {
         self.judge_home(home, bytes.len())?;
@@ -206,21 +204,17 @@ impl LogTail {
         requires long { 4096 * self.old.log.blocks ≤ length (D.seen device.old) }
         ensures may { OnOk result (MayCopyHome self.old block home) }
         ensures refused { IfErr result (RefusesCopy self.old block home) }
-        ensures unchanged { IfErr result (λ fault. fault ≢ Device
-            → (self.new ≡ self.old) × (device.new ≡ device.old)) }
+        ensures keeps { KeepsTail D.Device Device result self.old self.new device.old device.new }
         ensures value { OnOk result (self.new ≡ self.old) }
-        ensures spent { IfErr result (λ fault. fault ≡ Device → self.new ≡ record self.old { spent = true }) }
         ensures did { MayCopyHome self.old block home
             → Did D.Device device.old (CopyBlock block home) (is_ok result) device.new }
-        ensures len { length (D.seen device.new) ≡ length (D.seen device.old) }
-        ensures honest { D.is_honest device.new ↔ D.is_honest device.old }
         ensures copied { D.is_honest device.old
             → OnOk result (HasHomes home (block_at (D.seen device.old) block) (D.seen device.old) (D.seen device.new)) }
 
         // Each list that a crash may leave before holds the log, with these commits, one of which has this home block.
         ensures leaves { (second : Bool) (contents : ℕ → List ℕ) (chain : List LogDescriptor)
             → D.is_honest device.old → IsLoggedHome chain home
-            → ((c : List ℕ) → D.may_leave device.old c → HoldsCommits second self.old contents chain c)
+            → HasCommits D.Device second self.old contents chain device.old
             → LeavesCommits D.Device second self.old contents chain device.old device.new }
     {
         self.judge_copy(block, home)?;
@@ -246,22 +240,19 @@ impl LogTail {
         requires long { 4096 * self.old.log.blocks ≤ length (D.seen device.old) }
         ensures may { OnOk result (MayMove self.old oldest) }
         ensures refused { IfErr result (RefusesMove self.old oldest) }
-        ensures unchanged { IfErr result (λ fault. fault ≢ Device
-            → (self.new ≡ self.old) × (device.new ≡ device.old)) }
+        ensures keeps { KeepsTail D.Device Device result self.old self.new device.old device.new }
         ensures value { OnOk result (self.new ≡ self.old) }
-        ensures spent { IfErr result (λ fault. fault ≡ Device → self.new ≡ record self.old { spent = true }) }
-        ensures len { length (D.seen device.new) ≡ length (D.seen device.old) }
         ensures did { MayMove self.old oldest
             → Did D.Device device.old (start_work self.old second oldest) (is_ok result) device.new }
 
         // Each list that a crash may leave before holds the log, by the start that counts.
         ensures leaves { (contents : ℕ → List ℕ) (chain : List LogDescriptor) → D.is_honest device.old
-            → ((c : List ℕ) → D.may_leave device.old c → HoldsCommits second self.old contents chain c)
+            → HasCommits D.Device second self.old contents chain device.old
             → LeavesCommits D.Device second self.old contents chain device.old device.new }
 
         // These commits are written home. Then the start is ready to be selected, once it is sure.
         ensures ready { (contents : ℕ → List ℕ) (ds younger : List LogDescriptor) → D.is_honest device.old
-            → ((c : List ℕ) → D.may_leave device.old c → HoldsCommits second self.old contents (ds ++ younger) c)
+            → HasCommits D.Device second self.old contents (ds ++ younger) device.old
             → AreOldest self.old oldest ds
             → AreWrittenHome self.old.log contents ds younger (D.seen device.old)
             → OnOk result (IsReadyToMove second self.old oldest contents ds younger (D.seen device.new)) }
@@ -281,12 +272,8 @@ impl LogTail {
     pub fn make_sure<D: Device>(&mut self, device: &mut D) -> Result<(), MoveFault>
         ensures may { OnOk result (self.old.spent ≡ false) }
         ensures refused { IfErr result (RefusesSure self.old) }
-        ensures unchanged { IfErr result (λ fault. fault ≢ Device
-            → (self.new ≡ self.old) × (device.new ≡ device.old)) }
+        ensures keeps { KeepsTail D.Device Device result self.old self.new device.old device.new }
         ensures value { OnOk result (self.new ≡ self.old) }
-        ensures spent { IfErr result (λ fault. fault ≡ Device → self.new ≡ record self.old { spent = true }) }
-        ensures len { length (D.seen device.new) ≡ length (D.seen device.old) }
-        ensures honest { D.is_honest device.new ↔ D.is_honest device.old }
         ensures did { self.old.spent ≡ false → Did D.Device device.old Sync (is_ok result) device.new }
         ensures sure { D.is_honest device.old
             → OnOk result (Only (D.may_leave device.new) (D.seen device.new)
@@ -294,7 +281,7 @@ impl LogTail {
 
         // Each list that a crash may leave before holds the log.
         ensures leaves { (second : Bool) (contents : ℕ → List ℕ) (chain : List LogDescriptor)
-            → ((c : List ℕ) → D.may_leave device.old c → HoldsCommits second self.old contents chain c)
+            → HasCommits D.Device second self.old contents chain device.old
             → LeavesCommits D.Device second self.old contents chain device.old device.new }
     {
         if self.spent {
@@ -318,11 +305,8 @@ impl LogTail {
         requires long { 4096 * self.old.log.blocks ≤ length (D.seen device.old) }
         ensures may { OnOk result (MayMove self.old oldest) }
         ensures refused { IfErr result (RefusesMove self.old oldest) }
-        ensures unchanged { IfErr result (λ fault. fault ≢ Device
-            → (self.new ≡ self.old) × (device.new ≡ device.old)) }
+        ensures keeps { KeepsTail D.Device Device result self.old self.new device.old device.new }
         ensures value { OnOk result (self.new ≡ tail_behind self.old oldest) }
-        ensures spent { IfErr result (λ fault. fault ≡ Device → self.new ≡ record self.old { spent = true }) }
-        ensures len { length (D.seen device.new) ≡ length (D.seen device.old) }
         ensures did { MayMove self.old oldest
             → DidAll D.Device device.old (select_works second) (is_ok result) device.new }
 
@@ -356,19 +340,15 @@ impl LogTail {
         requires long { 4096 * self.old.log.blocks ≤ length (D.seen device.old) }
         ensures may { OnOk result (MayMove self.old oldest) }
         ensures refused { IfErr result (RefusesMove self.old oldest) }
-        ensures unchanged { IfErr result (λ fault. fault ≢ Device
-            → (self.new ≡ self.old) × (device.new ≡ device.old)) }
+        ensures keeps { KeepsTail D.Device Device result self.old self.new device.old device.new }
         ensures value { OnOk result (self.new ≡ tail_behind self.old oldest) }
-        ensures spent { IfErr result (λ fault. fault ≡ Device → self.new ≡ record self.old { spent = true }) }
-        ensures len { length (D.seen device.new) ≡ length (D.seen device.old) }
-        ensures honest { D.is_honest device.new ↔ D.is_honest device.old }
         ensures did { MayMove self.old oldest
             → DidAll D.Device device.old (move_works self.old second oldest) (is_ok result) device.new }
 
         // Each list that a crash may leave before holds the log, by the start that counts, and a read finds these
         // commits written home.
         ensures leaves { (contents : ℕ → List ℕ) (ds younger : List LogDescriptor) → D.is_honest device.old
-            → ((c : List ℕ) → D.may_leave device.old c → HoldsCommits second self.old contents (ds ++ younger) c)
+            → HasCommits D.Device second self.old contents (ds ++ younger) device.old
             → AreOldest self.old oldest ds
             → AreWrittenHome self.old.log contents ds younger (D.seen device.old)
             → MoveLeaves D.Device second self.old oldest contents younger (is_ok result) device.old device.new }

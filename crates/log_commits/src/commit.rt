@@ -6,9 +6,10 @@ ghost use Rattle.device.specs.Work.{Sync, WriteAt};
 ghost use Rattle.log_codec.specs.Log.{log_descriptor_blocks};
 ghost use Rattle.log_commits.specs.declared.fault.CommitFault.TheVariants.{Device};
 ghost use Rattle.log_commits.specs.Calls.{DidAll};
+ghost use Rattle.log_commits.specs.Keeps.{KeepsTail};
 ghost use Rattle.log_codec.specs.Commit.{LogDescriptor};
 ghost use Rattle.log_commits.specs.Tail.{HoldsLog};
-ghost use Rattle.log_commits.specs.Behind.{HoldsCommits, IsSameOutside};
+ghost use Rattle.log_commits.specs.Behind.{HasCommits, HoldsCommits, IsSameOutside};
 ghost use Rattle.log_commits.specs.Selecting.{last_works};
 ghost use Rattle.log_commits.specs.Commit.{MayCommit, RefusesTailCommit, CommitLeaves, TellsTorn, committed_to, next_logged, commit_bytes, commit_works, works_with, records_in, tail_after};
 
@@ -193,10 +194,9 @@ impl LogTail {
         requires long { 4096 * self.old.log.blocks ≤ length (D.seen device.old) }
         ensures may { OnOk result (MayCommit self.old homes.now (length room.old)) }
         ensures refused { IfErr result (RefusesTailCommit self.old homes.now (length room.old)) }
-        ensures unchanged { IfErr result (λ fault. fault ≢ Device
-            → (self.new ≡ self.old) × (device.new ≡ device.old) × (room.new ≡ room.old)) }
+        ensures keeps { KeepsTail D.Device Device result self.old self.new device.old device.new }
+        ensures room { IfErr result (λ fault. fault ≢ Device → room.new ≡ room.old) }
         ensures value { OnOk result (self.new ≡ tail_after self.old homes.now) }
-        ensures spent { IfErr result (λ fault. fault ≡ Device → self.new ≡ record self.old { spent = true }) }
         ensures did { MayCommit self.old homes.now (length room.old)
             → DidAll D.Device device.old (commit_works self.old homes.now (records_in homes.now room.old))
             (is_ok result) device.new }
@@ -204,15 +204,13 @@ impl LogTail {
             → room.new ≡ commit_bytes self.old homes.now (records_in homes.now room.old) ++ 0 ∷ [] }
 
         // Home blocks, the starts and the byte that selects one stay.
-        ensures len { length (D.seen device.new) ≡ length (D.seen device.old) }
-        ensures honest { D.is_honest device.new ↔ D.is_honest device.old }
         ensures outside { D.is_honest device.old
             → IsSameOutside self.old.log (D.seen device.old) (D.seen device.new) }
 
         // Each list that a crash may leave before holds the log, with these contents and commits.
         ensures commits { (second : Bool) (contents : ℕ → List ℕ) (chain : List LogDescriptor)
             → D.is_honest device.old
-            → ((c : List ℕ) → D.may_leave device.old c → HoldsCommits second self.old contents chain c)
+            → HasCommits D.Device second self.old contents chain device.old
             → OnOk result (TellsTorn self.old homes.now (records_in homes.now room.old) (D.seen device.new)
             → HoldsCommits second (tail_after self.old homes.now)
             (committed_to contents homes.now (records_in homes.now room.old))

@@ -3,9 +3,10 @@ ghost use Rattle.std.specs.Prelude.{◌≡◌, ◌≢◌, ◌↔◌, ◌≤◌, 
 ghost use Rattle.log_codec.specs.Commit.{LogDescriptor};
 ghost use Rattle.log_commits.specs.declared.fault.CommitFault.TheVariants.{Device};
 ghost use Rattle.log_commits.specs.Calls.{DidAll};
+ghost use Rattle.log_commits.specs.Keeps.{KeepsTail};
 ghost use Rattle.log_commits.specs.Commit.{CommitLeaves, MayCommit, TellsTorn};
 ghost use Rattle.log_commits.specs.Commit.{committed_to, next_logged, records_in, tail_after};
-ghost use Rattle.log_commits.specs.Behind.{HoldsCommits, IsReadyToMove, MayMove, tail_behind};
+ghost use Rattle.log_commits.specs.Behind.{HasCommits, HoldsCommits, IsReadyToMove, MayMove, tail_behind};
 ghost use Rattle.log_commits.specs.Selecting.{IsSureBy, RefusesSelecting, selecting_works};
 
 use crate::behind::OldCommits;
@@ -28,25 +29,22 @@ impl LogTail {
         requires long { 4096 * self.old.log.blocks ≤ length (D.seen device.old) }
         ensures may { OnOk result (MayCommit self.old homes.now (length room.old) × MayMove self.old oldest) }
         ensures refused { IfErr result (RefusesSelecting self.old oldest homes.now (length room.old)) }
-        ensures unchanged { IfErr result (λ fault. fault ≢ Device
-            → (self.new ≡ self.old) × (device.new ≡ device.old) × (room.new ≡ room.old)) }
+        ensures keeps { KeepsTail D.Device Device result self.old self.new device.old device.new }
+        ensures room { IfErr result (λ fault. fault ≢ Device → room.new ≡ room.old) }
         ensures value { OnOk result (self.new ≡ tail_after (tail_behind self.old oldest) homes.now) }
-        ensures spent { IfErr result (λ fault. fault ≡ Device → self.new ≡ record self.old { spent = true }) }
         ensures did { MayCommit self.old homes.now (length room.old) → MayMove self.old oldest
             → DidAll D.Device device.old (selecting_works self.old second homes.now (records_in homes.now room.old))
             (is_ok result) device.new }
-        ensures len { length (D.seen device.new) ≡ length (D.seen device.old) }
-        ensures honest { D.is_honest device.new ↔ D.is_honest device.old }
 
         // Each list that a crash may leave before holds the log, by the start that counts, and the other one is ready.
         ensures leaves { (contents : ℕ → List ℕ) (ds younger : List LogDescriptor) → D.is_honest device.old
-            → ((c : List ℕ) → D.may_leave device.old c → HoldsCommits second self.old contents (ds ++ younger) c)
+            → HasCommits D.Device second self.old contents (ds ++ younger) device.old
             → IsReadyToMove second self.old oldest contents ds younger (D.seen device.old)
             → IsSureBy D.Device self.old.log.sealing device.old
             → CommitLeaves D.Device (tail_behind self.old oldest) contents homes.now (records_in homes.now room.old)
             (is_ok result) device.old device.new }
         ensures commits { (contents : ℕ → List ℕ) (ds younger : List LogDescriptor) → D.is_honest device.old
-            → ((c : List ℕ) → D.may_leave device.old c → HoldsCommits second self.old contents (ds ++ younger) c)
+            → HasCommits D.Device second self.old contents (ds ++ younger) device.old
             → IsReadyToMove second self.old oldest contents ds younger (D.seen device.old)
             → IsSureBy D.Device self.old.log.sealing device.old
             → OnOk result (TellsTorn (tail_behind self.old oldest) homes.now (records_in homes.now room.old)

@@ -4,7 +4,8 @@ ghost use Rattle.device.specs.Did.{Did};
 ghost use Rattle.log_codec.specs.Chain.{IsLogHome, chain_blocks};
 ghost use Rattle.log_codec.specs.Commit.{LogDescriptor};
 ghost use Rattle.log_commits.specs.declared.behind.MoveFault.TheVariants.{Device};
-ghost use Rattle.log_commits.specs.Behind.{AreOldest, HoldsCommits, LeavesCommits};
+ghost use Rattle.log_commits.specs.Behind.{AreOldest, HasCommits, HoldsCommits, LeavesCommits};
+ghost use Rattle.log_commits.specs.Keeps.{KeepsTail};
 ghost use Rattle.log_commits.specs.Homes.{AreWrittenHome};
 ghost use Rattle.log_home.specs.Index.{IsIndexOf, indexed_homes, find_in};
 ghost use Rattle.log_home.specs.Work.{AreHome, MayStep, RefusesStep, copy_work, next_copy, no_work, stepped};
@@ -116,21 +117,17 @@ impl<A: Allocator + Copy> HomeWork<A> {
         requires long { 4096 * tail.old.log.blocks ≤ length (D.seen device.old) }
         ensures may { OnOk result (MayStep tail.old (next_copy self.old index.now)) }
         ensures refused { IfErr result (RefusesStep tail.old (next_copy self.old index.now)) }
-        ensures unchanged { IfErr result (λ fault. fault ≢ Device
-            → (tail.new ≡ tail.old) × (device.new ≡ device.old)) }
+        ensures keeps { KeepsTail D.Device Device result tail.old tail.new device.old device.new }
         ensures stays { OnErr result (self.new ≡ self.old) }
         ensures value { OnOk result ((self.new ≡ stepped self.old) × (tail.new ≡ tail.old)) }
-        ensures spent { IfErr result (λ fault. fault ≡ Device → tail.new ≡ record tail.old { spent = true }) }
         ensures did { MayStep tail.old (next_copy self.old index.now)
             → Did D.Device device.old (copy_work (next_copy self.old index.now)) (is_ok result) device.new }
-        ensures len { length (D.seen device.new) ≡ length (D.seen device.old) }
-        ensures honest { D.is_honest device.new ↔ D.is_honest device.old }
 
         // The index is that of the log's commits, and each list that a crash may leave before holds the log.
         ensures leaves { (second : Bool) (contents : ℕ → List ℕ) (chain : List LogDescriptor)
             → D.is_honest device.old
             → IsIndexOf tail.old.log tail.old.start.position chain index.now
-            → ((c : List ℕ) → D.may_leave device.old c → HoldsCommits second tail.old contents chain c)
+            → HasCommits D.Device second tail.old contents chain device.old
             → LeavesCommits D.Device second tail.old contents chain device.old device.new }
 
         // One home block more is written, or a younger commit has it.

@@ -17,7 +17,8 @@ ghost use Rattle.log_store.specs.Store.{IsSelectable, committing_tail, second_by
 ghost use Rattle.log_store.specs.Store.{store_commit_works, tail_by, unless_old, works_selecting};
 ghost use Rattle.log_store.specs.Sound.{IsOfLog, IsStore};
 ghost use Rattle.log_store.specs.declared.stage.HomeStage.TheVariants.{Resting, Copying, Written, Sure};
-ghost use Rattle.log_commits.specs.Behind.{HoldsCommits, IsSameOutside};
+ghost use Rattle.log_commits.specs.Behind.{HasCommits, HoldsCommits, IsSameOutside};
+ghost use Rattle.log_commits.specs.Keeps.{KeepsTail};
 ghost use Rattle.log_store.specs.Needs.{commit_edges, copied_from, step_block};
 
 use crate::fault::{Progress, StoreFault};
@@ -89,24 +90,20 @@ fn make<D: Device>(
     requires of_log { IfSome select (IsOfLog tail.old) }
     ensures may { OnOk result (MayCommit tail.old homes.now (length room.old)) }
     ensures refused { IfErr result (RefusesTailCommit tail.old homes.now (length room.old)) }
-    ensures unchanged { IfErr result (λ fault. fault ≢ CommitFault.Device
-        → (tail.new ≡ tail.old) × (device.new ≡ device.old)) }
+    ensures keeps { KeepsTail D.Device CommitFault.Device result tail.old tail.new device.old device.new }
     ensures value { OnOk result (tail.new ≡ tail_after (tail_by tail.old select) homes.now) }
-    ensures spent { IfErr result (λ fault. fault ≡ CommitFault.Device → tail.new ≡ record tail.old { spent = true }) }
     ensures did { MayCommit tail.old homes.now (length room.old)
         → DidAll D.Device device.old (works_selecting tail.old second select homes.now (records_in homes.now room.old))
         (is_ok result) device.new }
-    ensures len { length (D.seen device.new) ≡ length (D.seen device.old) }
-    ensures honest { D.is_honest device.new ↔ D.is_honest device.old }
 
     // Each list that a crash may leave before holds the log. A start that is selected is ready.
     ensures leaves { (contents : ℕ → List ℕ) (ds younger : List LogDescriptor) → D.is_honest device.old
-        → ((c : List ℕ) → D.may_leave device.old c → HoldsCommits second tail.old contents (ds ++ younger) c)
+        → HasCommits D.Device second tail.old contents (ds ++ younger) device.old
         → IsSelectable D.Device second tail.old contents ds younger select device.old
         → CommitLeaves D.Device (tail_by tail.old select) contents homes.now (records_in homes.now room.old)
         (is_ok result) device.old device.new }
     ensures commits { (contents : ℕ → List ℕ) (ds younger : List LogDescriptor) → D.is_honest device.old
-        → ((c : List ℕ) → D.may_leave device.old c → HoldsCommits second tail.old contents (ds ++ younger) c)
+        → HasCommits D.Device second tail.old contents (ds ++ younger) device.old
         → IsSelectable D.Device second tail.old contents ds younger select device.old
         → OnOk result (TellsTorn (tail_by tail.old select) homes.now (records_in homes.now room.old)
         (D.seen device.new)

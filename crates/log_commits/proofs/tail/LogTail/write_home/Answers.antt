@@ -2,8 +2,7 @@ use Rattle.std.proofs.Common.{ℕ, List, ◌+◌, ◌*◌, ◌≤◌, sym, ap, s
 use Rattle.device.specs.Did.{Did}
 use Rattle.device.specs.Work.{WriteAt}
 use Rattle.device.proofs.Public.{done_seen}
-use Rattle.log_codec.specs.Log.{LogValue, IsLog}
-use Rattle.log_commits.specs.Tail.{TailValue}
+use Rattle.log_commits.specs.Tail.{IsTail}
 use Rattle.log_commits.specs.Behind.{MayWriteHome, HasHomes}
 use Rattle.log_commits.proofs.Kept.{has_homes}
 use Rattle.log_commits.proofs.Moving.{leaves_as_before, leaves_home}
@@ -32,21 +31,19 @@ returns-in-Ok-clause-leaves g c = λ second contents chain honest logged held.
     let t = c.args.self.now in
     let bytes = c.args.bytes.now in
     let may : MayWriteHome t c.args.home (length bytes) = c.in_ok-judge_home.ensures.ok in
-    let P : LogValue → Type 0 = λ log. IsLog log in
-    let is_log : IsLog t.log = subst P (ap (λ (v : TailValue). v.log) c.self.view_is) c.self.invariant.log in
+    let tail : IsTail t = subst IsTail c.self.view_is c.self.invariant in
     let Q : ℕ → Type 0 = λ n.
     Did g.D.Device c.args.device.now (WriteAt (4096 * n) bytes) true c.write_at.new.device in
-    leaves_home g.D.Device t contents second chain c.args.device.now held true c.args.home bytes is_log may.low logged
-    (subst Q c.from.ensures c.in-Ok.ensures)
+    leaves_home g.D.Device t contents second chain c.args.device.now held true c.args.home bytes tail.log may.low
+    logged (subst Q c.from.ensures c.in-Ok.ensures)
 
 pub returns-in-Err-clause-leaves : goal.returns-in-Err-clause-leaves
 returns-in-Err-clause-leaves g c = λ second contents chain honest logged held.
     let t = c.args.self.now in
     let bytes = c.args.bytes.now in
     let may : MayWriteHome t c.args.home (length bytes) = c.in_ok-judge_home.ensures.ok in
-    let P : LogValue → Type 0 = λ log. IsLog log in
-    let is_log : IsLog t.log = subst P (ap (λ (v : TailValue). v.log) c.self.view_is) c.self.invariant.log in
+    let tail : IsTail t = subst IsTail c.self.view_is c.self.invariant in
     let Q : ℕ → Type 0 = λ n.
     Did g.D.Device c.args.device.now (WriteAt (4096 * n) bytes) false c.write_at.new.device in
-    leaves_home g.D.Device t contents second chain c.args.device.now held false c.args.home bytes is_log may.low logged
-    (subst Q c.from.ensures c.in-Err.ensures)
+    leaves_home g.D.Device t contents second chain c.args.device.now held false c.args.home bytes tail.log may.low
+    logged (subst Q c.from.ensures c.in-Err.ensures)

@@ -60,7 +60,7 @@ returns-then-is_err-clause-kept g c = λ contents honest over other.
 
 pub returns-in-Err-clause-kept : goal.returns-in-Err-clause-kept
 returns-in-Err-clause-kept g c = λ contents honest over other.
-    let same = c.in-Err.ensures.unchanged (λ is. other (ap Commit is)) in
+    let same = c.in-Err.ensures.keeps.unchanged (λ is. other (ap Commit is)) in
     kept_by g.D.Device c.self.view_is
     (record { tail = same.0; second = refl; stage = refl; work = refl; found = c.admit.ensures.same }) same.1 contents
     over
