@@ -7,10 +7,12 @@ use Rattle.device.specs.Device.{LeavesOnly}
 use Rattle.device.specs.Memory.{may_leave_of, seen_of}
 use Rattle.device.specs.inside.Laws.{since_now_of}
 use Rattle.deferred_disk.specs.Deferred.{Deferred, as_memory, after_read, first_block, end_block, lacked_by_read}
+use Rattle.deferred_disk.specs.Deferred.{IsSuppliedWell}
 use Rattle.page_entry.specs.declared.refusal.Refusal.{Refusal}
 use Rattle.page_entry.specs.declared.refusal.Refusal.TheVariants as refusals
 use Rattle.recovery.specs.Counts.{HasCause, Rises, RisesWithin}
 use Rattle.recovery.specs.Opening.{LeftByOpening, RefusesOpening}
+use Rattle.volume_codec.specs.Recovery.{IsNotAVolume}
 use Rattle.pager.specs.Calls.{RefusesPagerOpening}
 use Rattle.embedded.specs.Recorded.{deferred_disk}
 
@@ -36,7 +38,8 @@ left_unwritten disk wanted calls faults P has = record {
 }
 
 refuses_unwritten : (disk : Deferred) (why : Refusal) (wanted : Option ℕ) (calls faults : ℕ)
-    → HasCause disk.faults faults why → RefusesOpening (seen_of (as_memory disk)) why → RisesWithin 1 disk.calls calls
+    → HasCause disk.faults faults why → (IsSuppliedWell disk → RefusesOpening (seen_of (as_memory disk)) why)
+    → RisesWithin 1 disk.calls calls
     → RefusesPagerOpening deferred_disk disk why (counted disk wanted calls faults)
 refuses_unwritten disk why wanted calls faults cause reason within = inl (record {
   kept = record {
@@ -45,7 +48,7 @@ refuses_unwritten disk why wanted calls faults cause reason within = inl (record
     cause = cause;
   };
   ended = λ well. record {
-    reason = reason;
+    reason = reason well;
     done = inl (record {
       unwritten = record {
         same = refl;
@@ -65,8 +68,15 @@ pub refuses_lacking : (disk : Deferred) (block : ℕ)
     → RefusesPagerOpening deferred_disk disk refusals.Device (after_read disk (Some block) false)
 refuses_lacking disk block =
     refuses_unwritten disk refusals.Device (Some block) (raised disk.calls) (raised disk.faults)
-    (raised_once disk.faults) tt (λ few. omega (arith, raised_once disk.calls few))
+    (raised_once disk.faults) (λ well. tt) (λ few. omega (arith, raised_once disk.calls few))
 
 pub refuses_memory : (disk : Deferred) → RefusesPagerOpening deferred_disk disk refusals.OutOfMemory disk
 refuses_memory disk =
-    refuses_unwritten disk refusals.OutOfMemory disk.wanted disk.calls disk.faults refl tt (λ few. omega arith)
+    refuses_unwritten disk refusals.OutOfMemory disk.wanted disk.calls disk.faults refl (λ well. tt)
+    (λ few. omega arith)
+
+-- it has no volume with journals
+pub refuses_no_volume : (disk : Deferred) → (IsSuppliedWell disk → IsNotAVolume (seen_of (as_memory disk)))
+    → RefusesPagerOpening deferred_disk disk refusals.NotAVolume disk
+refuses_no_volume disk reason =
+    refuses_unwritten disk refusals.NotAVolume disk.wanted disk.calls disk.faults refl reason (λ few. omega arith)

@@ -6,3 +6,4 @@ pub mod Serving
 pub mod Tended
 pub mod Hosted
 pub mod Lacking
+pub mod First

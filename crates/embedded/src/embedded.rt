@@ -1,11 +1,15 @@
 // A volume whose device calls a host makes.
 ghost use Rattle.std.specs.Prelude.{◌≡◌, IfOk, IfErr};
+ghost use Rattle.page_entry.specs.declared.refusal.Refusal.TheVariants.{NotAVolume};
+ghost use Rattle.deferred_disk.specs.Deferred.{IsSuppliedWell};
 ghost use Rattle.pager.specs.Calls.{RefusesPagerOpening};
 ghost use Rattle.embedded.specs.Recorded.{deferred_disk};
 ghost use Rattle.embedded.specs.Embedded.{ServesWell};
 ghost use Rattle.embedded.specs.Opening.{OpensVolume, KeepsForWanted};
 ghost use Rattle.embedded.specs.Reading.{pager_refusal};
+ghost use Rattle.embedded.specs.declared.reading.Unread.TheVariants.{Refused};
 
+use crate::judging::{First, judge_first};
 use crate::reading::Unread;
 use crate::trial::{Trial, after_lack, lacked_block};
 use deferred_disk::DeferredDisk;
@@ -50,9 +54,28 @@ impl<A: Allocator + Copy> Model for Embedded<A> {
 /// journals have room for. A refusal hands the disk back.
 ///
 /// `Wanted` where a block was lacking: the host supplies it, and opens again. Of a closed journal the gate alone is
-/// wanted. The opening is tried before it is made, so no call is recorded where a block is wanted. `NotAVolume`,
-/// `Damaged` as `recovery::open`, and `OutOfMemory` where memory was refused.
+/// wanted. The first block is judged and then the opening is tried before it is made, so no call is recorded where a
+/// block is wanted, or on a disk that has no volume with journals: it stays as it was. `NotAVolume`, `Damaged` as
+/// `recovery::open`, and `OutOfMemory` where memory was refused.
 pub fn open<A: Allocator + Copy>(
+    alloc: A,
+    disk: DeferredDisk<A>,
+    most: u32,
+) -> Result<Embedded<A>, (Unread, DeferredDisk<A>)>
+    ensures opens { IfOk result (OpensVolume disk most) }
+    ensures refused { IfErr result (λ e. RefusesPagerOpening deferred_disk disk (pager_refusal e.0) e.1) }
+    ensures wanted { IfErr result (λ e. KeepsForWanted disk e.0 e.1) }
+    ensures untouched { IsSuppliedWell disk → IfErr result (λ e. e.0 ≡ Refused NotAVolume → e.1 ≡ disk) }
+{
+    match judge_first(&disk) {
+        First::Unknown => Err((Unread::Wanted(0), after_lack(disk, 0))),
+        First::NoVolume => Err((Unread::Refused(Refusal::NotAVolume), disk)),
+        First::Volume => open_volume(alloc, disk, most),
+    }
+}
+
+// Opens the volume of a disk whose first block begins with the magic of one with journals.
+fn open_volume<A: Allocator + Copy>(
     alloc: A,
     disk: DeferredDisk<A>,
     most: u32,

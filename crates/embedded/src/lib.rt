@@ -3,6 +3,7 @@
 
 mod embedded;
 mod hosting;
+mod judging;
 mod laws;
 mod reading;
 mod requesting;
