@@ -2,12 +2,12 @@
 use Rattle.std.proofs.Common.{◌≡◌, ◌<◌, ℕ, zero, suc, add-one, ◌+◌, ◌-◌, ◌*◌, ◌^◌, min, List, [], ◌∷◌}
 use Rattle.std.proofs.Common.{◌++◌, length, map, take, drop, slice_get, slice_index, slice_range, Option, Some}
 use Rattle.std.proofs.Common.{refl, sym, ◌∙◌, ap, subst, arith, append-nil}
-use Rattle.std.proofs.lemmas.List.{length-map, take-take}
+use Rattle.std.proofs.lemmas.List.{length-map, take_min}
 use Rattle.std.proofs.lemmas.Grind.{flat_map-append}
 use Rattle.volume_codec.specs.Files.{File, TableFile}
 use Rattle.volume_codec.specs.Layout.{block_at, first_file_home}
 use Rattle.volume_codec.specs.Super.{pages_of, names_in, block_count, first_home_of}
-use Rattle.volume_codec.specs.Lengths.{lengths_in}
+use Rattle.volume_codec.specs.Lengths.{AreLengths, lengths_in}
 use Rattle.volume_codec.specs.Recovery.{RecoversTo, contents_in, files_from, recovered_block}
 use Rattle.recovery.specs.Volume.{bytes_of}
 use Rattle.recovery.proofs.FileBytes.{file_room, length_of_contents, part_in_block}
@@ -101,11 +101,6 @@ file_listing_is head row f name bytes n named same long =
     ∙ ap (λ (k : ℕ). head f.name k ++ rows_text row bytes (row_count k)) (sym long)
     ∙ ap (λ (b : List ℕ). head f.name (length b) ++ rows_text row b (row_count (length b))) same
 
-pub index_of : (xs : List ℕ) (i n : ℕ) → slice_get xs i ≡ Some n → slice_index xs i ≡ n
-index_of [] i n e = cc
-index_of (x ∷ xs) zero n e = let same : Some x ≡ Some n = e in cc
-index_of (x ∷ xs) (suc i) n e = index_of xs i n e
-
 -- a page that a file's bytes reach into has a block of the volume, whose number has 4 bytes
 pub page_within : (volume same : RecoveredState) (file page : ℕ) → volume ≡ same → IsSound volume
     → file < length same.table.files → 4096 * page < slice_index same.lengths file
@@ -118,30 +113,43 @@ page_within volume same file page is sound there within =
     (4096 * block_count volume.table) (omega arith) in
     (omega (arith, room), sound.fits.few_blocks)
 
-module _ (volume : RecoveredState) (bytes : List ℕ) (is : IsRecovered volume bytes) (sound : IsSound volume)
-    (file n : ℕ) (there : file < length volume.table.files) (size : slice_get volume.lengths file ≡ Some n) where
+-- the lengths that were found are ones that the volume may have
+lengths_fit : (volume : RecoveredState) (bytes : List ℕ) → IsRecovered volume bytes
+    → AreLengths volume.table volume.lengths
+lengths_fit volume bytes is =
+    let P : List ℕ → Type 0 = λ l. AreLengths volume.table l in
+    subst P (sym is.found.are) is.found.fit.are
+
+module _ (volume : RecoveredState) (bytes : List ℕ) (is : IsRecovered volume bytes) (file : ℕ)
+    (there : file < length volume.table.files) where
   abbrev contents : ℕ → List ℕ
   contents b = contents_in volume.table.slots volume.batches bytes b
 
   -- the length of a file
-  pub length_of_file : length (bytes_of (recovered_files volume bytes) file) ≡ n
+  pub length_of_file : length (bytes_of (recovered_files volume bytes) file) ≡ slice_index volume.lengths file
   length_of_file =
-      length_of_contents volume.table volume.lengths sound.lengths contents file there is.found.are
-      (λ b. length-contents_in volume.table volume.batches bytes b is.holds) ∙ index_of volume.lengths file n size
+      length_of_contents volume.table volume.lengths (lengths_fit volume bytes is) contents file there is.found.are
+      (λ b. length-contents_in volume.table volume.batches bytes b is.holds)
 
-  -- what is read where its page was recovered is a page of it
-  pub page_read_at : (page block part : ℕ) (read : List ℕ) → 4096 * page < n → part ≡ min (n - 4096 * page) 4096
+  -- the block with the recovered bytes of a page begins with that page of the file
+  pub page_of_file : (page block : ℕ) → 4096 * page < slice_index volume.lengths file
       → block ≡ recovered_block volume.table.slots volume.batches (first_home_of volume.table file + page)
-      → read ≡ slice_range bytes (4096 * block) (4096 * block + part)
-      → read ≡ part_of (bytes_of (recovered_files volume bytes) file) page
-  page_read_at page block part read below room at is_read =
+      → part_of (bytes_of (recovered_files volume bytes) file) page
+      ≡ take (slice_index volume.lengths file - 4096 * page) (block_at bytes block)
+  page_of_file page block below at =
+      let n = slice_index volume.lengths file in
+      let part = min (n - 4096 * page) 4096 in
       let b = first_home_of volume.table file + page in
-      let rest : 4096 * block + part - 4096 * block ≡ part = omega arith in
-      let index = index_of volume.lengths file n size in
-      is_read ∙ ap (λ k. take k (drop (4096 * block) bytes)) rest
-      ∙ sym (take-take part 4096 (drop (4096 * block) bytes) (omega (arith, room)))
-      ∙ ap (λ k. take part (block_at bytes k)) at
-      ∙ sym (part_in_block volume.table volume.lengths sound.lengths contents file page part there is.found.are
-      (omega (arith, room, below, index)) (omega (arith, room)) (omega (arith, room, below))
-      (λ b. length-contents_in volume.table volume.batches bytes b is.holds))
-      ∙ page_read (bytes_of (recovered_files volume bytes) file) page n part length_of_file below room
+      let are = lengths_fit volume bytes is in
+      let room = file_room volume.table volume.lengths are file (4096 * page) 1 there (omega (arith, below))
+      (4096 * block_count volume.table) (omega arith) in
+      let whole : length (contents b) ≡ 4096 =
+      length-contents_in volume.table volume.batches bytes b is.holds (omega (arith, room)) in
+      let few : part ≡ min (n - 4096 * page) (length (contents b)) = omega (arith, whole) in
+      sym (page_read (bytes_of (recovered_files volume bytes) file) page n part length_of_file below refl)
+      ∙ part_in_block volume.table volume.lengths are contents file page part there is.found.are
+      (omega (arith, below)) (omega arith) (omega (arith, below))
+      (λ b. length-contents_in volume.table volume.batches bytes b is.holds)
+      ∙ ap (λ m. take m (contents b)) few
+      ∙ take_min (n - 4096 * page) (contents b)
+      ∙ ap (λ m. take (n - 4096 * page) (block_at bytes m)) (sym at)

@@ -3,8 +3,9 @@ use Rattle.std.proofs.Common.{◌≡◌, ◌<◌, ◌≤◌, ◌⊎◌, inl, inr
 use Rattle.std.proofs.Common.{◌-◌, ◌*◌, min, List, [], ◌++◌, length, take, drop, Option, refl, sym, ◌∙◌}
 use Rattle.std.proofs.Common.{ap, subst, arith, length-drop, length-take, append-nil, append_assoc, slice_range}
 use Rattle.std.proofs.lemmas.Bool.{cases_lt}
-use Rattle.std.proofs.lemmas.List.{take_min, drop-drop, drop_all, take-take, drop-take}
+use Rattle.std.proofs.lemmas.List.{take_min, take_all, drop-drop, drop_all, take-take, drop-take}
 use Rattle.std.specs.Io.KnownBytes.{Appends}
+use Rattle.volume_codec.specs.Layout.{block_at}
 use Rattle.file_rows.specs.Rows.{shown, row_of, rows_text, row_count}
 use Rattle.file_rows.specs.Reading.{part_of, pages_text, page_count}
 use Rattle.file_rows.specs.inside.Pages.{rows_at}
@@ -136,3 +137,20 @@ row_more_at row old mid new at bytes part n is before this =
     let Q : List ℕ → Type 0 = λ text. Appends old new text in
     subst Q (ap (rows_at row at bytes) (sym (add-one n))) (appends_both old mid new (rows_at row at bytes n)
     (shown row (at + 16 * n) (row_of bytes n)) before (subst P is this))
+
+-- a part of a block that is read is the page that the block begins with
+pub page_read_at : (bytes : List ℕ) (block left n : ℕ) (read page : List ℕ) → n ≡ min left 4096
+    → read ≡ slice_range bytes (4096 * block) (4096 * block + n) → page ≡ take left (block_at bytes block)
+    → read ≡ page
+page_read_at bytes block left n read page room is_read is_page =
+    let xs = drop (4096 * block) bytes in
+    let rest : 4096 * block + n - 4096 * block ≡ n = omega arith in
+    let cut : take n xs ≡ take left (take 4096 xs) = elim (cases_lt left 4096) [
+      | inl short ↦
+          let few : n ≡ left = omega (arith, room, short) in
+          ap (λ k. take k xs) few ∙ sym (take-take left 4096 xs (omega (arith, short)))
+      | inr long ↦
+          let all : n ≡ 4096 = omega (arith, room, long) in
+          ap (λ k. take k xs) all ∙ sym (take_all left (take 4096 xs) (omega (arith, long, length-take 4096 xs)))
+    ] in
+    is_read ∙ ap (λ k. take k xs) rest ∙ cut ∙ sym is_page

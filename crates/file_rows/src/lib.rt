@@ -7,8 +7,10 @@ mod listing;
 mod pages;
 mod reading;
 mod recovered;
+mod volume;
 
 pub use form::{Form, ListFault, WriteFault};
-pub use listing::list_files;
+pub use listing::{list_files, list_found};
 pub use pages::copy_pages;
 pub use recovered::Recovered;
+pub use volume::FoundFiles;

@@ -3,19 +3,18 @@ ghost use Rattle.std.specs.Prelude.{◌≡◌, ◌==◌, ◌<◌, ◌*◌, ◌�
 ghost use Rattle.std.specs.Io.KnownBytes.{Appends};
 ghost use Rattle.std.specs.List.{list_all};
 ghost use Rattle.volume_codec.specs.Files.{File};
-ghost use Rattle.volume_codec.specs.Super.{block_count};
 ghost use Rattle.volume_codec.specs.Recovery.{RecoversTo};
 ghost use Rattle.recovery.specs.Counts.{HasCause};
 ghost use Rattle.recovery.specs.Opening.{RefusesOpening};
 ghost use Rattle.recovery.specs.Reading.{IsOnlyRead};
 ghost use Rattle.file_rows.specs.Faults.{HasListed};
-ghost use Rattle.file_rows.specs.Recovered.{IsRecovered, recovered_files};
 ghost use Rattle.file_rows.specs.Rows.{shown, row_count, file_listing, files_listing};
 ghost use Rattle.file_rows.specs.inside.Pages.{rows_at};
 
 use crate::form::{Form, ListFault, WriteFault};
 use crate::pages::{PageForm, write_pages};
 use crate::recovered::Recovered;
+use crate::volume::FoundFiles;
 use device::Device;
 use page_entry::Refusal;
 use std::alloc::Allocator;
@@ -41,21 +40,23 @@ pub fn list_files<D: Device, A: Allocator + Copy, F: Form, W: io::Write>(
     ensures read { IsOnlyRead D.Device device.old device.new }
 {
     match Recovered::find(alloc, device) {
-        Ok(volume) => Ok(write_files(&volume, device, form, out)),
+        Ok(volume) => Ok(list_found(&volume, device, form, out)),
         Err(refusal) => Err(refusal),
     }
 }
 
-fn write_files<D: Device, A: Allocator + Copy, F: Form, W: io::Write>(
-    volume: &Recovered<A>,
+/// Writes the files of a volume that was found on a device, as `list_files` does. The device is only read.
+pub fn list_found<V: FoundFiles, D: Device, F: Form, W: io::Write>(
+    volume: &V,
     device: &mut D,
     form: &F,
     out: &mut W,
 ) -> Result<(), ListFault>
-    requires long { 4096 * block_count volume.now.table ≤ length (D.seen device.old) }
-    requires recovered { D.is_honest device.old → IsRecovered volume.now (D.seen device.old) }
+    requires sound { V.is_sound volume.now }
+    requires long { 4096 * V.blocks volume.now ≤ length (D.seen device.old) }
+    requires found { D.is_honest device.old → V.is_in volume.now (D.seen device.old) }
     ensures printed { D.is_honest device.old → OnOk result (Appends (W.contents out.old) (W.contents out.new)
-        (files_listing (F.head_text form.now) (F.row_text form.now) (recovered_files volume.now (D.seen device.old)))) }
+        (files_listing (F.head_text form.now) (F.row_text form.now) (V.files volume.now (D.seen device.old)))) }
     ensures read { IsOnlyRead D.Device device.old device.new }
     ensures cause { HasListed (D.faults_met device.old) (D.faults_met device.new) result }
 {
@@ -66,18 +67,19 @@ fn write_files<D: Device, A: Allocator + Copy, F: Form, W: io::Write>(
 }
 
 // Writes one file.
-fn write_file<D: Device, A: Allocator + Copy, F: Form, W: io::Write>(
-    volume: &Recovered<A>,
+fn write_file<V: FoundFiles, D: Device, F: Form, W: io::Write>(
+    volume: &V,
     device: &mut D,
     file: usize,
     form: &F,
     out: &mut W,
 ) -> Result<(), ListFault>
-    requires there { file < length volume.now.table.files }
-    requires long { 4096 * block_count volume.now.table ≤ length (D.seen device.old) }
-    requires recovered { D.is_honest device.old → IsRecovered volume.now (D.seen device.old) }
+    requires sound { V.is_sound volume.now }
+    requires there { file < V.count volume.now }
+    requires long { 4096 * V.blocks volume.now ≤ length (D.seen device.old) }
+    requires found { D.is_honest device.old → V.is_in volume.now (D.seen device.old) }
     ensures printed { D.is_honest device.old → (f : File)
-        → slice_get (recovered_files volume.now (D.seen device.old)) file ≡ Some f
+        → slice_get (V.files volume.now (D.seen device.old)) file ≡ Some f
         → OnOk result (Appends (W.contents out.old) (W.contents out.new)
         (file_listing (F.head_text form.now) (F.row_text form.now) f)) }
     ensures read { IsOnlyRead D.Device device.old device.new }

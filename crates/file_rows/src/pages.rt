@@ -1,19 +1,16 @@
 // The pages of a file, one after the other.
-ghost use Rattle.std.specs.Prelude.{◌≡◌, ◌↔◌, ◌<◌, ◌+◌, ◌*◌, ◌≤◌, ◌^◌, ℕ, List, length, slice_get, slice_index, Some, OnOk};
+ghost use Rattle.std.specs.Prelude.{◌≡◌, ◌↔◌, ◌<◌, ◌+◌, ◌*◌, ◌≤◌, ◌^◌, ℕ, List, length, OnOk};
 ghost use Rattle.std.specs.Io.KnownBytes.{Appends};
-ghost use Rattle.volume_codec.specs.Super.{block_count};
 ghost use Rattle.recovery.specs.Reading.{IsOnlyRead};
 ghost use Rattle.recovery.specs.Volume.{bytes_of};
 ghost use Rattle.file_rows.specs.Faults.{HasListed};
 ghost use Rattle.file_rows.specs.Reading.{pages_text, page_count};
-ghost use Rattle.file_rows.specs.Recovered.{IsRecovered, recovered_files};
 
 use crate::form::{ListFault, WriteFault};
 use crate::reading::read_page;
-use crate::recovered::Recovered;
+use crate::volume::FoundFiles;
 use device::{BlockFile, Device};
 use page_entry::PAGE;
-use std::alloc::Allocator;
 use std::io;
 
 /// How a page of a file is written.
@@ -28,20 +25,21 @@ pub trait PageForm {
 }
 
 /// Writes all pages of a file of this length, and reads it a page at a time. The device is only read.
-pub fn write_pages<D: Device, A: Allocator + Copy, F: PageForm, W: io::Write>(
-    volume: &Recovered<A>,
+pub fn write_pages<V: FoundFiles, D: Device, F: PageForm, W: io::Write>(
+    volume: &V,
     device: &mut D,
     file: usize,
     bytes: u64,
     form: &F,
     out: &mut W,
 ) -> Result<(), ListFault>
-    requires there { file < length volume.now.table.files }
-    requires size { slice_get volume.now.lengths file ≡ Some bytes }
-    requires long { 4096 * block_count volume.now.table ≤ length (D.seen device.old) }
-    requires recovered { D.is_honest device.old → IsRecovered volume.now (D.seen device.old) }
+    requires sound { V.is_sound volume.now }
+    requires there { file < V.count volume.now }
+    requires size { V.size volume.now file ≡ bytes }
+    requires long { 4096 * V.blocks volume.now ≤ length (D.seen device.old) }
+    requires found { D.is_honest device.old → V.is_in volume.now (D.seen device.old) }
     ensures written { D.is_honest device.old → OnOk result (Appends (W.contents out.old) (W.contents out.new)
-        (pages_text (F.page_text form.now) (bytes_of (recovered_files volume.now (D.seen device.old)) file)
+        (pages_text (F.page_text form.now) (bytes_of (V.files volume.now (D.seen device.old)) file)
         (page_count bytes))) }
     ensures read { IsOnlyRead D.Device device.old device.new }
     ensures cause { HasListed (D.faults_met device.old) (D.faults_met device.new) result }
@@ -61,18 +59,19 @@ pub fn write_pages<D: Device, A: Allocator + Copy, F: PageForm, W: io::Write>(
 }
 
 /// Copies all pages of a file to another file of its length, and reads it a page at a time. The device is only read.
-pub fn copy_pages<D: Device, A: Allocator + Copy, F: BlockFile>(
-    volume: &Recovered<A>,
+pub fn copy_pages<V: FoundFiles, D: Device, F: BlockFile>(
+    volume: &V,
     device: &mut D,
     file: usize,
     out: &mut F,
 ) -> Result<(), ListFault>
-    requires there { file < length volume.now.table.files }
-    requires long { 4096 * block_count volume.now.table ≤ length (D.seen device.old) }
-    requires recovered { D.is_honest device.old → IsRecovered volume.now (D.seen device.old) }
+    requires sound { V.is_sound volume.now }
+    requires there { file < V.count volume.now }
+    requires long { 4096 * V.blocks volume.now ≤ length (D.seen device.old) }
+    requires found { D.is_honest device.old → V.is_in volume.now (D.seen device.old) }
     ensures copied { D.is_honest device.old → F.is_honest out.old
-        → length (F.seen out.old) ≡ slice_index volume.now.lengths file
-        → OnOk result (F.seen out.new ≡ bytes_of (recovered_files volume.now (D.seen device.old)) file) }
+        → length (F.seen out.old) ≡ V.size volume.now file
+        → OnOk result (F.seen out.new ≡ bytes_of (V.files volume.now (D.seen device.old)) file) }
     ensures honest { F.is_honest out.new ↔ F.is_honest out.old }
     ensures read { IsOnlyRead D.Device device.old device.new }
     ensures cause { HasListed (D.faults_met device.old) (D.faults_met device.new) result }

@@ -1,12 +1,13 @@
 // The volume of a device as it recovers.
-ghost use Rattle.std.specs.Prelude.{◌≡◌, ◌<◌, ◌+◌, ◌*◌, ◌≤◌, length, slice_get, slice_index, Some, IfOk, IfErr};
-ghost use Rattle.volume_codec.specs.Super.{Fits, block_count, first_home_of, geometry_of, names_in};
-ghost use Rattle.volume_codec.specs.Recovery.{IsVolume, recovered_block};
+ghost use Rattle.std.specs.Prelude.{◌≡◌, ◌*◌, ◌<◌, ◌≤◌, length, slice_index, IfOk, IfErr};
+ghost use Rattle.volume_codec.specs.Super.{Fits, block_count, geometry_of};
+ghost use Rattle.volume_codec.specs.Recovery.{IsVolume};
 ghost use Rattle.recovery.specs.Counts.{IsAccounted};
 ghost use Rattle.recovery.specs.Opening.{RefusesOpening};
 ghost use Rattle.recovery.specs.Reading.{AreBatches, IsOnlyRead, batches_of};
-ghost use Rattle.file_rows.specs.Recovered.{IsSound, IsRecovered};
+ghost use Rattle.file_rows.specs.Recovered.{IsRecovered, recovered_files};
 
+use crate::volume::FoundFiles;
 use device::Device;
 use page_entry::Refusal;
 use recovery::reading::{OpenJournal, find_block, find_lengths, read_open, read_table};
@@ -56,43 +57,43 @@ impl<A: Allocator + Copy> Recovered<A> {
         })
     }
 
-    /// The block that has the recovered bytes of a page of a file.
-    pub(crate) fn block_of(&self, file: usize, page: u64) -> u32
-        requires there { file < length self.now.table.files }
-        requires within { 4096 * page < slice_index self.now.lengths file }
-        ensures value { result ≡ recovered_block self.now.table.slots self.now.batches
-            (first_home_of self.now.table file + page) }
-        ensures within { result < block_count self.now.table }
-        ensures sound { IsSound self.now }
+    // The length of a file in bytes.
+    fn size(&self, file: usize) -> u64
+        requires { file < length self.now.table.files }
+        ensures { result ≡ slice_index self.now.lengths file }
     {
-        let home = self.table.first_home(file) + page as u32;
-        find_block(&self.table.geometry(), &self.open, home)
+        self.lengths[file]
     }
+}
 
-    /// The number of files, 1 to 64.
-    pub fn file_count(&self) -> usize
-        ensures value { result ≡ length self.now.table.files }
-        ensures sound { IsSound self.now }
-    {
+impl<A: Allocator + Copy> FoundFiles for Recovered<A> {
+    ghost is_sound = { λ volume. Unit {0} };
+
+    ghost count = { λ volume. length volume.table.files };
+
+    ghost size = { λ volume file. slice_index volume.lengths file };
+
+    ghost blocks = { λ volume. block_count volume.table };
+
+    ghost is_in = { IsRecovered };
+
+    ghost files = { recovered_files };
+
+    fn file_count(&self) -> usize {
         self.table.file_count()
     }
 
-    /// The name of a file.
-    pub fn name(&self, file: usize) -> &str
-        requires { file < length self.now.table.files }
-        ensures named { slice_get (names_in self.now.table) file ≡ Some result.now }
-        ensures sound { IsSound self.now }
-    {
+    fn name(&self, file: usize) -> &str {
         self.table.name(file)
     }
 
-    /// The length of a file in bytes.
-    pub fn length(&self, file: usize) -> u64
-        requires { file < length self.now.table.files }
-        ensures size { slice_get self.now.lengths file ≡ Some result }
-        ensures sound { IsSound self.now }
-    {
-        self.lengths[file]
+    fn length(&self, file: usize) -> u64 {
+        self.size(file)
+    }
+
+    fn block_of(&self, file: usize, page: u64) -> u32 {
+        let home = self.table.first_home(file) + page as u32;
+        find_block(&self.table.geometry(), &self.open, home)
     }
 }
 

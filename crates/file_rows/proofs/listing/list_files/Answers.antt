@@ -8,30 +8,30 @@ use Rattle.file_rows.specs.Rows.{files_listing}
 use Rattle.file_rows.proofs.Files.{recovers_to}
 use Rattle.file_rows.proofs.listing.list_files.Goals as goal
 
-pub write_files-requires-clause-long : goal.write_files-requires-clause-long
-write_files-requires-clause-long g c = omega (arith, c.in-Ok.ensures.long, ap length c.in-Ok.ensures.read.same)
+pub list_found-requires-clause-long : goal.list_found-requires-clause-long
+list_found-requires-clause-long g c = omega (arith, c.in-Ok.ensures.long, ap length c.in-Ok.ensures.read.same)
 
-pub write_files-requires-clause-recovered : goal.write_files-requires-clause-recovered
-write_files-requires-clause-recovered g c = λ honest.
+pub list_found-requires-clause-found : goal.list_found-requires-clause-found
+list_found-requires-clause-found g c = λ honest.
     let read = c.in-Ok.ensures.read in
     let P : List ℕ → Type 0 = λ bytes. IsRecovered c.in-Ok.volume bytes in
     subst P (sym read.same) (c.in-Ok.ensures.found (read.honest.0 honest))
 
 pub returns-in-Ok-clause-read : goal.returns-in-Ok-clause-read
-returns-in-Ok-clause-read g c = read_then c.in-Ok.ensures.read c.write_files.ensures.read
+returns-in-Ok-clause-read g c = read_then c.in-Ok.ensures.read c.list_found.ensures.read
 
 pub returns-in-Ok-clause-printed : goal.returns-in-Ok-clause-printed
 returns-in-Ok-clause-printed g c = λ honest.
     let read = c.in-Ok.ensures.read in
     let bytes = g.D.Device.seen c.args.device.now in
     let form = c.args.form.now in
-    let P : List ℕ → Type 0 = λ seen. OnOk c.write_files.result (Appends (g.W.Write.contents c.args.out.now)
-    (g.W.Write.contents c.write_files.new.out) (files_listing (g.F.Form.head_text form) (g.F.Form.row_text form)
+    let P : List ℕ → Type 0 = λ seen. OnOk c.list_found.result (Appends (g.W.Write.contents c.args.out.now)
+    (g.W.Write.contents c.list_found.new.out) (files_listing (g.F.Form.head_text form) (g.F.Form.row_text form)
     (recovered_files c.in-Ok.volume seen))) in
-    on_ok_weaker c.write_files.result
+    on_ok_weaker c.list_found.result
     (λ appends. (
       recovered_files c.in-Ok.volume bytes,
       recovers_to c.in-Ok.volume bytes (c.in-Ok.ensures.found honest),
       appends,
     ))
-    (subst P read.same (c.write_files.ensures.printed (read.honest.1 honest)))
+    (subst P read.same (c.list_found.ensures.printed (read.honest.1 honest)))

@@ -1,10 +1,8 @@
-use Rattle.std.proofs.Common.{rules, ◌≡◌, ◌<◌, ◌*◌, ap, ◌∙◌, arith}
+use Rattle.std.proofs.Common.{rules, ◌≡◌, ◌<◌, ◌*◌, ap, sym, ◌∙◌, arith}
 use Rattle.std.proofs.lemmas.List.{ext_get_or}
 use Rattle.recovery.specs.Volume.{bytes_of}
 use Rattle.recovery.proofs.Public.{read_then}
 use Rattle.file_rows.specs.Reading.{part_of, page_count}
-use Rattle.file_rows.specs.Recovered.{recovered_files}
-use Rattle.file_rows.proofs.Files.{index_of, length_of_file}
 use Rattle.file_rows.proofs.PageCopy.{copied_more}
 use Rattle.file_rows.proofs.pages.copy_pages.Goals as goal
 
@@ -22,15 +20,14 @@ loop-page-preserved g c =
       honest = (λ h. before.honest.0 (wrote.honest.0 h), λ h. wrote.honest.1 (before.honest.1 h));
       size = λ fair. wrote.len (before.honest.1 fair) ∙ before.size fair;
       each = λ honest fair room i low within.
-          let bytes = bytes_of (recovered_files volume seen) file in
-          let index = index_of volume.lengths file n c.length-bytes.ensures.size in
-          let long = length_of_file volume seen (c.requires.recovered honest) c.length-bytes.ensures.sound file n
-          c.requires.there c.length-bytes.ensures.size in
+          let bytes = bytes_of (g.V.FoundFiles.files volume seen) file in
+          let index = c.length-bytes.ensures.value in
+          let long = c.length-bytes.ensures.long seen (c.requires.found honest) in
           let is = c.in_default.ensures.page (before.read.honest.1 honest)
-          ∙ ap (λ bytes. part_of (bytes_of (recovered_files volume bytes) file) page) before.read.same in
+          ∙ ap (λ bytes. part_of (bytes_of (g.V.FoundFiles.files volume bytes) file) page) before.read.same in
           let below : 4096 * page < n = search rules in
           copied_more bytes (g.F.BlockFile.seen c.loop-page.out) (g.F.BlockFile.seen c.write_all_at.new.self)
-          c.read_page.new.part page n long (before.size fair ∙ room ∙ index) below is
+          c.read_page.new.part page n long (before.size fair ∙ room ∙ sym index) below is
           (wrote.written (before.honest.1 fair))
           (λ k lower inside. before.each honest fair room k lower (omega (arith, inside, index))) i low
           (omega (arith, within, index));
@@ -42,12 +39,11 @@ returns-clause-copied g c = λ honest fair room.
     let file = c.args.file in
     let n = c.length-bytes.result in
     let seen = g.D.Device.seen c.args.device.now in
-    let index = index_of volume.lengths file n c.length-bytes.ensures.size in
-    let long = length_of_file volume seen (c.requires.recovered honest) c.length-bytes.ensures.sound file n
-    c.requires.there c.length-bytes.ensures.size in
+    let index = c.length-bytes.ensures.value in
+    let long = c.length-bytes.ensures.long seen (c.requires.found honest) in
     let all : c.loop-page.page ≡ page_count n = search rules in
     let size = c.loop-page.invariant.size fair in
-    ext_get_or 0 (g.F.BlockFile.seen c.loop-page.out) (bytes_of (recovered_files volume seen) file)
+    ext_get_or 0 (g.F.BlockFile.seen c.loop-page.out) (bytes_of (g.V.FoundFiles.files volume seen) file)
     (omega (arith, size, room, index, long))
     (λ i low. c.loop-page.invariant.each honest fair room i (omega (arith, low, size, room, index, all))
     (omega (arith, low, size, room)))

@@ -6,18 +6,17 @@ use Rattle.recovery.specs.Counts.{HasCause, Rises}
 use Rattle.recovery.specs.Volume.{bytes_of}
 use Rattle.recovery.proofs.Public.{read_then}
 use Rattle.file_rows.specs.Reading.{part_of, pages_text, page_count}
-use Rattle.file_rows.specs.Recovered.{IsRecovered, recovered_files}
 use Rattle.file_rows.proofs.PageText.{page_more}
 use Rattle.file_rows.proofs.pages.write_pages.Goals as goal
 
 pub read_page-requires-clause-long : goal.read_page-requires-clause-long
 read_page-requires-clause-long g c = omega (arith, c.requires.long, ap length c.loop-page.invariant.read.same)
 
-pub read_page-requires-clause-recovered : goal.read_page-requires-clause-recovered
-read_page-requires-clause-recovered g c = λ honest.
+pub read_page-requires-clause-found : goal.read_page-requires-clause-found
+read_page-requires-clause-found g c = λ honest.
     let read = c.loop-page.invariant.read in
-    let P : List ℕ → Type 0 = λ bytes. IsRecovered c.args.volume.now bytes in
-    subst P (sym read.same) (c.requires.recovered (read.honest.0 honest))
+    let P : List ℕ → Type 0 = λ bytes. g.V.FoundFiles.is_in c.args.volume.now bytes in
+    subst P (sym read.same) (c.requires.found (read.honest.0 honest))
 
 pub loop-page-preserved : goal.loop-page-preserved
 loop-page-preserved g c =
@@ -30,9 +29,9 @@ loop-page-preserved g c =
       read = read_then before.read c.in_default.ensures.read;
       faults = c.in_default.ensures.kept.cause ∙ before.faults;
       text = λ honest.
-          let bytes = bytes_of (recovered_files volume (g.D.Device.seen old)) file in
+          let bytes = bytes_of (g.V.FoundFiles.files volume (g.D.Device.seen old)) file in
           let is = c.in_default.ensures.page (before.read.honest.1 honest)
-          ∙ ap (λ seen. part_of (bytes_of (recovered_files volume seen) file) page) before.read.same in
+          ∙ ap (λ seen. part_of (bytes_of (g.V.FoundFiles.files volume seen) file) page) before.read.same in
           page_more (g.F.PageForm.page_text c.args.form.now) (contents c.args.out.now) (contents c.loop-page.out)
           (contents c.write_page.new.out) bytes page c.read_page.new.part is (before.text honest)
           c.in_default-write_page.ensures;
@@ -61,7 +60,7 @@ returns g c =
     let old = c.args.device.now in
     let contents = g.W.Write.contents in record {
       written = λ honest.
-          let bytes = bytes_of (recovered_files c.args.volume.now (g.D.Device.seen old)) c.args.file in
+          let bytes = bytes_of (g.V.FoundFiles.files c.args.volume.now (g.D.Device.seen old)) c.args.file in
           let all : c.loop-page.page ≡ page_count c.args.bytes = search rules in
           let P : ℕ → Type 0 = λ pages. Appends (contents c.args.out.now) (contents c.loop-page.out)
           (pages_text (g.F.PageForm.page_text c.args.form.now) bytes pages) in

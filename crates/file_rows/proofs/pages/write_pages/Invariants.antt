@@ -3,7 +3,6 @@ use Rattle.std.specs.Io.KnownBytes.{Appends}
 use Rattle.recovery.specs.Reading.{IsOnlyRead}
 use Rattle.recovery.specs.Volume.{bytes_of}
 use Rattle.file_rows.specs.Reading.{pages_text}
-use Rattle.file_rows.specs.Recovered.{recovered_files}
 use Rattle.file_rows.proofs.pages.write_pages.Given as goal
 
 abbrev pub invariant-loop-page : goal.invariant-loop-page
@@ -12,5 +11,5 @@ invariant-loop-page g l = record {
   faults : g.D.Device.faults_met l.device ≡ g.D.Device.faults_met l.initial.device;
   text : g.D.Device.is_honest l.initial.device → Appends (g.W.Write.contents l.initial.out) (g.W.Write.contents l.out)
       (pages_text (g.F.PageForm.page_text l.form)
-      (bytes_of (recovered_files l.volume (g.D.Device.seen l.initial.device)) l.file) l.page);
+      (bytes_of (g.V.FoundFiles.files l.volume (g.D.Device.seen l.initial.device)) l.file) l.page);
 }

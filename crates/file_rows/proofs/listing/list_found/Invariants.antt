@@ -1,9 +1,8 @@
 use Rattle.std.proofs.Common.{◌≡◌, take}
 use Rattle.std.specs.Io.KnownBytes.{Appends}
 use Rattle.recovery.specs.Reading.{IsOnlyRead}
-use Rattle.file_rows.specs.Recovered.{recovered_files}
 use Rattle.file_rows.specs.Rows.{files_listing}
-use Rattle.file_rows.proofs.listing.write_files.Given as goal
+use Rattle.file_rows.proofs.listing.list_found.Given as goal
 
 abbrev pub invariant-loop-file : goal.invariant-loop-file
 invariant-loop-file g l = record {
@@ -11,5 +10,5 @@ invariant-loop-file g l = record {
   faults : g.D.Device.faults_met l.device ≡ g.D.Device.faults_met l.initial.device;
   text : g.D.Device.is_honest l.initial.device → Appends (g.W.Write.contents l.initial.out) (g.W.Write.contents l.out)
       (files_listing (g.F.Form.head_text l.form) (g.F.Form.row_text l.form)
-      (take l.file (recovered_files l.volume (g.D.Device.seen l.initial.device))));
+      (take l.file (g.V.FoundFiles.files l.volume (g.D.Device.seen l.initial.device))));
 }

@@ -1,4 +1,4 @@
-use Rattle.std.proofs.Common.{rules, ℕ, Err, ◌≡◌, ◌<◌, ◌≤◌, length, sym, ap, subst, ◌∙◌, arith, List, take, slice_get}
+use Rattle.std.proofs.Common.{ℕ, Err, ◌≡◌, length, sym, ap, subst, ◌∙◌, arith, List, take, slice_get}
 use Rattle.std.proofs.lemmas.List.{take_all}
 use Rattle.std.proofs.lemmas.Result.{err_from_is_err_and}
 use Rattle.std.specs.Io.KnownBytes.{Appends}
@@ -6,19 +6,18 @@ use Rattle.volume_codec.specs.Files.{File}
 use Rattle.recovery.proofs.FileBytes.{some_at}
 use Rattle.recovery.proofs.Public.{read_then}
 use Rattle.file_rows.specs.Faults.{HasListed}
-use Rattle.file_rows.specs.Recovered.{IsRecovered, recovered_files}
 use Rattle.file_rows.specs.Rows.{files_listing}
-use Rattle.file_rows.proofs.Files.{file_more, as_many_files}
-use Rattle.file_rows.proofs.listing.write_files.Goals as goal
+use Rattle.file_rows.proofs.Files.{file_more}
+use Rattle.file_rows.proofs.listing.list_found.Goals as goal
 
 pub write_file-requires-clause-long : goal.write_file-requires-clause-long
 write_file-requires-clause-long g c = omega (arith, c.requires.long, ap length c.loop-file.invariant.read.same)
 
-pub write_file-requires-clause-recovered : goal.write_file-requires-clause-recovered
-write_file-requires-clause-recovered g c = λ honest.
+pub write_file-requires-clause-found : goal.write_file-requires-clause-found
+write_file-requires-clause-found g c = λ honest.
     let read = c.loop-file.invariant.read in
-    let P : List ℕ → Type 0 = λ bytes. IsRecovered c.args.volume.now bytes in
-    subst P (sym read.same) (c.requires.recovered (read.honest.0 honest))
+    let P : List ℕ → Type 0 = λ bytes. g.V.FoundFiles.is_in c.args.volume.now bytes in
+    subst P (sym read.same) (c.requires.found (read.honest.0 honest))
 
 pub loop-file-preserved : goal.loop-file-preserved
 loop-file-preserved g c =
@@ -31,10 +30,10 @@ loop-file-preserved g c =
       read = read_then before.read c.write_file.ensures.read;
       faults = c.in_ok-write_file.ensures.cause ∙ before.faults;
       text = λ honest.
-          let files = recovered_files volume seen in
-          let below : i < length volume.table.files = search rules in
-          let f = some_at files i (omega (arith, below, as_many_files volume seen (c.requires.recovered honest))) in
-          let at = ap (λ bytes. slice_get (recovered_files volume bytes) i) before.read.same ∙ f.1 in
+          let files = g.V.FoundFiles.files volume seen in
+          let many = c.file_count-file-end.ensures.listed seen (c.requires.found honest) in
+          let f = some_at files i (omega (arith, c.loop-file-test.true, many)) in
+          let at = ap (λ bytes. slice_get (g.V.FoundFiles.files volume bytes) i) before.read.same ∙ f.1 in
           file_more (g.F.Form.head_text form) (g.F.Form.row_text form) (contents c.args.out.now)
           (contents c.loop-file.out) (contents c.write_file.new.out) files i f.0 f.1 (before.text honest)
           (c.in_ok-write_file.ensures.printed (before.read.honest.1 honest) f.0 at);
@@ -61,10 +60,10 @@ pub returns-clause-printed : goal.returns-clause-printed
 returns-clause-printed g c = λ honest.
     let volume = c.args.volume.now in
     let seen = g.D.Device.seen c.args.device.now in
-    let files = recovered_files volume seen in
-    let past : length volume.table.files ≤ c.loop-file.file = search rules in
+    let files = g.V.FoundFiles.files volume seen in
+    let many = c.file_count-file-end.ensures.listed seen (c.requires.found honest) in
     let all : take c.loop-file.file files ≡ files =
-    take_all c.loop-file.file files (omega (arith, past, as_many_files volume seen (c.requires.recovered honest))) in
+    take_all c.loop-file.file files (omega (arith, c.loop-file-test.false, many)) in
     let P : List File → Type 0 =
     λ fs. Appends (g.W.Write.contents c.args.out.now) (g.W.Write.contents c.loop-file.out)
     (files_listing (g.F.Form.head_text c.args.form.now) (g.F.Form.row_text c.args.form.now) fs) in
