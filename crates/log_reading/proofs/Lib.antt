@@ -1,4 +1,5 @@
 mod ChainBlocks
 mod Homes
+mod LoggedFiles
 mod Newest
 mod Read

@@ -4,14 +4,14 @@ use Rattle.page_entry.specs.declared.refusal.Refusal.{Refusal}
 use Rattle.page_entry.specs.declared.refusal.Refusal.TheVariants.{Device, OutOfMemory, NotAVolume, Damaged}
 use Rattle.volume_codec.specs.Files.{File}
 use Rattle.volume_codec.specs.Layout.{block_at}
-use Rattle.volume_codec.specs.Lengths.{IsLengths}
+use Rattle.volume_codec.specs.Lengths.{AreLengths, IsLengths}
 use Rattle.volume_codec.specs.Recovery.{files_from}
 use Rattle.volume_codec.specs.Super.{total_pages}
 use Rattle.log_codec.specs.Log.{first_log_home, first_log_file_home}
 use Rattle.log_codec.specs.Chain.{contents_of_log}
 use Rattle.log_volume.specs.Super.{LogSuperValue, IsLogSuper, table_of, log_of}
 use Rattle.log_volume.specs.Files.{RecoversToLog}
-use Rattle.log_recovery.specs.Reading.{HoldsFound, chain_of}
+use Rattle.log_recovery.specs.Reading.{IsFoundLog, HoldsFound, chain_of}
 use Rattle.log_opening.specs.Volume.{RefusesVolume}
 use Rattle.log_reading.specs.declared.volume.LoggedVolume.{LoggedVolume}
 
@@ -37,6 +37,11 @@ pub record IsLoggedVolume {Z : Type 0} (bytes : List ℕ) (found : LoggedVolume 
   pub lengths_are : IsLengths (table_of found.table) found.lengths.items
       (logged_contents found bytes (first_log_home found.table.ring))
   pub recovers : RecoversToLog bytes (logged_files found bytes)
+
+-- what holds of each volume with a log that was read
+pub record IsSoundLogged {Z : Type 0} (found : LoggedVolume Z) : Type 0 where
+  pub log : IsFoundLog (log_of found.table) found.log
+  pub lengths : AreLengths (table_of found.table) found.lengths.items
 
 -- why a device with these bytes isn't read, as far as its bytes are the reason: as opening refuses it, but an epoch
 -- needn't be left

@@ -1,6 +1,7 @@
 //! A volume with a log is read as it recovers, and isn't opened.
 #![tactic(auto)]
 
+mod files;
 mod pages;
 mod used;
 mod volume;

@@ -41,7 +41,7 @@ fn record_or<A: Allocator + Copy>(
 }
 
 /// The block with the recovered bytes of a home block: its record in the newest commit that has one, or itself.
-fn newest_block<A: Allocator + Copy>(log: &LogGeometry, found: &FoundLog<A>, home: u32) -> u32
+pub fn newest_block<A: Allocator + Copy>(log: &LogGeometry, found: &FoundLog<A>, home: u32) -> u32
     requires found { IsFoundLog log.now found.now }
     requires home { home < log.now.blocks }
     ensures value { result ≡ newest_or log.now.ring home found.now.start.position
@@ -56,7 +56,7 @@ fn newest_block<A: Allocator + Copy>(log: &LogGeometry, found: &FoundLog<A>, hom
 }
 
 /// The home block of a page of a file.
-fn home_of<A: Allocator + Copy>(volume: &LoggedVolume<A>, file: usize, page: u32) -> u32
+pub fn home_of<A: Allocator + Copy>(volume: &LoggedVolume<A>, file: usize, page: u32) -> u32
     requires there { file < length volume.now.table.files }
     requires page { page < pages_of (slice_index (capacities_in (table_of volume.now.table)) file) }
     ensures value { result ≡ logged_home volume.now.table file page }
