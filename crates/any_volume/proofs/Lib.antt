@@ -1,0 +1,2 @@
+mod Volumes
+pub mod Public

@@ -1,0 +1,37 @@
+// The files of a volume in any layout.
+ghost use Rattle.std.specs.Prelude.{List, IfOk, IfErr, OnOk};
+ghost use Rattle.std.specs.Io.KnownBytes.{Appends};
+ghost use Rattle.volume_codec.specs.Files.{File};
+ghost use Rattle.recovery.specs.Reading.{IsOnlyRead};
+ghost use Rattle.file_rows.specs.Faults.{HasListed};
+ghost use Rattle.file_rows.specs.Rows.{files_listing};
+ghost use Rattle.any_volume.specs.Volume.{RecoversToAny, RefusesAny, RisesFor};
+
+use crate::volume::AnyVolume;
+use device::Device;
+use file_rows::{Form, ListFault, list_found};
+use page_entry::Refusal;
+use std::alloc::Allocator;
+use std::io;
+
+/// Writes the files of the volume of a device, as it recovers, in the table's order: of each its head, and its rows of
+/// 16 bytes that aren't all zero. The volume is refused as `AnyVolume::find` refuses it. The device is only read.
+pub fn list_any<D: Device, A: Allocator + Copy, F: Form, W: io::Write>(
+    alloc: A,
+    device: &mut D,
+    form: &F,
+    out: &mut W,
+) -> Result<Result<(), ListFault>, Refusal>
+    ensures printed { D.is_honest device.old → IfOk result (λ printed. OnOk printed ((files : List File)
+        × RecoversToAny (D.seen device.old) files × Appends (W.contents out.old) (W.contents out.new)
+        (files_listing (F.head_text form.now) (F.row_text form.now) files))) }
+    ensures cause { IfOk result (HasListed (D.faults_met device.old) (D.faults_met device.new)) }
+    ensures refused { D.is_honest device.old → IfErr result (RefusesAny (D.seen device.old)) }
+    ensures counted { IfErr result (RisesFor (D.faults_met device.old) (D.faults_met device.new)) }
+    ensures read { IsOnlyRead D.Device device.old device.new }
+{
+    match AnyVolume::find(alloc, device) {
+        Ok(volume) => Ok(list_found(&volume, device, form, out)),
+        Err(refusal) => Err(refusal),
+    }
+}
