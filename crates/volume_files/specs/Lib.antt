@@ -1,4 +1,3 @@
 pub mod Dump
-pub mod Export
 pub mod Failures
 pub mod Migration

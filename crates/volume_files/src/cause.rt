@@ -306,34 +306,49 @@ fn begins_with_log_magic(block: &[u8; 4096]) -> bool
     false
 }
 
-/// Why the volume with a log of a device isn't read.
-pub fn refused_to_read_log<'a, D: Device, A: Allocator + Copy>(
+/// Why the volume of a device, with journals or with a log, isn't read.
+pub fn refused_to_read<'a, D: Device, A: Allocator + Copy>(
     alloc: A,
     refusal: Refusal,
     device: &mut D,
 ) -> Refused<'a>
     ensures refusal { result.refusal ≡ refusal }
+    ensures still { refusal ≡ Refusal.Device → device.new ≡ device.old }
     ensures read { IsOnlyRead D.Device device.old device.new }
 {
-    let cause = cause_in_log_bytes(alloc, refusal, device);
+    let cause = cause_in_any_bytes(alloc, refusal, device);
     Refused { refusal, cause }
 }
 
-// What breaks the format of volumes with a log on a device.
-fn cause_in_log_bytes<D: Device, A: Allocator + Copy>(
+// What breaks the format of volumes with journals or with a log on a device.
+fn cause_in_any_bytes<D: Device, A: Allocator + Copy>(
     alloc: A,
     refusal: Refusal,
     device: &mut D,
 ) -> Option<Cause<'static>>
+    ensures still { refusal ≡ Refusal.Device → device.new ≡ device.old }
     ensures read { IsOnlyRead D.Device device.old device.new }
 {
     let found = device.len();
     match refusal {
         Refusal::NotAVolume if found < PAGE => Some(Cause::TooShort(found)),
         Refusal::NotAVolume => Some(Cause::AnyMagic),
-        Refusal::Damaged => cause_of_log_damage(alloc, found, &first_block(device)?),
+        Refusal::Damaged => cause_of_any_damage(alloc, found, &first_block(device)?),
         Refusal::Device => Some(Cause::Call),
         _ => None,
+    }
+}
+
+// What is damaged on a device of this length with this super block, of journals or of a log.
+fn cause_of_any_damage<A: Allocator + Copy>(
+    alloc: A,
+    found: u64,
+    block: &[u8; 4096],
+) -> Option<Cause<'static>> {
+    if begins_with_log_magic(block) {
+        cause_of_log_damage(alloc, found, block)
+    } else {
+        cause_of_damage(alloc, found, block)
     }
 }
 

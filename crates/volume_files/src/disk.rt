@@ -2,14 +2,13 @@
 ghost use Rattle.std.specs.Prelude.{◌≡◌, List, IfErr, OnOk};
 ghost use Rattle.std.specs.Io.KnownBytes.{Appends};
 ghost use Rattle.volume_codec.specs.Files.{File as VolumeFile};
-ghost use Rattle.volume_codec.specs.Recovery.{RecoversTo};
-ghost use Rattle.recovery.specs.Opening.{RefusesOpening};
 ghost use Rattle.recovery.specs.Reading.{IsOnlyRead};
 ghost use Rattle.file_rows.specs.Faults.{IsOfDevice};
+ghost use Rattle.any_volume.specs.Volume.{RecoversToAny, RefusesAny};
 ghost use Rattle.volume_files.specs.Dump.{dump_text};
 ghost use Rattle.volume_files.specs.Failures.{IsOfVolume};
 
-use crate::cause::{Cause, Refused, refused_to_open};
+use crate::cause::{Cause, Refused, refused_to_open, refused_to_read};
 use crate::failure::FileFailure;
 use crate::listing::DumpLines;
 use crate::marker::Marker;
@@ -17,8 +16,9 @@ use crate::suspect_flag::SuspectFlag;
 use crate::sync_note::SyncNote;
 use crate::volume_file::{Access, off_streams, open_locked};
 use crate::watched_file::WatchedFile;
+use any_volume::list_any;
 use device::{Device, FileDisk, OverlayDisk};
-use file_rows::{ListFault, WriteFault, list_files};
+use file_rows::{ListFault, WriteFault};
 use page_entry::Refusal;
 use std::alloc::{AllocError, Allocator};
 use std::fs::{File, Files};
@@ -82,12 +82,13 @@ pub fn dump<'a, D: Device, A: Allocator + Copy, W: Write>(
     out: &mut W,
 ) -> Result<(), FileFailure<'a>>
     ensures printed { D.is_honest device.old → OnOk result ((files : List VolumeFile)
-        × RecoversTo (D.seen device.old) files × Appends (W.contents out.old) (W.contents out.new) (dump_text files)) }
+        × RecoversToAny (D.seen device.old) files
+        × Appends (W.contents out.old) (W.contents out.new) (dump_text files)) }
     ensures refused { D.is_honest device.old
-        → IfErr result (IsOfVolume path.now (RefusesOpening (D.seen device.old))) }
+        → IfErr result (IsOfVolume path.now (RefusesAny (D.seen device.old))) }
     ensures read { IsOnlyRead D.Device device.old device.new }
 {
-    match list_files(alloc, device, &DumpLines, out) {
+    match list_any(alloc, device, &DumpLines, out) {
         Ok(Ok(())) => Ok(()),
         Ok(Err(fault)) => Err(not_listed(path, fault)),
         Err(refusal) => Err(not_read(alloc, path, refusal, device)),
@@ -105,7 +106,7 @@ pub fn not_read<'a, D: Device, A: Allocator + Copy>(
     ensures still { refusal ≡ Refusal.Device → device.new ≡ device.old }
     ensures read { IsOnlyRead D.Device device.old device.new }
 {
-    not_opened(path, refused_to_open(alloc, refusal, device))
+    not_opened(path, refused_to_read(alloc, refusal, device))
 }
 
 /// Why the files of the volume at a path weren't printed.

@@ -1,7 +1,6 @@
 // Copying a file out of a volume: whole, in a file of its own, which then takes the name that was asked for.
 ghost use Rattle.recovery.specs.Reading.{IsOnlyRead};
 
-use crate::copying::{CopyFault, copy_file};
 use crate::disk::{not_read, open_disk, unreadable};
 use crate::failure::FileFailure;
 use crate::sync_note::SyncNote;
@@ -13,6 +12,7 @@ use new_volume::WriteListener;
 use std::alloc::Allocator;
 use std::fs::{File, Files, Metadata, TryLockError};
 use std::{fs, io};
+use volume_copies::{CopyFault, copy_file};
 
 /// Which file of which volume is copied, and where to: the path of the volume's file, the name of the file in the
 /// volume, and the path of the copy.
@@ -199,7 +199,7 @@ fn written<'a, D: Device, A: Allocator + Copy, L: WriteListener + Drop>(
 {
     match copy_file(alloc, disk, plan.file, file, listener) {
         Ok(Ok(made)) => Ok(made),
-        Ok(Err(fault)) => Err(fault.of(plan)),
+        Ok(Err(fault)) => Err(not_copied(plan, fault)),
         Err(refusal) => Err(not_read(alloc, plan.disk, refusal, disk)),
     }
 }
@@ -212,16 +212,14 @@ fn unwritten(out: &str, fault: WriteFault) -> FileFailure<'_> {
     }
 }
 
-impl CopyFault {
-    // Says so of an export.
-    fn of(self, plan: ExportPlan<'_>) -> FileFailure<'_> {
-        match self {
-            CopyFault::NoFile => FileFailure::NoFile {
-                path: plan.disk,
-                file: plan.file,
-            },
-            CopyFault::Pages(ListFault::Unreadable(refusal)) => unreadable(plan.disk, refusal),
-            CopyFault::Pages(ListFault::Unwritten(fault)) => unwritten(plan.out, fault),
-        }
+// Why a file of a volume wasn't copied.
+fn not_copied<'a>(plan: ExportPlan<'a>, fault: CopyFault) -> FileFailure<'a> {
+    match fault {
+        CopyFault::NoFile => FileFailure::NoFile {
+            path: plan.disk,
+            file: plan.file,
+        },
+        CopyFault::Pages(ListFault::Unreadable(refusal)) => unreadable(plan.disk, refusal),
+        CopyFault::Pages(ListFault::Unwritten(fault)) => unwritten(plan.out, fault),
     }
 }

@@ -1,13 +1,13 @@
 // The bytes of one file of a volume.
-ghost use Rattle.std.specs.Prelude.{◌≡◌, ◌≢◌, ℕ, ◌*◌, ◌<◌, ◌≤◌, length, slice_get, Some, IfOk, IfErr, IfSome, IfNone};
-ghost use Rattle.volume_codec.specs.Super.{block_count, names_in};
-ghost use Rattle.recovery.specs.Opening.{RefusesOpening};
+ghost use Rattle.std.specs.Prelude.{◌≡◌, ◌≢◌, ℕ, ◌*◌, ◌<◌, ◌≤◌, List, length, slice_get, Some, IfOk, IfErr, IfSome, IfNone};
+ghost use Rattle.volume_codec.specs.Files.{File};
 ghost use Rattle.recovery.specs.Reading.{IsOnlyRead};
-ghost use Rattle.file_rows.specs.Recovered.{IsRecovered, IsSound, recovered_files};
-ghost use Rattle.volume_files.specs.Export.{IsCopied, IsExported};
+ghost use Rattle.any_volume.specs.Volume.{RefusesAny};
+ghost use Rattle.volume_copies.specs.Export.{HasNone, IsCopied, IsExported, IsNotExported};
 
+use any_volume::AnyVolume;
 use device::Device;
-use file_rows::{ListFault, Recovered, WriteFault, copy_pages};
+use file_rows::{FoundFiles, ListFault, WriteFault, copy_pages};
 use new_volume::{EmptyFile, NewFile, WriteListener};
 use page_entry::Refusal;
 use std::alloc::Allocator;
@@ -23,8 +23,8 @@ pub enum CopyFault {
 }
 
 /// Writes all bytes of the file of this name of a device's volume, as it recovers, to an empty file, except zeros past
-/// all that was written, and says how many there are. The volume is refused as opening refuses it. The device is only
-/// read. A listener hears of each write.
+/// all that was written, and says how many there are. The volume is refused as `AnyVolume::find` refuses it. The device
+/// is only read. A listener hears of each write.
 pub fn copy_file<D, A, F, L>(
     alloc: A,
     device: &mut D,
@@ -39,32 +39,37 @@ where
     L: WriteListener + Drop,
     ensures copied { D.is_honest device.old → IfOk result (λ copied. IfOk copied (λ made. F.is_honest made.1
         → IsExported (D.seen device.old) name.now (F.seen made.1) made.0)) }
-    ensures refused { D.is_honest device.old → IfErr result (RefusesOpening (D.seen device.old)) }
+    ensures absent { D.is_honest device.old → IfOk result (λ copied.
+        IfErr copied (IsNotExported (D.seen device.old) name.now)) }
+    ensures refused { D.is_honest device.old → IfErr result (RefusesAny (D.seen device.old)) }
     ensures read { IsOnlyRead D.Device device.old device.new }
 {
-    match Recovered::find(alloc, device) {
+    match AnyVolume::find(alloc, device) {
         Ok(volume) => Ok(copy_named(&volume, device, name, out, listener)),
         Err(refusal) => Err(refusal),
     }
 }
 
 // Writes all bytes of the file of this name, and says how many there are.
-fn copy_named<D, A, F, L>(
-    volume: &Recovered<A>,
+fn copy_named<V, D, F, L>(
+    volume: &V,
     device: &mut D,
     name: &str,
     out: F,
     listener: L,
 ) -> Result<(u64, F), CopyFault>
 where
+    V: FoundFiles,
     D: Device,
-    A: Allocator + Copy,
     F: EmptyFile + Drop,
     L: WriteListener + Drop,
-    requires long { 4096 * block_count volume.now.table ≤ length (D.seen device.old) }
-    requires recovered { D.is_honest device.old → IsRecovered volume.now (D.seen device.old) }
+    requires sound { V.is_sound volume.now }
+    requires long { 4096 * V.blocks volume.now ≤ length (D.seen device.old) }
+    requires found { D.is_honest device.old → V.is_in volume.now (D.seen device.old) }
     ensures copied { D.is_honest device.old → IfOk result (λ made. F.is_honest made.1 → IsCopied
-        (recovered_files volume.now (D.seen device.old)) name.now (F.seen made.1) made.0) }
+        (V.files volume.now (D.seen device.old)) name.now (F.seen made.1) made.0) }
+    ensures absent { D.is_honest device.old → IfErr result (λ fault. fault ≡ CopyFault.NoFile
+        → HasNone (V.files volume.now (D.seen device.old)) name.now) }
     ensures read { IsOnlyRead D.Device device.old device.new }
 {
     match find(volume, name) {
@@ -74,8 +79,8 @@ where
 }
 
 // Writes all bytes of this file, which has this name, and says how many there are.
-fn copy_found<D, A, F, L>(
-    volume: &Recovered<A>,
+fn copy_found<V, D, F, L>(
+    volume: &V,
     device: &mut D,
     name: &str,
     file: usize,
@@ -83,16 +88,20 @@ fn copy_found<D, A, F, L>(
     listener: L,
 ) -> Result<(u64, F), CopyFault>
 where
+    V: FoundFiles,
     D: Device,
-    A: Allocator + Copy,
     F: EmptyFile + Drop,
     L: WriteListener + Drop,
-    requires there { file < length volume.now.table.files }
-    requires named { slice_get (names_in volume.now.table) file ≡ Some name.now }
-    requires long { 4096 * block_count volume.now.table ≤ length (D.seen device.old) }
-    requires recovered { D.is_honest device.old → IsRecovered volume.now (D.seen device.old) }
+    requires there { file < V.count volume.now }
+    requires listed { D.is_honest device.old → file < length (V.files volume.now (D.seen device.old)) }
+    requires named { D.is_honest device.old → (f : File)
+        → slice_get (V.files volume.now (D.seen device.old)) file ≡ Some f → f.name ≡ name.now }
+    requires sound { V.is_sound volume.now }
+    requires long { 4096 * V.blocks volume.now ≤ length (D.seen device.old) }
+    requires found { D.is_honest device.old → V.is_in volume.now (D.seen device.old) }
     ensures copied { D.is_honest device.old → IfOk result (λ made. F.is_honest made.1 → IsCopied
-        (recovered_files volume.now (D.seen device.old)) name.now (F.seen made.1) made.0) }
+        (V.files volume.now (D.seen device.old)) name.now (F.seen made.1) made.0) }
+    ensures there { IfErr result (λ fault. fault ≢ CopyFault.NoFile) }
     ensures read { IsOnlyRead D.Device device.old device.new }
 {
     let bytes = volume.length(file);
@@ -122,11 +131,15 @@ fn lengthened<F: EmptyFile + Drop, L: WriteListener + Drop>(
 }
 
 // The file of this name.
-fn find<A: Allocator + Copy>(volume: &Recovered<A>, name: &str) -> Option<usize>
-    ensures sound { IsSound volume.now }
-    ensures within { IfSome result (λ file. file < length volume.now.table.files) }
-    ensures named { IfSome result (λ file. slice_get (names_in volume.now.table) file ≡ Some name.now) }
-    ensures none { IfNone result ((file : ℕ) → slice_get (names_in volume.now.table) file ≢ Some name.now) }
+fn find<V: FoundFiles>(volume: &V, name: &str) -> Option<usize>
+    requires sound { V.is_sound volume.now }
+    ensures within { IfSome result (λ file. file < V.count volume.now) }
+    ensures listed { IfSome result (λ file. (bytes : List ℕ) → V.is_in volume.now bytes
+        → file < length (V.files volume.now bytes)) }
+    ensures named { IfSome result (λ file. (bytes : List ℕ) (f : File) → V.is_in volume.now bytes
+        → slice_get (V.files volume.now bytes) file ≡ Some f → f.name ≡ name.now) }
+    ensures none { IfNone result ((bytes : List ℕ) → V.is_in volume.now bytes
+        → HasNone (V.files volume.now bytes) name.now) }
 {
     for file in 0..volume.file_count() {
         if volume.name(file) == name {
