@@ -4,15 +4,14 @@ ghost use Rattle.std.specs.Io.KnownBytes.{Appends};
 ghost use Rattle.serde_json.specs.View.{view};
 ghost use Rattle.serde_json.specs.Written.{has_float};
 ghost use Rattle.volume_codec.specs.Files.{File};
-ghost use Rattle.volume_codec.specs.Recovery.{RecoversTo};
-ghost use Rattle.recovery.specs.Counts.{HasCause};
-ghost use Rattle.recovery.specs.Opening.{RefusesOpening};
 ghost use Rattle.recovery.specs.Reading.{IsOnlyRead};
 ghost use Rattle.file_rows.specs.Faults.{HasListed};
+ghost use Rattle.any_volume.specs.Volume.{RecoversToAny, RefusesAny, RisesFor};
 ghost use Rattle.inspection.specs.Lines.{json_line, head_data, head_json, row_data, row_json, files_json};
 
+use any_volume::list_any;
 use device::Device;
-use file_rows::{Form, ListFault, WriteFault, list_files};
+use file_rows::{Form, ListFault, WriteFault};
 use page_entry::Refusal;
 use serde_json::{Value, json};
 use std::alloc::{AllocError, Allocator, Global};
@@ -30,7 +29,7 @@ pub fn write_line<W: Write>(global: Global, value: &Value, out: &mut W) -> Resul
 
 /// Writes the files of the volume of a device, as it recovers: for each a line with its name and its length, and one
 /// for each row of 16 bytes that aren't all zero, with its offset and the bytes in hexadecimal. The volume is refused
-/// as opening refuses it. The device is only read.
+/// as `AnyVolume::find` refuses it. The device is only read.
 pub fn write_file_lines<D: Device, A: Allocator + Copy, W: Write>(
     global: Global,
     alloc: A,
@@ -38,14 +37,14 @@ pub fn write_file_lines<D: Device, A: Allocator + Copy, W: Write>(
     out: &mut W,
 ) -> Result<Result<(), ListFault>, Refusal>
     ensures printed { D.is_honest device.old → IfOk result (λ printed. OnOk printed ((files : List File)
-        × RecoversTo (D.seen device.old) files × Appends (W.contents out.old) (W.contents out.new)
+        × RecoversToAny (D.seen device.old) files × Appends (W.contents out.old) (W.contents out.new)
         (files_json files))) }
     ensures cause { IfOk result (HasListed (D.faults_met device.old) (D.faults_met device.new)) }
-    ensures refused { D.is_honest device.old → IfErr result (RefusesOpening (D.seen device.old)) }
-    ensures counted { IfErr result (HasCause (D.faults_met device.old) (D.faults_met device.new)) }
+    ensures refused { D.is_honest device.old → IfErr result (RefusesAny (D.seen device.old)) }
+    ensures counted { IfErr result (RisesFor (D.faults_met device.old) (D.faults_met device.new)) }
     ensures read { IsOnlyRead D.Device device.old device.new }
 {
-    list_files(alloc, device, &JsonLines { global }, out)
+    list_any(alloc, device, &JsonLines { global }, out)
 }
 
 // The files of a volume as lines of JSON.

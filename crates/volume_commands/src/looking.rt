@@ -19,8 +19,8 @@ use std::fs::File;
 use std::io;
 use std::rt::Files;
 use volume_files::{
-    Access, FileFailure, Refused, SyncNote, dump, not_listed, not_opened, not_read, open_disk,
-    place, refused_to_open, refused_to_read_log,
+    Access, FileFailure, Refused, SyncNote, dump, not_listed, not_read, open_disk, place,
+    refused_to_read,
 };
 
 /// Prints what is looked at of a volume, and answers the status: 0, and of a volume's health 0, 1 or 3. `note` gets
@@ -81,7 +81,7 @@ fn print_bytes<'a, D: Device, A: Allocator + Copy, W: io::Write>(
     match inspect(alloc, disk) {
         Ok(found) => print_found(global, look.json, &found, out),
         Err(Refusal::NotAVolume) => print_log_bytes(global, alloc, look, disk, out),
-        Err(refusal) => Err(not_opened(look.disk, refused_to_open(alloc, refusal, disk))),
+        Err(refusal) => Err(not_read(alloc, look.disk, refusal, disk)),
     }
 }
 
@@ -95,7 +95,7 @@ fn print_log_bytes<'a, D: Device, A: Allocator + Copy, W: io::Write>(
 ) -> Result<(), FileFailure<'a>> {
     match read_log_volume(alloc, disk) {
         Ok(found) => print_log_found(global, look.json, &found, out),
-        Err(refusal) => Err(not_opened(look.disk, refused_to_read_log(alloc, refusal, disk))),
+        Err(refusal) => Err(not_read(alloc, look.disk, refusal, disk)),
     }
 }
 
@@ -142,36 +142,23 @@ fn check_disk<'a, D: Device, A: Allocator + Copy, W: io::Write>(
 ) -> Result<u8, FileFailure<'a>>
     ensures { IfOk result (λ status. status ≤ 3) }
 {
-    match examine(alloc, disk) {
+    match health_of(alloc, disk) {
         Ok(health) => tell_health(global, look.json, health, out),
-        Err(Refusal::NotAVolume) => check_log(global, alloc, look, disk, out),
         Err(Refusal::Damaged) => {
-            let cause = refused_to_open(alloc, Refusal::Damaged, disk);
+            let cause = refused_to_read(alloc, Refusal::Damaged, disk);
             print_damage(global, look.json, &cause, out)?;
             Ok(3)
         }
-        Err(refusal) => Err(not_opened(look.disk, refused_to_open(alloc, refusal, disk))),
+        Err(refusal) => Err(not_read(alloc, look.disk, refusal, disk)),
     }
 }
 
-// Prints how the volume with a log of a device is, and answers the status.
-fn check_log<'a, D: Device, A: Allocator + Copy, W: io::Write>(
-    global: Global,
-    alloc: A,
-    look: Look<'a>,
-    disk: &mut D,
-    out: &mut W,
-) -> Result<u8, FileFailure<'a>>
-    ensures { IfOk result (λ status. status ≤ 3) }
-{
-    match examine_log(alloc, disk) {
-        Ok(health) => tell_health(global, look.json, health, out),
-        Err(Refusal::Damaged) => {
-            let cause = refused_to_read_log(alloc, Refusal::Damaged, disk);
-            print_damage(global, look.json, &cause, out)?;
-            Ok(3)
-        }
-        Err(refusal) => Err(not_opened(look.disk, refused_to_read_log(alloc, refusal, disk))),
+// How the volume of a device is, with journals or with a log.
+fn health_of<D: Device, A: Allocator + Copy>(alloc: A, disk: &mut D) -> Result<Health, Refusal> {
+    match examine(alloc, disk) {
+        Ok(health) => Ok(health),
+        Err(Refusal::NotAVolume) => examine_log(alloc, disk),
+        Err(refusal) => Err(refusal),
     }
 }
 
