@@ -64,6 +64,34 @@ file b: 4096 bytes, 1 pages, home 17
 log: 2 commits in 6 blocks, epoch 1
 """
 
+# The last byte of `a`, which has 4,097 bytes after commit 2, is 68 in its home block. The byte behind it isn't in `a`.
+HOME = ((61_440, bytes([68, 69])),)
+
+NO_BYTES = "a 5000\nb 4096\n"
+
+NO_BYTES_AS_JSON = '{"length":5000,"name":"a"}\n{"length":4096,"name":"b"}\n'
+
+ONE_COMMIT = """\
+a 5000
+000000000000 41 00 00 00 00 00 00 00 00 00 00 00 00 00 00 00
+b 4096
+000000000000 42 00 00 00 00 00 00 00 00 00 00 00 00 00 00 00
+"""
+
+BOTH_COMMITS = """\
+a 4097
+000000000000 43 00 00 00 00 00 00 00 00 00 00 00 00 00 00 00
+000000001000 44
+b 4096
+000000000000 42 00 00 00 00 00 00 00 00 00 00 00 00 00 00 00
+"""
+
+BOTH_AS_JSON = (
+    '{"length":4097,"name":"a"}\n{"bytes":"43000000000000000000000000000000","offset":0}\n'
+    '{"bytes":"44","offset":4096}\n'
+    '{"length":4096,"name":"b"}\n{"bytes":"42000000000000000000000000000000","offset":0}\n'
+)
+
 SPOILT = "damaged: the super block breaks the format"
 SPOILT_LOG = "damaged: the log or the lengths break the format"
 
@@ -127,7 +155,7 @@ NO_ENTRY = '{"copies":0,"cpus":1,"frames":4,"tlb":8,"trace":9}\n'
 # Commands that don't serve these layouts.
 OTHERS = [
     "run|log.img|log.json", "threads|log.img|threads.json", "replay|log.img|log.trace", "crashes|log.img|log.json",
-    "migrate|log.img|new.img|4", "dump|log.img", "export|log.img|a|a.copy",
+    "migrate|log.img|new.img|4",
 ]
 
 
@@ -208,17 +236,53 @@ def commits_in_the_log_are_seen():
     yield from leaves("five.img", "six.img")
 
 
+def files_of_a_log_are_printed():
+    """The files of volumes with a log, as they recover: without a commit, and with two that aren't home."""
+    sealed = sealed_by_digest(sealed_by_digest(image_of_six((*FIRST, *SECOND, *HOME)), 4, 3), 7, 3)
+    for fresh, written in ((image_of_five(), image_of_five((*SEALED, *HOME))), (image_of_six(), sealed)):
+        write_bytes("log.img", fresh)
+        yield from prints("dump|log.img", 0, NO_BYTES)
+        yield from prints("dump|--json|log.img", 0, NO_BYTES_AS_JSON)
+        write_bytes("log.img", written)
+        yield from prints("dump|log.img", 0, BOTH_COMMITS)
+        yield from prints("dump|--json|log.img", 0, BOTH_AS_JSON)
+        yield from holds("log.img", written)
+    # Without its digest the second commit isn't there.
+    write_bytes("log.img", changed(sealed, [(36_864, 68), (61_440, 0), (61_441, 0)]))
+    yield from prints("dump|log.img", 0, ONE_COMMIT)
+    yield from leaves("log.img")
+
+
+def a_file_of_a_log_is_copied():
+    """A copy has the recovered bytes of the file. There is none of a file that isn't there."""
+    sealed = sealed_by_digest(sealed_by_digest(image_of_six((*FIRST, *SECOND, *HOME)), 4, 3), 7, 3)
+    for fresh, written in ((image_of_five(), image_of_five((*SEALED, *HOME))), (image_of_six(), sealed)):
+        write_bytes("log.img", fresh)
+        yield from prints("export|log.img|a|a.copy", 0, "exported 5000 bytes\n")
+        yield from holds("a.copy", bytes(5000))
+        write_bytes("log.img", written)
+        yield from prints("export|--json|log.img|a|a.copy", 0, '{"bytes":4097}\n')
+        yield from holds("a.copy", changed(bytes(4097), [(0, 67), (4096, 68)]))
+        yield from prints("export|log.img|b|b.copy", 0, "exported 4096 bytes\n")
+        yield from holds("b.copy", changed(bytes(4096), [(0, 66)]))
+        yield from complains("export|log.img|c|c.copy", 3, 'disk "log.img": it has no file "c"')
+        yield from holds("log.img", written)
+    yield from leaves("log.img", "a.copy", "b.copy")
+
+
 def images_with_a_log_are_refused():
     """Images that no volume with a log has, the fault of each, and that none is written to."""
     for changes, cause in SPOILT_IMAGES:
         image = image_of_five((), changes)
         write_bytes("spoilt.img", image)
         yield from prints("check|spoilt.img", 3, f"{cause}\n")
-        yield from complains("info|spoilt.img", 3, f'disk "spoilt.img": {cause}\n')
+        for line in ("info|spoilt.img", "dump|spoilt.img", "export|spoilt.img|a|a.copy"):
+            yield from complains(line, 3, f'disk "spoilt.img": {cause}\n')
         yield from holds("spoilt.img", image)
     write_bytes("spoilt.img", image_of_five()[:69_632])
     cut = "damaged: the file has 69632 bytes, and its super block says 73728"
     yield from prints("check|spoilt.img", 3, f"{cut}\n")
+    yield from complains("dump|spoilt.img", 3, f'disk "spoilt.img": {cut}\n')
     yield from leaves("spoilt.img")
 
 
@@ -256,6 +320,8 @@ GROUPS = [
     a_key_is_given_or_drawn,
     a_log_has_16384_blocks_by_default,
     commits_in_the_log_are_seen,
+    files_of_a_log_are_printed,
+    a_file_of_a_log_is_copied,
     images_with_a_log_are_refused,
     words_are_refused,
     other_commands_refuse_a_log,

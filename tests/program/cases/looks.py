@@ -37,6 +37,11 @@ NO_VOLUME_AS_JSON = (
     'FAMSYNC5 or FAMSYNC6","status":3}\n'
 )
 
+NO_VOLUME = (
+    'disk "hurt.img": notavolume: the file doesn\'t begin with FAMSYNC1, FAMSYNC2, FAMSYNC3, FAMSYNC4, FAMSYNC5 or '
+    "FAMSYNC6\n"
+)
+
 DAMAGED = "damaged: the super block breaks the format"
 
 
@@ -71,10 +76,14 @@ def a_damaged_volume_is_reported():
     """A damaged volume, and none."""
     write_bytes("hurt.img", image_of_one([(4095, 1)]))
     yield from prints("check|hurt.img", 3, f"{DAMAGED}\n")
-    yield from complains("info|hurt.img", 3, f'disk "hurt.img": {DAMAGED}')
+    for line in ("info|hurt.img", "dump|hurt.img", "export|hurt.img|a|a.copy"):
+        yield from complains(line, 3, f'disk "hurt.img": {DAMAGED}\n')
     write_bytes("hurt.img", image_of_one([(0, 0)]))
     yield from complains("check|hurt.img", 3, 'disk "hurt.img": notavolume: ')
-    yield from prints("check|--json|hurt.img", 3, "", NO_VOLUME_AS_JSON)
+    for line in ("info|hurt.img", "dump|hurt.img", "export|hurt.img|a|a.copy"):
+        yield from complains(line, 3, NO_VOLUME)
+    for line in ("check|--json|hurt.img", "dump|--json|hurt.img"):
+        yield from prints(line, 3, "", NO_VOLUME_AS_JSON)
     yield from leaves("hurt.img")
 
 

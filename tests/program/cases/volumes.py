@@ -45,6 +45,12 @@ SPOILT = "damaged: the super block breaks the format"
 
 SPOILT_JOURNAL = "damaged: the descriptor of an open journal breaks the format, or two journals have one mark"
 
+# What `dump` says in place of these. It serves layouts 5 and 6, too.
+OF_DUMP = {
+    FOREIGN: "notavolume: the file doesn't begin with FAMSYNC1, FAMSYNC2, FAMSYNC3, FAMSYNC4, FAMSYNC5 or FAMSYNC6",
+    HAS_LOG: SPOILT,
+}
+
 # What is changed in the image of a volume, and the fault then.
 SPOILT_IMAGES = [
     ([(0, ord("G"))], FOREIGN),
@@ -150,10 +156,10 @@ def images_are_refused():
 
 def is_refused(image, cause):
     """An image is refused with status 3 and for this cause, to print and to run, and isn't written to."""
-    observed = f'famsync: disk "images.img": {cause}\n'
+    begin = 'famsync: disk "images.img": '
     write_bytes("images.img", image)
-    yield from prints("dump|images.img", 3, "", observed)
-    yield from prints("run|images.img|images.json", 3, "", observed)
+    yield from prints("dump|images.img", 3, "", f"{begin}{OF_DUMP.get(cause, cause)}\n")
+    yield from prints("run|images.img|images.json", 3, "", f"{begin}{cause}\n")
     yield from holds("images.img", image)
 
 
