@@ -1,227 +1,174 @@
--- What a crash leaves of the works of a new volume with a log.
-use Rattle.std.proofs.Common.{◌≡◌, ◌≤◌, ◌<◌, inl, inr, ℕ, ◌+◌, ◌-◌, ◌*◌, Bool, true, false}
-use Rattle.std.proofs.Common.{List, [], ◌∷◌, length, take, drop, get_or, refl, sym, ◌∙◌, ap, subst, arith}
-use Rattle.std.proofs.lemmas.List.{drop-drop, take-take, get_or-take, get_or-drop}
-use Rattle.device.specs.Device.{written, Torn, TornFrom, Only, LeavesOnly}
+-- What a crash leaves of a new volume with a log: while it is written behind block 0, and as block 0 is written.
+use Rattle.std.proofs.Common.{◌≡◌, ◌≤◌, inl, inr, ℕ, ◌+◌, ◌-◌, ◌*◌, Bool, true, false}
+use Rattle.std.proofs.Common.{List, [], ◌∷◌, length, take, sym, ◌∙◌, ap, subst, refl, arith}
+use Rattle.std.proofs.lemmas.List.{take-take}
+use Rattle.device.specs.Device.{Torn, TornFrom, Only, LeavesOnly}
 use Rattle.device.specs.Did.{Did}
 use Rattle.device.specs.Work.{Work, WriteAt, Sync}
 use Rattle.device.specs.declared.device.Device.{Ghosts}
-use Rattle.device.proofs.Public.{leaves_weaker, leaves_then, torn_after, torn_none}
-use Rattle.device.proofs.Public.{written_after}
+use Rattle.device.proofs.Public.{leaves_weaker, leaves_then, torn_after, torn_twice, torn_from_none}
+use Rattle.device.proofs.Ranges.{torn_wider}
 use Rattle.volume_codec.specs.Layout.{block_at}
 use Rattle.volume_codec.specs.Lengths.{lengths_text}
-use Rattle.volume_codec.specs.Text.{zeros}
-use Rattle.volume_codec.proofs.Public.{length-zeros, length-block_at}
 use Rattle.new_volume.specs.Formatting.{IsZero, DidAll}
-use Rattle.new_volume.proofs.Public.{block_is}
 use Rattle.log_codec.specs.Log.{IsLog, first_log_home}
 use Rattle.log_codec.specs.Start.{start_text}
 use Rattle.log_volume.specs.Super.{LogSuperValue, log_of, log_super_text}
 use Rattle.log_format.specs.Fresh.{IsFreshBehind, first_log_start}
-use Rattle.log_format.specs.Formatting.{log_works, IsPartlyMade}
-use Rattle.log_format.proofs.Fresh.{zero_at}
-use Rattle.log_format.proofs.Made.{AreBlocks, made_of, size_made, lengths_made, start_made, zero_made, second_size}
+use Rattle.log_format.specs.Formatting.{log_works, laying_works, finishing_works, IsPartlyMade}
+use Rattle.log_format.proofs.Laid.{AreLaidBlocks, laid_on, laid_is, laid_fresh, same_behind}
+use Rattle.log_format.proofs.Made.{AreBlocks, laid_blocks}
+use Rattle.log_format.proofs.Works.{did_split}
 
--- a list that may be left, with other bytes in the first places, and the same block 0
-record IsKeptFrom (size : ℕ) (lists : List ℕ → Type 0) (c : List ℕ) : Type 0 where
-  before : List ℕ
-  left : lists before
-  within : Torn 0 size before c
-  first : block_at c 0 ≡ block_at before 0
+-- one of these lists, with other bytes in the blocks of a volume but block 0
+abbrev pub IsBehind : ℕ → (List ℕ → Type 0) → List ℕ → Type 0
+IsBehind blocks lists c = TornFrom 4096 (4096 * blocks - 4096) lists c
 
--- a torn range within the first places
-torn_more : (size at n : ℕ) (before d c : List ℕ) → at + n ≤ size → Torn 0 size before d → Torn at n d c
-    → Torn 0 size before c
-torn_more size at n before d c fits torn more =
-    let rest = size - (at + n) in
-    let all : at + n + rest ≡ size = omega (arith, fits) in
-    let same : 0 + size ≡ size = omega arith in
-    let far : drop size c ≡ drop size d =
-    ap (λ k. drop k c) (sym all) ∙ sym (drop-drop rest (at + n) c) ∙ ap (drop rest) more.after
-    ∙ drop-drop rest (at + n) d ∙ ap (λ k. drop k d) all in
-    record {
-      before = refl;
-      after = ap (λ k. drop k c) same ∙ far ∙ sym (ap (λ k. drop k d) same) ∙ torn.after;
-      same_length = more.same_length ∙ torn.same_length;
-    }
+-- and with the same block 0
+pub partly_behind : (blocks : ℕ) (made lists : List ℕ → Type 0) (c : List ℕ) → 1 ≤ blocks → IsBehind blocks lists c
+    → IsPartlyMade blocks made lists c
+partly_behind blocks made lists c some torn = record {
+  before = torn.0;
+  left = torn.1;
+  within = torn_wider torn.2 0 (4096 * blocks) (omega arith) (omega (arith, some));
+  first = inl (sym (take-take 4096 4096 c (omega arith)) ∙ ap (take 4096) torn.2.before
+      ∙ take-take 4096 4096 torn.0 (omega arith));
+}
 
--- and block 0 is the same where the range lies behind it
-same_first : (at n : ℕ) (d c : List ℕ) → 4096 ≤ at → Torn at n d c → block_at c 0 ≡ block_at d 0
-same_first at n d c behind torn =
-    sym (take-take 4096 at c behind) ∙ ap (take 4096) torn.before ∙ take-take 4096 at d behind
+-- block 0 is torn once the rest is made
+partly_torn : (blocks : ℕ) (made lists : List ℕ → Type 0) (l c : List ℕ) → 1 ≤ blocks → IsBehind blocks lists l
+    → Torn 0 4096 l c → made c → IsPartlyMade blocks made lists c
+partly_torn blocks made lists l c some was torn rest = record {
+  before = was.0;
+  left = was.1;
+  within = torn_twice (torn_wider was.2 0 (4096 * blocks) (omega arith) (omega (arith, some)))
+      (torn_wider torn 0 (4096 * blocks) (omega arith) (omega (arith, some)));
+  first = inr rest;
+}
 
--- blocks behind block 0 by their bytes
-module _ (table : LogSuperValue) (lengths : List ℕ) (log : IsLog (log_of table)) where
-  same_block : (x y : List ℕ) → length y ≡ length x → 4096 * (log_of table).blocks ≤ length x
-      → ((i : ℕ) → 4096 ≤ i → get_or y i 0 ≡ get_or x i 0) → (b : ℕ) → 0 < b → b < (log_of table).blocks
-      → block_at y b ≡ block_at x b
-  same_block x y size long same b some high =
-      let whole = length-block_at x b (omega (arith, long, high)) in
-      block_is y (block_at x b) b whole (omega (arith, size, long, high)) (λ k low.
-      same (4096 * b + k) (omega (arith, some))
-      ∙ sym (get_or-take 4096 (drop (4096 * b) x) k 0 low ∙ get_or-drop (4096 * b) x k 0))
+module _ {D : Type 0} (disk : Ghosts D) (blocks : ℕ) (lists : List ℕ → Type 0) where
+  -- what a crash may leave of a device is one of these lists, with other bytes behind block 0
+  abbrev pub StaysBehind : D → Type 0
+  StaysBehind d = (c : List ℕ) → disk.may_leave d c → IsBehind blocks lists c
 
-  same_behind : (x y : List ℕ) → length y ≡ length x → ((i : ℕ) → 4096 ≤ i → get_or y i 0 ≡ get_or x i 0)
-      → IsFreshBehind table lengths x → IsFreshBehind table lengths y
-  same_behind x y size same fresh =
-      let each = same_block x y size fresh.long same in
-      record {
-        long = omega (arith, size, fresh.long);
-        start = each 2 (omega arith) (omega (arith, log.some_homes)) ∙ fresh.start;
-        lengths_block = each (first_log_home table.ring) (omega arith) (omega (arith, log.some_homes))
-            ∙ fresh.lengths_block;
-        blank = λ b some apart other high. each b some high ∙ fresh.blank b some apart other high;
-      }
+  pub behind_torn : (at n : ℕ) (d : D) → 4096 ≤ at → at + n ≤ 4096 * blocks → StaysBehind d → (c : List ℕ)
+      → TornFrom at n (disk.may_leave d) c → IsBehind blocks lists c
+  behind_torn at n d low high before c torn =
+      let was = before torn.0 torn.1 in
+      (was.0, was.1, torn_twice was.2 (torn_wider torn.2 4096 (4096 * blocks - 4096) low (omega (arith, high))))
 
-module _ (table : LogSuperValue) (lengths : List ℕ) (old : List ℕ) (log : IsLog (log_of table))
-    (long : 4096 * (log_of table).blocks ≤ length old) (blocks : AreBlocks table lengths) (blank : IsZero old) where
-  pub fresh_made : IsFreshBehind table lengths (made_of table lengths old)
-  fresh_made =
-      let size = size_made table lengths old log long blocks in
-      record {
-        long = omega (arith, size, long);
-        start = start_made table lengths old log long blocks;
-        lengths_block = lengths_made table lengths old log long blocks;
-        blank = λ b some apart other high.
-            block_is (made_of table lengths old) (zeros 4096) b (length-zeros 4096) (omega (arith, high, size, long))
-            (λ k low. zero_made table lengths old log long blocks blank (4096 * b + k) (λ is. elim is [
-              | inl before ↦ omega (arith, some, before)
-              | inr (inl within) ↦ apart (omega (arith, low, within.0, within.1))
-              | inr (inr within) ↦ other (omega (arith, low, within.0, within.1))
-            ]) ∙ sym (zero_at 4096 k low));
-      }
-
-module _ {D : Type 0} (disk : Ghosts D) (size : ℕ) (lists : List ℕ → Type 0) where
-  abbrev IsBefore : D → Type 0
-  IsBefore d = (c : List ℕ) → disk.may_leave d c → IsKeptFrom size lists c
-
-  -- a write behind block 0
-  kept_torn : (at n : ℕ) (d : D) → 4096 ≤ at → at + n ≤ size → IsBefore d → (c : List ℕ)
-      → TornFrom at n (disk.may_leave d) c → IsKeptFrom size lists c
-  kept_torn at n d behind fits before c (l, left, torn) =
-      let was = before l left in
-      record {
-        before = was.before;
-        left = was.left;
-        within = torn_more size at n was.before l c fits was.within torn;
-        first = same_first at n l c behind torn ∙ was.first;
-      }
-
-  kept_write : (at : ℕ) (bytes : List ℕ) (done : Bool) (d e : D) → 4096 ≤ at → at + length bytes ≤ size → IsBefore d
-      → Did disk d (WriteAt at bytes) done e
-      → IsBefore e × LeavesOnly disk.moment disk.left_since d e (IsKeptFrom size lists)
-  kept_write at bytes done d e behind fits before did = (
-    λ c left. kept_torn at (length bytes) d behind fits before c (did.left c left),
-    leaves_weaker did.time (λ c torn. kept_torn at (length bytes) d behind fits before c torn),
+  behind_write : (at : ℕ) (bytes : List ℕ) (done : Bool) (d e : D) → 4096 ≤ at → at + length bytes ≤ 4096 * blocks
+      → StaysBehind d → Did disk d (WriteAt at bytes) done e
+      → StaysBehind e × LeavesOnly disk.moment disk.left_since d e (IsBehind blocks lists)
+  behind_write at bytes done d e low high before did = (
+    λ c left. behind_torn at (length bytes) d low high before c (did.left c left),
+    leaves_weaker did.time (λ c torn. behind_torn at (length bytes) d low high before c torn),
   )
 
-  kept_sync : (done : Bool) (d e : D) → IsBefore d → Did disk d Sync done e
-      → IsBefore e × LeavesOnly disk.moment disk.left_since d e (IsKeptFrom size lists)
-  kept_sync done d e before did =
-      (λ c left. before c (did.left c left), leaves_weaker did.time (λ c left. before c left))
+  -- the start and the lengths are written
+  pub laying_left : (table : LogSuperValue) (lengths : List ℕ) (done : Bool) (old new : D)
+      → IsLog (log_of table) → (log_of table).blocks ≡ blocks → AreLaidBlocks lengths → StaysBehind old
+      → DidAll disk old (laying_works table lengths) done new
+      → StaysBehind new × LeavesOnly disk.moment disk.left_since old new (IsBehind blocks lists)
+  laying_left table lengths done old new log all are before did = by did
+    where
+      start : (done : Bool) (e : D) → Did disk old (WriteAt 8192 (start_text first_log_start)) done e
+          → StaysBehind e × LeavesOnly disk.moment disk.left_since old e (IsBehind blocks lists)
+      start done e did = behind_write 8192 (start_text first_log_start) done old e (omega arith)
+          (omega (arith, all, are.start_is, log.some_homes, log.some_ring)) before did
 
-module _ {D : Type 0} (disk : Ghosts D) (old new : D) (table : LogSuperValue) (lengths : List ℕ)
-    (log : IsLog (log_of table)) (long : 4096 * (log_of table).blocks ≤ length (disk.seen old))
-    (blocks : AreBlocks table lengths) (honest : disk.is_honest old) (blank : IsZero (disk.seen old)) where
-  abbrev whole : ℕ
-  whole = 4096 * (log_of table).blocks
+      put : (done : Bool) (d e : D) → StaysBehind d
+          → Did disk d (WriteAt (4096 * first_log_home table.ring) (lengths_text lengths)) done e
+          → StaysBehind e × LeavesOnly disk.moment disk.left_since d e (IsBehind blocks lists)
+      put done d e stays did =
+          behind_write (4096 * first_log_home table.ring) (lengths_text lengths) done d e (omega arith)
+          (omega (arith, all, are.lengths_are, log.some_homes)) stays did
 
-  abbrev lists : List ℕ → Type 0
-  lists = disk.may_leave old
+      by : DidAll disk old (laying_works table lengths) done new
+          → StaysBehind new × LeavesOnly disk.moment disk.left_since old new (IsBehind blocks lists)
+      by (inl failed) = start false new failed.1
+      by (inr (d, one, inl failed)) =
+          let first = start true d one in
+          let second = put false d new first.0 failed.1 in
+          (second.0, leaves_then first.1 second.1)
+      by (inr (d, one, inr (e, two, end))) =
+          let first = start true d one in
+          let second = put true d e first.0 two in
+          let P : D → Type 0 =
+          λ x. StaysBehind x × LeavesOnly disk.moment disk.left_since old x (IsBehind blocks lists) in
+          subst P (sym end.1) (second.0, leaves_then first.1 second.1)
 
-  abbrev Partly : List ℕ → Type 0
-  Partly = IsPartlyMade table lengths lists
+module _ {D : Type 0} (disk : Ghosts D) (table : LogSuperValue) (blocks : ℕ) (some : 1 ≤ blocks)
+    (made lists : List ℕ → Type 0) (whole : length (log_super_text table) ≡ 4096) where
+  abbrev Leaves : D → D → Type 0
+  Leaves d e = LeavesOnly disk.moment disk.left_since d e (IsPartlyMade blocks made lists)
 
-  abbrev Leaves : D → D → (List ℕ → Type 0) → Type 0
-  Leaves d e P = LeavesOnly disk.moment disk.left_since d e P
-
-  partly : (c : List ℕ) → IsKeptFrom whole lists c → Partly c
-  partly c is = record { before = is.before; left = is.left; within = is.within; first = inl is.first }
-
-  at_start : IsBefore disk whole lists old
-  at_start c left = record { before = c; left = left; within = torn_none 0 whole c; first = refl }
-
-  -- block 0 is torn once the rest is fresh and synced
-  torn_last : (d : D) → IsBefore disk whole lists d
-      → Only (disk.may_leave d) (written (written (disk.seen old) 8192 (start_text first_log_start))
-      (4096 * first_log_home table.ring) (lengths_text lengths))
-      → (c : List ℕ) → TornFrom 0 (length (log_super_text table)) (disk.may_leave d) c → Partly c
-  torn_last d before only c (l, left, torn) =
-      let was = before l left in
-      let second = written (written (disk.seen old) 8192 (start_text first_log_start))
-      (4096 * first_log_home table.ring) (lengths_text lengths) in
-      let made = made_of table lengths (disk.seen old) in
-      let is : l ≡ second = only l left in
-      let size = size_made table lengths (disk.seen old) log long blocks in
-      let size_second = second_size table lengths (disk.seen old) log long blocks in
-      record {
-        before = was.before;
-        left = was.left;
-        within = torn_more whole 0 (length (log_super_text table)) was.before l c
-            (omega (arith, blocks.table_is, log.some_homes)) was.within torn;
-        first = inr (same_behind table lengths log made c
-            (omega (arith, size, size_second, torn.same_length, ap length is))
-            (λ i from. torn_after torn i (omega (arith, from, blocks.table_is))
-            ∙ ap (λ (x : List ℕ). get_or x i 0) is
-            ∙ sym (written_after second 0 (log_super_text table) i
-            (omega (arith, size_second, blocks.table_is, long, log.some_homes)) (omega (arith, from, blocks.table_is))))
-            (fresh_made table lengths (disk.seen old) log long blocks blank));
-      }
-
-  abbrev start : Work
-  start = WriteAt 8192 (start_text first_log_start)
-
-  abbrev put : Work
-  put = WriteAt (4096 * first_log_home table.ring) (lengths_text lengths)
-
-  abbrev last : Work
-  last = WriteAt 0 (log_super_text table)
+  torn_last : (d : D) (bytes : List ℕ) → StaysBehind disk blocks lists d → Only (disk.may_leave d) bytes
+      → ((c : List ℕ) → Torn 0 4096 bytes c → made c)
+      → (c : List ℕ) → TornFrom 0 (length (log_super_text table)) (disk.may_leave d) c
+      → IsPartlyMade blocks made lists c
+  torn_last d bytes before only rest c (l, left, torn) =
+      let near : Torn 0 4096 l c = torn_wider torn 0 4096 (omega arith) (omega (arith, whole)) in
+      let P : List ℕ → Type 0 = λ x. Torn 0 4096 x c in
+      partly_torn blocks made lists l c some (before l left) near (rest c (subst P (only l left) near))
 
   -- from the write of block 0 on
-  from_last : (done : Bool) (d : D) → IsBefore disk whole lists d
-      → Only (disk.may_leave d) (written (written (disk.seen old) 8192 (start_text first_log_start))
-      (4096 * first_log_home table.ring) (lengths_text lengths))
-      → DidAll disk d (last ∷ Sync ∷ []) done new → Leaves d new Partly
-  from_last done d before only (inl (failed, did)) = leaves_weaker did.time (torn_last d before only)
-  from_last done d before only (inr (e, did, inl (failed, sync))) =
-      leaves_then (leaves_weaker did.time (torn_last d before only))
-      (leaves_weaker sync.time (λ c left. torn_last d before only c (did.left c left)))
-  from_last done d before only (inr (e, did, inr (f, sync, end))) =
-      let P : D → Type 0 = λ x. Leaves d x Partly in
-      subst P (sym end.1) (leaves_then (leaves_weaker did.time (torn_last d before only))
-      (leaves_weaker sync.time (λ c left. torn_last d before only c (did.left c left))))
+  from_last : (done : Bool) (d new : D) (bytes : List ℕ) → StaysBehind disk blocks lists d
+      → Only (disk.may_leave d) bytes → ((c : List ℕ) → Torn 0 4096 bytes c → made c)
+      → DidAll disk d (WriteAt 0 (log_super_text table) ∷ Sync ∷ []) done new → Leaves d new
+  from_last done d new bytes before only rest (inl (failed, did)) =
+      leaves_weaker did.time (torn_last d bytes before only rest)
+  from_last done d new bytes before only rest (inr (e, did, inl (failed, sync))) =
+      leaves_then (leaves_weaker did.time (torn_last d bytes before only rest))
+      (leaves_weaker sync.time (λ c left. torn_last d bytes before only rest c (did.left c left)))
+  from_last done d new bytes before only rest (inr (e, did, inr (f, sync, end))) =
+      let P : D → Type 0 = λ x. Leaves d x in
+      subst P (sym end.1) (leaves_then (leaves_weaker did.time (torn_last d bytes before only rest))
+      (leaves_weaker sync.time (λ c left. torn_last d bytes before only rest c (did.left c left))))
 
-  from_sync : (done : Bool) (d : D) → IsBefore disk whole lists d → disk.is_honest d
-      → disk.seen d ≡ written (written (disk.seen old) 8192 (start_text first_log_start))
-      (4096 * first_log_home table.ring) (lengths_text lengths)
-      → DidAll disk d (Sync ∷ last ∷ Sync ∷ []) done new → Leaves d new Partly
-  from_sync done d before still seen (inl (failed, did)) =
-      leaves_weaker (kept_sync disk whole lists false d new before did).1 partly
-  from_sync done d before still seen (inr (e, did, rest)) =
-      let kept = kept_sync disk whole lists true d e before did in
-      let P : List ℕ → Type 0 = λ x. Only (disk.may_leave e) x in
-      leaves_then (leaves_weaker kept.1 partly)
-      (from_last done e kept.0 (subst P seen (did.durable still refl refl)) rest)
+  -- the rest is made: it is synced, and then block 0 is written
+  pub finishing_left : (done : Bool) (d new : D) → StaysBehind disk blocks lists d → disk.is_honest d
+      → ((c : List ℕ) → Torn 0 4096 (disk.seen d) c → made c)
+      → DidAll disk d (finishing_works table) done new → Leaves d new
+  finishing_left done d new before honest rest (inl (failed, did)) =
+      leaves_weaker did.time (λ c left. partly_behind blocks made lists c some (before c left))
+  finishing_left done d new before honest rest (inr (e, did, more)) =
+      leaves_then (leaves_weaker did.time (λ c left. partly_behind blocks made lists c some (before c left)))
+      (from_last done e new (disk.seen d) (λ c left. before c (did.left c left)) (did.durable honest refl refl) rest
+      more)
 
-  from_put : (done : Bool) (d : D) → IsBefore disk whole lists d → disk.is_honest d
-      → disk.seen d ≡ written (disk.seen old) 8192 (start_text first_log_start)
-      → DidAll disk d (put ∷ Sync ∷ last ∷ Sync ∷ []) done new → Leaves d new Partly
-  from_put done d before still seen (inl (failed, did)) =
-      leaves_weaker (kept_write disk whole lists (4096 * first_log_home table.ring) (lengths_text lengths) false d new
-      (omega arith) (omega (arith, blocks.lengths_are, log.some_homes)) before did).1 partly
-  from_put done d before still seen (inr (e, did, rest)) =
-      let kept = kept_write disk whole lists (4096 * first_log_home table.ring) (lengths_text lengths) true d e
-      (omega arith) (omega (arith, blocks.lengths_are, log.some_homes)) before did in
-      leaves_then (leaves_weaker kept.1 partly)
-      (from_sync done e kept.0 (did.honest.1 still) (did.seen still
-      ∙ ap (λ (l : List ℕ). written l (4096 * first_log_home table.ring) (lengths_text lengths)) seen) rest)
+-- all works of a new volume
+pub left_by_works : {D : Type 0} (disk : Ghosts D) (old new : D) (table : LogSuperValue) (lengths : List ℕ)
+    → IsLog (log_of table) → 4096 * (log_of table).blocks ≤ length (disk.seen old) → AreBlocks table lengths
+    → disk.is_honest old → IsZero (disk.seen old) → (done : Bool) → DidAll disk old (log_works table lengths) done new
+    → LeavesOnly disk.moment disk.left_since old new
+    (IsPartlyMade (log_of table).blocks (IsFreshBehind table lengths) (disk.may_leave old))
+left_by_works {D} disk old new table lengths log long blocks honest blank done did =
+    elim (did_split disk (laying_works table lengths) (finishing_works table) done old new did) [
+      | inl short ↦ leaves_weaker (laid false new short.1).1 partly
+      | inr (d, first, second) ↦
+          let is = laid_is disk old d table lengths first honest in
+          let was = laid true d first in
+          leaves_then (leaves_weaker was.1 partly)
+          (finishing_left disk table (log_of table).blocks (omega (arith, log.some_homes)) (IsFreshBehind table lengths) (disk.may_leave old) blocks.table_is
+          done d new was.0 is.0 (rest d is.1) second)
+    ]
+  where
+    partly : (c : List ℕ) → IsBehind (log_of table).blocks (disk.may_leave old) c
+        → IsPartlyMade (log_of table).blocks (IsFreshBehind table lengths) (disk.may_leave old) c
+    partly c behind = partly_behind (log_of table).blocks (IsFreshBehind table lengths) (disk.may_leave old) c (omega (arith, log.some_homes)) behind
 
-  pub left_by_works : (done : Bool) → DidAll disk old (log_works table lengths) done new → Leaves old new Partly
-  left_by_works done (inl (failed, did)) =
-      leaves_weaker (kept_write disk whole lists 8192 (start_text first_log_start) false old new (omega arith)
-      (omega (arith, blocks.start_is, log.some_homes, log.some_ring)) at_start did).1 partly
-  left_by_works done (inr (d, did, rest)) =
-      let kept = kept_write disk whole lists 8192 (start_text first_log_start) true old d (omega arith)
-      (omega (arith, blocks.start_is, log.some_homes, log.some_ring)) at_start did in
-      leaves_then (leaves_weaker kept.1 partly)
-      (from_put done d kept.0 (did.honest.1 honest) (did.seen honest) rest)
+    laid : (done : Bool) (e : D) → DidAll disk old (laying_works table lengths) done e
+        → StaysBehind disk (log_of table).blocks (disk.may_leave old) e
+        × LeavesOnly disk.moment disk.left_since old e (IsBehind (log_of table).blocks (disk.may_leave old))
+    laid done e did = laying_left disk (log_of table).blocks (disk.may_leave old) table lengths done old e log refl
+        (laid_blocks blocks) (λ c left. torn_from_none 4096 (4096 * (log_of table).blocks - 4096) left) did
+
+    rest : (d : D) → disk.seen d ≡ laid_on table lengths (disk.seen old) → (c : List ℕ)
+        → Torn 0 4096 (disk.seen d) c → IsFreshBehind table lengths c
+    rest d is c torn =
+        let P : List ℕ → Type 0 = λ l. Torn 0 4096 l c in
+        let near = subst P is torn in
+        same_behind table log (laid_on table lengths (disk.seen old)) c near.same_length
+        (λ i past. torn_after near i (omega (arith, past))) lengths
+        (laid_fresh table lengths (disk.seen old) log long (laid_blocks blocks) blank)

@@ -6,7 +6,7 @@ use Rattle.std.proofs.lemmas.List.{get_or-take, get_or-drop, get_or-replicate, l
 use Rattle.std.proofs.lemmas.List.{take-replicate, replicate-append-replicate}
 use Rattle.volume_codec.specs.Files.{File, TableFile, AskedFile, lengths_asked}
 use Rattle.volume_codec.specs.Layout.{block_at}
-use Rattle.volume_codec.specs.Lengths.{AreLengths, IsLengths}
+use Rattle.volume_codec.specs.Lengths.{AreLengths, IsLengths, lengths_text}
 use Rattle.volume_codec.specs.Recovery.{blocks_from, files_from}
 use Rattle.volume_codec.specs.Super.{pages_of, total_pages}
 use Rattle.volume_codec.specs.Text.{zeros, number_in}
@@ -20,10 +20,10 @@ use Rattle.log_codec.specs.Log.{IsLog, ring_block, first_log_home, first_log_fil
 use Rattle.log_codec.specs.Start.{IsStartBlock, counts_second, start_block}
 use Rattle.log_codec.specs.Chain.{HasLog, LogEndsAt}
 use Rattle.log_codec.proofs.Public.{next_first}
-use Rattle.log_volume.specs.Super.{LogSuperValue, table_of, log_of}
+use Rattle.log_volume.specs.Super.{LogSuperValue, IsLogSuper, table_of, log_of}
 use Rattle.log_volume.specs.Files.{RecoversToLog, log_lengths_in}
 use Rattle.log_format.specs.Asked.{IsLogAsked}
-use Rattle.log_format.specs.Fresh.{IsFreshVolume, first_log_start}
+use Rattle.log_format.specs.Fresh.{IsFreshLog, IsFreshVolume, first_log_start}
 use Rattle.log_format.proofs.Tables.{file_of}
 
 zeros_are : (n : ℕ) → zeros n ≡ replicate n 0
@@ -53,23 +53,21 @@ module _ (table : LogSuperValue) (bytes : List ℕ) (log : IsLog (log_of table))
       let none = sym said ∙ ap records_said first ∙ no_records in
       omega (arith, none, next.sealed.logged.size.some)
 
-pub fresh_log : (table : LogSuperValue) (lengths bytes : List ℕ) → IsFreshVolume table lengths bytes
+pub log_of_fresh : (table : LogSuperValue) (bytes : List ℕ) → IsLog (log_of table) → IsFreshLog table bytes
     → HasLog (log_of table) first_log_start [] bytes
-fresh_log table lengths bytes fresh =
-    let log = fresh.super_block.fits.log in
+log_of_fresh table bytes log fresh =
     let some = log.some_ring in
     let more = log.some_homes in
     let within : 0 % table.ring < table.ring = omega (arith, some) in
     let none : 0 % table.ring ≡ 0 = omega (arith, some) in
     let selecting : slice_index bytes 4096 ≡ 0 =
     sym (get_or-take 4096 (drop 4096 bytes) 0 0 (omega arith) ∙ get_or-drop 4096 bytes 0 0)
-    ∙ ap (λ (l : List ℕ). get_or l 0 0)
-    (fresh.rest.blank 1 (omega arith) (λ is. omega (arith, is)) (λ is. omega (arith, is)) (omega (arith, some, more)))
+    ∙ ap (λ (l : List ℕ). get_or l 0 0) (fresh.blank 1 (omega arith) (λ is. omega (arith, is)) (omega (arith, some)))
     ∙ zero_at 4096 0 (omega arith) in
     let P : ℕ → Type 0 = λ byte. IsStartBlock table.ring first_log_start
     (block_at bytes (start_block (counts_second byte))) in
     record {
-      long = fresh.rest.long;
+      long = fresh.long;
       start = subst P (sym selecting) (record {
         start = record {
           within = omega (arith, some);
@@ -78,12 +76,43 @@ fresh_log table lengths bytes fresh =
           some_epoch = omega arith;
           small_epoch = omega arith;
         };
-        spelled = fresh.rest.start;
+        spelled = fresh.start;
       });
-      commits = ends table bytes log fresh.rest.long
-          (fresh.rest.blank (ring_block table.ring 0) (omega (arith, none)) (λ is. omega (arith, none, is))
-          (λ is. omega (arith, none, some, is)) (omega (arith, none, some, more)))
+      commits = ends table bytes log fresh.long
+          (fresh.blank (ring_block table.ring 0) (omega (arith, none)) (λ is. omega (arith, none, is))
+          (omega (arith, none, some)))
           table.sealing;
+    }
+
+pub fresh_log : (table : LogSuperValue) (lengths bytes : List ℕ) → IsFreshVolume table lengths bytes
+    → HasLog (log_of table) first_log_start [] bytes
+fresh_log table lengths bytes fresh = log_of_fresh table bytes fresh.super_block.fits.log fresh.rest.log
+
+-- the files of a volume whose log has no commit are those in its home blocks
+pub files_of_fresh : (table : LogSuperValue) (lengths bytes : List ℕ) (files : List File)
+    → IsLogSuper table (block_at bytes 0) → IsFreshLog table bytes → AreLengths (table_of table) lengths
+    → block_at bytes (first_log_home table.ring) ≡ lengths_text lengths
+    → files ≡ files_from (block_at bytes) (first_log_file_home table.ring) table.files lengths
+    → RecoversToLog bytes files
+files_of_fresh table lengths bytes files first fresh are spelled has =
+    let contents : ℕ → List ℕ = block_at bytes in
+    let home = first_log_home table.ring in
+    let is : IsLengths (table_of table) lengths (contents home) = record { are = are; spelled = spelled } in
+    let said : log_lengths_in table contents ≡ lengths =
+    reads_lengths (table_of table) lengths (contents home) first.fits.table is in
+    let P : List ℕ → Type 0 = λ l. IsLengths (table_of table) l (contents home) in
+    record {
+      table = table;
+      contents = contents;
+      super_block = first;
+      recovers = record {
+        start = first_log_start;
+        chain = [];
+        log = log_of_fresh table bytes first.fits.log fresh;
+        contents_are = λ b home. refl;
+      };
+      lengths = subst P (sym said) is;
+      files_are = has ∙ ap (files_from contents (first_log_file_home table.ring) table.files) (sym said);
     }
 
 -- home blocks of zeros are zeros
@@ -145,33 +174,11 @@ pub fresh_files : (sealing : Sealing) (ring : ℕ) (files : List AskedFile) (tab
     → IsLogAsked sealing files ring table → IsFreshVolume table (lengths_asked files) bytes
     → RecoversToLog bytes (zero_files files)
 fresh_files sealing ring files table bytes asked fresh =
-    let contents : ℕ → List ℕ = block_at bytes in
-    let home = first_log_home table.ring in
-    let is : IsLengths (table_of table) (lengths_asked files) (contents home) = record {
-      are = asked_lengths sealing ring files table asked;
-      spelled = fresh.rest.lengths_block;
-    } in
-    let said : log_lengths_in table contents ≡ lengths_asked files =
-    reads_lengths (table_of table) (lengths_asked files) (contents home) fresh.super_block.fits.table is in
-    let P : List ℕ → Type 0 = λ lengths. IsLengths (table_of table) lengths (contents home) in
     let Q : List TableFile → Type 0 = λ fs.
     (((i : ℕ) → first_log_file_home table.ring ≤ i → i < first_log_file_home table.ring + total_pages fs
-    → contents i ≡ zeros 4096)
-    → zero_files files ≡ files_from contents (first_log_file_home table.ring) fs (lengths_asked files)) in
-    record {
-      table = table;
-      contents = contents;
-      super_block = fresh.super_block;
-      recovers = record {
-        start = first_log_start;
-        chain = [];
-        log = fresh_log table (lengths_asked files) bytes fresh;
-        contents_are = λ b home. refl;
-      };
-      lengths = subst P (sym said) is;
-      files_are = subst Q (sym asked.files_are)
-          (blank_from contents (first_log_file_home table.ring) files asked.lengths)
-          (λ i low high. fresh.rest.blank i (omega (arith, low)) (λ same. omega (arith, low, same))
-          (λ same. omega (arith, low, same)) (omega (arith, high)))
-          ∙ ap (files_from contents (first_log_file_home table.ring) table.files) (sym said);
-    }
+    → block_at bytes i ≡ zeros 4096)
+    → zero_files files ≡ files_from (block_at bytes) (first_log_file_home table.ring) fs (lengths_asked files)) in
+    files_of_fresh table (lengths_asked files) bytes (zero_files files) fresh.super_block fresh.rest.log
+    (asked_lengths sealing ring files table asked) fresh.rest.lengths_block
+    (subst Q (sym asked.files_are) (blank_from (block_at bytes) (first_log_file_home table.ring) files asked.lengths)
+    (λ i low high. fresh.rest.homes i low high))

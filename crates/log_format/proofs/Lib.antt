@@ -1,4 +1,8 @@
-mod Crash
-mod Fresh
-mod Made
 mod Tables
+mod Fresh
+mod Works
+mod Laid
+mod Finished
+mod Made
+mod Crash
+pub mod Public

@@ -1,5 +1,5 @@
 -- What making a volume with a log asks of a device whose bytes are all 0, and what it makes of it.
-use Rattle.std.specs.Prelude.{◌≡◌, ◌⊎◌, ℕ, ◌*◌, ◌<◌, ◌≤◌, ◌+◌, true, false, List, [], ◌∷◌, length}
+use Rattle.std.specs.Prelude.{◌≡◌, ◌⊎◌, ℕ, ◌*◌, ◌<◌, ◌≤◌, ◌+◌, true, false, List, [], ◌∷◌, ◌++◌, length}
 use Rattle.std.specs.Prelude.{Result, Ok, Err}
 use Rattle.device.specs.Device.{Torn, Only}
 use Rattle.device.specs.Work.{Work, WriteAt, Sync}
@@ -20,12 +20,18 @@ use Rattle.log_volume.specs.Files.{RecoversToLog}
 use Rattle.log_format.specs.Asked.{HasLogShape, RefusesLogFormat}
 use Rattle.log_format.specs.Fresh.{IsFreshVolume, IsFreshBehind, first_log_start}
 
--- the start and the lengths are written and synced, then block 0
+-- all but block 0 is written: the start and the lengths
+abbrev pub laying_works : LogSuperValue → List ℕ → List Work
+laying_works table lengths =
+    WriteAt 8192 (start_text first_log_start) ∷ WriteAt (4096 * first_log_home table.ring) (lengths_text lengths) ∷ []
+
+-- what was written is synced, then block 0 is written and synced
+abbrev pub finishing_works : LogSuperValue → List Work
+finishing_works table = Sync ∷ WriteAt 0 (log_super_text table) ∷ Sync ∷ []
+
+-- what a new volume takes: the start and the lengths are written and synced, then block 0
 abbrev pub log_works : LogSuperValue → List ℕ → List Work
-log_works table lengths =
-    WriteAt 8192 (start_text first_log_start)
-    ∷ WriteAt (4096 * first_log_home table.ring) (lengths_text lengths)
-    ∷ Sync ∷ WriteAt 0 (log_super_text table) ∷ Sync ∷ []
+log_works table lengths = laying_works table lengths ++ finishing_works table
 
 -- the byte at this place is in block 0, in block 2 or in the lengths block
 abbrev pub IsWrittenInLog : LogSuperValue → ℕ → Type 0
@@ -55,17 +61,17 @@ pub record HasFormattedLog {D : Type 0} (disk : Ghosts D) (sealing : Sealing) (f
   pub recovers : RecoversToLog (disk.seen new) (zero_files files)
   pub synced : Only (disk.may_leave new) (disk.seen new)
 
--- What a crash leaves of a volume that is being made on a device that might have been left as one of these lists: such
--- a list, with other bytes in the volume's blocks alone. Block 0 is as it was, or else all the rest is fresh.
-pub record IsPartlyMade (table : LogSuperValue) (lengths : List ℕ) (lists : List ℕ → Type 0) (c : List ℕ)
-    : Type 0 where
+-- What a crash leaves of a volume of this many blocks that is being made on a device that might have been left as one
+-- of these lists: such a list, with other bytes in the volume's blocks alone. Block 0 is as it was, or else all the
+-- rest is made.
+pub record IsPartlyMade (blocks : ℕ) (made : List ℕ → Type 0) (lists : List ℕ → Type 0) (c : List ℕ) : Type 0 where
   pub before : List ℕ
   pub left : lists before
-  pub within : Torn 0 (4096 * (log_of table).blocks) before c
-  pub first : (block_at c 0 ≡ block_at before 0) ⊎ IsFreshBehind table lengths c
+  pub within : Torn 0 (4096 * blocks) before c
+  pub first : (block_at c 0 ≡ block_at before 0) ⊎ made c
 
 -- what a crash leaves of formatting: what it might have left before it, or a volume that is being made
 abbrev pub LeftByLogFormat : {D : Type 0} → Ghosts D → Sealing → List AskedFile → ℕ → D → List ℕ → Type 0
 LeftByLogFormat disk sealing files ring old c = disk.may_leave old c
     ⊎ ((table : LogSuperValue) × HasLogShape sealing files ring (length (disk.seen old)) table
-    × IsPartlyMade table (lengths_asked files) (disk.may_leave old) c)
+    × IsPartlyMade (log_of table).blocks (IsFreshBehind table (lengths_asked files)) (disk.may_leave old) c)

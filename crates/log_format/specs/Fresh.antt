@@ -4,7 +4,7 @@ use Rattle.volume_codec.specs.Layout.{block_at}
 use Rattle.volume_codec.specs.Lengths.{lengths_text}
 use Rattle.volume_codec.specs.Text.{zeros}
 use Rattle.log_codec.specs.declared.start.LogStart.{LogStart}
-use Rattle.log_codec.specs.Log.{first_log_home}
+use Rattle.log_codec.specs.Log.{first_log_home, first_log_file_home}
 use Rattle.log_codec.specs.Start.{start_text}
 use Rattle.log_volume.specs.Super.{LogSuperValue, IsLogSuper, log_of}
 
@@ -12,14 +12,19 @@ use Rattle.log_volume.specs.Super.{LogSuperValue, IsLogSuper, log_of}
 abbrev pub first_log_start : LogStart
 first_log_start = record { position = 0; number = 1; epoch = 1 }
 
--- all of a fresh volume but its block 0: the first start in block 2, these lengths in the lengths block, and zeros in
--- each other block
-pub record IsFreshBehind (table : LogSuperValue) (lengths : List ℕ) (bytes : List ℕ) : Type 0 where
+-- a log that has no commit yet, whatever block 0 and the home blocks are: the first start in block 2, and zeros in the
+-- other blocks before the first home block
+pub record IsFreshLog (table : LogSuperValue) (bytes : List ℕ) : Type 0 where
   pub long : 4096 * (log_of table).blocks ≤ length bytes
   pub start : block_at bytes 2 ≡ start_text first_log_start
+  pub blank : (b : ℕ) → 0 < b → b ≢ 2 → b < first_log_home table.ring → block_at bytes b ≡ zeros 4096
+
+-- all of a fresh volume but its block 0: a fresh log, these lengths in the lengths block, and zeros in the home blocks
+-- of files
+pub record IsFreshBehind (table : LogSuperValue) (lengths : List ℕ) (bytes : List ℕ) : Type 0 where
+  pub log : IsFreshLog table bytes
   pub lengths_block : block_at bytes (first_log_home table.ring) ≡ lengths_text lengths
-  pub blank : (b : ℕ) → 0 < b → b ≢ 2 → b ≢ first_log_home table.ring → b < (log_of table).blocks
-      → block_at bytes b ≡ zeros 4096
+  pub homes : (b : ℕ) → first_log_file_home table.ring ≤ b → b < (log_of table).blocks → block_at bytes b ≡ zeros 4096
 
 -- a fresh volume: its table in block 0, and the rest as above
 pub record IsFreshVolume (table : LogSuperValue) (lengths : List ℕ) (bytes : List ℕ) : Type 0 where

@@ -11,7 +11,7 @@ ghost use Rattle.log_codec.specs.Start.{start_text};
 ghost use Rattle.log_volume.specs.Super.{LogSuperValue, log_of, log_super_text};
 ghost use Rattle.log_format.specs.Asked.{IsLogAsked, HasLogShape, RefusesLogFormat};
 ghost use Rattle.log_format.specs.Fresh.{first_log_start};
-ghost use Rattle.log_format.specs.Formatting.{log_works, IsWrittenInLog, HasAskedLog, HasFormattedLog, LeftByLogFormat};
+ghost use Rattle.log_format.specs.Formatting.{log_works, laying_works, finishing_works, IsWrittenInLog, HasAskedLog, HasFormattedLog, LeftByLogFormat};
 
 use crate::asked::{asked_super, log_block_count};
 use device::{Device, DeviceFault, make_durable, write_at};
@@ -52,16 +52,16 @@ pub fn format_log<D: Device, A: Allocator + Copy>(
         → LeavesOnly D.moment D.left_since device.old device.new
         (LeftByLogFormat D.Device sealing (asked_by files.now) ring device.old) }
 {
-    let table = shape(alloc, device.len(), sealing, files, ring)?;
+    let table = log_shape(alloc, device.len(), sealing, files, ring)?;
     match write_fresh(device, &table, files) {
         Ok(()) => Ok(()),
         Err(_) => Err(Refusal::Device),
     }
 }
 
-// The super block of these files on a device of so many bytes. `BadShape`, before any memory is taken, where there is
-// none or the device is shorter than its blocks.
-fn shape<A: Allocator + Copy>(
+/// The super block of these files in a volume with a log of this many blocks, on a device of so many bytes. `BadShape`,
+/// before any memory is taken, where there is none or the device is shorter than its blocks.
+pub fn log_shape<A: Allocator + Copy>(
     alloc: A,
     bytes: u64,
     sealing: Sealing,
@@ -93,16 +93,47 @@ fn write_fresh<D: Device, A: Allocator + Copy>(
     ensures lengths { length (lengths_text (lengths_asked (asked_by files.now))) ≡ 4096 }
     ensures start { length (start_text first_log_start) ≡ 4096 }
 {
-    let block = table.to_block();
+    let _block = table.to_block();
+    match lay_log(device, table, files) {
+        Ok(()) => {}
+        Err(fault) => return Err(fault),
+    }
+    finish_log(device, table)
+}
+
+/// Writes what a new volume with a log has before its first home block of a file, but for block 0: the first start and
+/// the lengths of these files. The caller's device is long enough for the volume.
+pub fn lay_log<D: Device, A: Allocator + Copy>(
+    device: &mut D,
+    table: &LogSuper<A>,
+    files: &[FileSpec],
+) -> Result<(), DeviceFault>
+    requires long { 4096 * (log_of table.now).blocks ≤ length (D.seen device.old) }
+    requires few { length files.now ≤ 64 }
+    ensures did { DidAll D.Device device.old (laying_works table.now (lengths_asked (asked_by files.now)))
+        (is_ok result) device.new }
+    ensures lengths { length (lengths_text (lengths_asked (asked_by files.now))) ≡ 4096 }
+    ensures start { length (start_text first_log_start) ≡ 4096 }
+{
     let lengths = write_lengths_of(files);
     match put_start(device, &table.log()) {
         Ok(()) => {}
         Err(fault) => return Err(fault),
     }
-    match put_lengths(device, &table.log(), &lengths) {
-        Ok(()) => {}
-        Err(fault) => return Err(fault),
-    }
+    put_lengths(device, &table.log(), &lengths)
+}
+
+/// Finishes a volume with a log, all the rest of which was written: that is synced, and then the super block is written
+/// and synced.
+pub fn finish_log<D: Device, A: Allocator + Copy>(
+    device: &mut D,
+    table: &LogSuper<A>,
+) -> Result<(), DeviceFault>
+    requires { 4096 ≤ length (D.seen device.old) }
+    ensures did { DidAll D.Device device.old (finishing_works table.now) (is_ok result) device.new }
+    ensures table { length (log_super_text table.now) ≡ 4096 }
+{
+    let block = table.to_block();
     match make_durable(device) {
         Ok(()) => {}
         Err(fault) => return Err(fault),

@@ -6,5 +6,5 @@ mod formatting;
 mod laws;
 
 pub use asked::{asked_super, log_block_count};
-pub use formatting::format_log;
+pub use formatting::{finish_log, format_log, lay_log, log_shape};
 pub use laws::fresh_volume;
