@@ -150,13 +150,14 @@ left_by_works {D} disk old new table lengths log long blocks honest blank done d
           let is = laid_is disk old d table lengths first honest in
           let was = laid true d first in
           leaves_then (leaves_weaker was.1 partly)
-          (finishing_left disk table (log_of table).blocks (omega (arith, log.some_homes)) (IsFreshBehind table lengths) (disk.may_leave old) blocks.table_is
-          done d new was.0 is.0 (rest d is.1) second)
+          (finishing_left disk table (log_of table).blocks (omega (arith, log.some_homes)) (IsFreshBehind table lengths)
+          (disk.may_leave old) blocks.table_is done d new was.0 is.0 (rest d is.1) second)
     ]
   where
     partly : (c : List ℕ) → IsBehind (log_of table).blocks (disk.may_leave old) c
         → IsPartlyMade (log_of table).blocks (IsFreshBehind table lengths) (disk.may_leave old) c
-    partly c behind = partly_behind (log_of table).blocks (IsFreshBehind table lengths) (disk.may_leave old) c (omega (arith, log.some_homes)) behind
+    partly c behind = partly_behind (log_of table).blocks (IsFreshBehind table lengths) (disk.may_leave old) c
+        (omega (arith, log.some_homes)) behind
 
     laid : (done : Bool) (e : D) → DidAll disk old (laying_works table lengths) done e
         → StaysBehind disk (log_of table).blocks (disk.may_leave old) e

@@ -159,7 +159,8 @@ laid_is {D} disk old new table lengths did honest =
     subst P (sym two.2.1) (
       two.1.honest.1 h_1,
       two.1.seen h_1
-          ∙ ap (λ (l : List ℕ). written l (4096 * first_log_home table.ring) (lengths_text lengths)) (one.1.seen honest),
+          ∙ ap (λ (l : List ℕ). written l (4096 * first_log_home table.ring) (lengths_text lengths)) (one.1.seen
+          honest),
     )
 
 -- blocks behind block 0 by their bytes

@@ -73,12 +73,14 @@ formatted_log {D} disk old new sealing files ring table shape blocks did honest 
     by : (d : D) → disk.is_honest d × (disk.seen d ≡ laid_on table (lengths_asked files) (disk.seen old))
         → DidAll disk d (finishing_works table) true new → HasFormattedLog disk sealing files ring old new
     by d is second =
-        let size = ap length is.1 ∙ size_laid table (lengths_asked files) (disk.seen old) log shape.long (laid_blocks blocks) in
+        let size = ap length is.1 ∙ size_laid table (lengths_asked files) (disk.seen old) log shape.long (laid_blocks
+        blocks) in
         let end = finished_is disk table blocks.table_is d new (omega (arith, size, shape.long, log.some_homes)) is.0
         second in
         let P : List ℕ → Type 0 = λ l. IsFreshBehind table (lengths_asked files) l in
         let laid : IsFreshBehind table (lengths_asked files) (disk.seen d) =
-        subst P (sym is.1) (laid_fresh table (lengths_asked files) (disk.seen old) log shape.long (laid_blocks blocks) blank) in
+        subst P (sym is.1) (laid_fresh table (lengths_asked files) (disk.seen old) log shape.long (laid_blocks
+        blocks) blank) in
         let fresh : IsFreshVolume table (lengths_asked files) (disk.seen new) = record {
           super_block = record { fits = shape.asked.fits; spelled = end.table_is };
           rest = same_behind table log (disk.seen d) (disk.seen new) end.torn.same_length

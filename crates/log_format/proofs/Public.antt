@@ -3,6 +3,4 @@
 pub use Rattle.log_format.proofs.Crash.{IsBehind, StaysBehind, partly_behind, behind_torn, laying_left, finishing_left}
 pub use Rattle.log_format.proofs.Finished.{IsFinished, finished_is, finishing_same}
 pub use Rattle.log_format.proofs.Fresh.{log_of_fresh, files_of_fresh}
-pub use Rattle.log_format.proofs.Laid.{AreLaidBlocks, laid_on, laid_is, laid_fresh, laying_inside, laying_out, size_laid}
-pub use Rattle.log_format.proofs.Laid.{same_log}
-pub use Rattle.log_format.proofs.Tables.{one_asked}
+pub use Rattle.log_format.proofs.Laid.{AreLaidBlocks, laid_on, laid_is, laid_fresh, laying_inside, laying_out}

@@ -12,4 +12,5 @@ returns-in-Err-clause-did g c = did_short g.D.Device
 pub returns-clause-did : goal.returns-clause-did
 returns-clause-did g c = did_then g.D.Device
     (laying_works c.args.table.now (lengths_asked (asked_by c.args.files.now))) (finishing_works c.args.table.now)
-    (is_ok c.finish_log.result) c.args.device.now c.lay_log.new.device c.finish_log.new.device c.in-Ok.ensures.did c.finish_log.ensures.did
+    (is_ok c.finish_log.result) c.args.device.now c.lay_log.new.device c.finish_log.new.device c.in-Ok.ensures.did
+    c.finish_log.ensures.did

@@ -1,0 +1,4 @@
+mod Copied
+mod Filled
+mod Begun
+mod Migrated
