@@ -4,11 +4,10 @@ use Rattle.std.proofs.Common.{List, [], ◌∷◌, length, take, sym, ◌∙◌,
 use Rattle.std.proofs.lemmas.List.{take-take}
 use Rattle.device.specs.Device.{Torn, TornFrom, Only, LeavesOnly}
 use Rattle.device.specs.Did.{Did}
-use Rattle.device.specs.Work.{Work, WriteAt, Sync}
+use Rattle.device.specs.Work.{WriteAt, Sync}
 use Rattle.device.specs.declared.device.Device.{Ghosts}
 use Rattle.device.proofs.Public.{leaves_weaker, leaves_then, torn_after, torn_twice, torn_from_none}
 use Rattle.device.proofs.Ranges.{torn_wider}
-use Rattle.volume_codec.specs.Layout.{block_at}
 use Rattle.volume_codec.specs.Lengths.{lengths_text}
 use Rattle.new_volume.specs.Formatting.{IsZero, DidAll}
 use Rattle.log_codec.specs.Log.{IsLog, first_log_home}

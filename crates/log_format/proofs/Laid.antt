@@ -13,7 +13,7 @@ use Rattle.volume_codec.specs.Lengths.{lengths_text}
 use Rattle.volume_codec.specs.Text.{zeros}
 use Rattle.volume_codec.proofs.Public.{length-zeros, length-block_at}
 use Rattle.new_volume.specs.Formatting.{IsZero, DidAll}
-use Rattle.new_volume.proofs.Public.{IsInside, IsOutOf, done_first, all_same, block_is}
+use Rattle.new_volume.proofs.Public.{IsInside, IsOutOf, done_first, block_is}
 use Rattle.log_codec.specs.Log.{IsLog, first_log_home}
 use Rattle.log_codec.specs.Start.{start_text}
 use Rattle.log_volume.specs.Super.{LogSuperValue, log_of}

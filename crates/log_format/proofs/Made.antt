@@ -1,5 +1,5 @@
 -- What the works of a new volume with a log leave of a device whose bytes are all 0.
-use Rattle.std.proofs.Common.{◌≡◌, ◌≤◌, inl, inr, ℕ, ◌+◌, ◌*◌, Bool, true, false}
+use Rattle.std.proofs.Common.{◌≡◌, ◌≤◌, inl, inr, ℕ, ◌*◌, Bool, true, false}
 use Rattle.std.proofs.Common.{List, length, get_or, sym, ◌∙◌, ap, subst, arith}
 use Rattle.std.proofs.lemmas.Bool.{cases_lt}
 use Rattle.device.specs.declared.device.Device.{Ghosts}

@@ -1,6 +1,6 @@
 -- A device on which a volume with a log was laid out, and to which the files of a volume were copied, is filled.
-use Rattle.std.proofs.Common.{◌≡◌, ◌≤◌, ◌<◌, ◌⊎◌, inl, inr, ℕ, ◌+◌, ◌-◌, ◌*◌, ◌/◌, ◌%◌}
-use Rattle.std.proofs.Common.{List, length, take, drop, get_or, map, slice_get, slice_index}
+use Rattle.std.proofs.Common.{◌≡◌, ◌≤◌, ◌<◌, ◌⊎◌, inl, inr, ℕ, ◌+◌, ◌-◌, ◌*◌, ◌/◌}
+use Rattle.std.proofs.Common.{List, length, take, drop, slice_get, slice_index}
 use Rattle.std.proofs.Common.{Some, sym, ap, subst, ◌∙◌, arith}
 use Rattle.std.proofs.lemmas.Bool.{cases_lt, cases_eq}
 use Rattle.std.proofs.lemmas.List.{take-take, drop-drop}
@@ -9,7 +9,7 @@ use Rattle.device.specs.declared.device.Device.{Ghosts}
 use Rattle.device.proofs.Public.{torn_after}
 use Rattle.volume_codec.specs.Files.{TableFile}
 use Rattle.volume_codec.specs.Layout.{block_at, first_file_home}
-use Rattle.volume_codec.specs.Lengths.{AreLengths, lengths_in, lengths_text}
+use Rattle.volume_codec.specs.Lengths.{AreLengths, lengths_in}
 use Rattle.volume_codec.specs.Recovery.{blocks_from, files_from}
 use Rattle.volume_codec.specs.Super.{SuperValue, pages_of, total_pages, first_home_of}
 use Rattle.volume_codec.proofs.Lengths.{index_is, there_is}
@@ -20,8 +20,8 @@ use Rattle.recovery.proofs.BlockRanges.{block_at-before, block_at-after}
 use Rattle.recovery.proofs.FileBytes.{file_bytes}
 use Rattle.recovery.proofs.Migrated.{again_files, files_from-each, zero_byte}
 use Rattle.log_codec.specs.declared.sealing.Sealing.{Sealing}
-use Rattle.log_codec.specs.Log.{IsLog, first_log_home, first_log_file_home}
-use Rattle.log_volume.specs.Super.{LogSuperValue, table_of, log_of}
+use Rattle.log_codec.specs.Log.{first_log_home, first_log_file_home}
+use Rattle.log_volume.specs.Super.{LogSuperValue, table_of}
 use Rattle.log_format.specs.Asked.{IsLogAsked}
 use Rattle.log_format.specs.Fresh.{IsFreshLog, IsFreshBehind}
 use Rattle.log_migration.specs.Migration.{log_home_of, AreZeroPastLengths, IsFilledLog}

@@ -1,7 +1,7 @@
 -- A device on which a volume with a log was laid out, and to which the files of a volume were copied: what a crash
 -- leaves of it, and what it is once its super block is written.
-use Rattle.std.proofs.Common.{◌≡◌, ◌≤◌, ◌<◌, ◌⊎◌, inl, inr, ℕ, ◌+◌, ◌-◌, ◌*◌, Bool, true, List, length, get_or}
-use Rattle.std.proofs.Common.{Result, Ok, Err, refl, sym, subst, ◌∙◌, arith}
+use Rattle.std.proofs.Common.{◌≡◌, ◌≤◌, inl, inr, ℕ, ◌*◌, Bool, true, List, length, get_or}
+use Rattle.std.proofs.Common.{Result, Ok, Err, sym, subst, ◌∙◌, arith}
 use Rattle.std.specs.Prelude.{is_ok, OnOk}
 use Rattle.std.proofs.lemmas.Bool.{cases_lt}
 use Rattle.device.specs.Device.{Torn, TornFrom, LeavesOnly}
@@ -16,10 +16,10 @@ use Rattle.recovery.proofs.Copied.{accounts_then, copies_honest}
 use Rattle.recovery.proofs.Kept.{kept_none}
 use Rattle.new_volume.specs.Formatting.{IsZero, DidAll}
 use Rattle.log_codec.specs.declared.sealing.Sealing.{Sealing}
-use Rattle.log_codec.specs.Log.{IsLog, first_log_home, first_log_file_home}
+use Rattle.log_codec.specs.Log.{first_log_file_home}
 use Rattle.log_volume.specs.Super.{LogSuperValue, IsLogSuper, log_of, log_super_text}
 use Rattle.volume_codec.specs.Layout.{block_at}
-use Rattle.log_format.specs.Formatting.{laying_works, finishing_works, IsPartlyMade}
+use Rattle.log_format.specs.Formatting.{laying_works, finishing_works}
 use Rattle.log_format.specs.Fresh.{IsFreshBehind}
 use Rattle.log_format.proofs.Public.{IsBehind, StaysBehind, behind_torn, finishing_left, finished_is, finishing_same}
 use Rattle.log_format.proofs.Public.{laid_is, laid_fresh, log_of_fresh, files_of_fresh}

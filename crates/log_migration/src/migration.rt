@@ -1,5 +1,5 @@
 // A volume becomes one with a log, on another device.
-ghost use Rattle.std.specs.Prelude.{◌≡◌, ◌⊎◌, ◌+◌, ◌*◌, ◌^◌, ◌<◌, ◌≤◌, ℕ, List, length, take, slice_index, slice_range, is_ok, IfOk, IfErr, OnOk};
+ghost use Rattle.std.specs.Prelude.{◌≡◌, ◌⊎◌, ◌+◌, ◌*◌, ◌^◌, ◌<◌, ◌≤◌, ℕ, length, take, slice_index, slice_range, is_ok, IfOk, IfErr, OnOk};
 ghost use Rattle.device.specs.Device.{written, LeavesOnly};
 ghost use Rattle.device.specs.Did.{Did};
 ghost use Rattle.device.specs.Work.{WriteAt};

@@ -1,4 +1,4 @@
-use Rattle.std.proofs.Common.{refl, inl, inr, ap, ◌∙◌, ◌*◌, List, ℕ}
+use Rattle.std.proofs.Common.{refl, inr, ap, ◌∙◌, ◌*◌, List, ℕ}
 use Rattle.std.specs.Prelude.{is_ok}
 use Rattle.device.specs.Work.{WriteAt}
 use Rattle.device.proofs.Public.{did_as}

@@ -1,6 +1,5 @@
-use Rattle.std.proofs.Common.{◌≡◌, take, ap, ◌∙◌}
+use Rattle.std.proofs.Common.{take, ap, ◌∙◌}
 use Rattle.volume_codec.specs.Files.{asked_by}
-use Rattle.recovery.specs.Migration.{asked_of}
 use Rattle.log_migration.proofs.Begun.{laid_again, refused_again}
 use Rattle.log_migration.proofs.migration.begin.Goals as goal
 

@@ -1,10 +1,10 @@
-use Rattle.std.proofs.Common.{◌≡◌, inl, inr, length, refl, sym, ap, ◌∙◌, subst, arith}
+use Rattle.std.proofs.Common.{◌≡◌, inl, inr, length, refl, sym, ap, subst, arith}
 use Rattle.std.specs.Prelude.{is_ok}
 use Rattle.std.proofs.lemmas.Result.{MatchResult-weaker}
 use Rattle.page_entry.specs.declared.refusal.Refusal.{Refusal}
 use Rattle.page_entry.specs.declared.refusal.Refusal.TheVariants.{Device}
 use Rattle.recovery.specs.Migration.{asked_of}
-use Rattle.recovery.proofs.Copied.{unwritten_none, accounts_then, copies_honest}
+use Rattle.recovery.proofs.Copied.{unwritten_none, accounts_then}
 use Rattle.recovery.proofs.Kept.{kept_none}
 use Rattle.log_format.specs.Asked.{RefusesLogFormat}
 use Rattle.log_format.specs.Formatting.{finishing_works}
