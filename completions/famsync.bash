@@ -10,12 +10,12 @@ _famsync() {
         words='format migrate run threads serve replay dump info check export crashes'
     elif [ "${COMP_WORDS[COMP_CWORD - 1]}" = --layout ]; then
         words='1 2 3 4 5 6'
-        [ "$command" != migrate ] || words='3 4'
+        [ "$command" != migrate ] || words='3 4 5 6'
     elif [[ $word == -* ]]; then
         case $command in
         format) words='--layout --log --key --preallocate --json --help' ;;
         run | threads | serve | replay) words='--trust --help' ;;
-        migrate) words='--layout --preallocate --trust --json --help' ;;
+        migrate) words='--layout --log --key --preallocate --trust --json --help' ;;
         dump | info | check | export) words='--trust --json --help' ;;
         crashes) words='--trust --json --html --help' ;;
         esac

@@ -5,7 +5,9 @@ ghost use Rattle.command_line.specs.Logs.{seal_in};
 ghost use Rattle.volume_codec.specs.declared.layout.Layout.{Layout as AnyLayout};
 
 use crate::commands::program;
-use crate::job::{Export, Form, Job, Logged, Look, Make, Migration, Scripted, Seal, Sight};
+use crate::job::{
+    Export, Form, Job, Logged, Look, Make, Migration, NewLayout, Scripted, Seal, Sight,
+};
 use crate::word_fault::WordFault;
 use crate::words::{decimal, file_spec, key};
 use clap::error::ErrorKind;
@@ -137,13 +139,7 @@ fn journals_job<'a, A: Allocator + Copy>(
     words: &ArgMatches<'a>,
     layout: u64,
 ) -> Result<Job<'a, A>, WordFault<'a>> {
-    if words.contains_id("log") {
-        return Err(WordFault::OtherLayout {
-            option: "--log",
-            layouts: "layouts 5 and 6",
-            found: layout,
-        });
-    }
+    no_log(words, layout)?;
     let Some(slots) = words.get_str("SLOTS") else {
         return Err(WordFault::Missing("<SLOTS> <FILE>..."));
     };
@@ -238,16 +234,58 @@ fn migrate_job<'a, A: Allocator + Copy>(
     words: &ArgMatches<'a>,
 ) -> Result<Job<'a, A>, WordFault<'a>> {
     let layout = layout_of(words)?;
-    let slots = slots_of(text(words, "SLOTS"))?;
+    let key = key_of(words, layout)?;
+    let layout = match log_layout(layout, key) {
+        Some(seal) => new_log(words, layout, seal)?,
+        None => new_journals(words, layout)?,
+    };
     Ok(Job::Make(Make::Migration(Migration {
         old: text(words, "OLD"),
         new: text(words, "NEW"),
         layout,
-        slots,
         preallocate: words.get_flag("preallocate"),
         trust: words.get_flag("trust"),
         json: words.get_flag("json"),
     })))
+}
+
+// The log of a volume that is made of another. It has no record slots.
+fn new_log<'a>(
+    words: &ArgMatches<'a>,
+    layout: u64,
+    seal: Seal,
+) -> Result<NewLayout, WordFault<'a>> {
+    if words.contains_id("SLOTS") {
+        return Err(WordFault::OtherLayout {
+            option: "SLOTS",
+            layouts: "layouts 3 and 4",
+            found: layout,
+        });
+    }
+    let blocks = log_blocks(words)?;
+    Ok(NewLayout::Log { seal, blocks })
+}
+
+// The journals of a volume that is made of another.
+fn new_journals<'a>(words: &ArgMatches<'a>, layout: u64) -> Result<NewLayout, WordFault<'a>> {
+    no_log(words, layout)?;
+    let Some(slots) = words.get_str("SLOTS") else {
+        return Err(WordFault::Missing("<SLOTS>"));
+    };
+    let slots = slots_of(slots)?;
+    Ok(NewLayout::Journals { layout, slots })
+}
+
+// Refuses the blocks of a log in a layout that has none.
+fn no_log<'a>(words: &ArgMatches<'a>, layout: u64) -> Result<(), WordFault<'a>> {
+    if words.contains_id("log") {
+        return Err(WordFault::OtherLayout {
+            option: "--log",
+            layouts: "layouts 5 and 6",
+            found: layout,
+        });
+    }
+    Ok(())
 }
 
 // The number of a new volume's layout.

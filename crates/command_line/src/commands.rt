@@ -60,9 +60,13 @@ const COMMANDS: &[Shape] = &[
     Shape {
         name: "migrate",
         about: "Makes or replaces the file NEW by a volume whose files may grow, with the files of the volume in OLD",
-        usage: None,
+        usage: Some(
+            "famsync migrate [OPTIONS] <OLD> <NEW> <SLOTS>\n       famsync migrate --layout <5|6> [OPTIONS] <OLD> <NEW>",
+        ),
         options: &[
             Choice::NewLayout,
+            Choice::Log,
+            Choice::Key,
             Choice::Preallocate,
             Choice::Trust,
             Choice::Json,
@@ -70,12 +74,11 @@ const COMMANDS: &[Shape] = &[
         words: &[
             ("OLD", "The file that holds the volume, which is opened"),
             ("NEW", "The file to make"),
-            (
-                "SLOTS",
-                "Record slots of each journal of the new volume, 2 to 1020, in layout 4 to 65535",
-            ),
         ],
-        optional: &[],
+        optional: &[(
+            "SLOTS",
+            "In layouts 3 and 4 alone: record slots of each journal of the new volume, 2 to 1020, in layout 4 to 65535",
+        )],
         last: None,
     },
     Shape {
@@ -255,7 +258,7 @@ fn with_option<'a>(
         Choice::NewLayout => command.arg(layout(
             alloc,
             "3",
-            "The number of the new volume's layout: 3, or 4, and none below that of OLD",
+            "The number of the new volume's layout: 3 or 4, and none below that of OLD, or 5 or 6",
         )),
         Choice::Preallocate => command.arg(flag(
             alloc,

@@ -105,15 +105,22 @@ pub struct Export<'a> {
     pub json: bool,
 }
 
-/// A volume that is made of another: the paths of the old one's file and of the new one's, the number of the new one's
-/// layout, the record slots of each of its journals, whether its blocks are taken on the disk at once, whether the old
-/// one is trusted though it may be marked as suspect, and whether what is printed is JSON.
+/// What a new volume has besides its files: journals in the layout of this number, each with these record slots, or a
+/// log of these blocks, whose commits are sealed in this way.
+#[derive(Clone, Copy, Debug, PartialEq, Eq)]
+pub enum NewLayout {
+    Journals { layout: u64, slots: u64 },
+    Log { seal: Seal, blocks: u64 },
+}
+
+/// A volume that is made of another: the paths of the old one's file and of the new one's, the new one's layout,
+/// whether its blocks are taken on the disk at once, whether the old one is trusted though it may be marked as suspect,
+/// and whether what is printed is JSON.
 #[derive(Clone, Copy)]
 pub struct Migration<'a> {
     pub old: &'a str,
     pub new: &'a str,
-    pub layout: u64,
-    pub slots: u64,
+    pub layout: NewLayout,
     pub preallocate: bool,
     pub trust: bool,
     pub json: bool,

@@ -8,6 +8,6 @@ mod word_fault;
 mod words;
 
 pub use command::read_words;
-pub use job::{Export, Form, Job, Logged, Look, Make, Migration, Scripted, Seal, Sight};
+pub use job::{Export, Form, Job, Logged, Look, Make, Migration, NewLayout, Scripted, Seal, Sight};
 pub use word_fault::WordFault;
 pub use words::{decimal, file_spec};

@@ -3,14 +3,16 @@ ghost use Rattle.std.specs.Prelude.{◌≡◌, ℕ, Some, IsOkAnd};
 
 use crate::print::print_count;
 use crate::progress::Progress;
-use command_line::{Export, Logged, Make, Migration, Seal};
+use command_line::{Export, Logged, Make, Migration, NewLayout, Seal};
 use log_codec::Sealing;
 use std::alloc::Allocator;
 use std::fs::File;
 use std::io;
 use std::io::IsTerminal;
 use std::rt::Files;
-use volume_files::{ExportPlan, FileFailure, LogPlan, MigrationPlan, Plan, SyncNote, draw_key};
+use volume_files::{
+    ExportPlan, FileFailure, LogPlan, MigrationPlan, NewVolume, Plan, SyncNote, draw_key,
+};
 
 /// Makes what is asked for: a volume, one of another, or a copy of a file of one; and prints how many blocks or bytes
 /// that has. `note` gets what is to be said of a sync that failed. Where `err` is a terminal, it shows how much of a
@@ -107,8 +109,8 @@ where
     A: Allocator + Copy,
     E: io::Write + IsTerminal,
 {
+    let plan = migration(asked, new_volume(rt, asked.layout)?);
     let mut progress = Progress::new(err, "migrating");
-    let plan = migration(asked);
     let made = volume_files::migrate(rt, alloc, plan, asked.trust, note, &mut progress);
     progress.clear();
     made
@@ -138,19 +140,41 @@ where
     made
 }
 
+// What a new volume has besides its files. A key that isn't given is drawn.
+fn new_volume<'a, R: Files<File = File>>(
+    rt: &R,
+    layout: NewLayout,
+) -> Result<NewVolume, FileFailure<'a>>
+    ensures journals { (number slots : ℕ) → layout ≡ NewLayout.Journals number slots
+        → IsOkAnd result (λ new. new ≡ NewVolume.Journals number slots) }
+    ensures byte { (blocks : ℕ) → layout ≡ NewLayout.Log Seal.Byte blocks
+        → IsOkAnd result (λ new. new ≡ NewVolume.Log Sealing.ByByte blocks) }
+    ensures given { (key blocks : ℕ) → layout ≡ NewLayout.Log (Seal.Digest (Some key)) blocks
+        → IsOkAnd result (λ new. new ≡ NewVolume.Log (Sealing.ByDigest key) blocks) }
+{
+    match layout {
+        NewLayout::Journals { layout, slots } => Ok(NewVolume::Journals { layout, slots }),
+        NewLayout::Log { seal, blocks } => match sealing(rt, seal) {
+            Ok(sealing) => Ok(NewVolume::Log {
+                sealing,
+                ring: blocks,
+            }),
+            Err(failure) => Err(failure),
+        },
+    }
+}
+
 // What is migrated, and where to.
-fn migration<'a>(asked: &Migration<'a>) -> MigrationPlan<'a>
+fn migration<'a>(asked: &Migration<'a>, volume: NewVolume) -> MigrationPlan<'a>
     ensures old { result.old ≡ asked.now.old }
     ensures new { result.new ≡ asked.now.new }
-    ensures layout { result.layout ≡ asked.now.layout }
-    ensures slots { result.slots ≡ asked.now.slots }
+    ensures volume { result.volume ≡ volume }
     ensures preallocate { result.preallocate ≡ asked.now.preallocate }
 {
     MigrationPlan {
         old: asked.old,
         new: asked.new,
-        layout: asked.layout,
-        slots: asked.slots,
+        volume,
         preallocate: asked.preallocate,
     }
 }

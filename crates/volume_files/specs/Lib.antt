@@ -1,3 +1,4 @@
 pub mod Dump
 pub mod Failures
+pub mod Layouts
 pub mod Migration

@@ -1,8 +1,42 @@
--- Which layouts a volume may be migrated to.
-use Rattle.std.specs.Prelude.{ℕ, ◌≡◌, ◌<◌, ◌≤◌}
-use Rattle.volume_codec.specs.Layout.{number_of, lengths_blocks}
-use Rattle.volume_codec.specs.declared.layout.Layout.{Layout}
+-- What a volume becomes, with journals or with a log.
+use Rattle.std.specs.Prelude.{◌≡◌, ℕ}
+use Rattle.device.specs.declared.device.Device.{Ghosts}
+use Rattle.page_entry.specs.declared.refusal.Refusal.{Refusal}
+use Rattle.volume_codec.specs.Super.{SuperValue, IsAsked, block_count}
+use Rattle.recovery.specs.Format.{RefusesFormat}
+use Rattle.recovery.specs.Migration.{asked_of, HasMigrated}
+use Rattle.recovery.specs.Volume.{VolumeState}
+use Rattle.new_volume.specs.Formatting.{IsZero}
+use Rattle.log_volume.specs.Super.{LogSuperValue, log_of}
+use Rattle.log_format.specs.Asked.{IsLogAsked, RefusesLogFormat}
+use Rattle.log_migration.specs.Migration.{HasMigratedToLog}
+use Rattle.volume_files.specs.Layouts.{MayMigrate}
+use Rattle.volume_files.specs.declared.migrating.NewVolume.{NewVolume}
+use Rattle.volume_files.specs.declared.migrating.NewVolume.TheVariants.{Journals, Log}
 
--- a volume in this layout may be migrated to the layout of this number: files may grow there, and it isn't lower
-abbrev pub MayMigrate : Layout → ℕ → Type 0
-MayMigrate old number = (new : Layout) × (number_of new ≡ number) × (0 < lengths_blocks new) × (number_of old ≤ number)
+-- the new volume of one has this number of blocks, and it may be migrated to that layout
+abbrev pub HasNewBlocks : {D : Type 0} → NewVolume → VolumeState D → ℕ → Type 0
+HasNewBlocks (Journals layout slots) volume blocks = MayMigrate volume.table.layout layout
+    × (v : SuperValue) × IsAsked layout (asked_of volume) slots v × (blocks ≡ block_count v)
+HasNewBlocks (Log sealing ring) volume blocks =
+    (v : LogSuperValue) × IsLogAsked sealing (asked_of volume) ring v × (blocks ≡ (log_of v).blocks)
+
+-- or there is none
+abbrev pub HasNoBlocks : {D : Type 0} → NewVolume → VolumeState D → Type 0
+HasNoBlocks (Journals layout slots) volume =
+    MayMigrate volume.table.layout layout → (v : SuperValue) → IsAsked layout (asked_of volume) slots v → ⊥
+HasNoBlocks (Log sealing ring) volume = (v : LogSuperValue) → IsLogAsked sealing (asked_of volume) ring v → ⊥
+
+-- a volume was copied into the new one on an honest device, whose bytes were all 0 where that has a log
+abbrev pub HasBecome : {D E : Type 0} → Ghosts D → Ghosts E → NewVolume → VolumeState D → E → E → Type 0
+HasBecome disk other (Journals layout slots) volume before after =
+    HasMigrated disk other layout slots volume before after
+HasBecome disk other (Log sealing ring) volume before after =
+    IsZero (other.seen before) → HasMigratedToLog disk other sealing ring volume before after
+
+-- why it was refused
+abbrev pub RefusesToBecome : {D : Type 0} → NewVolume → VolumeState D → ℕ → Refusal → Type 0
+RefusesToBecome (Journals layout slots) volume bytes refusal =
+    RefusesFormat layout (asked_of volume) slots bytes refusal
+RefusesToBecome (Log sealing ring) volume bytes refusal =
+    RefusesLogFormat sealing (asked_of volume) ring bytes refusal

@@ -33,7 +33,7 @@ impl fmt::Display for Refused<'_> {
 pub enum Cause<'a> {
     #[error("LAYOUT is {0}, and 1 to 6 are served")]
     Layout(u64),
-    #[error("LAYOUT is {0}, and a volume is migrated to 3 or 4")]
+    #[error("LAYOUT is {0}, and a volume is migrated to 3 to 6")]
     NewLayout(u64),
     #[error("LAYOUT is {found}, and a volume in layout {old} isn't migrated to a lower one")]
     LowerLayout {

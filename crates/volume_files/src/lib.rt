@@ -27,7 +27,7 @@ pub use failure::FileFailure;
 pub use logged::{LogPlan, draw_key, format_log};
 pub use making::{Plan, format};
 pub use marker::{Marker, Noted};
-pub use migrating::{MigrationPlan, migrate};
+pub use migrating::{MigrationPlan, NewVolume, migrate};
 pub use suspect_flag::SuspectFlag;
 pub use sync_note::SyncNote;
 pub use thread_disk::{Reminder, ThreadDisk, for_threads};

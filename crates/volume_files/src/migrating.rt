@@ -1,12 +1,15 @@
-// Migrating a volume: its files go into a new one whose files can grow, which is made in a file of its own as `format`
-// makes one.
+// Migrating a volume: its files go into a new one whose files can grow, with journals or with a log, which is made in a
+// file of its own as `format` makes one.
 ghost use Rattle.std.specs.Prelude.{◌≡◌, ◌↔◌, IsTrue, IfOk, IfErr, OnOk, length};
 ghost use Rattle.volume_codec.specs.Super.{SuperValue, IsAsked, block_count};
-ghost use Rattle.recovery.specs.Format.{RefusesFormat};
-ghost use Rattle.recovery.specs.Migration.{asked_of, HasMigrated};
-ghost use Rattle.volume_files.specs.Migration.{MayMigrate};
+ghost use Rattle.recovery.specs.Migration.{asked_of};
+ghost use Rattle.new_volume.specs.Formatting.{IsZero};
+ghost use Rattle.log_format.specs.Asked.{RefusesLogFormat};
+ghost use Rattle.log_migration.specs.Migration.{HasMigratedToLog};
+ghost use Rattle.volume_files.specs.Layouts.{MayMigrate};
+ghost use Rattle.volume_files.specs.Migration.{HasNewBlocks, HasNoBlocks, HasBecome, RefusesToBecome};
 
-use crate::cause::{refused_to_migrate, refused_to_open};
+use crate::cause::{Cause, Refused, refused_to_migrate, refused_to_open};
 use crate::disk::{not_opened, open_to_write};
 use crate::failure::FileFailure;
 use crate::marker::Noted;
@@ -14,6 +17,8 @@ use crate::sync_note::SyncNote;
 use crate::target::Target;
 use crate::volume_file::{apart, found_at, place};
 use device::Device;
+use log_codec::Sealing;
+use log_migration::{migrate_to_log, migrated_log_blocks};
 use new_volume::{NewFile, WriteListener};
 use page_entry::{PAGE, Refusal};
 use recovery::Volume;
@@ -22,15 +27,46 @@ use std::fs;
 use std::fs::{File, Files};
 use volume_codec::Layout;
 
-/// Which volume is migrated, and where to: the paths of the two files, the number of the new volume's layout, 3 or 4
-/// and not below the old one's, the record slots of each of its journals, and whether its blocks are taken on the disk
-/// at once.
+/// What a new volume has besides its files: journals in the layout of this number, 3 or 4 and not below the old one's,
+/// each with these record slots, or a log of these blocks, whose commits are sealed in this way.
+#[derive(Clone, Copy)]
+pub enum NewVolume {
+    Journals { layout: u64, slots: u64 },
+    Log { sealing: Sealing, ring: u64 },
+}
+
+impl NewVolume {
+    // Why none was made of a volume in this layout.
+    fn refused(&self, refusal: Refusal, old: Layout) -> Refused<'static> {
+        match self {
+            NewVolume::Journals { layout, slots } => {
+                refused_to_migrate(refusal, old, *layout, *slots)
+            }
+            NewVolume::Log { ring, .. } => Refused {
+                refusal,
+                cause: cause_in_log(refusal, *ring),
+            },
+        }
+    }
+}
+
+// What of a migration to a log of so many blocks is outside the limits, or failed.
+fn cause_in_log(refusal: Refusal, ring: u64) -> Option<Cause<'static>> {
+    match refusal {
+        Refusal::BadShape if (4..=1 << 24).contains(&ring) => Some(Cause::TooManyBlocks),
+        Refusal::BadShape => Some(Cause::Blocks(ring)),
+        Refusal::Device => Some(Cause::Call),
+        _ => None,
+    }
+}
+
+/// Which volume is migrated, and where to: the paths of the two files, what the new volume has, and whether its blocks
+/// are taken on the disk at once.
 #[derive(Clone, Copy)]
 pub struct MigrationPlan<'a> {
     pub old: &'a str,
     pub new: &'a str,
-    pub layout: u64,
-    pub slots: u64,
+    pub volume: NewVolume,
     pub preallocate: bool,
 }
 
@@ -45,7 +81,7 @@ impl<'a> MigrationPlan<'a> {
         };
         FileFailure::Disk {
             path,
-            cause: refused_to_migrate(refusal, old, self.layout, self.slots),
+            cause: self.volume.refused(refusal, old),
         }
     }
 }
@@ -137,22 +173,38 @@ fn may_migrate(old: Layout, number: u64) -> bool
     }
 }
 
+// The number of blocks of a new volume with journals. `BadShape` where there is none of this shape, or where the layout
+// isn't one that the volume may be migrated to.
+fn blocks_with_journals<D: Device, A: Allocator + Copy>(
+    volume: &Volume<D, A>,
+    layout: u64,
+    slots: u64,
+) -> Result<u64, Refusal>
+    ensures ok { IfOk result (λ blocks. MayMigrate volume.now.table.layout layout × (v : SuperValue)
+        × IsAsked layout (asked_of volume.now) slots v × (blocks ≡ block_count v)) }
+    ensures err { IfErr result (λ refusal. (refusal ≡ Refusal.BadShape)
+        × (MayMigrate volume.now.table.layout layout → (v : SuperValue)
+        → IsAsked layout (asked_of volume.now) slots v → ⊥)) }
+{
+    if !may_migrate(volume.layout(), layout) {
+        return Err(Refusal::BadShape);
+    }
+    recovery::migrated_blocks(volume, layout, slots)
+}
+
 // The number of blocks of the new volume. `BadShape` where there is none of the plan's shape, or where its layout isn't
 // one that the volume may be migrated to.
 fn blocks_of<D: Device, A: Allocator + Copy>(
-    plan: MigrationPlan<'_>,
+    new: &NewVolume,
     volume: &Volume<D, A>,
 ) -> Result<u64, Refusal>
-    ensures ok { IfOk result (λ blocks. MayMigrate volume.now.table.layout plan.entry.layout × (v : SuperValue)
-        × IsAsked plan.entry.layout (asked_of volume.now) plan.entry.slots v × (blocks ≡ block_count v)) }
-    ensures err { IfErr result (λ refusal. (refusal ≡ Refusal.BadShape)
-        × (MayMigrate volume.now.table.layout plan.entry.layout → (v : SuperValue)
-        → IsAsked plan.entry.layout (asked_of volume.now) plan.entry.slots v → ⊥)) }
+    ensures ok { IfOk result (HasNewBlocks new.now volume.now) }
+    ensures err { IfErr result (λ refusal. (refusal ≡ Refusal.BadShape) × HasNoBlocks new.now volume.now) }
 {
-    if !may_migrate(volume.layout(), plan.layout) {
-        return Err(Refusal::BadShape);
+    match new {
+        NewVolume::Journals { layout, slots } => blocks_with_journals(volume, *layout, *slots),
+        NewVolume::Log { sealing, ring } => migrated_log_blocks(volume, *sealing, *ring),
     }
-    recovery::migrated_blocks(volume, plan.layout, plan.slots)
 }
 
 // Makes the new volume, where its shape is accepted, and counts its blocks.
@@ -169,7 +221,7 @@ where
     A: Allocator + Copy,
     L: WriteListener + Drop,
 {
-    let blocks = match blocks_of(plan, volume) {
+    let blocks = match blocks_of(&plan.volume, volume) {
         Ok(blocks) => blocks,
         Err(refusal) => return Err(plan.refused(refusal, volume.layout(), false)),
     };
@@ -238,8 +290,8 @@ where
     Ok(made.into_file().into_parts().0)
 }
 
-// Copies the volume on to a new device, and hands that back where all of the volume is on it: where the copy failed,
-// no device comes back whose file could take a name.
+// Copies the volume on to a new device, whose bytes are all 0 where it gets a log, and hands that back where all of the
+// volume is on it: where the copy failed, no device comes back whose file could take a name.
 fn copied<'a, D: Device, E: Device + Drop, A: Allocator + Copy>(
     alloc: A,
     plan: MigrationPlan<'a>,
@@ -247,10 +299,10 @@ fn copied<'a, D: Device, E: Device + Drop, A: Allocator + Copy>(
     mut new: E,
 ) -> Result<E, FileFailure<'a>>
     ensures { D.is_honest volume.old.device → E.is_honest new → IfOk result
-        (λ made. HasMigrated D.Device E.Device plan.entry.layout plan.entry.slots volume.old new made) }
+        (λ made. HasBecome D.Device E.Device plan.entry.volume volume.old new made) }
 {
     let old = volume.layout();
-    match copy(alloc, plan, volume, &mut new) {
+    match copy(alloc, &plan.volume, volume, &mut new) {
         Ok(()) => Ok(new),
         Err(refusal) => {
             let new_failed = new.faults() > 0;
@@ -262,14 +314,36 @@ fn copied<'a, D: Device, E: Device + Drop, A: Allocator + Copy>(
 // Makes the new volume on a device.
 fn copy<D: Device, E: Device, A: Allocator + Copy>(
     alloc: A,
-    plan: MigrationPlan<'_>,
+    plan: &NewVolume,
     volume: &mut Volume<D, A>,
     new: &mut E,
 ) -> Result<(), Refusal>
     ensures migrated { D.is_honest volume.old.device → E.is_honest new.old
-        → OnOk result (HasMigrated D.Device E.Device plan.entry.layout plan.entry.slots volume.old new.old new.new) }
-    ensures refused { IfErr result
-        (RefusesFormat plan.entry.layout (asked_of volume.old) plan.entry.slots (length (E.seen new.old))) }
+        → OnOk result (HasBecome D.Device E.Device plan.now volume.old new.old new.new) }
+    ensures refused { IfErr result (RefusesToBecome plan.now volume.old (length (E.seen new.old))) }
 {
-    recovery::migrate(alloc, volume, new, plan.layout, plan.slots)
+    match plan {
+        NewVolume::Journals { layout, slots } => {
+            recovery::migrate(alloc, volume, new, *layout, *slots)
+        }
+        NewVolume::Log { sealing, ring } => copy_to_log(alloc, volume, new, *sealing, *ring),
+    }
+}
+
+// Makes a new volume with a log on a device.
+fn copy_to_log<D: Device, E: Device, A: Allocator + Copy>(
+    alloc: A,
+    volume: &mut Volume<D, A>,
+    new: &mut E,
+    sealing: Sealing,
+    ring: u64,
+) -> Result<(), Refusal>
+    ensures migrated { D.is_honest volume.old.device → E.is_honest new.old → OnOk result (IsZero (E.seen new.old)
+        → HasMigratedToLog D.Device E.Device sealing ring volume.old new.old new.new) }
+    ensures refused { IfErr result (RefusesLogFormat sealing (asked_of volume.old) ring (length (E.seen new.old))) }
+{
+    match migrate_to_log(alloc, volume, new, sealing, ring) {
+        Ok(()) => Ok(()),
+        Err(refusal) => Err(refusal),
+    }
 }

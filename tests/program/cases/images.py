@@ -64,6 +64,32 @@ def image_of_four(changes=()):
     return made_of(122_880, FOUR, changes)
 
 
+# The key of the digests in layout 6.
+KEY = "0123456789abcdef"
+
+
+def pages_of(length):
+    return (length + 4095) // 4096
+
+
+def image_with_log(layout, files, ring=9):
+    """A volume with a log of these blocks that has no commit, with these files: the name, the capacity and the bytes of
+    each. In layout 6 its key is KEY."""
+    home = 5 + ring
+    blocks = home + sum(pages_of(capacity) for _, capacity, _ in files)
+    key = bytes.fromhex(KEY) if layout == 6 else bytes(8)
+    head = b"FAMSYNC%d" % layout + b"".join(n.to_bytes(4, "big") for n in (len(files), ring, blocks, 4)) + key
+    parts = [(0, head), (8192, (1).to_bytes(8, "big") + (1).to_bytes(8, "big"))]
+    for i, (name, capacity, content) in enumerate(files):
+        pages = pages_of(capacity)
+        # The table counts home blocks from 4, as it does in layout 1 with one slot.
+        numbers = capacity.to_bytes(8, "big") + (home - 1 - ring).to_bytes(4, "big") + pages.to_bytes(4, "big")
+        parts += [(32 + 48 * i, name.ljust(32, b"\0") + numbers)]
+        parts += [(4096 * (4 + ring) + 8 * i, len(content).to_bytes(8, "big")), (4096 * home, content)]
+        home += pages
+    return made_of(4096 * blocks, parts, ())
+
+
 def makes_volume(path):
     """A volume of layout 1 with these files is made."""
     return prints(f"format|{path}|4|a=5000|b=4096", 0, "formatted 10 blocks\n")

@@ -7,6 +7,7 @@ from files.program import (
     MIGRATE, NEWER, OLD, OTHER, PROGRAM, bytes_of, calls_of, clear, complains, dumped, famsync, has,
     makes_whole_or_nothing, migrating, refuses_its_own_volume, volume,
 )
+from cases.images import image_with_log
 from lib.processes import begun_session, want
 
 
@@ -52,6 +53,14 @@ def migrations():
             return dumped("w.img") if os.path.exists("w.img") else None
 
         makes_whole_or_nothing(MIGRATE, "w.img", prepare, found, OLD, lambda over: has(OLD))
+    # So is one with a log.
+    files = [(b"a", 5000, bytes([65]) + bytes(4999)), (b"b", 4096, bytes(4096))]
+    logged = ["migrate", "--layout", "5", "--log", "4", "v.img", "w.img"]
+
+    def bytes_there():
+        return bytes_of("w.img") if os.path.exists("w.img") else None
+
+    makes_whole_or_nothing(logged, "w.img", volume, bytes_there, image_with_log(5, files, 4), lambda over: has(OLD))
     # Not to the same file, by whatever name; not in a bad shape; not while one of the two is in use.
     volume()
     image = bytes_of("v.img")
