@@ -1,9 +1,9 @@
 -- Recorded calls.
 use Rattle.std.proofs.Common.{◌≡◌, List, [], ◌∷◌, ◌++◌, refl, ap}
-use Rattle.taped_disk.specs.Calls.{DeviceCall, call_of, calls_of}
+use Rattle.taped_disk.specs.Calls.{TapedCall, taped_call, taped_calls}
 use Rattle.taped_disk.specs.declared.call.Call.{Call}
 
-pub calls_of_pushed : (calls : List Call) (call : Call)
-    → calls_of (calls ++ call ∷ []) ≡ calls_of calls ++ call_of call ∷ []
-calls_of_pushed [] call = refl
-calls_of_pushed (first ∷ calls) call = ap (λ (l : List DeviceCall). call_of first ∷ l) (calls_of_pushed calls call)
+pub taped_calls_pushed : (calls : List Call) (call : Call)
+    → taped_calls (calls ++ call ∷ []) ≡ taped_calls calls ++ taped_call call ∷ []
+taped_calls_pushed [] call = refl
+taped_calls_pushed (first ∷ calls) call = ap (λ (l : List TapedCall). taped_call first ∷ l) (taped_calls_pushed calls call)

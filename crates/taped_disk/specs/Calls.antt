@@ -5,22 +5,22 @@ use Rattle.taped_disk.specs.declared.call.Call.{Call}
 use Rattle.taped_disk.specs.declared.call.Call.TheVariants.{Read, Write, Sync}
 
 -- a read of so many bytes at an offset, a write of these bytes at an offset, or a sync
-pub data DeviceCall : Type 0 where
-  read : ℕ → ℕ → DeviceCall
-  write : ℕ → List ℕ → DeviceCall
-  sync : DeviceCall
+pub data TapedCall : Type 0 where
+  read : ℕ → ℕ → TapedCall
+  write : ℕ → List ℕ → TapedCall
+  sync : TapedCall
 
-abbrev pub call_of : Call → DeviceCall
-call_of (Read at count) = read at count
-call_of (Write at bytes) = write at bytes.items
-call_of Sync = sync
+abbrev pub taped_call : Call → TapedCall
+taped_call (Read at count) = read at count
+taped_call (Write at bytes) = write at bytes.items
+taped_call Sync = sync
 
-abbrev pub calls_of : List Call → List DeviceCall
-calls_of [] = []
-calls_of (call ∷ calls) = call_of call ∷ calls_of calls
+abbrev pub taped_calls : List Call → List TapedCall
+taped_calls [] = []
+taped_calls (call ∷ calls) = taped_call call ∷ taped_calls calls
 
 -- what a call is printed as: its name, and the offset and the number of bytes in decimal digits
-abbrev pub words_of : DeviceCall → List ℕ
+abbrev pub words_of : TapedCall → List ℕ
 words_of (read at count) = codes "read " ++ decimal at ++ codes " " ++ decimal count
 words_of (write at bytes) = codes "write " ++ decimal at ++ codes " " ++ decimal (length bytes)
 words_of sync = codes "sync"

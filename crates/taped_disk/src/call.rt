@@ -1,7 +1,7 @@
 // A call of a device.
 ghost use Rattle.std.specs.Prelude.{◌≡◌, ◌++◌, ◌∷◌, [], IsTrue, IfOk};
-ghost use Rattle.taped_disk.specs.Calls.DeviceCall.{write};
-ghost use Rattle.taped_disk.specs.Calls.{call_of, calls_of};
+ghost use Rattle.taped_disk.specs.Calls.TapedCall.{write};
+ghost use Rattle.taped_disk.specs.Calls.{taped_call, taped_calls};
 
 use std::alloc::{AllocError, Global};
 use std::fmt;
@@ -17,7 +17,7 @@ pub enum Call {
 impl Call {
     /// The same call.
     pub fn copy(&self, alloc: Global) -> Result<Call, AllocError>
-        ensures { IfOk result (λ copy. call_of copy ≡ call_of self.now) }
+        ensures { IfOk result (λ copy. taped_call copy ≡ taped_call self.now) }
     {
         match self {
             Call::Read(at, count) => Ok(Call::Read(*at, *count)),
@@ -29,9 +29,9 @@ impl Call {
 
 impl fmt::Display for Call {
     ghost use Rattle.std.specs.Prelude.{Some};
-    ghost use Rattle.taped_disk.specs.Calls.{words_of, call_of};
+    ghost use Rattle.taped_disk.specs.Calls.{words_of, taped_call};
 
-    ghost output = { λ call. Some (words_of (call_of call)) };
+    ghost output = { λ call. Some (words_of (taped_call call)) };
 
     fn fmt<W: fmt::Write>(&self, f: &mut fmt::Formatter<W>) -> fmt::Result {
         match self {
@@ -46,9 +46,9 @@ impl fmt::Display for Call {
 }
 
 /// Records a call: whether there was memory for it.
-#[tactic(auto, using(crate::proofs::Calls::calls_of_pushed))]
+#[tactic(auto, using(crate::proofs::Calls::taped_calls_pushed))]
 pub fn record(tape: &mut Vec<Call>, call: Call) -> bool
-    ensures { IsTrue result → calls_of tape.new.items ≡ calls_of tape.old.items ++ call_of call ∷ [] }
+    ensures { IsTrue result → taped_calls tape.new.items ≡ taped_calls tape.old.items ++ taped_call call ∷ [] }
 {
     match tape.push(call) {
         Ok(()) => true,
@@ -58,7 +58,7 @@ pub fn record(tape: &mut Vec<Call>, call: Call) -> bool
 
 /// Records a write.
 pub fn record_write(alloc: Global, tape: &mut Vec<Call>, at: u64, bytes: &[u8]) -> bool
-    ensures { IsTrue result → calls_of tape.new.items ≡ calls_of tape.old.items ++ write at bytes.now ∷ [] }
+    ensures { IsTrue result → taped_calls tape.new.items ≡ taped_calls tape.old.items ++ write at bytes.now ∷ [] }
 {
     match Vec::from_slice(alloc, bytes) {
         Ok(bytes) => record(tape, Call::Write(at, bytes)),

@@ -1,8 +1,8 @@
 // A disk over another that records its calls.
 ghost use Rattle.std.specs.Prelude.{◌≡◌, ◌↔◌, ℕ, ◌+◌, ◌-◌, ◌^◌, ◌<◌, ◌≤◌, ◌++◌, ◌∷◌, [], List, length, slice_range, OnOk, IsTrue, IsOk, IsErr};
 ghost use Rattle.device.specs.Device.{written, Torn, TornFrom, Only, LeavesOnly};
-ghost use Rattle.taped_disk.specs.Calls.DeviceCall.{read, write, sync};
-ghost use Rattle.taped_disk.specs.Calls.{calls_of};
+ghost use Rattle.taped_disk.specs.Calls.TapedCall.{read, write, sync};
+ghost use Rattle.taped_disk.specs.Calls.{taped_calls};
 
 use crate::call::{Call, record, record_write};
 use device::{Device, DeviceFault};
@@ -87,8 +87,8 @@ impl<D: Device> Device for TapedDisk<D> {
         ensures done { IsOk result → D.faults_met self.new.inner ≡ D.faults_met self.old.inner }
 
         // The call is recorded, whether it fails or not.
-        ensures taped { IsTrue self.new.is_whole → calls_of self.new.tape.items
-            ≡ calls_of self.old.tape.items ++ read at (length buffer.old) ∷ [] }
+        ensures taped { IsTrue self.new.is_whole → taped_calls self.new.tape.items
+            ≡ taped_calls self.old.tape.items ++ read at (length buffer.old) ∷ [] }
         ensures whole { IsTrue self.new.is_whole → IsTrue self.old.is_whole }
     {
         let recorded = record(&mut self.tape, Call::Read(at, buffer.len() as u64));
@@ -123,8 +123,8 @@ impl<D: Device> Device for TapedDisk<D> {
         ensures done { IsOk result → D.faults_met self.new.inner ≡ D.faults_met self.old.inner }
 
         // The call is recorded, whether it fails or not.
-        ensures taped { IsTrue self.new.is_whole → calls_of self.new.tape.items
-            ≡ calls_of self.old.tape.items ++ write at bytes.now ∷ [] }
+        ensures taped { IsTrue self.new.is_whole → taped_calls self.new.tape.items
+            ≡ taped_calls self.old.tape.items ++ write at bytes.now ∷ [] }
         ensures whole { IsTrue self.new.is_whole → IsTrue self.old.is_whole }
     {
         let recorded = record_write(self.alloc, &mut self.tape, at, bytes);
@@ -152,8 +152,8 @@ impl<D: Device> Device for TapedDisk<D> {
         ensures done { IsOk result → D.faults_met self.new.inner ≡ D.faults_met self.old.inner }
 
         // The call is recorded, whether it fails or not.
-        ensures taped { IsTrue self.new.is_whole → calls_of self.new.tape.items
-            ≡ calls_of self.old.tape.items ++ sync ∷ [] }
+        ensures taped { IsTrue self.new.is_whole → taped_calls self.new.tape.items
+            ≡ taped_calls self.old.tape.items ++ sync ∷ [] }
         ensures whole { IsTrue self.new.is_whole → IsTrue self.old.is_whole }
     {
         let recorded = record(&mut self.tape, Call::Sync);
