@@ -1,7 +1,7 @@
 -- How a volume is opened.
 use Rattle.std.specs.Prelude.{ℕ, ℤ, ◌≡◌, ◌≢◌, ◌⊎◌, ◌-◌, ◌^◌, ◌==◌, if◌then◌else◌, Some}
 use Rattle.page_entry.specs.declared.refusal.Refusal.TheVariants.{NotAVolume}
-use Rattle.deferred_disk.specs.Deferred.{Deferred}
+use Rattle.deferred_disk.specs.Deferred.{Deferred, IsSuppliedWell}
 use Rattle.pager.specs.Calls.{RefusesPagerOpening}
 use Rattle.embedded.specs.declared.reading.Unread.{Unread}
 use Rattle.embedded.specs.declared.reading.Unread.TheVariants.{Refused}
@@ -30,10 +30,11 @@ TellsRefused held why left code before wanted held' =
     (code ≡ unread_code why) × (wanted ≡ unread_block why before) × (held' ≡ record held { disk = Some left })
 
 -- the disk isn't opened as a volume with journals, or with a log, for this reason; it is as it was where a block is
--- wanted
+-- wanted, and also where it has no journals, if each block was supplied as it was
 abbrev pub RefusesJournals : Deferred → Unread → Deferred → Type 0
 RefusesJournals disk why left =
     RefusesPagerOpening deferred_disk disk (pager_refusal why) left × KeepsForWanted disk why left
+    × (IsSuppliedWell disk → why ≡ Refused NotAVolume → left ≡ disk)
 
 abbrev pub RefusesLog : Deferred → Unread → Deferred → Type 0
 RefusesLog disk why left = RefusesEmbeddedLog disk (pager_refusal why) left × KeepsForWanted disk why left

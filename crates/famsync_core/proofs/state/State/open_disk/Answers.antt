@@ -14,4 +14,4 @@ returns-then-is_not_a_volume c =
     log.new.self) (sym (to_z-of_z {w = w32} fits))
     (opens_as_log c.args.self.now c.args.disk c.in-Err.disk c.args.most c.in-Err.why c.is_not_a_volume.result
     log.result c.args.wanted.now log.new.wanted log.new.self c.is_not_a_volume.ensures c.if-is_not_a_volume.true
-    (c.in-Err.ensures.refused, c.in-Err.ensures.wanted) log.ensures)
+    (c.in-Err.ensures.refused, c.in-Err.ensures.wanted, c.in-Err.ensures.untouched) log.ensures)
