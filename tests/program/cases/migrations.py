@@ -162,10 +162,10 @@ def bytes_past_a_length_stay_behind():
     yield from holds("new.img", image_with_log(5, files_of(67, 4097, 12_288)))
 
     content = bytes((7 + 13 * i) % 251 for i in range(70_001))
-    yield from prints("format|--layout|3|long.img|4|a=70001/90000|b=0/1", 0, "formatted 38 blocks\n")
+    yield from prints("format|--layout|3|long.img|4|a=70001/90000|b=0/1", 0, "formatted 37 blocks\n")
     image = bytes_of("long.img")
     write_bytes("long.img", image[:57_344] + content + image[57_344 + len(content) :])
-    yield from prints(f"migrate|--layout|6|--key|{KEY}|--log|4|long.img|new.img", 0, "migrated 33 blocks\n")
+    yield from prints(f"migrate|--layout|6|--key|{KEY}|--log|4|long.img|new.img", 0, "migrated 32 blocks\n")
     yield from holds("new.img", image_with_log(6, [(b"a", 90_000, content), (b"b", 1, b"")], 4))
     yield from leaves("four.img", "long.img", "new.img")
 
