@@ -104,8 +104,8 @@ def looked_at(path):
 
 
 def refused_by(command, by_run):
-    """What a command says of a file that a run refuses. Two commands also know volumes with a log."""
-    if command not in ("info", "check"):
+    """What a command says of a file that a run refuses. Four commands also know volumes with a log."""
+    if command not in ("info", "check", "dump", "export"):
         return by_run.err
     return by_run.err.replace("FAMSYNC3 or FAMSYNC4", "FAMSYNC3, FAMSYNC4, FAMSYNC5 or FAMSYNC6")
 
