@@ -10,12 +10,10 @@ use Rattle.page_entry.specs.declared.refusal.Refusal.{Refusal}
 use Rattle.page_entry.specs.declared.refusal.Refusal.TheVariants.{Device, OutOfMemory, BadShape}
 use Rattle.volume_codec.specs.Files.{AskedFile, lengths_asked}
 use Rattle.volume_codec.specs.Lengths.{lengths_text}
-use Rattle.recovery.specs.Counts.{IsAccounted}
+use Rattle.recovery.specs.Counts.{HasCause, IsAccounted}
 use Rattle.recovery.specs.Migration.{asked_of}
 use Rattle.recovery.specs.Volume.{VolumeState, IsWellFormed}
-use Rattle.recovery.proofs.Kept.{kept_none, kept_ok, kept_then}
-use Rattle.recovery.proofs.Migrated.{again_lengths}
-use Rattle.recovery.proofs.Writing.{did_kept}
+use Rattle.recovery.proofs.Public.{again_lengths, did_kept, kept_none, kept_ok, kept_then}
 use Rattle.new_volume.specs.Formatting.{DidAll}
 use Rattle.new_volume.proofs.Public.{all_same}
 use Rattle.log_codec.specs.declared.sealing.Sealing.{Sealing}
@@ -133,6 +131,21 @@ module _ {D E : Type 0} (disk : Ghosts D) (other : Ghosts E) (sealing : Sealing)
     pub unchanged : (refusal ≡ Device) ⊎ (after ≡ before)
     pub kept : IsAccounted {X = Unit {0}} other before (Err refusal) after
 
+  -- no device call was made
+  untouched : ((c : List ℕ) → other.left_since before (other.moment before) c → other.may_leave before c)
+      → (refusal : Refusal) → HasCause (other.faults_met before) (other.faults_met before) refusal → (after : E)
+      → RefusesLogFormat sealing (asked_of volume) ring (length (other.seen before)) refusal × (after ≡ before)
+      → IsRefused refusal after
+  untouched now refusal cause after (refuses, same) =
+      let P : E → Type 0 = λ d. IsRefused refusal d in
+      subst P (sym same) (record {
+        others = λ honest i not. refl;
+        crash = leaves_at_start (λ c since. inl (now c since));
+        refused = refuses;
+        unchanged = inr refl;
+        kept = record { honest = (λ h. h, λ h. h); len = refl; cause = cause };
+      })
+
   pub begun_refused : ((c : List ℕ) → other.left_since before (other.moment before) c → other.may_leave before c)
       → (refusal : Refusal) (after : E) → HasLaid other sealing volume ring before (Err refusal) after
       → IsRefused refusal after
@@ -143,22 +156,6 @@ module _ {D E : Type 0} (disk : Ghosts D) (other : Ghosts E) (sealing : Sealing)
     unchanged = inl refl;
     kept = did_all_kept other (laying_works table volume.lengths) (Err Device) before after refl has.did;
   }
-  begun_refused now BadShape after (refuses, same) =
-      let P : E → Type 0 = λ d. IsRefused BadShape d in
-      subst P (sym same) (record {
-        others = λ honest i not. refl;
-        crash = leaves_at_start (λ c since. inl (now c since));
-        refused = refuses;
-        unchanged = inr refl;
-        kept = record { honest = (λ h. h, λ h. h); len = refl; cause = refl };
-      })
-  begun_refused now OutOfMemory after (refuses, same) =
-      let P : E → Type 0 = λ d. IsRefused OutOfMemory d in
-      subst P (sym same) (record {
-        others = λ honest i not. refl;
-        crash = leaves_at_start (λ c since. inl (now c since));
-        refused = refuses;
-        unchanged = inr refl;
-        kept = record { honest = (λ h. h, λ h. h); len = refl; cause = refl };
-      })
+  begun_refused now BadShape after has = untouched now BadShape refl after has
+  begun_refused now OutOfMemory after has = untouched now OutOfMemory refl after has
   begun_refused now _ after has = absurd has.0

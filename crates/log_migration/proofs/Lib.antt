@@ -1,4 +1,3 @@
-mod Copied
 mod Filled
 mod Begun
 mod Migrated

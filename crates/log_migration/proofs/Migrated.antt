@@ -9,11 +9,9 @@ use Rattle.device.specs.declared.device.Device.{Ghosts}
 use Rattle.device.proofs.Public.{leaves_weaker, leaves_then, torn_before, torn_after}
 use Rattle.page_entry.specs.declared.refusal.Refusal.{Refusal}
 use Rattle.volume_codec.specs.Super.{total_pages}
-use Rattle.recovery.specs.Migration.{AreAccounted}
+use Rattle.recovery.specs.Migration.{AreAccounted, Copies, AreCopied}
 use Rattle.recovery.specs.Volume.{VolumeState, IsWellFormed, files_of, bytes_of}
-use Rattle.recovery.specs.inside.Copying.{Copies}
-use Rattle.recovery.proofs.Copied.{accounts_then, copies_honest}
-use Rattle.recovery.proofs.Kept.{kept_none}
+use Rattle.recovery.proofs.Public.{accounts_then, copies_honest, kept_none}
 use Rattle.new_volume.specs.Formatting.{IsZero, DidAll}
 use Rattle.log_codec.specs.declared.sealing.Sealing.{Sealing}
 use Rattle.log_codec.specs.Log.{first_log_file_home}
@@ -24,7 +22,7 @@ use Rattle.log_format.specs.Fresh.{IsFreshBehind}
 use Rattle.log_format.proofs.Public.{IsBehind, StaysBehind, behind_torn, finishing_left, finished_is, finishing_same}
 use Rattle.log_format.proofs.Public.{laid_is, laid_fresh, log_of_fresh, files_of_fresh}
 use Rattle.log_migration.specs.Migration.{IsFilledLog, IsWrittenByMigration, LeftByLogMigration, HasMigratedToLog}
-use Rattle.log_migration.specs.inside.Copying.{HasLaidAs, AreCopiedBehind}
+use Rattle.log_migration.specs.inside.Copying.{HasLaidAs}
 use Rattle.log_migration.proofs.Begun.{did_all_kept, laid_left, laid_blocks, laid_others, behind_left}
 use Rattle.log_migration.proofs.Filled.{asked_are, filled}
 
@@ -51,6 +49,12 @@ module _ {D E : Type 0} (disk : Ghosts D) (other : Ghosts E) (sealing : Sealing)
 
   laid_honest : other.is_honest before → other.is_honest laid
   laid_honest honest = laid_stays_honest other sealing ring volume before laid table has honest
+
+  -- the volume's files were copied behind the lengths
+  abbrev HasEach : Type 0
+  HasEach = AreCopied (first_log_file_home table.ring) volume.table.files volume.lengths
+      (bytes_of (files_of volume.table (disk.seen volume.device))) (length volume.table.files) (other.seen laid)
+      (other.seen copied)
 
   copied_honest : other.is_honest before → other.is_honest copied
   copied_honest honest = (copies_honest copies).1 (laid_honest honest)
@@ -108,9 +112,8 @@ module _ {D E : Type 0} (disk : Ghosts D) (other : Ghosts E) (sealing : Sealing)
       (laid_blocks disk other sealing ring volume before table true laid has) blank)
 
   filled_torn : other.is_honest before → IsZero (other.seen before)
-      → (disk.is_honest volume.device → AreCopiedBehind table volume.lengths
-      (bytes_of (files_of volume.table (disk.seen volume.device))) (length table.files) (other.seen laid)
-      (other.seen copied)) → (c : List ℕ) → Torn 0 4096 (other.seen copied) c → IsFilledLog disk volume table c
+      → (disk.is_honest volume.device → HasEach) → (c : List ℕ) → Torn 0 4096 (other.seen copied) c
+      → IsFilledLog disk volume table c
   filled_torn honest blank each c torn =
       filled disk volume well_formed sealing ring table has.shape.asked (other.seen laid) (other.seen copied) c
       (fresh_laid honest blank) (copies.torn (laid_honest honest)) torn each
@@ -128,9 +131,7 @@ module _ {D E : Type 0} (disk : Ghosts D) (other : Ghosts E) (sealing : Sealing)
 
     pub final_crash : (done : Bool) → DidAll other copied (finishing_works table) done final → other.is_honest before
         → IsZero (other.seen before)
-        → (disk.is_honest volume.device → AreCopiedBehind table volume.lengths
-        (bytes_of (files_of volume.table (disk.seen volume.device))) (length table.files) (other.seen laid)
-        (other.seen copied)) → LeavesOnly other.moment other.left_since before final
+        → (disk.is_honest volume.device → HasEach) → LeavesOnly other.moment other.left_since before final
         (LeftByLogMigration disk other sealing ring volume before)
     final_crash done did honest blank each =
         leaves_then copied_crash (leaves_weaker (finishing_left other table (log_of table).blocks some
@@ -138,9 +139,8 @@ module _ {D E : Type 0} (disk : Ghosts D) (other : Ghosts E) (sealing : Sealing)
         (copied_honest honest) (filled_torn honest blank each) did) (λ c partly. inr (table, has.shape, partly)))
 
     migrated : DidAll other copied (finishing_works table) true final → disk.is_honest volume.device
-        → other.is_honest before → IsZero (other.seen before) → AreCopiedBehind table volume.lengths
-        (bytes_of (files_of volume.table (disk.seen volume.device))) (length table.files) (other.seen laid)
-        (other.seen copied) → HasMigratedToLog disk other sealing ring volume before final
+        → other.is_honest before → IsZero (other.seen before) → HasEach
+        → HasMigratedToLog disk other sealing ring volume before final
     migrated did honest on_other blank each =
         let end = finished_is other table whole copied final (omega (arith, copied_long, some))
         (copied_honest on_other) did in
@@ -163,8 +163,7 @@ module _ {D E : Type 0} (disk : Ghosts D) (other : Ghosts E) (sealing : Sealing)
 
     pub final_migrated : {Y : Type 0} (last : Result Y Refusal)
         → DidAll other copied (finishing_works table) (is_ok last) final → disk.is_honest volume.device
-        → other.is_honest before → IsZero (other.seen before) → AreCopiedBehind table volume.lengths
-        (bytes_of (files_of volume.table (disk.seen volume.device))) (length table.files) (other.seen laid)
-        (other.seen copied) → OnOk last (HasMigratedToLog disk other sealing ring volume before final)
+        → other.is_honest before → IsZero (other.seen before) → HasEach
+        → OnOk last (HasMigratedToLog disk other sealing ring volume before final)
     final_migrated (Ok y) did honest on_other blank each = migrated did honest on_other blank each
     final_migrated (Err e) did honest on_other blank each = tt

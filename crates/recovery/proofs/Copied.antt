@@ -1,10 +1,10 @@
 -- What copying files from a volume to another device leaves, piece by piece and file by file.
-use Rattle.std.proofs.Common.{◌≡◌, ◌≤◌, ◌<◌, inl, inr, ℕ, ◌+◌, ◌-◌, ◌*◌, List, [], ◌++◌, length}
-use Rattle.std.proofs.Common.{take, drop, get_or, slice_index, slice_range, Result, Ok, Err, refl}
+use Rattle.std.proofs.Common.{◌≡◌, ◌≤◌, ◌<◌, ◌⊎◌, inl, inr, ℕ, ◌+◌, ◌-◌, ◌*◌, ◌/◌, ◌%◌, List}
+use Rattle.std.proofs.Common.{[], ◌++◌, length, take, drop, get_or, slice_index, slice_range, Result, Ok, Err, refl}
 use Rattle.std.proofs.Common.{sym, ◌∙◌, ap, subst, arith, append_assoc, length-append, length-take}
 use Rattle.std.specs.Prelude.{is_ok, IfErr}
 use Rattle.std.proofs.Math.Seq.{take-add}
-use Rattle.std.proofs.lemmas.Bool.{cases_eq}
+use Rattle.std.proofs.lemmas.Bool.{cases_lt, cases_eq}
 use Rattle.std.proofs.lemmas.List.{take_at, drop_at, drop-drop, take-take, append-nil, take-append-drop}
 use Rattle.device.specs.Device.{written, Torn}
 use Rattle.device.specs.Did.{Did}
@@ -12,18 +12,22 @@ use Rattle.device.specs.Work.{WriteAt}
 use Rattle.device.specs.declared.device.Device.{Ghosts}
 use Rattle.device.proofs.Moments.{leaves_at_start, leaves_weaker, leaves_on}
 use Rattle.device.proofs.Ranges.{length-written, written_before, written_after, part_written}
-use Rattle.device.proofs.Ranges.{torn_by_write, torn_none, torn_twice, torn_wider, torn_from_none}
+use Rattle.device.proofs.Ranges.{torn_by_write, torn_none, torn_twice, torn_wider, torn_after, torn_from_none}
 use Rattle.page_entry.specs.declared.refusal.Refusal.{Refusal}
 use Rattle.page_entry.specs.declared.refusal.Refusal.TheVariants.{Device}
-use Rattle.volume_codec.specs.Super.{SuperValue, total_pages, first_home_of}
+use Rattle.volume_codec.specs.Files.{TableFile}
+use Rattle.volume_codec.specs.Layout.{block_at}
 use Rattle.volume_codec.specs.Lengths.{AreLengths}
+use Rattle.volume_codec.specs.Super.{SuperValue, total_pages}
+use Rattle.volume_codec.specs.Text.{zeros}
+use Rattle.volume_codec.proofs.Blocks.{get_or-block_at}
 use Rattle.volume_codec.proofs.Places.{total_pages-take_le}
 use Rattle.recovery.specs.Counts.{IsAccounted}
-use Rattle.recovery.specs.Migration.{AreAccounted}
+use Rattle.recovery.specs.Migration.{AreAccounted, Copies, home_at, AreCopied}
 use Rattle.recovery.specs.Opening.{IsUnwritten}
 use Rattle.recovery.specs.Volume.{VolumeState, files_of}
-use Rattle.recovery.specs.inside.Copying.{Copies, AreCopied}
 use Rattle.recovery.proofs.BlockRanges.{range-take}
+use Rattle.recovery.proofs.Erased.{get_or-zeros}
 use Rattle.recovery.proofs.FileBytes.{file_end}
 use Rattle.recovery.proofs.Kept.{kept_none, kept_ok, kept_then, kept_err, unwritten_then}
 use Rattle.recovery.proofs.Writing.{did_kept, write_torn}
@@ -207,31 +211,75 @@ module _ {D E : Type 0} {disk : Ghosts D} {other : Ghosts E} where
         × (length (other.seen after) ≡ length (other.seen before))
     copies_honest copies = accounts_cases copies.accounts
 
--- files lie one after another
-pub home_of-mono : (v : SuperValue) (i j : ℕ) → i ≤ j → first_home_of v i ≤ first_home_of v j
-home_of-mono v i j le = omega (arith, total_pages-take_le (take j v.files) i, ap total_pages (take-take i j v.files le))
+-- files lie one after another, from any block on
+pub home_at-le : (first : ℕ) (files : List TableFile) (i : ℕ) → home_at first files i ≤ first + total_pages files
+home_at-le first files i = omega (arith, total_pages-take_le files i)
 
--- a part before a torn range stays
-pub part_before : {at n : ℕ} {old new : List ℕ} → Torn at n old new → (from size : ℕ) → from + size ≤ at
+home_at-mono : (first : ℕ) (files : List TableFile) (i j : ℕ) → i ≤ j → home_at first files i ≤ home_at first files j
+home_at-mono first files i j le =
+    omega (arith, total_pages-take_le (take j files) i, ap total_pages (take-take i j files le))
+
+pub home_at-end : (first : ℕ) (table : SuperValue) (lengths : List ℕ) → AreLengths table lengths → (file : ℕ)
+    → file < length table.files
+    → 4096 * home_at first table.files file + slice_index lengths file ≤ 4096 * home_at first table.files (file + 1)
+home_at-end first table lengths are file there = omega (arith, file_end table lengths are file there)
+
+-- a part beside a torn range stays
+part_before : {at n : ℕ} {old new : List ℕ} → Torn at n old new → (from size : ℕ) → from + size ≤ at
     → take size (drop from new) ≡ take size (drop from old)
 part_before {at} {n} {old} {new} torn from size fits =
     sym (range-take from size at new fits) ∙ ap (λ (l : List ℕ). take size (drop from l)) torn.before
     ∙ range-take from size at old fits
 
+part_after : {at n : ℕ} {old new : List ℕ} → Torn at n old new → (from size : ℕ) → at + n ≤ from
+    → take size (drop from new) ≡ take size (drop from old)
+part_after {at} {n} {old} {new} torn from size past =
+    let place : at + n + (from - (at + n)) ≡ from = omega (arith, past) in
+    let rest : drop from new ≡ drop from old =
+    ap (λ k. drop k new) (sym place) ∙ sym (drop-drop (from - (at + n)) (at + n) new)
+    ∙ ap (drop (from - (at + n))) torn.after
+    ∙ drop-drop (from - (at + n)) (at + n) old ∙ ap (λ k. drop k old) place in
+    ap (take size) rest
+
+-- none yet
+pub copied_none : (first : ℕ) (files : List TableFile) (lengths : List ℕ) (bytes : ℕ → List ℕ) (start : List ℕ)
+    → AreCopied first files lengths bytes 0 start start
+copied_none first files lengths bytes start =
+    record { same_length = refl; each = λ file h. absurd (omega arith); others = λ i out. refl }
+
+-- the files are those of another table, whose blocks begin there
+module _ {first home : ℕ} {files others : List TableFile} (place : first ≡ home) (same : files ≡ others) where
+  pub copied_as : {lengths start now : List ℕ} {bytes : ℕ → List ℕ}
+      → AreCopied first files lengths bytes (length files) start now
+      → AreCopied home others lengths bytes (length others) start now
+  copied_as {lengths} {start} {now} {bytes} copied =
+      let P : ℕ → Type 0 = λ k. AreCopied k files lengths bytes (length files) start now in
+      let Q : List TableFile → Type 0 = λ fs. AreCopied home fs lengths bytes (length fs) start now in
+      subst Q same (subst P place copied)
+
+  pub copies_as : {D E X : Type 0} {disk : Ghosts D} {other : Ghosts E} {old new : VolumeState D} {before after : E}
+      {result : Result X Refusal}
+      → Copies disk other (4096 * first) (4096 * total_pages files) old before result new after
+      → Copies disk other (4096 * home) (4096 * total_pages others) old before result new after
+  copies_as copies =
+      copies_wider copies (4096 * home) (4096 * total_pages others) (omega (arith, place))
+      (omega (arith, place, ap total_pages same))
+
 -- one file more
-pub copied_more : (table : SuperValue) (lengths : List ℕ) (bytes : ℕ → List ℕ) (k at : ℕ) (start mid new : List ℕ)
-    → AreLengths table lengths → k < length table.files → AreCopied table lengths bytes k start mid
-    → at ≡ 4096 * first_home_of table k
+pub copied_more : (first : ℕ) (table : SuperValue) (lengths : List ℕ) (bytes : ℕ → List ℕ) (k at : ℕ)
+    (start mid new : List ℕ) → AreLengths table lengths → k < length table.files
+    → AreCopied first table.files lengths bytes k start mid → at ≡ 4096 * home_at first table.files k
     → length (bytes k) ≡ slice_index lengths k → at + slice_index lengths k ≤ length mid
-    → new ≡ written mid at (bytes k) → AreCopied table lengths bytes (k + 1) start new
-copied_more table lengths bytes k at start mid new are there copied place size room is = record {
+    → new ≡ written mid at (bytes k) → AreCopied first table.files lengths bytes (k + 1) start new
+copied_more first table lengths bytes k at start mid new are there copied place size room is = record {
   same_length = ap length is ∙ length-written mid at (bytes k) fits ∙ copied.same_length;
   each = λ file h. elim (cases_eq file k) [
     | inl same ↦ subst P (sym same) here
     | inr other ↦
-        let ends = file_end table lengths are file (omega (arith, h, other, there)) in
-        let next = home_of-mono table (file + 1) k (omega (arith, h, other)) in
-        part_before torn (4096 * first_home_of table file) (slice_index lengths file) (omega (arith, ends, next, place))
+        let ends = home_at-end first table lengths are file (omega (arith, h, other, there)) in
+        let next = home_at-mono first table.files (file + 1) k (omega (arith, h, other)) in
+        part_before torn (4096 * home_at first table.files file) (slice_index lengths file)
+        (omega (arith, ends, next, place))
         ∙ copied.each file (omega (arith, h, other))
   ];
   others = λ i out. elim (out k (omega arith)) [
@@ -253,18 +301,59 @@ copied_more table lengths bytes k at start mid new are there copied place size r
     byte i = ap (λ (l : List ℕ). get_or l i 0) is
 
     P : ℕ → Type 0
-    P file = take (slice_index lengths file) (drop (4096 * first_home_of table file) new) ≡ bytes file
+    P file = take (slice_index lengths file) (drop (4096 * home_at first table.files file) new) ≡ bytes file
 
     here : P k
     here =
         let part : slice_index lengths k ≡ at + length (bytes k) - at = omega (arith, size) in
-        ap (λ n. take n (drop (4096 * first_home_of table k) new)) part
+        ap (λ n. take n (drop (4096 * home_at first table.files k) new)) part
         ∙ ap (λ p. take (at + length (bytes k) - at) (drop p new)) (sym place)
         ∙ ap (λ (l : List ℕ). slice_range l at (at + length (bytes k))) is
         ∙ part_written mid at (bytes k) fits
 
--- none yet
-pub copied_none : (table : SuperValue) (lengths : List ℕ) (bytes : ℕ → List ℕ) (start : List ℕ)
-    → AreCopied table lengths bytes 0 start start
-copied_none table lengths bytes start =
-    record { same_length = refl; each = λ file h. absurd (omega arith); others = λ i out. refl }
+-- a byte of a block of zeros
+zero_byte : (bytes : List ℕ) (i : ℕ) → block_at bytes (i / 4096) ≡ zeros 4096 → get_or bytes i 0 ≡ 0
+zero_byte bytes i blank =
+    let place : 4096 * (i / 4096) + i % 4096 ≡ i = omega arith in
+    ap (λ k. get_or bytes k 0) (sym place) ∙ sym (get_or-block_at bytes (i / 4096) (i % 4096) 0 (omega arith))
+    ∙ ap (λ (block : List ℕ). get_or block (i % 4096) 0) blank ∙ get_or-zeros 4096 (i % 4096)
+
+-- all of them, and then block 0 was torn
+module _ (first : ℕ) (some : 1 ≤ first) (table : SuperValue) (lengths : List ℕ) (bytes : ℕ → List ℕ)
+    (laid copied final : List ℕ) (each : AreCopied first table.files lengths bytes (length table.files) laid copied)
+    (torn : Torn 0 4096 copied final) where
+  -- each file's bytes are there
+  pub copied_part : (file : ℕ) → file < length table.files
+      → take (slice_index lengths file) (drop (4096 * home_at first table.files file) final) ≡ bytes file
+  copied_part file there =
+      part_after torn (4096 * home_at first table.files file) (slice_index lengths file) (omega (arith, some))
+      ∙ each.each file there
+
+  -- and zeros past them, where the blocks were zeros
+  pub copied_tail : AreLengths table lengths
+      → ((b : ℕ) → first ≤ b → b < first + total_pages table.files → block_at laid b ≡ zeros 4096) → (file i : ℕ)
+      → file < length table.files → 4096 * home_at first table.files file + slice_index lengths file ≤ i
+      → i < 4096 * home_at first table.files (file + 1) → slice_index final i ≡ 0
+  copied_tail are blank file i there low high =
+      torn_after torn i (omega (arith, some, low)) ∙ each.others i out
+      ∙ zero_byte laid i
+      (blank (i / 4096) (omega (arith, low)) (omega (arith, high, home_at-le first table.files (file + 1))))
+    where
+      out : (other : ℕ) → other < length table.files → (i < 4096 * home_at first table.files other)
+          ⊎ (4096 * home_at first table.files other + slice_index lengths other ≤ i)
+      out other h = elim (cases_lt other file) [
+        | inl before ↦ inr (omega (
+          arith,
+          home_at-end first table lengths are other h,
+          home_at-mono first table.files (other + 1) file (omega (arith, before)),
+          low,
+        ))
+        | inr from ↦ elim (cases_eq other file) [
+          | inl same ↦ inr (subst (λ k. 4096 * home_at first table.files k + slice_index lengths k ≤ i) (sym same) low)
+          | inr apart ↦ inl (omega (
+            arith,
+            high,
+            home_at-mono first table.files (file + 1) other (omega (arith, from, apart)),
+          ))
+        ]
+      ]

@@ -108,7 +108,7 @@ module _ (table : SuperValue) (lengths : List ℕ) (are : AreLengths table lengt
       ∙ ap (λ (l : List ℕ). slice_range l at (at + n)) (sym whole)
 
 -- block p of blocks one after another
-block_of : (contents : ℕ → List ℕ) (b n p : ℕ) → p < n
+pub block_of : (contents : ℕ → List ℕ) (b n p : ℕ) → p < n
     → ((i : ℕ) → b ≤ i → i ≤ b + p → length (contents i) ≡ 4096)
     → take 4096 (drop (4096 * p) (blocks_from contents b n)) ≡ contents (b + p)
 block_of contents b zero p below whole = absurd (omega arith)

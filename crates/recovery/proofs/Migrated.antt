@@ -1,9 +1,8 @@
 -- A device that was laid out, to which the files of a volume were copied and whose table was written is migrated.
-use Rattle.std.proofs.Common.{◌≡◌, ◌≤◌, ◌<◌, ◌⊎◌, inl, inr, Result, ℕ, zero, suc, ◌+◌, ◌-◌, ◌*◌, ◌/◌}
-use Rattle.std.proofs.Common.{◌%◌, List, [], ◌∷◌, ◌++◌, length, take, drop, get_or, map, set}
+use Rattle.std.proofs.Common.{◌≡◌, ◌≤◌, ◌<◌, ◌⊎◌, inl, inr, Result, ℕ, zero, suc, ◌+◌, ◌-◌, ◌*◌}
+use Rattle.std.proofs.Common.{List, [], ◌∷◌, ◌++◌, length, take, drop, get_or, map, set}
 use Rattle.std.proofs.Common.{slice_get, slice_index, Some, refl, sym, ◌∙◌, ap, subst, add-one, arith}
-use Rattle.std.proofs.lemmas.Bool.{cases_lt, cases_eq}
-use Rattle.std.proofs.lemmas.List.{take-take, take_all, take_more_set, map_push, drop-drop}
+use Rattle.std.proofs.lemmas.List.{take-take, take_all, take_more_set, map_push}
 use Rattle.device.specs.Device.{written, Torn, TornFrom, LeavesOnly, Only}
 use Rattle.device.specs.declared.device.Device.{Ghosts}
 use Rattle.device.proofs.Moments.{leaves_weaker, leaves_on}
@@ -13,26 +12,22 @@ use Rattle.volume_codec.specs.declared.file_spec.FileSpec.{FileSpec}
 use Rattle.volume_codec.specs.Files.{File, TableFile, AskedFile, asked_by, lengths_asked}
 use Rattle.volume_codec.specs.Layout.{journals_of, gate_block, first_home, first_file_home, lengths_blocks, block_at}
 use Rattle.volume_codec.specs.Lengths.{AreLengths, lengths_in, lengths_text}
-use Rattle.volume_codec.specs.Text.{zeros}
 use Rattle.volume_codec.specs.Super.{SuperValue, Fits, IsAsked, super_text, pages_of}
 use Rattle.volume_codec.specs.Super.{total_pages, first_home_of, block_count}
 use Rattle.volume_codec.specs.Recovery.{IsVolume, blocks_from, files_from}
-use Rattle.volume_codec.proofs.Blocks.{get_or-block_at}
 use Rattle.volume_codec.proofs.Layouts.{gate_block-low}
 use Rattle.volume_codec.proofs.Lengths.{table_file, asked_are, asked_lengths_in, asked_has_lengths, index_is, there_is}
-use Rattle.volume_codec.proofs.Places.{first_home_of-le}
 use Rattle.volume_codec.proofs.Recovered.{blocks_from-device}
 use Rattle.recovery.specs.Format.{HasShape, IsEmptied}
-use Rattle.recovery.specs.Migration.{asked_again, asked_of, AreZeroPast, IsFilled}
+use Rattle.recovery.specs.Migration.{asked_again, asked_of, home_at, Copies, AreCopied, IsFilled}
 use Rattle.recovery.specs.Migration.{IsPartlyMigrated, LeftByMigration, HasMigrated}
 use Rattle.recovery.specs.Openings.{IsMade}
 use Rattle.recovery.specs.Volume.{VolumeState, IsWellFormed, files_of, bytes_of}
-use Rattle.recovery.specs.inside.Copying.{LeftByLaying, Copies, AreCopied}
+use Rattle.recovery.specs.inside.Copying.{LeftByLaying}
 use Rattle.recovery.specs.inside.Writing.{HasFinished}
 use Rattle.recovery.proofs.BlockRanges.{block_at-before, block_at-after}
-use Rattle.recovery.proofs.Copied.{home_of-mono}
-use Rattle.recovery.proofs.Erased.{get_or-zeros}
-use Rattle.recovery.proofs.FileBytes.{file_end, file_bytes}
+use Rattle.recovery.proofs.Copied.{copied_as, copied_part, copied_tail}
+use Rattle.recovery.proofs.FileBytes.{file_bytes}
 use Rattle.recovery.proofs.Formatted.{first_block}
 
 -- the table and the lengths that are asked for again
@@ -113,20 +108,17 @@ files_from-each f g a b (s ∷ fs) (n ∷ lengths) each =
       capacity = s.capacity;
     } in x) ∷ r) rest
 
--- volumes of the same files and lengths, each of whose files has the same bytes, have the same files
-pub same_files : (table other : SuperValue) (lengths bytes others : List ℕ) → AreLengths table lengths
-    → table.files ≡ other.files → lengths ≡ lengths_in table (block_at bytes)
-    → lengths ≡ lengths_in other (block_at others)
-    → ((file : ℕ) → file < length table.files → take (slice_index lengths file) (drop (4096 * first_home_of table file)
-    bytes) ≡ take (slice_index lengths file) (drop (4096 * first_home_of other file) others))
-    → files_of table bytes ≡ files_of other others
-same_files table other lengths bytes others are same has have each =
-    ap (files_from (block_at bytes) (first_file_home table.layout table.slots) table.files) (sym has)
-    ∙ files_from-each (block_at bytes) (block_at others) (first_file_home table.layout table.slots)
-    (first_file_home other.layout other.slots) table.files lengths at
-    ∙ ap (λ (fs : List TableFile). files_from (block_at others) (first_file_home other.layout other.slots) fs lengths)
-    same
-    ∙ ap (files_from (block_at others) (first_file_home other.layout other.slots) other.files) have
+-- the files of a volume, where each has the same bytes in other blocks
+pub same_files : (first : ℕ) (table : SuperValue) (lengths bytes others : List ℕ) → AreLengths table lengths
+    → lengths ≡ lengths_in table (block_at others)
+    → ((file : ℕ) → file < length table.files
+    → take (slice_index lengths file) (drop (4096 * home_at first table.files file) bytes)
+    ≡ bytes_of (files_of table others) file)
+    → files_from (block_at bytes) first table.files lengths ≡ files_of table others
+same_files first table lengths bytes others are has each =
+    files_from-each (block_at bytes) (block_at others) first (first_file_home table.layout table.slots) table.files
+    lengths at
+    ∙ ap (files_from (block_at others) (first_file_home table.layout table.slots) table.files) has
   where
     -- the first bytes of blocks
     part : (xs : List ℕ) (b n : ℕ) (s : TableFile) → n ≤ s.capacity
@@ -135,29 +127,18 @@ same_files table other lengths bytes others are same has have each =
         ∙ take-take n (4096 * pages_of s.capacity) (drop (4096 * b) xs) (omega (arith, le))
 
     at : (i n : ℕ) (s : TableFile) → slice_get table.files i ≡ Some s → slice_get lengths i ≡ Some n
-        → take n (blocks_from (block_at bytes)
-        (first_file_home table.layout table.slots + total_pages (take i table.files)) (pages_of s.capacity))
+        → take n (blocks_from (block_at bytes) (first + total_pages (take i table.files)) (pages_of s.capacity))
         ≡ take n (blocks_from (block_at others)
-        (first_file_home other.layout other.slots + total_pages (take i table.files)) (pages_of s.capacity))
+        (first_file_home table.layout table.slots + total_pages (take i table.files)) (pages_of s.capacity))
     at i n s file size =
         let le = are.within i n s file size in
         let here = index_is lengths i n size in
-        let there = there_is lengths i n size in
-        let home = first_file_home other.layout other.slots in
-        part bytes (first_home_of table i) n s le
-        ∙ ap (λ k. take k (drop (4096 * first_home_of table i) bytes)) (sym here)
-        ∙ each i (omega (arith, there, are.count))
-        ∙ ap (λ (fs : List TableFile).
-        take (slice_index lengths i) (drop (4096 * (home + total_pages (take i fs))) others)) (sym same)
-        ∙ ap (λ k. take k (drop (4096 * (home + total_pages (take i table.files))) others)) here
-        ∙ sym (part others (home + total_pages (take i table.files)) n s le)
-
--- a byte of a block of zeros
-pub zero_byte : (bytes : List ℕ) (i : ℕ) → block_at bytes (i / 4096) ≡ zeros 4096 → get_or bytes i 0 ≡ 0
-zero_byte bytes i blank =
-    let place : 4096 * (i / 4096) + i % 4096 ≡ i = omega arith in
-    ap (λ k. get_or bytes k 0) (sym place) ∙ sym (get_or-block_at bytes (i / 4096) (i % 4096) 0 (omega arith))
-    ∙ ap (λ (block : List ℕ). get_or block (i % 4096) 0) blank ∙ get_or-zeros 4096 (i % 4096)
+        let there : i < length table.files = omega (arith, there_is lengths i n size, are.count) in
+        part bytes (home_at first table.files i) n s le
+        ∙ ap (λ k. take k (drop (4096 * home_at first table.files i) bytes)) (sym here)
+        ∙ each i there ∙ file_bytes table lengths are others i there has
+        ∙ ap (λ k. take k (drop (4096 * first_home_of table i) others)) here
+        ∙ sym (part others (first_home_of table i) n s le)
 
 -- files were copied to what was laid out, whatever block 0 holds
 module _ (table : SuperValue) (lengths laid copied final : List ℕ) (are : AreLengths table lengths)
@@ -176,43 +157,6 @@ module _ (table : SuperValue) (lengths laid copied final : List ℕ) (are : AreL
       block_at-after first (first_home table.layout table.slots) (omega arith)
       ∙ block_at-before torn (first_home table.layout table.slots) (omega (arith, some))
       ∙ rest.lengths_block some
-
-  pub part_there : (bytes : ℕ → List ℕ) → AreCopied table lengths bytes (length table.files) laid copied → (file : ℕ)
-      → file < length table.files
-      → take (slice_index lengths file) (drop (4096 * first_home_of table file) final) ≡ bytes file
-  part_there bytes each file there =
-      part_after (4096 * first_home_of table file) (slice_index lengths file) (omega arith) ∙ each.each file there
-    where
-      part_after : (from size : ℕ) → 4096 ≤ from → take size (drop from final) ≡ take size (drop from copied)
-      part_after from size past =
-          let place : 0 + 4096 + (from - 4096) ≡ from = omega arith in
-          let rest : drop from final ≡ drop from copied =
-          ap (λ k. drop k final) (sym place) ∙ sym (drop-drop (from - 4096) (0 + 4096) final)
-          ∙ ap (drop (from - 4096)) first.after
-          ∙ drop-drop (from - 4096) (0 + 4096) copied ∙ ap (λ k. drop k copied) place in
-          ap (take size) rest
-
-  pub tails : (bytes : ℕ → List ℕ) → AreCopied table lengths bytes (length table.files) laid copied
-      → AreZeroPast table lengths final
-  tails bytes each file i there low high =
-      torn_after first i (omega (arith, low)) ∙ each.others i out
-      ∙ zero_byte laid i
-      (rest.homes (i / 4096) (omega (arith, low)) (omega (arith, high, first_home_of-le table (file + 1))))
-    where
-      out : (other : ℕ) → other < length table.files
-          → (i < 4096 * first_home_of table other) ⊎ (4096 * first_home_of table other + slice_index lengths other ≤ i)
-      out other h = elim (cases_lt other file) [
-        | inl before ↦ inr (omega (
-          arith,
-          file_end table lengths are other h,
-          home_of-mono table (other + 1) file (omega (arith, before)),
-          low,
-        ))
-        | inr from ↦ elim (cases_eq other file) [
-          | inl same ↦ inr (subst (λ k. 4096 * first_home_of table k + slice_index lengths k ≤ i) (sym same) low)
-          | inr apart ↦ inl (omega (arith, high, home_of-mono table (file + 1) other (omega (arith, from, apart))))
-        ]
-      ]
 
 -- and block 0 was written
 module _ (table : SuperValue) (lengths laid copied final : List ℕ) (fits : Fits table) (are : AreLengths table lengths)
@@ -254,8 +198,12 @@ module _ {D : Type 0} (disk : Ghosts D) (volume : VolumeState D) (well_formed : 
     (laid copied final : List ℕ) (rest : IsEmptied table volume.lengths laid)
     (torn : Torn (4096 * first_file_home table.layout table.slots) (4096 * total_pages table.files) laid copied)
     (first : Torn 0 4096 copied final)
-    (each : disk.is_honest volume.device → AreCopied table volume.lengths
-    (bytes_of (files_of volume.table (disk.seen volume.device))) (length table.files) laid copied) where
+    (each : disk.is_honest volume.device
+    → AreCopied (first_file_home table.layout table.slots) volume.table.files volume.lengths
+    (bytes_of (files_of volume.table (disk.seen volume.device))) (length volume.table.files) laid copied) where
+  abbrev home : ℕ
+  home = first_file_home table.layout table.slots
+
   abbrev named : table.files ≡ volume.table.files
   named = asked_files disk volume well_formed layout slots table asked
 
@@ -272,14 +220,14 @@ module _ {D : Type 0} (disk : Ghosts D) (volume : VolumeState D) (well_formed : 
     gates = gates_shut table volume.lengths laid copied final are rest torn first;
     lengths_block = says_lengths table volume.lengths laid copied final are rest torn first;
     files = λ honest.
-        same_files table volume.table volume.lengths final (disk.seen volume.device) are named
-        (sym (asked_lengths_in layout slots (asked_of volume) table (block_at final) asked spelled
-        ∙ asked_lengths disk volume well_formed layout slots table asked))
+        ap (λ (fs : List TableFile). files_from (block_at final) home fs (lengths_in table (block_at final))) named
+        ∙ ap (files_from (block_at final) home volume.table.files) (asked_lengths_in layout slots (asked_of volume)
+        table (block_at final) asked spelled ∙ asked_lengths disk volume well_formed layout slots table asked)
+        ∙ same_files home volume.table volume.lengths final (disk.seen volume.device) well_formed.lengths
         (well_formed.at_rest honest).lengths_are
-        (λ file there. part_there table volume.lengths laid copied final are rest torn first _ (each honest) file there
-        ∙ file_bytes volume.table volume.lengths well_formed.lengths (disk.seen volume.device) file
-        (omega (arith, there, ap length named)) (well_formed.at_rest honest).lengths_are);
-    tails = λ honest. tails table volume.lengths laid copied final are rest torn first _ (each honest);
+        (copied_part home (omega arith) volume.table volume.lengths _ laid copied final (each honest) first);
+    tails = λ honest. copied_tail home (omega arith) table volume.lengths _ laid copied final
+        (copied_as refl (sym named) (each honest)) first are rest.homes;
   }
 
 pub migrated : {D E : Type 0} (disk : Ghosts D) (other : Ghosts E) (layout slots : ℕ) (volume : VolumeState D)
@@ -289,7 +237,8 @@ pub migrated : {D E : Type 0} (disk : Ghosts D) (other : Ghosts E) (layout slots
     → Torn 4096 (4096 * block_count table - 4096) (other.seen before) (other.seen laid)
     → Torn (4096 * first_file_home table.layout table.slots) (4096 * total_pages table.files)
     (other.seen laid) (other.seen copied)
-    → AreCopied table volume.lengths (bytes_of (files_of volume.table (disk.seen volume.device))) (length table.files)
+    → AreCopied (first_file_home table.layout table.slots) volume.table.files volume.lengths
+    (bytes_of (files_of volume.table (disk.seen volume.device))) (length volume.table.files)
     (other.seen laid) (other.seen copied)
     → other.seen after ≡ written (other.seen copied) 0 (super_text table)
     → Only (other.may_leave after) (other.seen after) → HasMigrated disk other layout slots volume before after
@@ -386,8 +335,9 @@ module _ {D E : Type 0} (disk : Ghosts D) (other : Ghosts E) (layout slots : ℕ
     pub time_of_filling : {Y : Type 0} {last : Result Y Refusal} {final : E} {block : List ℕ} → IsWellFormed disk volume
         → IsEmptied table volume.lengths (other.seen laid)
         → (disk.is_honest volume.device
-        → AreCopied table volume.lengths (bytes_of (files_of volume.table (disk.seen volume.device)))
-        (length table.files) (other.seen laid) (other.seen copied))
+        → AreCopied (first_file_home table.layout table.slots) volume.table.files volume.lengths
+        (bytes_of (files_of volume.table (disk.seen volume.device)))
+        (length volume.table.files) (other.seen laid) (other.seen copied))
         → other.is_honest laid → other.is_honest copied → HasFinished other block copied last final → LeavesOnly
         other.moment other.left_since before final (LeftByMigration disk other layout slots volume before)
     time_of_filling {Y} {last} {final} {block} well_formed rest each honest honest_1 finishing =

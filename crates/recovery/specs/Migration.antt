@@ -1,15 +1,17 @@
 -- What migrating a volume makes of another device: a volume of another layout with the same files.
-use Rattle.std.specs.Prelude.{◌≡◌, ◌⊎◌, ℕ, ◌+◌, ◌*◌, ◌<◌, ◌≤◌, List, [], ◌∷◌, length, slice_index, Result, Ok}
-use Rattle.device.specs.Device.{Torn, Only}
+use Rattle.std.specs.Prelude.{◌≡◌, ◌⊎◌, ℕ, ◌+◌, ◌*◌, ◌<◌, ◌≤◌, List, [], ◌∷◌, length, take, drop, slice_index}
+use Rattle.std.specs.Prelude.{Result, Ok}
+use Rattle.device.specs.Device.{Torn, TornFrom, LeavesOnly, Only}
 use Rattle.device.specs.declared.device.Device.{Ghosts}
 use Rattle.page_entry.specs.declared.refusal.Refusal.{Refusal}
 use Rattle.volume_codec.specs.Files.{TableFile, AskedFile}
 use Rattle.volume_codec.specs.Layout.{journals_of, lengths_blocks, gate_block, first_home, block_at}
-use Rattle.volume_codec.specs.Super.{SuperValue, block_count, first_home_of}
+use Rattle.volume_codec.specs.Super.{SuperValue, block_count, total_pages, first_home_of}
 use Rattle.volume_codec.specs.Lengths.{HasLengths, lengths_text}
 use Rattle.volume_codec.specs.Recovery.{IsVolume}
 use Rattle.recovery.specs.Counts.{IsAccounted}
 use Rattle.recovery.specs.Format.{HasShape}
+use Rattle.recovery.specs.Opening.{IsUnwritten}
 use Rattle.recovery.specs.Volume.{VolumeState, files_of}
 
 -- files of these names, lengths and capacities, as they are asked for
@@ -60,6 +62,33 @@ abbrev pub AreAccounted : {D E X : Type 0} → Ghosts D → Ghosts E → D → E
 AreAccounted disk other old before result new after =
     (IsAccounted disk old result new × IsAccounted {X = Unit {0}} other before (Ok tt) after)
     ⊎ (IsAccounted {X = Unit {0}} disk old (Ok tt) new × IsAccounted other before result after)
+
+-- Bytes of a volume were read, and written on another device to the n bytes from this offset on alone, or a call of one
+-- of the two failed. All other bytes of that device are as before, also after a crash. The volume stays and isn't
+-- written.
+pub record Copies {D E X : Type 0} (disk : Ghosts D) (other : Ghosts E) (at n : ℕ) (old : VolumeState D) (before : E)
+    (result : Result X Refusal) (new : VolumeState D) (after : E) : Type 0 where
+  pub table : new.table ≡ old.table
+  pub lengths : new.lengths ≡ old.lengths
+  pub unwritten : disk.is_honest old.device → IsUnwritten disk old.device new.device
+  pub torn : other.is_honest before → Torn at n (other.seen before) (other.seen after)
+  pub left : (c : List ℕ) → other.may_leave after c → TornFrom at n (other.may_leave before) c
+  pub time : LeavesOnly other.moment other.left_since before after (TornFrom at n (other.may_leave before))
+  pub accounts : AreAccounted disk other old.device before result new.device after
+
+-- the first block of file i, where the files' blocks begin at this one: files lie one after another
+abbrev pub home_at : ℕ → List TableFile → ℕ → ℕ
+home_at first files i = first + total_pages (take i files)
+
+-- the first files were copied to their blocks, which begin at this one, and every other byte is as before
+pub record AreCopied (first : ℕ) (files : List TableFile) (lengths : List ℕ) (bytes : ℕ → List ℕ) (count : ℕ)
+    (start now : List ℕ) : Type 0 where
+  pub same_length : length now ≡ length start
+  pub each : (file : ℕ) → file < count
+      → take (slice_index lengths file) (drop (4096 * home_at first files file) now) ≡ bytes file
+  pub others : (i : ℕ) → ((file : ℕ) → file < count → (i < 4096 * home_at first files file)
+      ⊎ (4096 * home_at first files file + slice_index lengths file ≤ i))
+      → slice_index now i ≡ slice_index start i
 
 -- A volume was copied to an honest device: that holds a volume of this layout with the same names, lengths and
 -- capacities and with so many slots, its gates closed. Its files have the same bytes and zeros past their lengths, all

@@ -190,7 +190,7 @@ fn write_table<D: Device, A: Allocator + Copy>(
 /// The table of these files on a device of so many bytes, in the layout of this number and with so many record slots
 /// for each journal. `BadShape`, before any memory is taken, where no volume has them or the device is shorter than its
 /// blocks.
-pub(crate) fn shape<A: Allocator + Copy>(
+pub fn shape<A: Allocator + Copy>(
     alloc: A,
     bytes: u64,
     layout: u64,

@@ -2,15 +2,13 @@
 ghost use Rattle.std.specs.Prelude.{◌≡◌, ◌⊎◌, ◌+◌, ◌-◌, ◌*◌, ◌^◌, ◌<◌, ◌≤◌, ℕ, List, length, take, slice_index, slice_range, IfOk, IfErr, OnOk};
 ghost use Rattle.device.specs.Device.{written, Torn, TornFrom, LeavesOnly};
 ghost use Rattle.volume_codec.specs.Files.{asked_by};
-ghost use Rattle.volume_codec.specs.Layout.{first_file_home};
-ghost use Rattle.volume_codec.specs.Super.{SuperValue, IsAsked, Fits, block_count, total_pages};
-ghost use Rattle.volume_codec.specs.Lengths.{AreLengths};
+ghost use Rattle.volume_codec.specs.Super.{SuperValue, IsAsked, block_count, total_pages};
 ghost use Rattle.recovery.specs.Counts.{IsAccounted};
 ghost use Rattle.recovery.specs.Format.{HasShape, IsEmptied, RefusesFormat};
-ghost use Rattle.recovery.specs.Migration.{asked_of, AreAccounted, HasMigrated, LeftByMigration};
+ghost use Rattle.recovery.specs.Migration.{asked_of, home_at, AreAccounted, Copies, AreCopied, HasMigrated, LeftByMigration};
 ghost use Rattle.recovery.specs.Opening.{IsUnwritten};
 ghost use Rattle.recovery.specs.Volume.{IsWellFormed, files_of, bytes_of};
-ghost use Rattle.recovery.specs.inside.Copying.{Copies, AreCopied, LeftByLaying};
+ghost use Rattle.recovery.specs.inside.Copying.{LeftByLaying};
 
 use crate::calls::write;
 use crate::formatting::{PIECE, finish, lay_out, shape, zero_piece};
@@ -21,7 +19,7 @@ use std::alloc::Allocator;
 use volume_codec::{FileSpec, Super, block_count_as};
 
 /// The files of a volume as they are asked for, in the first places.
-fn specs_of<D: Device, A: Allocator + Copy>(volume: &Volume<D, A>) -> [FileSpec<'_>; 64]
+pub fn specs_of<D: Device, A: Allocator + Copy>(volume: &Volume<D, A>) -> [FileSpec<'_>; 64]
     ensures specs { asked_by (take (length volume.now.table.files) result) ≡ asked_of volume.now }
     ensures well_formed { IsWellFormed D.Device volume.now }
 {
@@ -135,25 +133,38 @@ fn copy_file<D: Device, E: Device, A: Allocator + Copy>(
     Ok(())
 }
 
-/// Copies the bytes of all files to their home blocks on another device.
-fn copy_files<D: Device, E: Device, A: Allocator + Copy>(
+/// The first block of a file, where the files' blocks begin at this one.
+fn file_home<D: Device, A: Allocator + Copy>(volume: &Volume<D, A>, first: u32, file: usize) -> u64
+    requires { file < length volume.now.table.files }
+    ensures home { result ≡ home_at first volume.now.table.files file }
+    ensures small { result < 2 ^ 33 }
+{
+    let table = volume.table();
+    let before = table.first_home(file) - table.geometry().first_file_home();
+    u64::from(first) + u64::from(before)
+}
+
+/// Copies the bytes of all files of a volume to another device, one file after another from this block on: each file
+/// has as many blocks there as in the volume. `Device` where a call of one of the two devices failed.
+///
+/// The volume isn't written. On the other device no more than each file's bytes is written, 32,768 of them at a time;
+/// they aren't synced.
+pub fn copy_files<D: Device, E: Device, A: Allocator + Copy>(
     old: &mut Volume<D, A>,
     new: &mut E,
-    table: &Super<A>,
+    first: u32,
 ) -> Result<(), Refusal>
-    requires same { length table.now.files ≡ length old.old.table.files }
-    requires lengths { AreLengths table.now old.old.lengths }
-    requires fits { Fits table.now }
-    requires long { 4096 * block_count table.now ≤ length (E.seen new.old) }
-    ensures copied { D.is_honest old.old.device → E.is_honest new.old → OnOk result (AreCopied table.now old.old.lengths
-        (bytes_of (files_of old.old.table (D.seen old.old.device))) (length table.now.files)
+    requires { 4096 * (first + total_pages old.old.table.files) ≤ length (E.seen new.old) }
+    ensures copied { D.is_honest old.old.device → E.is_honest new.old → OnOk result
+        (AreCopied first old.old.table.files old.old.lengths
+        (bytes_of (files_of old.old.table (D.seen old.old.device))) (length old.old.table.files)
         (E.seen new.old) (E.seen new.new)) }
-    ensures copies { Copies D.Device E.Device (4096 * first_file_home table.now.layout table.now.slots)
-        (4096 * total_pages table.now.files) old.old new.old result old.new new.new }
+    ensures copies { Copies D.Device E.Device (4096 * first) (4096 * total_pages old.old.table.files)
+        old.old new.old result old.new new.new }
     ensures fault { IfErr result (λ refusal. refusal ≡ Refusal.Device) }
 {
     for file in 0..old.file_count() {
-        let home = u64::from(table.first_home(file));
+        let home = file_home(old, first, file);
         copy_file(old, new, file, PAGE * home)?;
     }
     Ok(())
@@ -195,6 +206,6 @@ pub fn migrate<D: Device, E: Device, A: Allocator + Copy>(
     ensures kept { AreAccounted D.Device E.Device old.old.device new.old result old.new.device new.new }
 {
     let table = begin(alloc, old, new, layout, slots)?;
-    copy_files(old, new, &table)?;
+    copy_files(old, new, table.geometry().first_file_home())?;
     finish(new, &table)
 }

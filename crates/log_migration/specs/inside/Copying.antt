@@ -1,6 +1,5 @@
--- What laying out a volume with a log and copying files into it does.
-use Rattle.std.specs.Prelude.{◌≡◌, ◌⊎◌, ℕ, ◌+◌, ◌*◌, ◌<◌, ◌≤◌, Bool, true, false, List, length, take, drop, slice_index}
-use Rattle.std.specs.Prelude.{Result, Ok, Err}
+-- What laying out a volume with a log does.
+use Rattle.std.specs.Prelude.{◌≡◌, ℕ, Bool, true, false, length, Result, Ok, Err}
 use Rattle.device.specs.declared.device.Device.{Ghosts}
 use Rattle.page_entry.specs.declared.refusal.Refusal.{Refusal}
 use Rattle.page_entry.specs.declared.refusal.Refusal.TheVariants.{Device}
@@ -14,7 +13,6 @@ use Rattle.log_volume.specs.Super.{LogSuperValue}
 use Rattle.log_format.specs.Asked.{HasLogShape, RefusesLogFormat}
 use Rattle.log_format.specs.Formatting.{laying_works}
 use Rattle.log_format.specs.Fresh.{first_log_start}
-use Rattle.log_migration.specs.Migration.{log_home_of}
 
 -- The start of a log and the lengths of a volume were written on a device that is long enough for the volume with a log
 -- that is made of it, or one of these calls failed. Each text has the length of a block.
@@ -34,13 +32,3 @@ HasLaid other sealing volume ring old (Err Device) new =
     (table : LogSuperValue) × HasLaidAs other sealing volume ring old table false new
 HasLaid other sealing volume ring old (Err refusal) new =
     RefusesLogFormat sealing (asked_of volume) ring (length (other.seen old)) refusal × (new ≡ old)
-
--- the first files were copied, each to its home blocks behind a log, and every other byte is as before
-pub record AreCopiedBehind (table : LogSuperValue) (lengths : List ℕ) (bytes : ℕ → List ℕ) (count : ℕ)
-    (start now : List ℕ) : Type 0 where
-  pub same_length : length now ≡ length start
-  pub each : (file : ℕ) → file < count
-      → take (slice_index lengths file) (drop (4096 * log_home_of table file) now) ≡ bytes file
-  pub others : (i : ℕ) → ((file : ℕ) → file < count
-      → (i < 4096 * log_home_of table file) ⊎ (4096 * log_home_of table file + slice_index lengths file ≤ i))
-      → slice_index now i ≡ slice_index start i

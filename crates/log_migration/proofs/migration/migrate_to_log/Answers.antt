@@ -1,35 +1,44 @@
-use Rattle.std.proofs.Common.{◌≡◌, inl, inr, length, refl, sym, ap, subst, arith}
+use Rattle.std.proofs.Common.{◌≡◌, inl, inr, refl, sym, ◌∙◌, ap, subst, arith}
 use Rattle.std.specs.Prelude.{is_ok}
 use Rattle.std.proofs.lemmas.Result.{MatchResult-weaker}
 use Rattle.page_entry.specs.declared.refusal.Refusal.{Refusal}
 use Rattle.page_entry.specs.declared.refusal.Refusal.TheVariants.{Device}
+use Rattle.volume_codec.specs.Super.{total_pages}
 use Rattle.recovery.specs.Migration.{asked_of}
-use Rattle.recovery.proofs.Copied.{unwritten_none, accounts_then}
-use Rattle.recovery.proofs.Kept.{kept_none}
+use Rattle.recovery.proofs.Public.{unwritten_none, accounts_then, copied_as, copies_as, kept_none}
+use Rattle.log_codec.specs.Log.{LogValue, first_log_file_home}
 use Rattle.log_format.specs.Asked.{RefusesLogFormat}
 use Rattle.log_format.specs.Formatting.{finishing_works}
 use Rattle.log_migration.proofs.Begun.{did_all_kept, begun_refused}
-use Rattle.log_migration.proofs.Filled.{asked_files, asked_are}
+use Rattle.log_migration.proofs.Filled.{asked_files}
 use Rattle.log_migration.proofs.Migrated.{copied_crash, copied_others, copied_kept, copied_long, laid_long}
 use Rattle.log_migration.proofs.Migrated.{final_others, final_crash, final_migrated, laid_stays_honest}
+use Rattle.log_migration.proofs.migration.migrate_to_log.Goals.{After-first_file_home}
 use Rattle.log_migration.proofs.migration.migrate_to_log.Goals as goal
 
-pub copy_files-requires-clause-same : goal.copy_files-requires-clause-same
-copy_files-requires-clause-same g c = ap length (asked_files g.D.Device c.args.old.now c.in-Ok.ensures.well_formed
-    c.args.sealing c.args.ring c.in-Ok.table c.in-Ok.ensures.laid.shape.asked)
+-- the new table's files are the volume's, and they lie behind the lengths
+new_files : (g : _) (c : After-first_file_home g)
+    → (c.first_file_home.result ≡ first_log_file_home c.in-Ok.table.ring)
+    × (c.args.old.now.table.files ≡ c.in-Ok.table.files)
+new_files g c = (
+  c.first_file_home.ensures.value ∙ ap (λ (log : LogValue). first_log_file_home log.ring) c.log.ensures.value,
+  sym (asked_files g.D.Device c.args.old.now c.in-Ok.ensures.well_formed c.args.sealing c.args.ring c.in-Ok.table
+      c.in-Ok.ensures.laid.shape.asked),
+)
 
-pub copy_files-requires-clause-lengths : goal.copy_files-requires-clause-lengths
-copy_files-requires-clause-lengths g c = asked_are g.D.Device c.args.old.now c.in-Ok.ensures.well_formed
-    c.args.sealing c.args.ring c.in-Ok.table c.in-Ok.ensures.laid.shape.asked
-
-pub copy_files-requires-clause-long : goal.copy_files-requires-clause-long
-copy_files-requires-clause-long g c = laid_long g.E.Device c.args.sealing c.args.ring c.args.old.now c.args.new.now
-    c.begin.new.new c.in-Ok.table c.in-Ok.ensures.laid
+pub copy_files-requires : goal.copy_files-requires
+copy_files-requires g c =
+    let at = new_files g (goal.at.copy_files-requires g c).After-first_file_home in
+    let long = laid_long g.E.Device c.args.sealing c.args.ring c.args.old.now c.args.new.now
+    c.begin.new.new c.in-Ok.table c.in-Ok.ensures.laid in
+    omega (arith, long, at.0, ap total_pages at.1)
 
 pub finish-requires : goal.finish-requires
 finish-requires g c =
+    let at = new_files g (goal.at.finish-requires g c).After-first_file_home in
+    let copies = copies_as at.0 at.1 c.in-Ok-copy_files.ensures.copies in
     let long = copied_long g.D.Device g.E.Device c.args.sealing c.args.ring c.args.old.now c.in-Ok.ensures.well_formed
-    c.args.new.now c.begin.new.new c.in-Ok.table c.in-Ok.ensures.laid c.in-Ok-copy_files.ensures.copies in
+    c.args.new.now c.begin.new.new c.in-Ok.table c.in-Ok.ensures.laid copies in
     omega (arith, long, c.in-Ok.ensures.laid.shape.asked.fits.log.some_homes)
 
 -- where nothing was copied
@@ -75,14 +84,18 @@ returns-in-Err-clause-kept g c = inr (
 
 pub returns-in-Err-copy_files-clause-others : goal.returns-in-Err-copy_files-clause-others
 returns-in-Err-copy_files-clause-others g c = λ honest i not.
+    let at = new_files g (goal.at.returns-in-Err-copy_files-clause-others g c).After-first_file_home in
+    let copies = copies_as at.0 at.1 c.in-Err-copy_files.ensures.copies in
     copied_others g.D.Device g.E.Device c.args.sealing c.args.ring c.args.old.now c.in-Ok.ensures.well_formed
-    c.args.new.now c.begin.new.new c.in-Ok.table c.in-Ok.ensures.laid c.in-Err-copy_files.ensures.copies honest i
+    c.args.new.now c.begin.new.new c.in-Ok.table c.in-Ok.ensures.laid copies honest i
     (not c.in-Ok.table c.in-Ok.ensures.laid.shape.asked)
 
 pub returns-in-Err-copy_files-clause-crash : goal.returns-in-Err-copy_files-clause-crash
 returns-in-Err-copy_files-clause-crash g c = λ honest blank.
+    let at = new_files g (goal.at.returns-in-Err-copy_files-clause-crash g c).After-first_file_home in
+    let copies = copies_as at.0 at.1 c.in-Err-copy_files.ensures.copies in
     copied_crash g.D.Device g.E.Device c.args.sealing c.args.ring c.args.old.now c.in-Ok.ensures.well_formed
-    c.args.new.now c.begin.new.new c.in-Ok.table c.in-Ok.ensures.laid c.in-Err-copy_files.ensures.copies
+    c.args.new.now c.begin.new.new c.in-Ok.table c.in-Ok.ensures.laid copies
 
 pub returns-in-Err-copy_files-clause-refused : goal.returns-in-Err-copy_files-clause-refused
 returns-in-Err-copy_files-clause-refused g c =
@@ -91,33 +104,42 @@ returns-in-Err-copy_files-clause-refused g c =
 
 pub returns-in-Err-copy_files-clause-kept : goal.returns-in-Err-copy_files-clause-kept
 returns-in-Err-copy_files-clause-kept g c =
+    let at = new_files g (goal.at.returns-in-Err-copy_files-clause-kept g c).After-first_file_home in
+    let copies = copies_as at.0 at.1 c.in-Err-copy_files.ensures.copies in
     copied_kept g.D.Device g.E.Device c.args.sealing c.args.ring c.args.old.now c.in-Ok.ensures.well_formed
-    c.args.new.now c.begin.new.new c.in-Ok.table c.in-Ok.ensures.laid c.in-Err-copy_files.ensures.copies
+    c.args.new.now c.begin.new.new c.in-Ok.table c.in-Ok.ensures.laid copies
 
 -- where the super block was written, or wasn't
 
 pub returns-clause-others : goal.returns-clause-others
 returns-clause-others g c = λ honest i not.
+    let at = new_files g (goal.at.returns-clause-others g c).After-first_file_home in
+    let copies = copies_as at.0 at.1 c.in-Ok-copy_files.ensures.copies in
     final_others g.D.Device g.E.Device c.args.sealing c.args.ring c.args.old.now c.in-Ok.ensures.well_formed
-    c.args.new.now c.begin.new.new c.in-Ok.table c.in-Ok.ensures.laid c.in-Ok-copy_files.ensures.copies
+    c.args.new.now c.begin.new.new c.in-Ok.table c.in-Ok.ensures.laid copies
     c.finish.ensures.whole c.finish.new.device (is_ok c.finish.result) c.finish.ensures.did honest i
     (not c.in-Ok.table c.in-Ok.ensures.laid.shape.asked)
 
 pub returns-clause-crash : goal.returns-clause-crash
 returns-clause-crash g c = λ honest blank.
+    let at = new_files g (goal.at.returns-clause-crash g c).After-first_file_home in
+    let copies = copies_as at.0 at.1 c.in-Ok-copy_files.ensures.copies in
     final_crash g.D.Device g.E.Device c.args.sealing c.args.ring c.args.old.now c.in-Ok.ensures.well_formed
-    c.args.new.now c.begin.new.new c.in-Ok.table c.in-Ok.ensures.laid c.in-Ok-copy_files.ensures.copies
+    c.args.new.now c.begin.new.new c.in-Ok.table c.in-Ok.ensures.laid copies
     c.finish.ensures.whole c.finish.new.device (is_ok c.finish.result) c.finish.ensures.did honest blank
-    (λ on_volume. c.in-Ok-copy_files.ensures.copied on_volume (laid_stays_honest g.E.Device c.args.sealing c.args.ring
-    c.args.old.now c.args.new.now c.begin.new.new c.in-Ok.table c.in-Ok.ensures.laid honest))
+    (λ on_volume. copied_as at.0 refl (c.in-Ok-copy_files.ensures.copied on_volume (laid_stays_honest g.E.Device
+    c.args.sealing c.args.ring c.args.old.now c.args.new.now c.begin.new.new c.in-Ok.table c.in-Ok.ensures.laid
+    honest)))
 
 pub returns-clause-migrated : goal.returns-clause-migrated
 returns-clause-migrated g c = λ on_volume honest blank.
+    let at = new_files g (goal.at.returns-clause-migrated g c).After-first_file_home in
+    let copies = copies_as at.0 at.1 c.in-Ok-copy_files.ensures.copies in
     final_migrated g.D.Device g.E.Device c.args.sealing c.args.ring c.args.old.now c.in-Ok.ensures.well_formed
-    c.args.new.now c.begin.new.new c.in-Ok.table c.in-Ok.ensures.laid c.in-Ok-copy_files.ensures.copies
+    c.args.new.now c.begin.new.new c.in-Ok.table c.in-Ok.ensures.laid copies
     c.finish.ensures.whole c.finish.new.device c.finish.result c.finish.ensures.did on_volume honest blank
-    (c.in-Ok-copy_files.ensures.copied on_volume (laid_stays_honest g.E.Device c.args.sealing c.args.ring
-    c.args.old.now c.args.new.now c.begin.new.new c.in-Ok.table c.in-Ok.ensures.laid honest))
+    (copied_as at.0 refl (c.in-Ok-copy_files.ensures.copied on_volume (laid_stays_honest g.E.Device c.args.sealing
+    c.args.ring c.args.old.now c.args.new.now c.begin.new.new c.in-Ok.table c.in-Ok.ensures.laid honest)))
 
 pub returns-clause-refused : goal.returns-clause-refused
 returns-clause-refused g c =
@@ -132,9 +154,11 @@ returns-clause-unchanged g c =
 
 pub returns-clause-kept : goal.returns-clause-kept
 returns-clause-kept g c =
+    let at = new_files g (goal.at.returns-clause-kept g c).After-first_file_home in
+    let copies = copies_as at.0 at.1 c.in-Ok-copy_files.ensures.copies in
     accounts_then (copied_kept g.D.Device g.E.Device c.args.sealing c.args.ring c.args.old.now
     c.in-Ok.ensures.well_formed c.args.new.now c.begin.new.new c.in-Ok.table c.in-Ok.ensures.laid
-    c.in-Ok-copy_files.ensures.copies)
+    copies)
     (inr (
       kept_none g.D.Device c.copy_files.new.old.device,
       did_all_kept g.E.Device (finishing_works c.in-Ok.table) c.finish.result c.copy_files.new.new

@@ -1,7 +1,7 @@
 use Rattle.std.proofs.Common.{◌≡◌, ◌≤◌, ◌-◌, take, slice_index, Ok}
 use Rattle.device.specs.Device.{written}
+use Rattle.recovery.specs.Migration.{Copies}
 use Rattle.recovery.specs.Volume.{files_of, bytes_of}
-use Rattle.recovery.specs.inside.Copying.{Copies}
 use Rattle.recovery.proofs.migration.copy_file.Given as goal
 
 abbrev pub invariant-loop-at : goal.invariant-loop-at

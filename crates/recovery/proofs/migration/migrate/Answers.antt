@@ -1,34 +1,40 @@
-use Rattle.std.proofs.Common.{◌≡◌, inl, inr, length, Ok, Err, refl, sym, ap, ◌∙◌, subst, arith}
+use Rattle.std.proofs.Common.{◌≡◌, inl, inr, Ok, Err, refl, sym, ap, ◌∙◌, subst, arith}
 use Rattle.std.proofs.lemmas.Result.{MatchResult-weaker, err_from_is_err_and, on_ok_weaker}
 use Rattle.device.specs.Device.{written, Only}
 use Rattle.device.proofs.Moments.{leaves_weaker}
 use Rattle.device.proofs.Ranges.{torn_after}
 use Rattle.page_entry.specs.declared.refusal.Refusal.{Refusal}
 use Rattle.page_entry.specs.declared.refusal.Refusal.TheVariants.{Device}
-use Rattle.volume_codec.specs.Super.{SuperValue, super_text, block_count}
+use Rattle.volume_codec.specs.Layout.{GeometryValue, first_file_home}
+use Rattle.volume_codec.specs.Super.{SuperValue, super_text, block_count, total_pages}
 use Rattle.volume_codec.proofs.TableLemmas.{one_asked}
 use Rattle.recovery.specs.Format.{RefusesFormat}
 use Rattle.recovery.specs.Migration.{asked_of, AreAccounted}
 use Rattle.recovery.proofs.Copied.{unwritten_none, accounts_then, accounts_err, copies_honest}
+use Rattle.recovery.proofs.Copied.{copied_as, copies_as}
 use Rattle.recovery.proofs.Formatted.{both_ok}
 use Rattle.recovery.proofs.Kept.{kept_none, kept_ok, kept_err}
 use Rattle.recovery.proofs.Migrated.{migrated, laying_left, time_of_copying}
-use Rattle.recovery.proofs.Migrated.{time_of_filling, asked_files, asked_lengths_are}
+use Rattle.recovery.proofs.Migrated.{time_of_filling, asked_files}
+use Rattle.recovery.proofs.migration.migrate.Goals.{After-first_file_home}
 use Rattle.recovery.proofs.migration.migrate.Goals as goal
 
-pub copy_files-requires-clause-same : goal.copy_files-requires-clause-same
-copy_files-requires-clause-same g c = ap length (asked_files g.D.Device c.args.old.now c.in_ok-table.ensures.well_formed
-    c.args.layout c.args.slots c.in_ok-table.table c.in_ok-table.ensures.ok.asked)
+-- the new table's files are the volume's, and they lie behind its lengths
+new_files : (g : _) (c : After-first_file_home g) → let table = c.in_ok-table.table in
+    (c.first_file_home.result ≡ first_file_home table.layout table.slots)
+    × (c.args.old.now.table.files ≡ table.files)
+new_files g c = (
+  c.first_file_home.ensures.value
+      ∙ ap (λ (v : GeometryValue). first_file_home v.layout v.slots) c.geometry.ensures.value,
+  sym (asked_files g.D.Device c.args.old.now c.in_ok-table.ensures.well_formed c.args.layout c.args.slots
+      c.in_ok-table.table c.in_ok-table.ensures.ok.asked),
+)
 
-pub copy_files-requires-clause-lengths : goal.copy_files-requires-clause-lengths
-copy_files-requires-clause-lengths g c = asked_lengths_are g.D.Device c.args.old.now c.in_ok-table.ensures.well_formed
-    c.args.layout c.args.slots c.in_ok-table.table c.in_ok-table.ensures.ok.asked
-
-pub copy_files-requires-clause-fits : goal.copy_files-requires-clause-fits
-copy_files-requires-clause-fits g c = c.in_ok-table.ensures.ok.asked.fits
-
-pub copy_files-requires-clause-long : goal.copy_files-requires-clause-long
-copy_files-requires-clause-long g c = omega (arith, c.in_ok-table.ensures.ok.long, c.in_ok-table.ensures.kept.len)
+pub copy_files-requires : goal.copy_files-requires
+copy_files-requires g c =
+    let at = new_files g (goal.at.copy_files-requires g c).After-first_file_home in
+    let laid = c.in_ok-table.ensures in
+    omega (arith, laid.ok.long, laid.kept.len, at.0, ap total_pages at.1)
 
 pub finish-requires-clause-long : goal.finish-requires-clause-long
 finish-requires-clause-long g c = omega (
@@ -70,7 +76,9 @@ returns-in_err-copy_files-clause-past g c = λ honest table i asked le.
     let laid = c.in_ok-table.ensures in
     let same = ap (λ (v : SuperValue). block_count v) (one_asked c.args.layout
     (asked_of c.args.old.now) c.args.slots table c.in_ok-table.table asked laid.ok.asked) in
-    torn_after (c.in_err-copy_files.ensures.copies.torn (laid.kept.honest.1 honest)) i (omega (arith, le, same))
+    let at = new_files g (goal.at.returns-in_err-copy_files-clause-past g c).After-first_file_home in
+    let copies = copies_as at.0 at.1 c.in_err-copy_files.ensures.copies in
+    torn_after (copies.torn (laid.kept.honest.1 honest)) i (omega (arith, le, same))
     ∙ torn_after (laid.torn honest table asked) i (omega (arith, le))
 
 pub returns-in_err-copy_files-clause-refused : goal.returns-in_err-copy_files-clause-refused
@@ -91,7 +99,8 @@ returns-in_err-copy_files-clause-kept g c =
 pub returns-clause-past : goal.returns-clause-past
 returns-clause-past g c = λ honest table i asked le.
     let laid = c.in_ok-table.ensures in
-    let copies = c.in_ok-copy_files.ensures.copies in
+    let at = new_files g (goal.at.returns-clause-past g c).After-first_file_home in
+    let copies = copies_as at.0 at.1 c.in_ok-copy_files.ensures.copies in
     let honest_1 = laid.kept.honest.1 honest in
     let same = ap (λ (v : SuperValue). block_count v) (one_asked c.args.layout
     (asked_of c.args.old.now) c.args.slots table c.in_ok-table.table asked laid.ok.asked) in
@@ -121,7 +130,8 @@ returns-clause-kept g c =
 pub returns-clause-migrated : goal.returns-clause-migrated
 returns-clause-migrated g c = λ honest other.
     let laid = c.in_ok-table.ensures in
-    let copies = c.in_ok-copy_files.ensures.copies in
+    let at = new_files g (goal.at.returns-clause-migrated g c).After-first_file_home in
+    let copies = copies_as at.0 at.1 c.in_ok-copy_files.ensures.copies in
     let other_1 = laid.kept.honest.1 other in
     let other_2 = (copies_honest copies).1 other_1 in
     let finishes = c.finish.ensures.finishes in
@@ -132,7 +142,7 @@ returns-clause-migrated g c = λ honest other.
     migrated g.D.Device g.E.Device c.args.layout c.args.slots c.args.old.now c.args.new.now c.begin.new.new
     c.copy_files.new.new c.finish.new.device c.in_ok-table.table laid.ok laid.well_formed honest
     (laid.emptied other) (laid.torn other c.in_ok-table.table laid.ok.asked) (copies.torn other_1)
-    (c.in_ok-copy_files.ensures.copied honest other_1) both.0 both.1)
+    (copied_as at.0 refl (c.in_ok-copy_files.ensures.copied honest other_1)) both.0 both.1)
     (both_ok _ _ c.finish.result (finishes.done other_2) (finishes.synced other_2))
 
 pub returns-in_err-table-clause-crash : goal.returns-in_err-table-clause-crash
@@ -142,15 +152,18 @@ returns-in_err-table-clause-crash g c = λ honest. leaves_weaker c.in_err-table.
 pub returns-in_err-copy_files-clause-crash : goal.returns-in_err-copy_files-clause-crash
 returns-in_err-copy_files-clause-crash g c = λ honest.
     let laid = c.in_ok-table.ensures in
+    let at = new_files g (goal.at.returns-in_err-copy_files-clause-crash g c).After-first_file_home in
     time_of_copying g.D.Device g.E.Device c.args.layout c.args.slots c.args.old.now c.args.new.now c.begin.new.new
-    c.in_ok-table.table laid.ok laid.time laid.left c.in_err-copy_files.ensures.copies
+    c.in_ok-table.table laid.ok laid.time laid.left (copies_as at.0 at.1 c.in_err-copy_files.ensures.copies)
 
 pub returns-clause-crash : goal.returns-clause-crash
 returns-clause-crash g c = λ honest.
     let laid = c.in_ok-table.ensures in
-    let copies = c.in_ok-copy_files.ensures.copies in
+    let at = new_files g (goal.at.returns-clause-crash g c).After-first_file_home in
+    let copies = copies_as at.0 at.1 c.in_ok-copy_files.ensures.copies in
     let honest_1 = laid.kept.honest.1 honest in
     time_of_filling g.D.Device g.E.Device c.args.layout c.args.slots c.args.old.now c.args.new.now c.begin.new.new
     c.in_ok-table.table laid.ok laid.time laid.left copies
-    laid.well_formed (laid.emptied honest) (λ on_volume. c.in_ok-copy_files.ensures.copied on_volume honest_1) honest_1
+    laid.well_formed (laid.emptied honest)
+    (λ on_volume. copied_as at.0 refl (c.in_ok-copy_files.ensures.copied on_volume honest_1)) honest_1
     ((copies_honest copies).1 honest_1) c.finish.ensures.finishes

@@ -1,5 +1,5 @@
-use Rattle.std.proofs.Common.{sym, ◌∙◌, arith}
-use Rattle.recovery.proofs.RecoveredLengths.{batch_next, recovered_next, recovered_none}
+use Rattle.std.proofs.Common.{arith}
+use Rattle.recovery.proofs.RecoveredLengths.{batch_next}
 use Rattle.recovery.proofs.opening.find_block.Goals as goal
 
 pub record_of-requires : goal.record_of-requires
