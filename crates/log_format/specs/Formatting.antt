@@ -2,7 +2,7 @@
 use Rattle.std.specs.Prelude.{◌≡◌, ◌⊎◌, ℕ, ◌*◌, ◌<◌, ◌≤◌, ◌+◌, true, false, List, [], ◌∷◌, ◌++◌, length}
 use Rattle.std.specs.Prelude.{Result, Ok, Err}
 use Rattle.device.specs.Device.{Torn, Only}
-use Rattle.device.specs.Work.{Work, WriteAt, Sync}
+use Rattle.device.specs.Work.{Work, WriteAt}
 use Rattle.device.specs.declared.device.Device.{Ghosts}
 use Rattle.page_entry.specs.declared.refusal.Refusal.{Refusal}
 use Rattle.page_entry.specs.declared.refusal.Refusal.TheVariants.{Device}
@@ -10,7 +10,7 @@ use Rattle.volume_codec.specs.Files.{AskedFile, lengths_asked}
 use Rattle.volume_codec.specs.Layout.{block_at}
 use Rattle.volume_codec.specs.Lengths.{lengths_text}
 use Rattle.recovery.specs.Format.{zero_files}
-use Rattle.new_volume.specs.Formatting.{DidAll}
+use Rattle.new_volume.specs.Formatting.{DidAll, super_works}
 use Rattle.log_codec.specs.declared.sealing.Sealing.{Sealing}
 use Rattle.log_codec.specs.Log.{first_log_home}
 use Rattle.log_codec.specs.Start.{start_text}
@@ -27,7 +27,7 @@ laying_works table lengths =
 
 -- what was written is synced, then block 0 is written and synced
 abbrev pub finishing_works : LogSuperValue → List Work
-finishing_works table = Sync ∷ WriteAt 0 (log_super_text table) ∷ Sync ∷ []
+finishing_works table = super_works (log_super_text table)
 
 -- what a new volume takes: the start and the lengths are written and synced, then block 0
 abbrev pub log_works : LogSuperValue → List ℕ → List Work

@@ -14,9 +14,10 @@ ghost use Rattle.log_format.specs.Fresh.{first_log_start};
 ghost use Rattle.log_format.specs.Formatting.{log_works, laying_works, finishing_works, IsWrittenInLog, HasAskedLog, HasFormattedLog, LeftByLogFormat};
 
 use crate::asked::{asked_super, log_block_count};
-use device::{Device, DeviceFault, make_durable, write_at};
+use device::{Device, DeviceFault, write_at};
 use log_codec::{LogGeometry, LogStart, Sealing, encode_start};
 use log_volume::LogSuper;
+use new_volume::finish_new;
 use page_entry::{PAGE, Refusal};
 use std::alloc::Allocator;
 use volume_codec::{FileSpec, write_lengths_of};
@@ -134,15 +135,7 @@ pub fn finish_log<D: Device, A: Allocator + Copy>(
     ensures table { length (log_super_text table.now) ≡ 4096 }
 {
     let block = table.to_block();
-    match make_durable(device) {
-        Ok(()) => {}
-        Err(fault) => return Err(fault),
-    }
-    match write_at(device, 0, &block) {
-        Ok(()) => {}
-        Err(fault) => return Err(fault),
-    }
-    make_durable(device)
+    finish_new(device, &block)
 }
 
 // Writes the start of a fresh log.

@@ -26,11 +26,15 @@ abbrev pub write_if : ℕ → ℕ → List ℕ → Work
 write_if zero at block = Nothing
 write_if (suc n) at block = WriteAt at block
 
+-- what was written is synced, then block 0 is written and synced
+abbrev pub super_works : List ℕ → List Work
+super_works block = Sync ∷ WriteAt 0 block ∷ Sync ∷ []
+
 -- the lengths are written where they have a block, then the table; each is synced
 abbrev pub new_works : SuperValue → List ℕ → List Work
 new_works table lengths =
     write_if (lengths_blocks table.layout) (4096 * first_home table.layout table.slots) (lengths_text lengths)
-    ∷ Sync ∷ WriteAt 0 (super_text table) ∷ Sync ∷ []
+    ∷ super_works (super_text table)
 
 -- these were asked of a device, one after another, and done, or one of them failed and none of the later was asked
 abbrev pub DidAll : {D : Type 0} → Ghosts D → D → List Work → Bool → D → Type 0

@@ -1,17 +1,18 @@
 // A volume is made on a device whose bytes are all 0.
-ghost use Rattle.std.specs.Prelude.{◌≡◌, ◌⊎◌, ◌*◌, ◌≤◌, ℕ, length, slice_index, is_ok, IfOk, IfErr, OnOk};
+ghost use Rattle.std.specs.Prelude.{◌≡◌, ◌*◌, ◌≤◌, ℕ, length, slice_index, is_ok, OnOk};
 ghost use Rattle.device.specs.Did.{Did};
 ghost use Rattle.volume_codec.specs.Files.{asked_by, lengths_asked};
 ghost use Rattle.volume_codec.specs.Layout.{lengths_blocks, first_home};
 ghost use Rattle.volume_codec.specs.Lengths.{lengths_text};
 ghost use Rattle.volume_codec.specs.Super.{SuperValue, IsAsked, super_text, block_count};
-ghost use Rattle.recovery.specs.Format.{HasShape, HasFormatted, RefusesFormat};
-ghost use Rattle.new_volume.specs.Formatting.{IsZero, IsWritten, DidAll, HasAsked, write_if, new_works};
+ghost use Rattle.recovery.specs.Format.{HasFormatted};
+ghost use Rattle.new_volume.specs.Formatting.{IsZero, IsWritten, DidAll, HasAsked, write_if, super_works, new_works};
 
 use device::{Device, DeviceFault, make_durable, write_at};
 use page_entry::{PAGE, Refusal};
+use recovery::shape;
 use std::alloc::Allocator;
-use volume_codec::{FileSpec, Geometry, Super, block_count_as, write_lengths_of};
+use volume_codec::{FileSpec, Geometry, Super, write_lengths_of};
 
 /// Makes a volume on a device whose bytes are all 0, as `recovery::format_as` makes one, but writes only the lengths
 /// and the table: it writes the lengths block where the layout has one, syncs, writes the super block and syncs. No
@@ -41,26 +42,6 @@ pub fn format_new<D: Device, A: Allocator + Copy>(
     }
 }
 
-// The table of these files on a device of so many bytes. `BadShape`, before any memory is taken, where no volume has
-// them or the device is shorter than its blocks.
-fn shape<A: Allocator + Copy>(
-    alloc: A,
-    bytes: u64,
-    layout: u64,
-    files: &[FileSpec],
-    slots: u64,
-) -> Result<Super<A>, Refusal>
-    ensures ok { IfOk result (HasShape layout (asked_by files.now) slots bytes) }
-    ensures refused { IfErr result (RefusesFormat layout (asked_by files.now) slots bytes) }
-    ensures early { IfErr result (λ refusal. (refusal ≡ Refusal.BadShape) ⊎ (refusal ≡ Refusal.OutOfMemory)) }
-{
-    let blocks = block_count_as(layout, files, slots)?;
-    if bytes < PAGE * blocks {
-        return Err(Refusal::BadShape);
-    }
-    Super::new(alloc, layout, files, slots)
-}
-
 // Writes the lengths of these files and their table, each synced.
 fn write_new<D: Device, A: Allocator + Copy>(
     device: &mut D,
@@ -80,11 +61,20 @@ fn write_new<D: Device, A: Allocator + Copy>(
         Ok(()) => {}
         Err(fault) => return Err(fault),
     }
+    finish_new(device, &block)
+}
+
+/// Writes the super block of a volume, all the rest of which was written: that is synced, and then the block is written
+/// and synced.
+pub fn finish_new<D: Device>(device: &mut D, block: &[u8; 4096]) -> Result<(), DeviceFault>
+    requires { 4096 ≤ length (D.seen device.old) }
+    ensures { DidAll D.Device device.old (super_works block.now) (is_ok result) device.new }
+{
     match make_durable(device) {
         Ok(()) => {}
         Err(fault) => return Err(fault),
     }
-    match write_at(device, 0, &block) {
+    match write_at(device, 0, block) {
         Ok(()) => {}
         Err(fault) => return Err(fault),
     }

@@ -4,5 +4,5 @@
 mod formatting;
 mod new_file;
 
-pub use formatting::format_new;
+pub use formatting::{finish_new, format_new};
 pub use new_file::{EmptyFile, NewFile, WriteListener};
