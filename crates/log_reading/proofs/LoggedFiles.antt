@@ -1,10 +1,10 @@
 -- The files of a volume with a log that was read.
-use Rattle.std.proofs.Common.{◌≡◌, ◌<◌, ◌≤◌, ℕ, zero, suc, ◌+◌, ◌-◌, ◌*◌, List, [], ◌∷◌, ◌++◌, length}
+use Rattle.std.proofs.Common.{◌≡◌, ◌<◌, ◌≤◌, ℕ, zero, suc, ◌+◌, ◌-◌, ◌*◌, List, [], ◌∷◌, length}
 use Rattle.std.proofs.Common.{map, take, drop, if◌then◌else◌}
 use Rattle.std.proofs.Common.{slice_get, slice_index, Some, Bool, true, false, eqb, inl, inr, refl, sym, ◌∙◌, ap, subst}
 use Rattle.std.proofs.Common.{arith, length-take, length-drop}
 use Rattle.std.proofs.lemmas.Bool.{cases_lt}
-use Rattle.std.proofs.lemmas.List.{take-take, take_all, drop-take, drop-drop, take_at, drop_at}
+use Rattle.std.proofs.lemmas.List.{take-take, take_all, drop-take}
 use Rattle.std.proofs.lemmas.Nat.{mod_below}
 use Rattle.volume_codec.specs.Files.{File, TableFile}
 use Rattle.volume_codec.specs.Layout.{block_at}
@@ -13,6 +13,7 @@ use Rattle.volume_codec.specs.Lengths.{AreLengths}
 use Rattle.volume_codec.specs.Recovery.{blocks_from, files_from}
 use Rattle.volume_codec.proofs.Public.{length-file, length-block_at, total_pages-take_more, total_pages-take_le}
 use Rattle.recovery.specs.Volume.{bytes_of}
+use Rattle.recovery.proofs.Public.{block_of}
 use Rattle.file_rows.specs.Reading.{part_of}
 use Rattle.log_codec.specs.Log.{ring_block, first_log_file_home}
 use Rattle.log_codec.specs.Commit.{LogDescriptor}
@@ -64,26 +65,6 @@ file_bytes contents b (t ∷ fs) (n ∷ ns) (suc i) there count =
     ∙ ap (λ k. take (slice_index ns i) (blocks_from contents k
     (pages_of (slice_index (map (λ (t : TableFile). t.capacity) fs) i)))) from
 
--- block p of blocks one after another
-block_in : (contents : ℕ → List ℕ) (b n p : ℕ) → p < n
-    → ((i : ℕ) → b ≤ i → i < b + n → length (contents i) ≡ 4096)
-    → take 4096 (drop (4096 * p) (blocks_from contents b n)) ≡ contents (b + p)
-block_in contents b zero p below whole = absurd (omega (arith, below))
-block_in contents b (suc n) zero below whole =
-    let here : b ≡ b + 0 = omega arith in
-    take_at (contents b) (blocks_from contents (b + 1) n) 4096 (whole b (omega arith) (omega arith)) ∙ ap contents here
-block_in contents b (suc n) (suc p) below whole =
-    let rest = blocks_from contents (b + 1) n in
-    let past : 4096 * suc p ≡ 4096 + 4096 * p = omega arith in
-    let there : b + 1 + p ≡ b + suc p = omega arith in
-    ap (λ k. take 4096 (drop k (contents b ++ rest))) past
-    ∙ ap (take 4096) (sym (drop-drop (4096 * p) 4096 (contents b ++ rest)))
-    ∙ ap (λ l. take 4096 (drop (4096 * p) l))
-    (drop_at (contents b) rest 4096 (whole b (omega arith) (omega arith)))
-    ∙ block_in contents (b + 1) n p (omega (arith, below))
-    (λ i low high. whole i (omega (arith, low)) (omega (arith, high)))
-    ∙ ap contents there
-
 -- both cuts of a list, in either order
 cut_both : (m n : ℕ) (xs : List ℕ) → take m (take n xs) ≡ take n (take m xs)
 cut_both m n xs = elim (cases_lt m n) [
@@ -104,7 +85,8 @@ page_in contents b blocks n p within below whole =
     ap (λ k. take 4096 (drop at (take k xs))) split
     ∙ ap (take 4096) (drop-take at (n - at) xs)
     ∙ cut_both 4096 (n - at) (drop at xs)
-    ∙ ap (take (n - at)) (block_in contents b blocks p below whole)
+    ∙ ap (take (n - at))
+    (block_of contents b blocks p below (λ i low high. whole i (omega (arith, low)) (omega (arith, high, below))))
 
 -- the record of a home block lies in the volume
 logged_below : (ring n other p : ℕ) (homes : List ℕ) (b : ℕ) → 0 < ring → 4 + ring ≤ n → other < n
