@@ -1,5 +1,5 @@
 // The bytes of one file of a volume.
-ghost use Rattle.std.specs.Prelude.{◌≡◌, ◌≢◌, ℕ, ◌*◌, ◌<◌, ◌≤◌, List, length, slice_get, Some, IfOk, IfErr, IfSome, IfNone};
+ghost use Rattle.std.specs.Prelude.{◌≡◌, ℕ, ◌*◌, ◌<◌, ◌≤◌, List, length, slice_get, Some, IfOk, IfErr, IfSome, IfNone};
 ghost use Rattle.volume_codec.specs.Files.{File};
 ghost use Rattle.recovery.specs.Reading.{IsOnlyRead};
 ghost use Rattle.any_volume.specs.Volume.{RefusesAny};
@@ -72,38 +72,10 @@ where
         → HasNone (V.files volume.now (D.seen device.old)) name.now) }
     ensures read { IsOnlyRead D.Device device.old device.new }
 {
-    match find(volume, name) {
-        Some(file) => copy_found(volume, device, name, file, out, listener),
-        None => Err(CopyFault::NoFile),
-    }
-}
-
-// Writes all bytes of this file, which has this name, and says how many there are.
-fn copy_found<V, D, F, L>(
-    volume: &V,
-    device: &mut D,
-    name: &str,
-    file: usize,
-    out: F,
-    listener: L,
-) -> Result<(u64, F), CopyFault>
-where
-    V: FoundFiles,
-    D: Device,
-    F: EmptyFile + Drop,
-    L: WriteListener + Drop,
-    requires there { file < V.count volume.now }
-    requires listed { D.is_honest device.old → file < length (V.files volume.now (D.seen device.old)) }
-    requires named { D.is_honest device.old → (f : File)
-        → slice_get (V.files volume.now (D.seen device.old)) file ≡ Some f → f.name ≡ name.now }
-    requires sound { V.is_sound volume.now }
-    requires long { 4096 * V.blocks volume.now ≤ length (D.seen device.old) }
-    requires found { D.is_honest device.old → V.is_in volume.now (D.seen device.old) }
-    ensures copied { D.is_honest device.old → IfOk result (λ made. F.is_honest made.1 → IsCopied
-        (V.files volume.now (D.seen device.old)) name.now (F.seen made.1) made.0) }
-    ensures there { IfErr result (λ fault. fault ≢ CopyFault.NoFile) }
-    ensures read { IsOnlyRead D.Device device.old device.new }
-{
+    let file = match find(volume, name) {
+        Some(file) => file,
+        None => return Err(CopyFault::NoFile),
+    };
     let bytes = volume.length(file);
     let mut new = match lengthened(out, bytes, listener) {
         Ok(new) => new,

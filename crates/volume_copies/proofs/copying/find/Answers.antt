@@ -1,4 +1,4 @@
-use Rattle.std.proofs.Common.{rules, ◌≡◌, ◌≢◌, ◌<◌, inl, inr, length, slice_get, Some, sym, ◌∙◌, subst, ℕ, arith}
+use Rattle.std.proofs.Common.{rules, ◌≡◌, ◌≢◌, inl, inr, slice_get, Some, sym, ◌∙◌, subst, ℕ, arith}
 use Rattle.std.proofs.lemmas.Bool.{cases_lt}
 use Rattle.volume_copies.proofs.Names.{place_below}
 use Rattle.volume_copies.proofs.copying.find.Goals as goal
