@@ -78,7 +78,7 @@ pub fn encode_descriptor(seal: &[u8; 8], number: u64, homes: &[u32], index: u32)
 }
 
 /// Whether the blocks rise strictly, from `low` on and below `high`.
-fn rise_within(homes: &[u32], low: u32, high: u32) -> bool
+pub fn rise_within(homes: &[u32], low: u32, high: u32) -> bool
     ensures { IsTrue result ↔ RiseWithin low high homes.now }
 {
     let mut least = u64::from(low);

@@ -13,8 +13,9 @@ mod start;
 #[cfg(test)]
 mod tests;
 
+pub use block::{u32_at, u64_at};
 pub use broken::Broken;
-pub use descriptor::{decode_count, decode_descriptor, encode_descriptor};
+pub use descriptor::{decode_count, decode_descriptor, encode_descriptor, rise_within};
 pub use laws::{
     broken_bytes, ends_of_log, next_commit, one_log, parts_of_log, recovered_from_log,
     room_of_chain,

@@ -19,7 +19,7 @@ use crate::image::fill;
 use crate::ring::write_ring;
 use crate::tail::LogTail;
 use device::{Device, DeviceFault, make_durable, write_at};
-use log_codec::{LogGeometry, Sealing};
+use log_codec::{LogGeometry, Sealing, rise_within};
 
 /// The byte that opens a seal.
 const OPEN: u8 = 0xA7;
@@ -33,20 +33,6 @@ fn spare_of(sealing: Sealing) -> u32
         Sealing::ByByte => 1,
         Sealing::ByDigest(_) => 0,
     }
-}
-
-// Whether the home blocks rise strictly, from `low` on and below `high`.
-fn rise_within(homes: &[u32], low: u32, high: u32) -> bool
-    ensures { IsTrue result ↔ RiseWithin low high homes.now }
-{
-    let mut least = u64::from(low);
-    for home in homes {
-        if u64::from(*home) < least || *home >= high {
-            return false;
-        }
-        least = u64::from(*home) + 1;
-    }
-    true
 }
 
 // Makes sure of what was written. Where a start is to be selected, the one that doesn't count is, before that.
