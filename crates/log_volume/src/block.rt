@@ -1,26 +1,8 @@
-// Blocks of 4,096 bytes: numbers read at a place, and the first bytes replaced, one field behind another.
+// Blocks of 4,096 bytes whose first bytes are replaced, one field behind another.
 ghost use Rattle.std.specs.Prelude.{◌≡◌, ◌≤◌, ◌+◌, ◌++◌, ℕ, List, length, drop};
-ghost use Rattle.volume_codec.specs.Text.{number_text, number_in};
+ghost use Rattle.volume_codec.specs.Text.{number_text};
 
 use byteorder::{BigEndian, ByteOrder};
-
-/// The number in the 4 bytes from this place on.
-#[tactic(auto, unfolding(volume_codec::specs::Text::number_in))]
-pub fn u32_at(bytes: &[u8], at: usize) -> u32
-    requires { at + 4 ≤ length bytes.now }
-    ensures { result ≡ number_in 4 (drop at bytes.now) }
-{
-    BigEndian::read_u32(&bytes[at..])
-}
-
-/// The number in the 8 bytes from this place on.
-#[tactic(auto, unfolding(volume_codec::specs::Text::number_in))]
-pub fn u64_at(bytes: &[u8], at: usize) -> u64
-    requires { at + 8 ≤ length bytes.now }
-    ensures { result ≡ number_in 8 (drop at bytes.now) }
-{
-    BigEndian::read_u64(&bytes[at..])
-}
 
 /// Replaces the next bytes, behind those that are replaced already.
 pub fn put(block: &mut [u8; 4096], at: usize, bytes: &[u8])

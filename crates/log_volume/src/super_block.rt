@@ -6,8 +6,8 @@ ghost use Rattle.log_codec.specs.declared.sealing.Sealing.{Sealing};
 ghost use Rattle.log_codec.specs.Log.{IsLog};
 ghost use Rattle.log_volume.specs.Super.{LogSuperValue, IsLogSuper, RefusesLogSuper, FitsLog, table_of, log_of, log_magic, key_of, log_super_text};
 
-use crate::block::{put, put_u32, put_u64, u32_at, u64_at};
-use log_codec::{LogGeometry, Sealing};
+use crate::block::{put, put_u32, put_u64};
+use log_codec::{LogGeometry, Sealing, u32_at, u64_at};
 use page_entry::Refusal;
 use std::alloc::Allocator;
 use std::marker::Model;
