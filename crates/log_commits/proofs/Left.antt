@@ -27,7 +27,8 @@ use Rattle.log_commits.proofs.Ranges.{RingTorn, RingHas, torn_within}
 use Rattle.log_commits.proofs.Outside.{did_length, all_outside, commit_in}
 use Rattle.log_commits.proofs.Held.{KeepsLog, keeps_of_torn}
 use Rattle.log_commits.proofs.UnderWay.{closed_by_byte, open_by_byte, whole_by_digest, torn_by_digest, closed_before}
-use Rattle.log_commits.proofs.Works.{RingFrom, WentRound, went_round, did_split, one_did}
+use Rattle.log_commits.proofs.Works.{RingFrom, WentRound, went_round, did_split, one_did, crash_synced, torn_synced}
+use Rattle.log_commits.proofs.Works.{byte_written}
 
 -- bytes that hold a log recover to its contents
 pub recovers : (t : TailValue) (contents : ℕ → List ℕ) (bytes : List ℕ) → HoldsLog t contents bytes
@@ -38,6 +39,19 @@ recovers t contents bytes held = record {
   log = held.log;
   contents_are = held.contents_are;
 }
+
+-- the size of a commit's bytes
+pub commit_size : (t : TailValue) (homes records : List ℕ)
+    → length (log_seal t.log.sealing t.start.epoch (next_logged t homes) records ++ log_body (next_logged t homes))
+    ≡ 4096 * log_descriptor_blocks (length homes) → length records ≡ 4096 * length homes
+    → length (commit_bytes t homes records) ≡ 4096 * log_commit_blocks (length homes)
+commit_size t homes records head_size records_size = omega (
+  arith,
+  length-append (log_seal t.log.sealing t.start.epoch (next_logged t homes) records
+      ++ log_body (next_logged t homes)) records,
+  head_size,
+  records_size,
+)
 
 -- what the calls of a commit leave; the commits that are read once it is made are known, too
 pub record CommitLeft {D : Type 0} (disk : Ghosts D) (t : TailValue) (contents : ℕ → List ℕ)
@@ -90,13 +104,7 @@ module _ {D : Type 0} (disk : Ghosts D) (t : TailValue) (contents : ℕ → List
   log_long = omega (arith, log.some_homes)
 
   size : length bytes ≡ 4096 * n
-  size = omega (
-    arith,
-    length-append (log_seal t.log.sealing t.start.epoch (next_logged t homes) records
-        ++ log_body (next_logged t homes)) records,
-    head_size,
-    records_size,
-  )
+  size = commit_size t homes records head_size records_size
 
   -- a sync that was made sure of
   durable_by : {mid new : D} (done : Bool) → disk.is_honest mid → Did disk mid Sync done new → done ≡ true
@@ -143,8 +151,7 @@ module _ {D : Type 0} (disk : Ghosts D) (t : TailValue) (contents : ℕ → List
               let sync = one_did disk Sync both.2 in
               let is = went.has.honest.1 honest in
               record {
-                crash = leaves_then {P = Left} (leaves_weaker went.has.time left_by)
-                    (leaves_weaker sync.time (λ c may. left_by c (went.has.left c may)));
+                crash = crash_synced {P = Left} went.has sync left_by;
                 durable = durable_by done is sync;
                 committed = λ made tells.
                     let same : disk.seen new ≡ disk.seen both.0 = done_seen sync is made in
@@ -280,24 +287,16 @@ module _ {D : Type 0} (disk : Ghosts D) (t : TailValue) (contents : ℕ → List
       two_honest : disk.is_honest two
       two_honest = sync.honest.1 one_honest
 
-      crash_synced : LeavesOnly disk.moment disk.left_since old two Left
-      crash_synced =
-          leaves_then {P = Left} (leaves_weaker went.has.time left_unsealed)
-          (leaves_weaker sync.time (λ c may. left_unsealed c (went.has.left c may)))
-
       -- what the write of the seal's byte leaves
-      torn_seal : (c : List ℕ) → TornFrom place 1 (disk.may_leave two) c → Torn place 1 (disk.seen one) c
-      torn_seal c from =
-          let is : from.0 ≡ disk.seen one = sync.durable one_honest refl refl from.0 from.1 in
-          let P : List ℕ → Type 0 = λ l. Torn place 1 l c in subst P is from.2
-
       left_seal : (c : List ℕ) → TornFrom place 1 (disk.may_leave two) c → Left c
       left_seal c from =
-          left_sealing (disk.seen one) (went.has.torn honest) (went.is refl honest) c (torn_seal c from)
+          left_sealing (disk.seen one) (went.has.torn honest) (went.is refl honest) c
+          (torn_synced disk one_honest sync place 1 c from)
 
       pub seal_failed : {new : D} → Did disk two (WriteAt place (0xA7 ∷ [])) false new → Leaves new false
       seal_failed did = record {
-        crash = leaves_then {P = Left} crash_synced (leaves_weaker did.time left_seal);
+        crash = leaves_then {P = Left} (crash_synced {P = Left} went.has sync left_unsealed)
+            (leaves_weaker did.time left_seal);
         durable = λ made. absurd (false≢true made);
         committed = λ made. absurd (false≢true made);
       }
@@ -308,7 +307,8 @@ module _ {D : Type 0} (disk : Ghosts D) (t : TailValue) (contents : ℕ → List
           let is = did.honest.1 two_honest in
           let c : List ℕ = disk.seen three in
           record {
-            crash = leaves_then {P = Left} (leaves_then {P = Left} crash_synced (leaves_weaker did.time left_seal))
+            crash = leaves_then {P = Left} (leaves_then {P = Left} (crash_synced {P = Left} went.has sync left_unsealed)
+                (leaves_weaker did.time left_seal))
                 (leaves_weaker last.time (λ x may. left_seal x (did.left x may)));
             durable = durable_by done is last;
             committed = λ made tells.
@@ -316,16 +316,10 @@ module _ {D : Type 0} (disk : Ghosts D) (t : TailValue) (contents : ℕ → List
                 let P : List ℕ → Type 0 = λ l. HoldsMore l in
                 let room_two : place + 1 ≤ length (disk.seen two) =
                 omega (arith, block_low ring t.position some, log_long, went.has.same_length, sync.same_length) in
-                let opened : get_or c place 0 ≡ 0xA7 =
-                ap (λ (l : List ℕ). get_or l place 0) (done_seen did two_honest refl)
-                ∙ written_within (disk.seen two) place (0xA7 ∷ []) place room_two (omega arith) (omega arith)
-                ∙ ap (λ i. get_or (0xA7 ∷ []) i 0) here in
                 subst P (sym same) (sealed (disk.seen one) (went.has.torn honest) (went.is refl honest) c
-                (torn_seal c (did.left c (seen_is_left three is))) opened);
+                (torn_synced disk one_honest sync place 1 c (did.left c (seen_is_left three is)))
+                (byte_written disk place 0xA7 did two_honest room_two));
           }
-        where
-          here : place - place ≡ 0
-          here = omega arith
 
     pub leaves_by_byte : {new : D} (done : Bool)
         → DidAll disk old (ring_works ring t.position 1 image
@@ -352,8 +346,7 @@ module _ {D : Type 0} (disk : Ghosts D) (t : TailValue) (contents : ℕ → List
             → DidAll disk one (Sync ∷ WriteAt place (0xA7 ∷ []) ∷ Sync ∷ []) done new → Leaves new done
         behind one went (inl failed) =
             failed_as (sym failed.1) (record {
-              crash = leaves_then {P = Left} (leaves_weaker went.has.time left_unsealed)
-                  (leaves_weaker failed.0.time (λ c may. left_unsealed c (went.has.left c may)));
+              crash = crash_synced {P = Left} went.has failed.0 left_unsealed;
               durable = λ made. absurd (false≢true made);
               committed = λ made. absurd (false≢true made);
             })
@@ -362,28 +355,15 @@ module _ {D : Type 0} (disk : Ghosts D) (t : TailValue) (contents : ℕ → List
         behind one went (inr (two, sync, inr (three, did, rest))) =
             seal_done one two went sync done did (one_did disk Sync rest)
 
--- a commit, sealed as the log is
-module _ {D : Type 0} (disk : Ghosts D) (t : TailValue) (contents : ℕ → List ℕ) (homes records : List ℕ) (room : ℕ)
-    (log : IsLog t.log) (may : MayCommit t homes room)
-    (head_size : length (log_seal t.log.sealing t.start.epoch (next_logged t homes) records
-    ++ log_body (next_logged t homes)) ≡ 4096 * log_descriptor_blocks (length homes))
-    (records_size : length records ≡ 4096 * length homes) (old : D) (honest : disk.is_honest old)
-    (long : 4096 * t.log.blocks ≤ length (disk.seen old))
-    (held : (c : List ℕ) → disk.may_leave old c → HoldsLog t contents c)
-    (seen_is_left : (device : D) → disk.is_honest device → disk.may_leave device (disk.seen device)) where
-  left : {new : D} (done : Bool) → DidAll disk old (commit_works t homes records) done new
-      → CommitLeft disk t contents homes records (held (disk.seen old) (seen_is_left old honest)).chain done old new
+  -- ---- sealed as the log is
+
+  left : {new : D} (done : Bool) → DidAll disk old (commit_works t homes records) done new → Leaves new done
   left {new} done did = by_sealing t.log.sealing refl did
     where
-      by_sealing : (s : Sealing) → t.log.sealing ≡ s
-          → DidAll disk old (works_by s t.log.ring t.position (commit_bytes t homes records)) done new
-          → CommitLeft disk t contents homes records (held (disk.seen old) (seen_is_left old honest)).chain done old new
-      by_sealing ByByte is did =
-          leaves_by_byte disk t contents homes records room log may head_size records_size old honest long held
-          seen_is_left is done did
-      by_sealing (ByDigest key) is did =
-          leaves_by_digest disk t contents homes records room log may head_size records_size old honest long held
-          seen_is_left key is done did
+      by_sealing : (s : Sealing) → t.log.sealing ≡ s → DidAll disk old (works_by s ring t.position bytes) done new
+          → Leaves new done
+      by_sealing ByByte is did = leaves_by_byte is done did
+      by_sealing (ByDigest key) is did = leaves_by_digest key is done did
 
   pub leaves : {new : D} (done : Bool) → DidAll disk old (commit_works t homes records) done new
       → CommitLeaves disk t contents homes records done old new
@@ -392,9 +372,7 @@ module _ {D : Type 0} (disk : Ghosts D) (t : TailValue) (contents : ℕ → List
       record { crash = is.crash; durable = is.durable; committed = λ made tells. (is.committed made tells).0 }
 
   pub leaves_chain : {new : D} (done : Bool) → DidAll disk old (commit_works t homes records) done new → done ≡ true
-      → TellsTorn t homes records (disk.seen new)
-      → (h : HoldsLog (tail_after t homes) (committed_to contents homes records) (disk.seen new))
-      × (h.chain ≡ (held (disk.seen old) (seen_is_left old honest)).chain ++ next_logged t homes ∷ [])
+      → TellsTorn t homes records (disk.seen new) → HoldsMore (disk.seen new)
   leaves_chain {new} done did made tells = (left done did).committed made tells
 
 -- what is outside the log stays
@@ -407,13 +385,7 @@ pub leaves_outside : {D : Type 0} (disk : Ghosts D) (t : TailValue) (homes recor
     → IsSameOutside t.log (disk.seen old) (disk.seen new)
 leaves_outside disk t homes records room log may head_size records_size old new long done did honest =
     let n : ℕ = log_commit_blocks (length homes) in
-    let size : length (commit_bytes t homes records) ≡ 4096 * n = omega (
-      arith,
-      length-append (log_seal t.log.sealing t.start.epoch (next_logged t homes) records
-          ++ log_body (next_logged t homes)) records,
-      head_size,
-      records_size,
-    ) in
+    let size = commit_size t homes records head_size records_size in
     let all = commit_in t.log.sealing t.log.ring t.position n (commit_bytes t homes records)
     (omega (arith, log.some_ring)) size (omega (arith, may.size.room)) in
     record {

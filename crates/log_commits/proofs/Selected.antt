@@ -26,9 +26,11 @@ use Rattle.log_commits.specs.Selecting.{IsSureBy, selecting_works}
 use Rattle.log_commits.proofs.Places.{block_low}
 use Rattle.log_commits.proofs.Ranges.{RingTorn, RingHas, torn_within}
 use Rattle.log_commits.proofs.Kept.{selects}
-use Rattle.log_commits.proofs.Left.{recovers, keeps, unsealed, sealed, closed, seal_torn, image_size, near}
+use Rattle.log_commits.proofs.Left.{recovers, commit_size, keeps, unsealed, sealed, closed, seal_torn, image_size}
+use Rattle.log_commits.proofs.Left.{near}
 use Rattle.log_commits.proofs.UnderWay.{torn_by_digest, whole_by_digest}
-use Rattle.log_commits.proofs.Works.{RingFrom, WentRound, went_round, did_split, one_did}
+use Rattle.log_commits.proofs.Works.{RingFrom, WentRound, went_round, did_split, one_did, crash_synced, torn_synced}
+use Rattle.log_commits.proofs.Works.{byte_written}
 use Rattle.log_commits.proofs.Ready.{Before, After, Either, Left, torn_outside, ready_same, ready_more}
 use Rattle.log_commits.proofs.Ready.{left_selecting, left_either, selected_with}
 
@@ -93,13 +95,7 @@ module _ {D : Type 0} (disk : Ghosts D) (t : TailValue) (contents : ℕ → List
   low = omega (arith, log_long)
 
   size : length bytes ≡ 4096 * n
-  size = omega (
-    arith,
-    length-append (log_seal t.log.sealing t.start.epoch (next_logged t homes) records
-        ++ log_body (next_logged t homes)) records,
-    head_size,
-    records_size,
-  )
+  size = commit_size t homes records head_size records_size
 
   failed_as : {new : D} (done : Bool) → done ≡ false → Leaves new false → Leaves new done
   failed_as {new} done is leaves = let P : Bool → Type 0 = λ b. Leaves new b in subst P (sym is) leaves
@@ -142,8 +138,7 @@ module _ {D : Type 0} (disk : Ghosts D) (t : TailValue) (contents : ℕ → List
         let torn : Torn 4096 1 (disk.seen mid) c =
         subst P (sym seen) (torn_by_write (disk.seen mid) 4096 (selecting (not second) ∷ []) fits) in
         let byte : get_or c 4096 0 ≡ selecting (not second) =
-        ap (λ (l : List ℕ). get_or l 4096 0) seen
-        ∙ written_within (disk.seen mid) 4096 (selecting (not second) ∷ []) 4096 fits (omega arith) (omega arith) in
+        byte_written disk 4096 (selecting (not second)) did is fits in
         record {
           crash = leaves_then {P = Crash} (leaves_then {P = Crash} before (leaves_weaker did.time by_byte))
               (leaves_weaker sync.time (λ x may. by_byte x (did.left x may)));
@@ -284,24 +279,19 @@ module _ {D : Type 0} (disk : Ghosts D) (t : TailValue) (contents : ℕ → List
       two_is : disk.is_honest two
       two_is = sync.honest.1 one_is
 
-      crash_synced : LeavesOnly disk.moment disk.left_since old two Crash
-      crash_synced =
-          leaves_then {P = Crash} (leaves_weaker went.has.time left_unsealed)
-          (leaves_weaker sync.time (λ c may. left_unsealed c (went.has.left c may)))
-
-      torn_seal : (c : List ℕ) → TornFrom place 1 (disk.may_leave two) c → Torn place 1 (disk.seen one) c
-      torn_seal c from =
-          let is : from.0 ≡ disk.seen one = sync.durable one_is refl refl from.0 from.1 in
-          let P : List ℕ → Type 0 = λ l. Torn place 1 l c in subst P is from.2
-
       either_seal : (c : List ℕ) → TornFrom place 1 (disk.may_leave two) c → Mid c
       either_seal c from =
-          seal_either (disk.seen one) (went.has.torn honest) (went.is refl honest) c (torn_seal c from)
+          seal_either (disk.seen one) (went.has.torn honest) (went.is refl honest) c
+          (torn_synced disk one_is sync place 1 c from)
+
+      crash_sealing : {done : Bool} {three : D} → Did disk two (WriteAt place (0xA7 ∷ [])) done three
+          → LeavesOnly disk.moment disk.left_since old three Crash
+      crash_sealing did =
+          leaves_then {P = Crash} (crash_synced {P = Crash} went.has sync left_unsealed)
+          (leaves_weaker did.time (λ c from. crash_of c (either_seal c from)))
 
       seal_failed : {new : D} → Did disk two (WriteAt place (0xA7 ∷ [])) false new → Leaves new false
-      seal_failed did =
-          failed_by (leaves_then {P = Crash} crash_synced
-          (leaves_weaker did.time (λ c from. crash_of c (either_seal c from))))
+      seal_failed did = failed_by (crash_sealing did)
 
       seal_done : {three new : D} (done : Bool) → Did disk two (WriteAt place (0xA7 ∷ [])) true three
           → DidAll disk three (select_works second) done new → Leaves new done
@@ -310,18 +300,12 @@ module _ {D : Type 0} (disk : Ghosts D) (t : TailValue) (contents : ℕ → List
           let c : List ℕ = disk.seen three in
           let fits : place + 1 ≤ length (disk.seen two) =
           omega (arith, block_low ring t.position some, log_long, went.has.same_length, sync.same_length) in
-          let here : place - place ≡ 0 = omega arith in
-          let opened : get_or c place 0 ≡ 0xA7 =
-          ap (λ (l : List ℕ). get_or l place 0) (done_seen did two_is refl)
-          ∙ written_within (disk.seen two) place (0xA7 ∷ []) place fits (omega arith) (omega arith)
-          ∙ ap (λ i. get_or (0xA7 ∷ []) i 0) here in
           select_last three is
           (omega (arith, low, went.has.same_length, sync.same_length, did.same_length))
           (λ x may. either_seal x (did.left x may))
           (λ tells. opened_with (disk.seen one) (went.has.torn honest) (went.is refl honest) c
-          (torn_seal c (did.left c (seen_is_left three is))) opened)
-          (leaves_then {P = Crash} crash_synced
-          (leaves_weaker did.time (λ x from. crash_of x (either_seal x from)))) done rest
+          (torn_synced disk one_is sync place 1 c (did.left c (seen_is_left three is)))
+          (byte_written disk place 0xA7 did two_is fits)) (crash_sealing did) done rest
 
     selecting_by_byte : {new : D} (done : Bool)
         → DidAll disk old (ring_works ring t.position 1 image
@@ -342,8 +326,7 @@ module _ {D : Type 0} (disk : Ghosts D) (t : TailValue) (contents : ℕ → List
             → WentRound ring t.position some disk 1 image few some_image fits_image old one true
             → DidAll disk one (Sync ∷ WriteAt place (0xA7 ∷ []) ∷ select_works second) done new → Leaves new done
         further one went (inl failed) =
-            failed_as done failed.1 (failed_by (leaves_then {P = Crash} (leaves_weaker went.has.time left_unsealed)
-            (leaves_weaker failed.0.time (λ c may. left_unsealed c (went.has.left c may)))))
+            failed_as done failed.1 (failed_by (crash_synced {P = Crash} went.has failed.0 left_unsealed))
         further one went (inr (two, sync, inl failed)) =
             failed_as done failed.1 (seal_failed one two went sync failed.0)
         further one went (inr (two, sync, inr (three, did, rest))) =

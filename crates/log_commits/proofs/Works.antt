@@ -8,7 +8,7 @@ use Rattle.std.proofs.lemmas.Bool.{cases_lt, false≢true, leb-true, leb-false, 
 use Rattle.std.proofs.lemmas.Nat.{mod_below}
 use Rattle.std.proofs.lemmas.List.{get_or-drop}
 use Rattle.device.specs.Device.{written, Torn, TornFrom, LeavesOnly}
-use Rattle.device.specs.Work.{Work, WriteAt}
+use Rattle.device.specs.Work.{Work, WriteAt, Sync}
 use Rattle.device.specs.Did.{Did}
 use Rattle.device.specs.declared.device.Device.{Ghosts}
 use Rattle.device.proofs.Public.{leaves_weaker, leaves_then, did_as, done_seen, failed_seen}
@@ -99,6 +99,33 @@ torn_both {D} {disk} {ring} {p} {a} {b} {c} {d} {from} {to} {old} {mid} {new} on
           before.1,
           torn_then (torn_within before.2 from to low high) (torn_within torn.2 from to less more),
         )
+
+-- ---- a sync behind writes, and a write of one byte
+
+pub crash_synced : {D : Type 0} {disk : Ghosts D} {ring p from to : ℕ} {old one two : D} {P : List ℕ → Type 0}
+    {done : Bool} → HasTorn disk ring p from to old one → Did disk one Sync done two
+    → ((c : List ℕ) → RingFrom ring p from to (disk.may_leave old) c → P c)
+    → LeavesOnly disk.moment disk.left_since old two P
+crash_synced {P = P} has sync left =
+    leaves_then {P = P} (leaves_weaker has.time left) (leaves_weaker sync.time (λ c may. left c (has.left c may)))
+
+-- a write behind a sync changes nothing but what the sync made sure of
+pub torn_synced : {D : Type 0} (disk : Ghosts D) {one two : D} → disk.is_honest one → Did disk one Sync true two
+    → (at n : ℕ) (c : List ℕ) → TornFrom at n (disk.may_leave two) c → Torn at n (disk.seen one) c
+torn_synced disk {one} {two} honest sync at n c from =
+    let is : from.0 ≡ disk.seen one = sync.durable honest refl refl from.0 from.1 in
+    let P : List ℕ → Type 0 = λ l. Torn at n l c in subst P is from.2
+
+pub byte_written : {D : Type 0} (disk : Ghosts D) {old new : D} (at byte : ℕ)
+    → Did disk old (WriteAt at (byte ∷ [])) true new → disk.is_honest old → at + 1 ≤ length (disk.seen old)
+    → get_or (disk.seen new) at 0 ≡ byte
+byte_written disk {old} {new} at byte did honest fits =
+    let here : at - at ≡ 0 = omega arith in
+    ap (λ (l : List ℕ). get_or l at 0) (done_seen did honest refl)
+    ∙ written_within (disk.seen old) at (byte ∷ []) at fits (omega arith) (omega arith)
+    ∙ ap (λ i. get_or (byte ∷ []) i 0) here
+
+-- ---- places in a row
 
 -- the places of a range lie one behind another from an offset on
 abbrev pub AreInRow : ℕ → ℕ → ℕ → ℕ → ℕ → Type 0
