@@ -53,6 +53,23 @@ first_of_ring g bytes p (suc n) log long some =
     take_at first (blocks_from (λ i. block_at bytes (ring_block g.ring i)) (p + 1) n) 4096
     (length-block_at bytes (ring_block g.ring p) (omega arith))
 
+-- a commit whose descriptor and records lie at a position of other bytes, too
+pub next_alike : (g : LogValue) (epoch p q number left : ℕ) (d : LogDescriptor) (old new : List ℕ)
+    → ring_bytes g.ring new q (log_descriptor_blocks (length d.homes))
+    ≡ ring_bytes g.ring old p (log_descriptor_blocks (length d.homes))
+    → ring_bytes g.ring new (records_position q d) (length d.homes)
+    ≡ ring_bytes g.ring old (records_position p d) (length d.homes)
+    → IsNextCommit g epoch p number left d old → IsNextCommit g epoch q number left d new
+next_alike g epoch p q number left d old new head records is = record {
+  sealed = record {
+    logged = is.sealed.logged;
+    sealed = head ∙ is.sealed.sealed
+        ∙ ap (λ (l : List ℕ). log_seal g.sealing epoch d l ++ log_body d) (sym records);
+  };
+  number_is = is.number_is;
+  room = is.room;
+}
+
 -- the descriptor of a sealed commit
 said_there : (g : LogValue) (epoch p : ℕ) (d : LogDescriptor) (bytes : List ℕ) → IsSealedAt g epoch p d bytes
     → IsLogDescriptor g d (ring_bytes g.ring bytes p (log_descriptor_blocks (length d.homes)))

@@ -7,6 +7,7 @@ use Rattle.log_codec.specs.Log.{LogValue, ring_block, ring_bytes, log_descriptor
 use Rattle.log_codec.specs.Commit.{LogDescriptor, log_body, log_seal}
 use Rattle.log_codec.specs.Chain.{IsNextCommit, LogEndsAt, IsChain, records_position}
 use Rattle.log_codec.specs.Chain.{position_after, chain_end, chain_blocks, logged_or, newest_or}
+use Rattle.log_codec.proofs.Public.{next_alike}
 use Rattle.log_commits.specs.Commit.{committed_to}
 use Rattle.log_commits.proofs.Places.{same_ring, length-block, block_low}
 
@@ -33,20 +34,9 @@ pub next_moved : (g : LogValue) (epoch p q number left : ℕ) (d : LogDescriptor
 next_moved g epoch p q number left d old new same is =
     let count : ℕ = length d.homes in
     let blocks : ℕ = log_descriptor_blocks count in
-    let head : ring_bytes g.ring new q blocks ≡ ring_bytes g.ring old p blocks =
-    same_ring g.ring q p blocks new old (λ k lt. same k (omega arith)) in
-    let records : ring_bytes g.ring new (q + blocks) count ≡ ring_bytes g.ring old (p + blocks) count =
-    same_ring g.ring (q + blocks) (p + blocks) count new old
-    (same_behind g.ring p q blocks count old new same) in
-    record {
-      sealed = record {
-        logged = is.sealed.logged;
-        sealed = head ∙ is.sealed.sealed
-            ∙ ap (λ (l : List ℕ). log_seal g.sealing epoch d l ++ log_body d) (sym records);
-      };
-      number_is = is.number_is;
-      room = is.room;
-    }
+    next_alike g epoch p q number left d old new
+    (same_ring g.ring q p blocks new old (λ k lt. same k (omega arith)))
+    (same_ring g.ring (q + blocks) (p + blocks) count new old (same_behind g.ring p q blocks count old new same)) is
 
 -- a chain in the same blocks, that goes on with other commits
 pub chain_on : (g : LogValue) (epoch p number left : ℕ) (ds es : List LogDescriptor) (old new : List ℕ)

@@ -10,6 +10,7 @@ use Rattle.log_codec.specs.Log.{LogValue, ring_block, ring_bytes, log_descriptor
 use Rattle.log_codec.specs.Commit.{LogDescriptor, log_body, log_seal}
 use Rattle.log_codec.specs.Chain.{IsNextCommit, LogEndsAt, IsChain, records_position, position_after}
 use Rattle.log_codec.specs.Chain.{chain_end}
+use Rattle.log_codec.proofs.Public.{next_alike}
 
 -- new has the blocks of the ring that old has
 abbrev pub SameRing : ℕ → List ℕ → List ℕ → Type 0
@@ -28,17 +29,9 @@ same_bytes ring p (suc n) old new same =
 pub next_same : (g : LogValue) (epoch p number left : ℕ) (d : LogDescriptor) (old new : List ℕ)
     → SameRing g.ring old new → IsNextCommit g epoch p number left d old → IsNextCommit g epoch p number left d new
 next_same g epoch p number left d old new same is =
-    let head = same_bytes g.ring p (log_descriptor_blocks (length d.homes)) old new same in
-    let records = same_bytes g.ring (records_position p d) (length d.homes) old new same in
-    record {
-      sealed = record {
-        logged = is.sealed.logged;
-        sealed = head ∙ is.sealed.sealed
-            ∙ ap (λ (l : List ℕ). log_seal g.sealing epoch d l ++ log_body d) (sym records);
-      };
-      number_is = is.number_is;
-      room = is.room;
-    }
+    next_alike g epoch p p number left d old new
+    (same_bytes g.ring p (log_descriptor_blocks (length d.homes)) old new same)
+    (same_bytes g.ring (records_position p d) (length d.homes) old new same) is
 
 ends_by : (sealing : Sealing) (g : LogValue) (epoch p number left : ℕ) (old new : List ℕ) → SameRing g.ring old new
     → LogEndsAt sealing g epoch p number left old → LogEndsAt sealing g epoch p number left new
