@@ -5,14 +5,18 @@ use Rattle.log_codec.specs.Chain.{contents_of_log}
 use Rattle.log_volume.specs.Super.{log_of}
 use Rattle.log_recovery.specs.Reading.{HoldsFound, chain_of}
 use Rattle.log_opening.specs.Opening.{OpensLog, LeftByLogOpening}
+use Rattle.log_opening.specs.Volume.{LeftByOpeningVolume}
 use Rattle.log_opening.specs.inside.Keeping.{IsLookedAt}
 use Rattle.log_opening.proofs.Opened.{opened_before}
 use Rattle.log_opening.proofs.Volumes.{crash_finishing, counted_then, counted_ok, found_recovers, lengths_home}
 use Rattle.log_opening.proofs.Volumes.{lengths_behind}
+use Rattle.log_opening.proofs.volume.open_log_volume.Goals.{After-finish}
 use Rattle.log_opening.proofs.volume.open_log_volume.Goals as goal
 
-pub returns-in-Err-finish-clause-crash : goal.returns-in-Err-finish-clause-crash
-returns-in-Err-finish-clause-crash g c = λ honest.
+crash_after : (g : _) (c : After-finish g) → g.D.Device.is_honest c.args.device.now
+    → LeavesOnly g.D.Device.moment g.D.Device.left_since c.args.device.now c.finish.new.device
+    (LeftByOpeningVolume g.D.Device c.args.device.now)
+crash_after g c honest =
     let found = c.in-Ok.found in
     let is = c.in-Ok.ensures.found honest in
     let mid = c.find_volume.new.device in
@@ -24,18 +28,11 @@ returns-in-Err-finish-clause-crash g c = λ honest.
     crash_finishing g.D.Device found.table c.args.device.now mid new honest c.find_volume.ensures.unwritten
     is.super_block (subst C log (c.finish.ensures.crash (subst L (sym log) is.looked)))
 
+pub returns-in-Err-finish-clause-crash : goal.returns-in-Err-finish-clause-crash
+returns-in-Err-finish-clause-crash g c = crash_after g (goal.at.returns-in-Err-finish-clause-crash g c).After-finish
+
 pub returns-clause-crash : goal.returns-clause-crash
-returns-clause-crash g c = λ honest.
-    let found = c.in-Ok.found in
-    let is = c.in-Ok.ensures.found honest in
-    let mid = c.find_volume.new.device in
-    let new = c.finish.new.device in
-    let log = c.log-log.ensures.value in
-    let L : LogValue → Type 0 = λ l. IsLookedAt g.D.Device l found.looked.found found.looked.next mid in
-    let C : LogValue → Type 0 =
-    λ l. LeavesOnly g.D.Device.moment g.D.Device.left_since mid new (LeftByLogOpening g.D.Device l mid) in
-    crash_finishing g.D.Device found.table c.args.device.now mid new honest c.find_volume.ensures.unwritten
-    is.super_block (subst C log (c.finish.ensures.crash (subst L (sym log) is.looked)))
+returns-clause-crash g c = crash_after g (goal.at.returns-clause-crash g c).After-finish
 
 pub returns-clause-counted : goal.returns-clause-counted
 returns-clause-counted g c =
