@@ -1,13 +1,31 @@
-use Rattle.std.proofs.Common.{◌≡◌, ℕ, ◌+◌, ◌<◌, length, take, sym, subst, ◌∙◌, arith}
+use Rattle.std.proofs.Common.{◌≡◌, ℕ, Bool, List, ◌+◌, ◌<◌, length, take, sym, subst, ◌∙◌, arith}
 use Rattle.std.specs.Prelude.{min, slice_get}
 use Rattle.std.proofs.lemmas.Option.{slice_get_within}
 use Rattle.volume_codec.specs.Layout.{block_at}
-use Rattle.log_commits.specs.Behind.{MayCopyHome}
+use Rattle.log_codec.specs.Commit.{LogDescriptor}
+use Rattle.log_commits.specs.Behind.{HasCommits, LeavesCommits, MayCopyHome}
 use Rattle.log_commits.proofs.Public.{leaves_as_before, length-block}
+use Rattle.log_home.specs.Index.{IsIndexOf}
 use Rattle.log_home.specs.Work.{HomeWorkValue, AreHome}
 use Rattle.log_home.proofs.Chained.{logged_by}
 use Rattle.log_home.proofs.Steps.{next_is, skipped_next, copied_more}
+use Rattle.log_home.proofs.work.HomeWork.step.Goals.{After-copy_home}
 use Rattle.log_home.proofs.work.HomeWork.step.Goals as goal
+
+-- a copy leaves the log with these commits
+leaves_copied : (g : _) (c : After-copy_home g) (second : Bool) (contents : ℕ → List ℕ) (chain : List LogDescriptor)
+    → g.D.Device.is_honest c.args.device.now
+    → IsIndexOf c.args.tail.now.log c.args.tail.now.start.position chain c.args.index.now
+    → HasCommits g.D.Device second c.args.tail.now contents chain c.args.device.now
+    → LeavesCommits g.D.Device second c.args.tail.now contents chain c.args.device.now c.copy_home.new.device
+leaves_copied g c second contents chain honest index held =
+    let t = c.args.tail.now in
+    let w : HomeWorkValue = c.args.self.now in
+    let home = c.in-Some.home in
+    let copy = next_is w.oldest (slice_get w.homes w.done) c.args.index.now home c.in-Some.newest
+    (sym c.in-Some.ensures) in
+    c.copy_home.ensures.leaves second contents chain honest
+    (logged_by t.log.ring t.start.position chain home c.in-Some.newest (sym (index home) ∙ copy.1)) held
 
 pub returns-in-None-clause-leaves : goal.returns-in-None-clause-leaves
 returns-in-None-clause-leaves g c = λ second contents chain honest index held.
@@ -15,24 +33,12 @@ returns-in-None-clause-leaves g c = λ second contents chain honest index held.
     (g.met.D.Device.since_now c.args.device.now)
 
 pub returns-in_err-copy_home-in-Some-clause-leaves : goal.returns-in_err-copy_home-in-Some-clause-leaves
-returns-in_err-copy_home-in-Some-clause-leaves g c = λ second contents chain honest index held.
-    let t = c.args.tail.now in
-    let w : HomeWorkValue = c.args.self.now in
-    let home = c.in-Some.home in
-    let copy = next_is w.oldest (slice_get w.homes w.done) c.args.index.now home c.in-Some.newest
-    (sym c.in-Some.ensures) in
-    c.copy_home.ensures.leaves second contents chain honest
-    (logged_by t.log.ring t.start.position chain home c.in-Some.newest (sym (index home) ∙ copy.1)) held
+returns-in_err-copy_home-in-Some-clause-leaves g c =
+    leaves_copied g (goal.at.returns-in_err-copy_home-in-Some-clause-leaves g c).After-copy_home
 
 pub returns-in_ok-copy_home-in-Some-clause-leaves : goal.returns-in_ok-copy_home-in-Some-clause-leaves
-returns-in_ok-copy_home-in-Some-clause-leaves g c = λ second contents chain honest index held.
-    let t = c.args.tail.now in
-    let w : HomeWorkValue = c.args.self.now in
-    let home = c.in-Some.home in
-    let copy = next_is w.oldest (slice_get w.homes w.done) c.args.index.now home c.in-Some.newest
-    (sym c.in-Some.ensures) in
-    c.copy_home.ensures.leaves second contents chain honest
-    (logged_by t.log.ring t.start.position chain home c.in-Some.newest (sym (index home) ∙ copy.1)) held
+returns-in_ok-copy_home-in-Some-clause-leaves g c =
+    leaves_copied g (goal.at.returns-in_ok-copy_home-in-Some-clause-leaves g c).After-copy_home
 
 pub returns-in-None-clause-home : goal.returns-in-None-clause-home
 returns-in-None-clause-home g c = λ second contents ds younger honest holds are index before.
