@@ -19,27 +19,10 @@ step_cases old new P idle began copied wrote synced moved Resting Idle is =
     subst (P Resting Idle) (sym is.1) (idle is.0)
 step_cases old new P idle began copied wrote synced moved Resting Began is =
     subst (P Resting Began) (sym is.1) (began is.0)
-step_cases old new P idle began copied wrote synced moved Resting Copied is = absurd is
-step_cases old new P idle began copied wrote synced moved Resting Wrote is = absurd is
-step_cases old new P idle began copied wrote synced moved Resting Synced is = absurd is
-step_cases old new P idle began copied wrote synced moved Resting Moved is = absurd is
-step_cases old new P idle began copied wrote synced moved Copying Idle is = absurd is
-step_cases old new P idle began copied wrote synced moved Copying Began is = absurd is
 step_cases old new P idle began copied wrote synced moved Copying Copied is =
     subst (P Copying Copied) (sym is.1) (copied is.0)
 step_cases old new P idle began copied wrote synced moved Copying Wrote is =
     subst (P Copying Wrote) (sym is.1) (wrote is.0)
-step_cases old new P idle began copied wrote synced moved Copying Synced is = absurd is
-step_cases old new P idle began copied wrote synced moved Copying Moved is = absurd is
-step_cases old new P idle began copied wrote synced moved Written Idle is = absurd is
-step_cases old new P idle began copied wrote synced moved Written Began is = absurd is
-step_cases old new P idle began copied wrote synced moved Written Copied is = absurd is
-step_cases old new P idle began copied wrote synced moved Written Wrote is = absurd is
 step_cases old new P idle began copied wrote synced moved Written Synced is = subst (P Written Synced) (sym is) synced
-step_cases old new P idle began copied wrote synced moved Written Moved is = absurd is
-step_cases old new P idle began copied wrote synced moved Sure Idle is = absurd is
-step_cases old new P idle began copied wrote synced moved Sure Began is = absurd is
-step_cases old new P idle began copied wrote synced moved Sure Copied is = absurd is
-step_cases old new P idle began copied wrote synced moved Sure Wrote is = absurd is
-step_cases old new P idle began copied wrote synced moved Sure Synced is = absurd is
 step_cases old new P idle began copied wrote synced moved Sure Moved is = moved is
+step_cases old new P idle began copied wrote synced moved stage progress is = absurd is
