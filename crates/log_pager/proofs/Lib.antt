@@ -1,3 +1,4 @@
 mod Blocks
 mod Over
+mod Seen
 pub mod Public

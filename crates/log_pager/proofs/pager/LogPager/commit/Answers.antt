@@ -16,12 +16,13 @@ use Rattle.log_pager.specs.declared.fault.PagerFault.TheVariants.{Store}
 use Rattle.log_pager.specs.Pager.{LogPagerValue, IsPagerOver, contents_put, records_put}
 use Rattle.log_pager.proofs.Blocks.{committed_is}
 use Rattle.log_pager.proofs.Over.{store_as, pager_emptied, pager_kept, left_as, none_put}
+use Rattle.log_pager.proofs.Seen.{pager_value_of}
 use Rattle.log_pager.proofs.pager.LogPager.commit.Goals.{After-commit}
 use Rattle.log_pager.proofs.pager.LogPager.commit.Goals as goal
 
 module _ (g : _) (c : After-commit g) where
   abbrev before : LogPagerValue g.row.D.Denot
-  before = record { store = c.self.inside.store; staged = c.self.inside.staged; device = c.self.inside.device }
+  before = pager_value_of c.self.inside
 
   -- what holds of the lists that the store was given holds of the blocks that were put
   of_blocks : (P : List ℕ → List ℕ → ℕ → Type 0)
