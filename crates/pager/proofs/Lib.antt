@@ -10,6 +10,7 @@ pub mod Having
 pub mod Files
 pub mod Runs
 pub mod Inside
+pub mod Ends
 pub mod Resizing
 pub mod Setting
 pub mod Resized

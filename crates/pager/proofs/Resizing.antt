@@ -21,9 +21,9 @@ use Rattle.pager.specs.Calls.{end_page, grown, shrunk, restaged, is_overfull, re
 use Rattle.pager.specs.inside.Sound.{IsSound}
 use Rattle.pager.specs.inside.Resizing.{MayHaveLength}
 use Rattle.pager.proofs.Capacities.{end_within, last_within, are_set}
-use Rattle.kept_blocks.proofs.Public.{bytes_put, rising_put, length_put, bytes_zeros, rising_zeros, length_zeros}
-use Rattle.kept_blocks.proofs.Public.{is_among, bytes_without, rising_without, fewer_without, bytes_cut, homes_cut}
-use Rattle.kept_blocks.proofs.Public.{length_cut, is_outside, outside_below, inside_of}
+use Rattle.pager.proofs.Ends.{MayReach, lengths_put, at_other, added_to, none_behind, rises_grown, first_same}
+use Rattle.pager.proofs.Ends.{count_grown, ends_grown, rises_shrunk, first_there, count_shrunk, ends_shrunk}
+use Rattle.kept_blocks.proofs.Public.{rising_put, length_put}
 
 -- files lie one after another
 homes_rise : (v : SuperValue) (i j : ℕ) → i ≤ j → first_home_of v i ≤ first_home_of v j
@@ -34,28 +34,17 @@ homes_rise v i j le = omega (
 )
 
 -- and no home block is of two files
-one_file : (v : SuperValue) (f file q : ℕ) → f ≢ file → first_home_of v f ≤ q → q < first_home_of v (f + 1)
+pub one_file : (v : SuperValue) (f file q : ℕ) → f ≢ file → first_home_of v f ≤ q → q < first_home_of v (f + 1)
     → first_home_of v file ≤ q → q < first_home_of v (file + 1) → ⊥
 one_file v f file q other low high from to = elim (cases_lt f file) [
   | inl less ↦ absurd (omega (arith, high, from, homes_rise v (f + 1) file (omega (arith, less))))
   | inr more ↦ absurd (omega (arith, to, low, homes_rise v (file + 1) f (omega (arith, more, other))))
 ]
 
-some_mapped : (f : List ℕ → List ℕ) (o : Option (List ℕ)) → is_some (option_map f o) ≡ is_some o
-some_mapped f None = refl
-some_mapped f (Some x) = refl
-
-none_mapped : (f : List ℕ → List ℕ) (o : Option (List ℕ)) → o ≡ None → option_map f o ≡ None
-none_mapped f None e = refl
-none_mapped f (Some x) e = absurd (cc)
-
 one_more : (o : Option (List ℕ)) (n b : ℕ) → b ≡ 1
     → (if is_some o then n else n + 1) ≡ n + (if is_some o then 0 else b)
 one_more None n b is = omega (arith, is)
 one_more (Some x) n b is = omega arith
-
-abbrev pub added_to : Option (List ℕ) → ℕ → ℕ
-added_to o n = if is_some o then n else n + 1
 
 module _ {D : Type 0} (seen : D → List ℕ) (s : PagerState D) (sound : IsSound seen s) (file to : ℕ)
     (may : MayHaveLength s.table file to) where
@@ -83,25 +72,18 @@ module _ {D : Type 0} (seen : D → List ℕ) (s : PagerState D) (sound : IsSoun
   -- the lengths' block is put, so none is reserved
   none_reserved : (last : List ℕ) → reserved table (restaged table s.lengths file to last s.staged) ≡ 0
   none_reserved last = ap (λ (o : Option (List ℕ)). if is_some o then 0 else lengths_blocks table.layout)
-      (bytes_put (body last) first text first
-      ∙ cond-true (eqb first first) (Some text) (bytes_in (body last) first) (eq-eqb first first refl))
+      (lengths_put first text (body last))
 
-  at_other : (last : List ℕ) (q : ℕ) → first < q
-      → bytes_in (restaged table s.lengths file to last s.staged) q ≡ bytes_in (body last) q
-  at_other last q above = bytes_put (body last) first text q
-      ∙ cond-false (eqb q first) (Some text) (bytes_in (body last) q) (ne_eqb q first (λ e. omega (arith, e, above)))
-
-  there : file < length s.lengths
-  there = let count = sound.lengths.count in omega (arith, count, may.there)
-
-  long_there : get_or (set s.lengths file to) file 0 ≡ to
-  long_there = get_or-set_same s.lengths file to 0 there
-
-  long_elsewhere : (f : ℕ) → f ≢ file → get_or (set s.lengths file to) f 0 ≡ get_or s.lengths f 0
-  long_elsewhere f other = get_or-set_other s.lengths file f to 0 other
-
-  file_ends : first_home_of table file + pages_of to ≤ first_home_of table (file + 1)
-  file_ends = omega (arith, first_home_of-next table file may.there, may.fits)
+  may_reach : MayReach (first_home_of table) s.lengths file to first (block_count table) s.staged
+  may_reach = record {
+    one_file = one_file table;
+    there = let count = sound.lengths.count in omega (arith, count, may.there);
+    rising = sound.rising;
+    ends = sound.ends;
+    low = omega (arith, block);
+    file_ends = omega (arith, first_home_of-next table file may.there, may.fits);
+    end_in = end_within table file to may.there may.fits;
+  }
 
   -- ---- a growth
 
@@ -109,64 +91,26 @@ module _ {D : Type 0} (seen : D → List ℕ) (s : PagerState D) (sound : IsSoun
     abbrev many : ℕ
     many = pages_of to - (from / 4096 + 1)
 
-    abbrev filled : Blocks
-    filled = with_zeros s.staged (home + 1) many
-
     body_grown : (last : List ℕ) → body last ≡ grown table file from to last s.staged
     body_grown last = cond-true (ltb from to) (grown table file from to last s.staged)
         (shrunk table file from to s.staged) (lt-ltb from to grows)
 
     pub none_added : (q : ℕ) → home < q → q < first_home_of table file + pages_of to → bytes_in s.staged q ≡ None
-    none_added q above below = sound.ends file q (omega (arith, above)) (omega (arith, below, file_ends))
-
-    end_in : first_home_of table file + pages_of to ≤ block_count table
-    end_in = end_within table file to may.there may.fits
-
-    last_in : home < block_count table
-    last_in = last_within table file from may.there (omega (arith, grows, may.fits))
-
-    rising_filled : RiseWithin first (block_count table) (homes_in filled)
-    rising_filled = rising_zeros s.staged first (block_count table) (home + 1) many sound.rising (omega arith)
-        (omega (arith, end_in, grows))
-
-    rising_grown : (last : List ℕ)
-        → RiseWithin first (block_count table) (homes_in (grown table file from to last s.staged))
-    rising_grown last = rising_put filled first (block_count table) home (cut_to (from % 4096) last) rising_filled
-        (omega arith) last_in
-
-    last_same : bytes_in filled home ≡ bytes_in s.staged home
-    last_same = bytes_zeros s.staged (home + 1) many home
-        ∙ cond-false (is_among (home + 1) many home) (Some (zeros 4096)) (bytes_in s.staged home)
-        (let out : is_among (home + 1) many home ≡ false = grind (arith, nat_tests) in out)
-
-    first_same : (last : List ℕ) → bytes_in (grown table file from to last s.staged) first ≡ bytes_in s.staged first
-    first_same last = bytes_put filled home (cut_to (from % 4096) last) first
-        ∙ cond-false (eqb first home) (Some (cut_to (from % 4096) last)) (bytes_in filled first)
-        (ne_eqb first home (λ e. omega (arith, e, block)))
-        ∙ bytes_zeros s.staged (home + 1) many first
-        ∙ cond-false (is_among (home + 1) many first) (Some (zeros 4096)) (bytes_in s.staged first)
-        (let below : first < home + 1 = omega arith in
-        let out : is_among (home + 1) many first ≡ false = grind (arith, nat_tests, below) in out)
+    none_added = none_behind may_reach grows home refl
 
     -- how many blocks are put then
     pub grown_size : (last : List ℕ) → length (restaged table s.lengths file to last s.staged)
         ≡ length s.staged + added_to (bytes_in s.staged home) many + reserved table s.staged
     grown_size last =
-        let zero_blocks = length_zeros s.staged first (block_count table) (home + 1) many sound.rising (omega arith)
-        (omega (arith, end_in, grows)) (λ q above below. none_added q (omega (arith, above))
-        (omega (arith, below, grows))) in
-        let page = length_put filled first (block_count table) home (cut_to (from % 4096) last) rising_filled
-        ∙ ap (λ (o : Option (List ℕ)). if is_some o then length filled else length filled + 1) last_same
-        ∙ one_more (bytes_in s.staged home) (length filled) 1 refl in
+        let pages = count_grown may_reach grows home refl last in
         let lengths = length_put (grown table file from to last s.staged) first (block_count table) first text
-        (rising_grown last)
-        ∙ ap (λ (o : Option (List ℕ)). if is_some o then length (grown table file from to last s.staged)
-        else length (grown table file from to last s.staged) + 1) (first_same last)
+        (rises_grown may_reach grows home refl last)
+        ∙ ap (λ (o : Option (List ℕ)). added_to o (length (grown table file from to last s.staged)))
+        (first_same may_reach grows home refl last)
         ∙ one_more (bytes_in s.staged first) (length (grown table file from to last s.staged))
         (lengths_blocks table.layout) block in
-        let added = one_more (bytes_in s.staged home) many 1 refl in
         let same = ap (λ (m : Blocks). length (with_home m first text)) (body_grown last) in
-        omega (arith, zero_blocks, page, lengths, added, same)
+        omega (arith, pages, lengths, same)
 
     pub overfull_grown : is_overfull table s.most (restaged table s.lengths file to [] s.staged)
         ≡ nat_lt (s.most + lengths_blocks table.layout)
@@ -177,33 +121,6 @@ module _ {D : Type 0} (seen : D → List ℕ) (s : PagerState D) (sound : IsSoun
         + reserved table (restaged table s.lengths file to [] s.staged)
         ≡ length s.staged + added_to (bytes_in s.staged home) many + reserved table s.staged =
         omega (arith, size, none) in sum)
-
-    grown_ends : (last : List ℕ) (f q : ℕ) → first_home_of table f + pages_of (get_or (set s.lengths file to) f 0) ≤ q
-        → q < first_home_of table (f + 1) → bytes_in (grown table file from to last s.staged) q ≡ None
-    grown_ends last f q past next =
-        let out : home ≤ q → q < first_home_of table file + pages_of to → ⊥ = λ low high.
-        elim (cases_eq f file) [
-          | inl same ↦ absurd (let size = ap (λ i. get_or (set s.lengths file to) i 0) same ∙ long_there in
-              let start = ap (first_home_of table) same in omega (arith, past, high, size, start))
-          | inr other ↦ one_file table f file q other (omega (arith, past)) next (omega (arith, low))
-              (omega (arith, high, file_ends))
-        ] in
-        let absent : bytes_in s.staged q ≡ None = elim (cases_eq f file) [
-          | inl same ↦ sound.ends f q (let size = ap (λ i. get_or (set s.lengths file to) i 0) same ∙ long_there in
-              let was = ap (λ i. get_or s.lengths i 0) same in omega (arith, past, size, was, grows)) next
-          | inr other ↦ sound.ends f q (let size = long_elsewhere f other in omega (arith, past, size)) next
-        ] in
-        let not_last : q ≢ home = λ e. out (omega (arith, e)) (omega (arith, e, grows)) in
-        let not_among : is_among (home + 1) many q ≡ false = elim (cases_Bool (is_among (home + 1) many q)) [
-          | inl is ↦ absurd (let low : home + 1 ≤ q = grind (arith, nat_tests, is) in
-              let high : q < home + 1 + many = grind (arith, nat_tests, is) in
-              out (omega (arith, low)) (omega (arith, high, grows)))
-          | inr not ↦ not
-        ] in
-        bytes_put filled home (cut_to (from % 4096) last) q
-        ∙ cond-false (eqb q home) (Some (cut_to (from % 4096) last)) (bytes_in filled q) (ne_eqb q home not_last)
-        ∙ bytes_zeros s.staged (home + 1) many q
-        ∙ cond-false (is_among (home + 1) many q) (Some (zeros 4096)) (bytes_in s.staged q) not_among ∙ absent
 
     -- what the code puts
     pub resized_grown : (at high start : ℕ) (page spelled last : List ℕ) → at ≡ home
@@ -220,55 +137,25 @@ module _ {D : Type 0} (seen : D → List ℕ) (s : PagerState D) (sound : IsSoun
   -- ---- a shrink
 
   module _ (shrinks : to < from) where
-    abbrev low_end : ℕ
-    low_end = first_home_of table file + pages_of to
-
-    abbrev high_end : ℕ
-    high_end = first_home_of table file + pages_of from
-
-    abbrev kept : Blocks
-    kept = without_run s.staged low_end high_end
-
-    abbrev at_end : ℕ → List ℕ → List ℕ
-    at_end q x = if eqb q (home_of table (end_page file to)) then cut_to (to % 4096) x else x
+    abbrev cut_home : ℕ
+    cut_home = home_of table (end_page file to)
 
     body_shrunk : (last : List ℕ) → body last ≡ shrunk table file from to s.staged
     body_shrunk last = cond-false (ltb from to) (grown table file from to last s.staged)
         (shrunk table file from to s.staged) (let test : ltb from to ≡ false = grind (arith, nat_tests, shrinks) in
         test)
 
-    bytes_shrunk : (q : ℕ) → bytes_in (shrunk table file from to s.staged) q
-        ≡ option_map (at_end q) (if is_outside low_end high_end q then bytes_in s.staged q else None)
-    bytes_shrunk q = bytes_cut kept (home_of table (end_page file to)) (to % 4096) q
-        ∙ ap (option_map (at_end q)) (bytes_without low_end high_end s.staged q)
-
-    rising_shrunk : RiseWithin first (block_count table) (homes_in (shrunk table file from to s.staged))
-    rising_shrunk = subst (RiseWithin first (block_count table))
-        (sym (homes_cut kept (home_of table (end_page file to)) (to % 4096)))
-        (rising_without low_end high_end first (block_count table) s.staged sound.rising)
-
     pub shrunk_size : (last : List ℕ) → length (restaged table s.lengths file to last s.staged)
         ≤ length s.staged + reserved table s.staged
     shrunk_size last =
-        let first_there : is_some (bytes_in (shrunk table file from to s.staged) first)
-        ≡ is_some (bytes_in s.staged first) =
-        ap is_some (bytes_shrunk first)
-        ∙ some_mapped (at_end first) (if is_outside low_end high_end first then bytes_in s.staged first else None)
-        ∙ ap is_some (cond-true (is_outside low_end high_end first) (bytes_in s.staged first) None
-        (outside_below low_end high_end first (omega (arith, block)))) in
-        let lengths = length_put (shrunk table file from to s.staged) first (block_count table) first text rising_shrunk
+        let lengths = length_put (shrunk table file from to s.staged) first (block_count table) first text
+        (rises_shrunk may_reach shrinks cut_home)
         ∙ ap (λ (b : Bool). if b then length (shrunk table file from to s.staged)
-        else length (shrunk table file from to s.staged) + 1) first_there
+        else length (shrunk table file from to s.staged) + 1) (first_there may_reach shrinks cut_home)
         ∙ one_more (bytes_in s.staged first) (length (shrunk table file from to s.staged))
         (lengths_blocks table.layout) block in
         let same = ap (λ (m : Blocks). length (with_home m first text)) (body_shrunk last) in
-        omega (
-          arith,
-          lengths,
-          same,
-          length_cut kept (home_of table (end_page file to)) (to % 4096),
-          fewer_without low_end high_end s.staged,
-        )
+        omega (arith, lengths, same, count_shrunk may_reach shrinks cut_home)
 
     pub shrunk_room : is_overfull table s.most (restaged table s.lengths file to [] s.staged) ≡ false
     shrunk_room =
@@ -277,29 +164,9 @@ module _ {D : Type 0} (seen : D → List ℕ) (s : PagerState D) (sound : IsSoun
         omega (arith, shrunk_size [], none_reserved [], sound.few) in
         grind (arith, nat_tests, few)
 
-    shrunk_ends : (f q : ℕ) → first_home_of table f + pages_of (get_or (set s.lengths file to) f 0) ≤ q
-        → q < first_home_of table (f + 1) → bytes_in (shrunk table file from to s.staged) q ≡ None
-    shrunk_ends f q past next = bytes_shrunk q
-        ∙ none_mapped (at_end q) (if is_outside low_end high_end q then bytes_in s.staged q else None)
-        (elim (cases_Bool (is_outside low_end high_end q)) [
-          | inr gone ↦ cond-false (is_outside low_end high_end q) (bytes_in s.staged q) None gone
-          | inl outside ↦ cond-true (is_outside low_end high_end q) (bytes_in s.staged q) None outside
-              ∙ elim (cases_eq f file) [
-                | inr other ↦ sound.ends f q (let size = long_elsewhere f other in omega (arith, past, size)) next
-                | inl same ↦ sound.ends f q
-                    (let size = ap (λ i. get_or (set s.lengths file to) i 0) same ∙ long_there in
-                    let was = ap (λ i. get_or s.lengths i 0) same in
-                    let start = ap (first_home_of table) same in
-                    let high : high_end ≤ q = elim (cases_lt q high_end) [
-                      | inl inner ↦ absurd (false≢true (sym (inside_of low_end high_end q
-                          (omega (arith, past, size, start)) inner) ∙ outside))
-                      | inr over ↦ omega (arith, over)
-                    ] in omega (arith, high, was, start)) next
-              ]
-        ])
-
-    pub resized_shrunk : (low high at start n : ℕ) (spelled last : List ℕ) → low ≡ low_end → high ≡ high_end
-        → at ≡ home_of table (end_page file to) → start ≡ first → n ≡ to % 4096 → spelled ≡ text
+    pub resized_shrunk : (low high at start n : ℕ) (spelled last : List ℕ)
+        → low ≡ first_home_of table file + pages_of to → high ≡ first_home_of table file + pages_of from
+        → at ≡ cut_home → start ≡ first → n ≡ to % 4096 → spelled ≡ text
         → with_home (cut_in (without_run s.staged low high) at n) start spelled
         ≡ restaged table s.lengths file to last s.staged
     resized_shrunk low high at start n spelled last low_is high_is at_is start_is n_is spelled_is =
@@ -321,7 +188,7 @@ module _ {D : Type 0} (seen : D → List ℕ) (s : PagerState D) (sound : IsSoun
     geometry = sound.geometry;
     rising = rising_put (body last) first (block_count table) first text rising (omega arith)
         (let last_in = first_home_of-le table 0 in omega (arith, last_in, block));
-    ends = λ f q past next. at_other last q (omega (arith, past, block)) ∙ ends f q past next;
+    ends = λ f q past next. at_other first text (body last) q (omega (arith, past, block)) ∙ ends f q past next;
     few = omega (arith, few, none_reserved last);
     most = sound.most;
     tied = sound.tied;
@@ -338,15 +205,15 @@ module _ {D : Type 0} (seen : D → List ℕ) (s : PagerState D) (sound : IsSoun
       grind (arith, nat_tests, room) in
       sound_with last
       (subst (λ (m : Blocks). RiseWithin first (block_count table) (homes_in m)) (sym (body_grown grows last))
-      (rising_grown grows last))
+      (rises_grown may_reach grows home refl last))
       (λ f q past next. ap (λ (m : Blocks). bytes_in m q) (body_grown grows last)
-      ∙ grown_ends grows last f q past next)
+      ∙ ends_grown may_reach grows home refl last f q past next)
       (omega (arith, fits, grown_size grows last, grown_size grows []))
 
   pub sound_shrunk : (last : List ℕ) → to < from → IsSound seen (resized_to s file to last s.device)
   sound_shrunk last shrinks = sound_with last
       (subst (λ (m : Blocks). RiseWithin first (block_count table) (homes_in m)) (sym (body_shrunk shrinks last))
-      (rising_shrunk shrinks))
+      (rises_shrunk may_reach shrinks (cut_home shrinks)))
       (λ f q past next. ap (λ (m : Blocks). bytes_in m q) (body_shrunk shrinks last)
-      ∙ shrunk_ends shrinks f q past next)
+      ∙ ends_shrunk may_reach shrinks (cut_home shrinks) f q past next)
       (omega (arith, shrunk_size shrinks last, sound.few))

@@ -11,21 +11,14 @@ use Rattle.pager.specs.State.{PagerState, file_length, reserved}
 use Rattle.pager.specs.Calls.{is_overfull, restaged, end_page}
 use Rattle.pager.specs.inside.Resizing.{MayHaveLength}
 use Rattle.pager.proofs.Inside.{state_of}
-use Rattle.pager.proofs.Resizing.{overfull_grown, added_to}
+use Rattle.pager.proofs.Ends.{added_to, added_some, added_none}
+use Rattle.pager.proofs.Resizing.{overfull_grown}
 use Rattle.pager.proofs.pager.Pager.is_overfull.Goals.{then-is_some, else-is_some}
 use Rattle.pager.proofs.pager.Pager.is_overfull.Goals as goal
 
 some_copied : (o : Option (Bor (List ℕ))) → is_some (option_copied o) ≡ is_some o
 some_copied None = refl
 some_copied (Some x) = refl
-
-added_some : (o : Option (List ℕ)) (n : ℕ) → is_some o ≡ true → added_to o n ≡ n
-added_some None n e = absurd (cc)
-added_some (Some x) n e = refl
-
-added_none : (o : Option (List ℕ)) (n : ℕ) → is_some o ≡ false → added_to o n ≡ n + 1
-added_none None n e = refl
-added_none (Some x) n e = absurd (cc)
 
 pub returns : goal.returns
 returns g c =
