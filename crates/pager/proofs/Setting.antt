@@ -98,6 +98,11 @@ module _ {D : Type 0} (s : PagerState D) (file to : ℕ) where
   changed_after last device other =
       sym (cond-false (eqb to from) s (resized_to s file to last device) (ne_eqb to from other))
 
+  pub changed_some : (new : PagerState D) (device : D) → to ≢ from
+      → (last : List ℕ) × (new ≡ resized_to s file to last device)
+      → (last : List ℕ) × (new ≡ after_length s file to last device)
+  changed_some new device other is = (is.0, is.1 ∙ changed_after is.0 device other)
+
   pub changed_reason : IsLeft → to ≢ from → s.write_outs.broken ≡ false → set_length_refusal s file to
       ≡ first_reason (reason_if (is_overfull s.table s.most (restaged s.table s.lengths file to [] s.staged))
       refusals.NoFrame ∷ [])

@@ -3,8 +3,8 @@ use Rattle.page_entry.specs.declared.refusal.Refusal.TheVariants.{OutOfMemory}
 use Rattle.recovery.specs.Reading.{IsOnlyRead}
 use Rattle.pager.specs.State.{PagerState, file_length}
 use Rattle.pager.specs.Calls.{RefusesSetLength, last_page, resized_to}
-use Rattle.pager.proofs.Setting.{ok_as, on_ok, if_err, same_after, changed_after, changed_reason, no_calls}
-use Rattle.pager.proofs.Setting.{refuses_memory, room_free, read_nothing}
+use Rattle.pager.proofs.Setting.{ok_as, on_ok, if_err, same_after, changed_after, changed_some, changed_reason}
+use Rattle.pager.proofs.Setting.{no_calls, refuses_memory, room_free, read_nothing}
 use Rattle.pager.proofs.pager.Pager.set_length.Goals.{After-length_at-from}
 use Rattle.pager.proofs.pager.Pager.set_length.Goals as goal
 
@@ -12,6 +12,10 @@ from_is : (g : _) (c : After-length_at-from g)
     → c.length_at-from.result ≡ file_length c.args.self.now.lengths c.args.file
 from_is g c = c.length_at-from.ensures ∙ ap (λ (l : List ℕ). file_length l c.args.file) c.deref.ensures.value
     ∙ ap (λ (p : PagerState g.row.D.Denot). file_length p.lengths c.args.file) c.self.view_is
+
+differs : (g : _) (c : After-length_at-from g) → c.args.length ≢ c.length_at-from.result
+    → c.args.length ≢ file_length c.args.self.now.lengths c.args.file
+differs g c other = λ same. other (same ∙ sym (from_is g c))
 
 -- ---- the file has this length already
 
@@ -38,23 +42,20 @@ pub grow-requires-clause-reason : goal.grow-requires-clause-reason
 grow-requires-clause-reason g c =
     let a = (goal.at.grow-requires-clause-reason g c).After-length_at-from in
     changed_reason c.args.self.now c.args.file c.args.length c.in_ok-admit_length.ensures.ok
-    (λ e. c.if-length-from.false (e ∙ sym (from_is g a)))
+    (differs g a c.if-length-from.false)
     (sym (c.if-is_broken.ensures ∙ ap (λ (p : PagerState g.row.D.Denot). p.write_outs.broken) c.self.view_is))
 
 pub returns-else-length-from-2-clause-set : goal.returns-else-length-from-2-clause-set
 returns-else-length-from-2-clause-set g c honest =
     let a = (goal.at.returns-else-length-from-2-clause-set g c).After-length_at-from in
     on_ok c.grow.result _ _ (λ e. e ∙ changed_after c.args.self.now c.args.file c.args.length _ _
-    (λ same. c.if-length-from.false (same ∙ sym (from_is g a)))) (c.grow.ensures.set honest)
+    (differs g a c.if-length-from.false)) (c.grow.ensures.set honest)
 
 pub returns-else-length-from-2-clause-some : goal.returns-else-length-from-2-clause-some
 returns-else-length-from-2-clause-some g c =
     let a = (goal.at.returns-else-length-from-2-clause-some g c).After-length_at-from in
-    on_ok c.grow.result _ _ (λ e. (
-      e.0,
-      e.1 ∙ changed_after c.args.self.now c.args.file c.args.length _ _
-          (λ same. c.if-length-from.false (same ∙ sym (from_is g a))),
-    )) c.grow.ensures.some
+    on_ok c.grow.result _ _ (changed_some c.args.self.now c.args.file c.args.length c.grow.new.self _
+    (differs g a c.if-length-from.false)) c.grow.ensures.some
 
 -- ---- a shrink
 
@@ -62,7 +63,7 @@ pub returns-then-length-from-2-clause-ok : goal.returns-then-length-from-2-claus
 returns-then-length-from-2-clause-ok g c =
     let a = (goal.at.returns-then-length-from-2-clause-ok g c).After-length_at-from in
     ok_as c.shrink.result _ (changed_reason c.args.self.now c.args.file c.args.length c.in_ok-admit_length.ensures.ok
-    (λ e. c.if-length-from.false (e ∙ sym (from_is g a)))
+    (differs g a c.if-length-from.false)
     (sym (c.if-is_broken.ensures ∙ ap (λ (p : PagerState g.row.D.Denot). p.write_outs.broken) c.self.view_is))
     ∙ room_free _ c.shrink.ensures.room)
 
@@ -73,7 +74,7 @@ returns-then-length-from-2-clause-set g c honest =
     ∙ ap (resized_to c.args.self.now c.args.file c.args.length (last_page c.args.self.now
     (g.D.Device.seen c.args.self.now.device) c.args.file)) (sym c.shrink.ensures.device)
     ∙ changed_after c.args.self.now c.args.file c.args.length _ _
-    (λ same. c.if-length-from.false (same ∙ sym (from_is g a)))) (c.shrink.ensures.ok _)
+    (differs g a c.if-length-from.false)) (c.shrink.ensures.ok _)
 
 pub returns-then-length-from-2-clause-some : goal.returns-then-length-from-2-clause-some
 returns-then-length-from-2-clause-some g c =
@@ -83,14 +84,13 @@ returns-then-length-from-2-clause-some g c =
       e
           ∙ ap (resized_to c.args.self.now c.args.file c.args.length []) (sym c.shrink.ensures.device)
           ∙ changed_after c.args.self.now c.args.file c.args.length _ _
-          (λ same. c.if-length-from.false (same ∙ sym (from_is g a))),
+          (differs g a c.if-length-from.false),
     )) (c.shrink.ensures.ok [])
 
 pub returns-then-length-from-2-clause-refused : goal.returns-then-length-from-2-clause-refused
 returns-then-length-from-2-clause-refused g c =
     let a = (goal.at.returns-then-length-from-2-clause-refused g c).After-length_at-from in
-    let other : c.args.length ≢ file_length c.args.self.now.lengths c.args.file =
-    λ e. c.if-length-from.false (e ∙ sym (from_is g a)) in
+    let other = differs g a c.if-length-from.false in
     if_err c.shrink.result (λ why. why ≡ OutOfMemory) (RefusesSetLength c.args.self.now c.args.file c.args.length)
     (refuses_memory c.args.self.now c.args.file c.args.length
     (changed_reason c.args.self.now c.args.file c.args.length c.in_ok-admit_length.ensures.ok other
