@@ -473,22 +473,16 @@ impl<D: Device, A: Allocator + Copy> Pager<D, A> {
     }
 
     // A file grows, where the page in which it ended has these bytes.
-    fn put_growth(
-        &mut self,
-        file: FileNumber,
-        from: u64,
-        to: u64,
-        last: &[u8; 4096],
-    ) -> Result<(), Refusal>
+    fn put_growth(&mut self, file: FileNumber, to: u64, last: &[u8; 4096]) -> Result<(), Refusal>
         requires may { MayHaveLength self.old.table file to }
-        requires from { from ≡ file_length self.old.lengths file }
-        requires more { from < to }
+        requires more { file_length self.old.lengths file < to }
         requires room { is_overfull self.old.table self.old.most
             (restaged self.old.table self.old.lengths file to [] self.old.staged) ≡ false }
         ensures ok { OnOk result (self.new ≡ resized_to self.old file to last.now self.old.device) }
         ensures err { OnErr result (self.new ≡ self.old) }
         ensures memory { IfErr result (λ why. why ≡ Refusal.OutOfMemory) }
     {
+        let from = length_at(&self.lengths, file);
         let home = last_block(&self.table, file, from);
         let high = block_after(&self.table, file, to);
         let first = self.table.geometry().first_home();
@@ -529,7 +523,7 @@ impl<D: Device, A: Allocator + Copy> Pager<D, A> {
             return Err(Refusal::NoFrame);
         }
         let last = self.read_last(file, from)?;
-        self.put_growth(file, from, to, &last)
+        self.put_growth(file, to, &last)
     }
 
     // A file shrinks.
