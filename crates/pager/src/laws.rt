@@ -36,6 +36,7 @@ pub fn what_pagers_leave<D: Device>(device: &D)
 /// state and its last one leaves what recovers to the files after a durable prefix of the history and of some of the
 /// run's events (`since`). The same holds up to any moment within the step that follows, also where a device call of it
 /// fails (`within`).
+#[tactic(auto, using(crate::proofs::Runs::come_on))]
 pub fn what_runs_leave<D: Device>(device: &D)
     ensures come { (files : List File) (history events : List Event) (s t : PagerState D)
         → HasCome D.Device files history s → HasGone D.Device s events t

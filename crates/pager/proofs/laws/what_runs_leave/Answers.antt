@@ -1,8 +1,5 @@
-use Rattle.pager.proofs.Runs.{come_on, gone_on, left_since, left_within}
+use Rattle.pager.proofs.Runs.{gone_on, left_since, left_within}
 use Rattle.pager.proofs.laws.what_runs_leave.Goals as goal
-
-pub returns-clause-come : goal.returns-clause-come
-returns-clause-come g c files history events s t come gone = come_on g.D.Device files history s come gone
 
 pub returns-clause-on : goal.returns-clause-on
 returns-clause-on g c start mid last events more first next = gone_on g.D.Device start events mid first next
