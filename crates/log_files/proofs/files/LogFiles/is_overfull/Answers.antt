@@ -1,24 +1,17 @@
-use Rattle.std.proofs.Common.{◌≡◌, ℕ, ◌+◌, ◌-◌, ◌/◌, ◌<◌, true, false, List, [], Option, Some, None, ap, sym, ◌∙◌}
-use Rattle.std.proofs.Common.{subst, arith, refl}
+use Rattle.std.proofs.Common.{◌≡◌, ◌+◌, ◌-◌, ◌/◌, ◌<◌, true, false, [], ap, sym, ◌∙◌}
+use Rattle.std.proofs.Common.{subst, arith}
 use Rattle.std.specs.Prelude.{is_some, nat_lt}
 use Rattle.volume_codec.specs.Super.{pages_of}
 use Rattle.kept_blocks.specs.Blocks.{bytes_in}
 use Rattle.pager.specs.State.{file_length}
 use Rattle.pager.specs.Calls.{end_page}
+use Rattle.pager.proofs.Public.{added_to, added_some, added_none}
 use Rattle.log_files.specs.State.{LogFilesState, log_home_of, pages_put}
 use Rattle.log_files.specs.Calls.{log_restaged}
-use Rattle.log_files.proofs.Resizing.{pages_grown, added_by}
+use Rattle.log_files.proofs.Resizing.{pages_grown}
 use Rattle.log_files.proofs.Seen.{files_state_of, asked_length}
 use Rattle.log_files.proofs.files.LogFiles.is_overfull.Goals.{then-is_put, else-is_put}
 use Rattle.log_files.proofs.files.LogFiles.is_overfull.Goals as goal
-
-added_some : (o : Option (List ℕ)) (n : ℕ) → is_some o ≡ true → added_by o n ≡ n
-added_some None n e = absurd (cc)
-added_some (Some x) n e = refl
-
-added_none : (o : Option (List ℕ)) (n : ℕ) → is_some o ≡ false → added_by o n ≡ n + 1
-added_none None n e = refl
-added_none (Some x) n e = absurd (cc)
 
 pub returns : goal.returns
 returns g c =
@@ -33,7 +26,7 @@ returns g c =
     c.end_home-home.ensures.home ∙ ap (λ n. log_home_of s.table (end_page c.args.file n)) from_is in
     let there : c.is_put.result ≡ is_some (bytes_in s.pager.staged home) =
     c.is_put.ensures ∙ ap (λ q. is_some (bytes_in s.pager.staged q)) home_is in
-    let more : c.if-is_put.more ≡ added_by (bytes_in s.pager.staged home) many = elim c.if-is_put.branch [
+    let more : c.if-is_put.more ≡ added_to (bytes_in s.pager.staged home) many = elim c.if-is_put.branch [
       | then-is_put w ↦ (let is = added_some (bytes_in s.pager.staged home) many (sym there ∙ w.if-is_put.true) in
           omega (arith, w.more-is, is, home_is, c.home_after.ensures.home, grows))
       | else-is_put w ↦ (let is = added_none (bytes_in s.pager.staged home) many (sym there ∙ w.if-is_put.false) in
