@@ -34,6 +34,11 @@ module _ {D : Type 0} (s : LogFilesState D) (file to : ℕ) where
   changed_after last device other =
       sym (cond-false (eqb to from) s (log_resized_to s file to last device) (ne_eqb to from other))
 
+  pub changed_some : (new : LogFilesState D) (device : D) → to ≢ from
+      → (last : List ℕ) × (new ≡ log_resized_to s file to last device)
+      → (last : List ℕ) × (new ≡ after_log_length s file to last device)
+  changed_some new device other is = (is.0, is.1 ∙ changed_after is.0 device other)
+
   pub changed_reason : IsLeft → to ≢ from → s.pager.store.tail.spent ≡ false
       → log_length_refusal s file to ≡ first_reason (reason_if IsOverfull refusals.NoFrame ∷ [])
   changed_reason left other whole =
