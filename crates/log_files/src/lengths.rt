@@ -88,16 +88,9 @@ impl<D: Device, A: Allocator + Copy> LogFiles<D, A> {
     }
 
     // A file grows, where the page in which it ended has these bytes.
-    fn put_growth(
-        &mut self,
-        file: FileNumber,
-        from: u64,
-        to: u64,
-        last: &[u8; 4096],
-    ) -> Result<(), Refusal>
+    fn put_growth(&mut self, file: FileNumber, to: u64, last: &[u8; 4096]) -> Result<(), Refusal>
         requires may { MayHaveLogLength self.old.table file to }
-        requires from { from ≡ file_length self.old.lengths file }
-        requires more { from < to }
+        requires more { file_length self.old.lengths file < to }
         requires room { nat_lt self.old.most (pages_put self.old.table
             (log_restaged self.old.table self.old.lengths file to [] self.old.pager.staged)) ≡ false }
         ensures ok { OnOk result (self.new ≡ log_resized_to self.old file to last.now self.old.pager.device) }
@@ -106,6 +99,7 @@ impl<D: Device, A: Allocator + Copy> LogFiles<D, A> {
         ensures over { (contents : ℕ → List ℕ) → IsPagerOver D.Device self.old.pager contents
             → IsPagerOver D.Device self.new.pager contents }
     {
+        let from = length_at(&self.lengths, file);
         let home = end_home(&self.table, file, from);
         let high = home_after(&self.table, file, to);
         let first = self.table.log().first_home();
@@ -147,7 +141,7 @@ impl<D: Device, A: Allocator + Copy> LogFiles<D, A> {
             return Err(Refusal::NoFrame);
         }
         let last = self.read_last(file, from)?;
-        self.put_growth(file, from, to, &last)
+        self.put_growth(file, to, &last)
     }
 
     // A file shrinks.

@@ -1,4 +1,4 @@
-use Rattle.std.proofs.Common.{◌≡◌, ◌%◌, ◌<◌, false, [], ap, sym, ◌∙◌, subst, arith, set}
+use Rattle.std.proofs.Common.{◌≡◌, ◌%◌, ◌<◌, ℕ, List, false, [], ap, sym, ◌∙◌, subst, arith, set}
 use Rattle.std.specs.Prelude.{nat_lt}
 use Rattle.kept_blocks.specs.Blocks.{Blocks, cut_to}
 use Rattle.pager.specs.State.{file_length}
@@ -6,47 +6,53 @@ use Rattle.pager.specs.Calls.{end_page}
 use Rattle.log_codec.specs.Log.{LogValue, first_log_home}
 use Rattle.log_files.specs.State.{LogFilesState, log_home_of, pages_put}
 use Rattle.log_files.specs.Calls.{log_restaged, log_resized_to}
-use Rattle.log_files.specs.inside.Sound.{IsSoundLogFiles}
+use Rattle.log_files.specs.inside.Sound.{IsSoundLogFiles, MayHaveLogLength}
 use Rattle.log_files.proofs.Resizing.{none_added, resized_grown, sound_grown}
-use Rattle.log_files.proofs.Seen.{files_state_of, IsAskedLength, asked_length, over_now}
+use Rattle.log_files.proofs.Seen.{files_state_of, over_now}
 use Rattle.log_files.proofs.files.LogFiles.put_growth.Goals.{After-self-1}
 use Rattle.log_files.proofs.files.LogFiles.put_growth.Goals as goal
 
 pub grow-requires-clause-none : goal.grow-requires-clause-none
 grow-requires-clause-none g c q above below =
     let s : LogFilesState g.row.D.Denot = files_state_of c.self.inside in
-    let asked = asked_length s c.args.self.now c.args.file c.args.from c.args.to c.self.view_is c.requires.may
-    c.requires.from in
+    let from_is : c.length_at-from.result ≡ file_length s.lengths c.args.file =
+    c.length_at-from.ensures ∙ ap (λ (l : List ℕ). file_length l c.args.file) c.deref.ensures.value in
+    let back = λ (P : LogFilesState g.row.D.Denot → Type 0) (p : P c.args.self.now). subst P (sym c.self.view_is) p in
     let home_is : c.end_home-home.result
     ≡ log_home_of s.table (end_page c.args.file (file_length s.lengths c.args.file)) =
-    c.end_home-home.ensures.home ∙ ap (λ n. log_home_of s.table (end_page c.args.file n)) asked.from_is in
-    none_added g.D.Device.seen s c.self.invariant c.args.file c.args.to asked.may
-    (omega (arith, asked.from_is, c.requires.more)) q (omega (arith, above, home_is))
+    c.end_home-home.ensures.home ∙ ap (λ n. log_home_of s.table (end_page c.args.file n)) from_is in
+    none_added g.D.Device.seen s c.self.invariant c.args.file c.args.to
+    (back (λ p. MayHaveLogLength p.table c.args.file c.args.to) c.requires.may)
+    (back (λ p. file_length p.lengths c.args.file < c.args.to) c.requires.more) q (omega (arith, above, home_is))
     (omega (arith, below, c.home_after-high.ensures.home))
 
 module _ (g : _) (c : After-self-1 g) where
   abbrev t : LogFilesState g.row.D.Denot
   t = files_state_of c.self.inside
 
-  asked : IsAskedLength t c.args.file c.args.from c.args.to
-  asked = asked_length t c.args.self.now c.args.file c.args.from c.args.to c.self.view_is c.requires.may
-      c.requires.from
+  from_is : c.length_at-from.result ≡ file_length t.lengths c.args.file
+  from_is = c.length_at-from.ensures ∙ ap (λ (l : List ℕ). file_length l c.args.file) c.deref.ensures.value
+
+  may : MayHaveLogLength t.table c.args.file c.args.to
+  may = subst (λ (p : LogFilesState g.row.D.Denot). MayHaveLogLength p.table c.args.file c.args.to) (sym c.self.view_is)
+      c.requires.may
 
   grows : file_length t.lengths c.args.file < c.args.to
-  grows = omega (arith, asked.from_is, c.requires.more)
+  grows = subst (λ (p : LogFilesState g.row.D.Denot). file_length p.lengths c.args.file < c.args.to)
+      (sym c.self.view_is) c.requires.more
 
   pager_is : c.grow.new.self ≡ record t.pager {
     staged = log_restaged t.table t.lengths c.args.file c.args.to c.args.last.now t.pager.staged;
   }
   pager_is = c.in-Ok.ensures.ok
       ∙ ap (λ (m : Blocks). record t.pager { staged = m })
-      (resized_grown g.D.Device.seen t c.self.invariant c.args.file c.args.to asked.may grows
+      (resized_grown g.D.Device.seen t c.self.invariant c.args.file c.args.to may grows
       c.end_home-home.result c.home_after-high.result c.first_home-first.result c.cut_off.new.page
       c.text_with-text.result c.args.last.now
-      (c.end_home-home.ensures.home ∙ ap (λ n. log_home_of t.table (end_page c.args.file n)) asked.from_is)
+      (c.end_home-home.ensures.home ∙ ap (λ n. log_home_of t.table (end_page c.args.file n)) from_is)
       c.home_after-high.ensures.home
       (c.first_home-first.ensures.value ∙ ap (λ (l : LogValue). first_log_home l.ring) c.log.ensures.value)
-      (c.cut_off.ensures ∙ ap (λ n. cut_to (n % 4096) c.args.last.now) asked.from_is)
+      (c.cut_off.ensures ∙ ap (λ n. cut_to (n % 4096) c.args.last.now) from_is)
       c.text_with-text.ensures.text)
 
   new_is : record t {
@@ -60,7 +66,7 @@ module _ (g : _) (c : After-self-1 g) where
 
 pub invariant_of-self : goal.invariant_of-self
 invariant_of-self g c = subst (IsSoundLogFiles g.D.Device.seen) (sym (new_is g c))
-    (sound_grown g.D.Device.seen (t g c) c.self.invariant c.args.file c.args.to (asked g c).may c.args.last.now
+    (sound_grown g.D.Device.seen (t g c) c.self.invariant c.args.file c.args.to (may g c) c.args.last.now
     (grows g c) (subst (λ (p : LogFilesState g.row.D.Denot). nat_lt p.most (pages_put p.table
     (log_restaged p.table p.lengths c.args.file c.args.to [] p.pager.staged)) ≡ false) (sym c.self.view_is)
     c.requires.room))
