@@ -1,5 +1,6 @@
-use Rattle.std.proofs.Common.{◌≡◌, ◌≢◌, ◌⊎◌, [], None, inl, inr, subst, sym, ap, ◌∙◌}
+use Rattle.std.proofs.Common.{◌≡◌, ◌≢◌, ◌⊎◌, ℕ, List, [], None, inl, inr, subst, sym, ap, ◌∙◌}
 use Rattle.device.specs.Device.{LeavesOnly}
+use Rattle.device.specs.declared.device.Device.{Ghosts}
 use Rattle.kept_blocks.specs.Blocks.{homes_in}
 use Rattle.log_codec.specs.Chain.{LogRecovers}
 use Rattle.log_commits.specs.Commit.{TellsTorn}
@@ -11,29 +12,27 @@ use Rattle.log_files.specs.Calls.{IsFailedLogCommit, log_commit_refusal}
 use Rattle.log_files.specs.inside.Faults.{refusal_by}
 use Rattle.log_files.proofs.Faults.{commit_fault}
 use Rattle.log_files.proofs.Seen.{files_state_of}
+use Rattle.log_files.proofs.files.LogFiles.commit.Goals.{After-commit}
 use Rattle.log_files.proofs.files.LogFiles.commit.Goals as goal
 
+-- what a crash within a commit to this device leaves
+abbrev LeavesPut : {D : Type 0} → Ghosts D → (ℕ → List ℕ) → D → LogFilesState D → Type 0
+LeavesPut disk contents new s = disk.is_honest s.pager.device → IsPagerOver disk s.pager contents
+    → LeavesOnly disk.moment disk.left_since s.pager.device new
+    (λ x. TellsTorn (committing_tail s.pager.store) (homes_in s.pager.staged) (records_put s.pager.staged) x
+    → LogRecovers s.pager.store.tail.log contents x
+    ⊎ LogRecovers s.pager.store.tail.log (contents_put contents s.pager.staged) x)
+
+leaves_put : (g : _) (c : After-commit g) (contents : ℕ → List ℕ)
+    → LeavesPut g.D.Device contents c.commit.new.self.device c.args.self.now
+leaves_put g c contents =
+    subst (LeavesPut g.D.Device contents c.commit.new.self.device) c.self.view_is (c.commit.ensures.leaves contents)
+
 pub returns-in-Ok-clause-leaves : goal.returns-in-Ok-clause-leaves
-returns-in-Ok-clause-leaves g c = λ contents honest over.
-    let disk = g.D.Device in
-    let Q : LogFilesState g.row.D.Denot → Type 0 = λ v. disk.is_honest v.pager.device
-    → IsPagerOver disk v.pager contents
-    → LeavesOnly disk.moment disk.left_since v.pager.device c.commit.new.self.device
-    (λ x. TellsTorn (committing_tail v.pager.store) (homes_in v.pager.staged) (records_put v.pager.staged) x
-    → LogRecovers v.pager.store.tail.log contents x
-    ⊎ LogRecovers v.pager.store.tail.log (contents_put contents v.pager.staged) x) in
-    subst Q c.self.view_is (c.commit.ensures.leaves contents) honest over
+returns-in-Ok-clause-leaves g c = leaves_put g (goal.at.returns-in-Ok-clause-leaves g c).After-commit
 
 pub returns-in-Err-clause-leaves : goal.returns-in-Err-clause-leaves
-returns-in-Err-clause-leaves g c = λ contents honest over.
-    let disk = g.D.Device in
-    let Q : LogFilesState g.row.D.Denot → Type 0 = λ v. disk.is_honest v.pager.device
-    → IsPagerOver disk v.pager contents
-    → LeavesOnly disk.moment disk.left_since v.pager.device c.commit.new.self.device
-    (λ x. TellsTorn (committing_tail v.pager.store) (homes_in v.pager.staged) (records_put v.pager.staged) x
-    → LogRecovers v.pager.store.tail.log contents x
-    ⊎ LogRecovers v.pager.store.tail.log (contents_put contents v.pager.staged) x) in
-    subst Q c.self.view_is (c.commit.ensures.leaves contents) honest over
+returns-in-Err-clause-leaves g c = leaves_put g (goal.at.returns-in-Err-clause-leaves g c).After-commit
 
 pub returns-in-Err-clause-failed : goal.returns-in-Err-clause-failed
 returns-in-Err-clause-failed g c = λ is.
