@@ -14,7 +14,7 @@ use Rattle.log_commits.specs.Commit.{commit_works, committed_to, next_logged, re
 use Rattle.log_commits.specs.Behind.{HasCommits, HoldsCommits, IsReadyToMove, IsSameOutside, MayMove, tail_behind}
 use Rattle.log_commits.specs.Selecting.{IsSureBy, selecting_works}
 use Rattle.log_commits.proofs.Filling.{length-head_of, length-records}
-use Rattle.log_commits.proofs.Left.{leaves, leaves_chain, leaves_outside}
+use Rattle.log_commits.proofs.Left.{IsBegun, leaves, leaves_chain, leaves_outside}
 use Rattle.log_commits.proofs.Moving.{is_failed}
 use Rattle.log_commits.proofs.Selected.{Leaves, selecting_left, selecting_leaves}
 
@@ -31,6 +31,20 @@ module _ {D : Type 0} (disk : Ghosts D) (t : TailValue) (homes room : List ℕ) 
   records_size : length records ≡ 4096 * length homes
   records_size = length-records homes room may.room_is
 
+  abbrev begun : (contents : ℕ → List ℕ) → disk.is_honest old
+      → ((c : List ℕ) → disk.may_leave old c → HoldsLog t contents c)
+      → IsBegun disk t contents homes records (length room) old
+  begun contents honest held = record {
+    log = tail.log;
+    may = may;
+    head_size = head_size;
+    records_size = records_size;
+    honest = honest;
+    long = long;
+    held = held;
+    seen_is_left = seen_is_left;
+  }
+
   pub room_outside : {new : D} (done : Bool) → DidAll disk old (commit_works t homes records) done new
       → disk.is_honest old → IsSameOutside t.log (disk.seen old) (disk.seen new)
   room_outside {new} done did honest =
@@ -42,8 +56,7 @@ module _ {D : Type 0} (disk : Ghosts D) (t : TailValue) (homes room : List ℕ) 
       → (done : Bool) → DidAll disk old (commit_works t homes records) done new
       → CommitLeaves disk t contents homes records done old new
   room_leaves {new} contents honest held done did =
-      leaves disk t contents homes records (length room) tail.log may head_size records_size old honest long held
-      seen_is_left done did
+      leaves (begun contents honest held) done did
 
   pub room_commits : {new : D} (second : Bool) (contents : ℕ → List ℕ) (chain : List LogDescriptor)
       → disk.is_honest old → HasCommits disk second t contents chain old
@@ -51,8 +64,7 @@ module _ {D : Type 0} (disk : Ghosts D) (t : TailValue) (homes room : List ℕ) 
       → HoldsCommits second (tail_after t homes) (committed_to contents homes records)
       (chain ++ next_logged t homes ∷ []) (disk.seen new)
   room_commits {new} second contents chain honest held did tells =
-      let more = leaves_chain disk t contents homes records (length room) tail.log may head_size records_size old honest
-      long (λ x left. (held x left).held) seen_is_left true did refl tells in
+      let more = leaves_chain (begun contents honest (λ x left. (held x left).held)) true did refl tells in
       let before = held (disk.seen old) (seen_is_left old honest) in
       let same = room_outside true did honest in
       let next : LogDescriptor = next_logged t homes in

@@ -1,5 +1,5 @@
 -- What the calls of a commit leave.
-use Rattle.std.proofs.Common.{◌≡◌, ◌≢◌, ℕ, ◌+◌, ◌-◌, ◌*◌, ◌/◌, ◌%◌, ◌<◌, ◌≤◌, Bool, true, false}
+use Rattle.std.proofs.Common.{◌≡◌, ◌≢◌, ℕ, ◌+◌, ◌*◌, ◌/◌, ◌%◌, ◌<◌, ◌≤◌, Bool, true, false}
 use Rattle.std.proofs.Common.{List, [], ◌∷◌, ◌++◌, length, get_or, inl, inr, refl, sym, ap, subst, ◌∙◌, arith}
 use Rattle.std.proofs.Common.{length-append}
 use Rattle.std.proofs.lemmas.Bool.{cases_lt, cases_eq, false≢true}
@@ -7,7 +7,7 @@ use Rattle.device.specs.Device.{Torn, TornFrom, Only, LeavesOnly}
 use Rattle.device.specs.Work.{WriteAt, Sync}
 use Rattle.device.specs.Did.{Did}
 use Rattle.device.specs.declared.device.Device.{Ghosts}
-use Rattle.device.proofs.Public.{leaves_weaker, leaves_then, done_seen, torn_before, torn_after, written_within}
+use Rattle.device.proofs.Public.{leaves_weaker, leaves_then, done_seen, torn_before, torn_after}
 use Rattle.log_codec.specs.declared.sealing.Sealing.{Sealing}
 use Rattle.log_codec.specs.declared.sealing.Sealing.TheVariants.{ByByte, ByDigest}
 use Rattle.volume_codec.specs.Layout.{block_at}
@@ -62,14 +62,21 @@ pub record CommitLeft {D : Type 0} (disk : Ghosts D) (t : TailValue) (contents :
       → (h : HoldsLog (tail_after t homes) (committed_to contents homes records) (disk.seen new))
       × (h.chain ≡ chain ++ next_logged t homes ∷ [])
 
-module _ {D : Type 0} (disk : Ghosts D) (t : TailValue) (contents : ℕ → List ℕ) (homes records : List ℕ) (room : ℕ)
-    (log : IsLog t.log) (may : MayCommit t homes room)
-    (head_size : length (log_seal t.log.sealing t.start.epoch (next_logged t homes) records
-    ++ log_body (next_logged t homes)) ≡ 4096 * log_descriptor_blocks (length homes))
-    (records_size : length records ≡ 4096 * length homes) (old : D) (honest : disk.is_honest old)
-    (long : 4096 * t.log.blocks ≤ length (disk.seen old))
-    (held : (c : List ℕ) → disk.may_leave old c → HoldsLog t contents c)
-    (seen_is_left : (device : D) → disk.is_honest device → disk.may_leave device (disk.seen device)) where
+-- a commit begins on a device whose lists all hold the log
+pub record IsBegun {D : Type 0} (disk : Ghosts D) (t : TailValue) (contents : ℕ → List ℕ) (homes records : List ℕ)
+    (room : ℕ) (old : D) : Type 0 where
+  pub log : IsLog t.log
+  pub may : MayCommit t homes room
+  pub head_size : length (log_seal t.log.sealing t.start.epoch (next_logged t homes) records
+      ++ log_body (next_logged t homes)) ≡ 4096 * log_descriptor_blocks (length homes)
+  pub records_size : length records ≡ 4096 * length homes
+  pub honest : disk.is_honest old
+  pub long : 4096 * t.log.blocks ≤ length (disk.seen old)
+  pub held : (c : List ℕ) → disk.may_leave old c → HoldsLog t contents c
+  pub seen_is_left : (device : D) → disk.is_honest device → disk.may_leave device (disk.seen device)
+
+module _ {D : Type 0} {disk : Ghosts D} {t : TailValue} {contents : ℕ → List ℕ} {homes records : List ℕ} {room : ℕ}
+    {old : D} (begun : IsBegun disk t contents homes records room old) where
   abbrev ring : ℕ
   ring = t.log.ring
 
@@ -89,7 +96,7 @@ module _ {D : Type 0} (disk : Ghosts D) (t : TailValue) (contents : ℕ → List
   Left = LeftByCommit t contents homes records
 
   abbrev pub seen_held : HoldsLog t contents (disk.seen old)
-  seen_held = held (disk.seen old) (seen_is_left old honest)
+  seen_held = begun.held (disk.seen old) (begun.seen_is_left old begun.honest)
 
   abbrev Leaves : D → Bool → Type 0
   Leaves new done = CommitLeft disk t contents homes records seen_held.chain done old new
@@ -98,13 +105,13 @@ module _ {D : Type 0} (disk : Ghosts D) (t : TailValue) (contents : ℕ → List
   HoldsMore c = (h : HoldsLog after newer c) × (h.chain ≡ seen_held.chain ++ next_logged t homes ∷ [])
 
   pub some : 0 < ring
-  some = omega (arith, log.some_ring)
+  some = omega (arith, begun.log.some_ring)
 
-  log_long : 4096 * (4 + ring) ≤ length (disk.seen old)
-  log_long = omega (arith, log.some_homes)
+  pub log_long : 4096 * (4 + ring) ≤ length (disk.seen old)
+  log_long = omega (arith, begun.log.some_homes, begun.long)
 
-  size : length bytes ≡ 4096 * n
-  size = commit_size t homes records head_size records_size
+  pub size : length bytes ≡ 4096 * n
+  size = commit_size t homes records begun.head_size begun.records_size
 
   -- a sync that was made sure of
   durable_by : {mid new : D} (done : Bool) → disk.is_honest mid → Did disk mid Sync done new → done ≡ true
@@ -122,12 +129,14 @@ module _ {D : Type 0} (disk : Ghosts D) (t : TailValue) (contents : ℕ → List
     pub keeps : (b c : List ℕ) → HoldsLog t contents b → RingTorn ring t.position 0 (length bytes) b c
         → KeepsLog t b c
     keeps b c is torn =
-        keeps_of_torn t contents b c (length bytes) n log is torn (omega (arith, size)) (omega (arith, may.free))
+        keeps_of_torn t contents b c (length bytes) n begun.log is torn (omega (arith, size))
+        (omega (arith, begun.may.free))
 
     left_by : (c : List ℕ) → RingFrom ring t.position 0 (length bytes) (disk.may_leave old) c → Left c
     left_by c from tells =
-        let before = held from.0 from.1 in
-        elim (torn_by_digest t contents from.0 c homes records room log before may head_size records_size
+        let before = begun.held from.0 from.1 in
+        elim (torn_by_digest t contents from.0 c homes records room begun.log before begun.may begun.head_size
+        begun.records_size
         (keeps from.0 c before from.2) key digest (tells_by c tells)) [
           | inl is ↦ inl (recovers t contents c is.0)
           | inr is ↦ inr (recovers after newer c is.0)
@@ -139,7 +148,7 @@ module _ {D : Type 0} (disk : Ghosts D) (t : TailValue) (contents : ℕ → List
         elim (did_split disk (ring_works ring t.position 0 bytes) (Sync ∷ []) old new done did) [
           | inl failed ↦
               let went = went_round ring t.position some disk 0 bytes (omega arith) (omega arith)
-              (omega (arith, size, may.free)) false log_long failed.0 in
+              (omega (arith, size, begun.may.free)) false log_long failed.0 in
               record {
                 crash = leaves_weaker went.has.time left_by;
                 durable = λ made. absurd (false≢true (sym failed.1 ∙ made));
@@ -147,9 +156,9 @@ module _ {D : Type 0} (disk : Ghosts D) (t : TailValue) (contents : ℕ → List
               }
           | inr both ↦
               let went = went_round ring t.position some disk 0 bytes (omega arith) (omega arith)
-              (omega (arith, size, may.free)) true log_long both.1 in
+              (omega (arith, size, begun.may.free)) true log_long both.1 in
               let sync = one_did disk Sync both.2 in
-              let is = went.has.honest.1 honest in
+              let is = went.has.honest.1 begun.honest in
               record {
                 crash = crash_synced {P = Left} went.has sync left_by;
                 durable = durable_by done is sync;
@@ -159,9 +168,10 @@ module _ {D : Type 0} (disk : Ghosts D) (t : TailValue) (contents : ℕ → List
                     let Q : List ℕ → Type 0 = λ l. TellsTorn t homes records l in
                     let c : List ℕ = disk.seen both.0 in
                     let has : RingHas ring t.position 0 (4096 * n) bytes c = λ k least most.
-                    went.is refl honest k least (omega (arith, size)) in
-                    subst P (sym same) (whole_by_digest t contents (disk.seen old) c homes records room log seen_held
-                    may head_size records_size (keeps (disk.seen old) c seen_held (went.has.torn honest)) key digest
+                    went.is refl begun.honest k least (omega (arith, size)) in
+                    subst P (sym same) (whole_by_digest t contents (disk.seen old) c homes records room begun.log
+                    seen_held begun.may begun.head_size begun.records_size
+                    (keeps (disk.seen old) c seen_held (went.has.torn begun.honest)) key digest
                     (tells_by c (subst Q same tells)) has);
               }
         ]
@@ -178,7 +188,7 @@ module _ {D : Type 0} (disk : Ghosts D) (t : TailValue) (contents : ℕ → List
     room_for : n + 1 ≤ ring
     room_for =
         let P : Sealing → Type 0 = λ s. t.used + n + spare_blocks s ≤ ring in
-        let free = subst P byte may.free in omega arith
+        let free = subst P byte begun.may.free in omega arith
 
     pub near : 4096 * n + 1 ≤ 4096 * ring
     near = omega (arith, room_for)
@@ -187,8 +197,8 @@ module _ {D : Type 0} (disk : Ghosts D) (t : TailValue) (contents : ℕ → List
         → KeepsLog t b c
     byte_keeps b c is torn =
         let P : Sealing → Type 0 = λ s. t.used + n + spare_blocks s ≤ ring in
-        keeps_of_torn t contents b c (4096 * n + 1) (n + 1) log is torn (omega arith)
-        (let free = subst P byte may.free in omega arith)
+        keeps_of_torn t contents b c (4096 * n + 1) (n + 1) begun.log is torn (omega arith)
+        (let free = subst P byte begun.may.free in omega arith)
 
     widened : (b c : List ℕ) → RingTorn ring t.position 1 (length image) b c
         → RingTorn ring t.position 0 (4096 * n + 1) b c
@@ -201,12 +211,13 @@ module _ {D : Type 0} (disk : Ghosts D) (t : TailValue) (contents : ℕ → List
         let stays : get_or c (ring_place ring t.position 0) 0 ≡ get_or b (ring_place ring t.position 0) 0 =
         torn.elsewhere (ring_place ring t.position 0)
         (λ k least most. places_apart ring t.position 0 k some (omega arith) (omega (arith, image_size, near))) in
-        (closed_by_byte t contents b c homes records room log is may head_size records_size
+        (closed_by_byte t contents b c homes records room begun.log is begun.may begun.head_size
+        begun.records_size
         (byte_keeps b c is (widened b c torn)) byte
         (λ opened. closed_before t contents b is byte (sym stays ∙ opened))).0
 
     left_unsealed : (c : List ℕ) → RingFrom ring t.position 1 (length image) (disk.may_leave old) c → Left c
-    left_unsealed c from tells = inl (recovers t contents c (unsealed from.0 c (held from.0 from.1) from.2))
+    left_unsealed c from tells = inl (recovers t contents c (unsealed from.0 c (begun.held from.0 from.1) from.2))
 
     abbrev place : ℕ
     place = 4096 * ring_block ring t.position
@@ -243,7 +254,8 @@ module _ {D : Type 0} (disk : Ghosts D) (t : TailValue) (contents : ℕ → List
 
       pub sealed : get_or c place 0 ≡ 0xA7 → HoldsMore c
       sealed is =
-          open_by_byte t contents (disk.seen old) c homes records room log seen_held may head_size records_size
+          open_by_byte t contents (disk.seen old) c homes records room begun.log seen_held begun.may
+          begun.head_size begun.records_size
           seal_keeps byte (λ k least most. elim (cases_eq k 0) [
             | inl first ↦
                 ap (λ x. get_or c (ring_place ring t.position x) 0) first ∙ ap (λ x. get_or c x 0) place_is ∙ is
@@ -261,7 +273,8 @@ module _ {D : Type 0} (disk : Ghosts D) (t : TailValue) (contents : ℕ → List
 
       pub closed : get_or c place 0 ≢ 0xA7 → (h : HoldsLog t contents c) × (h.chain ≡ seen_held.chain)
       closed other =
-          closed_by_byte t contents (disk.seen old) c homes records room log seen_held may head_size records_size
+          closed_by_byte t contents (disk.seen old) c homes records room begun.log seen_held begun.may
+          begun.head_size begun.records_size
           seal_keeps byte (λ opened. other (ap (λ x. get_or c x 0) (sym place_is) ∙ opened))
 
       pub left_sealing : Left c
@@ -279,10 +292,17 @@ module _ {D : Type 0} (disk : Ghosts D) (t : TailValue) (contents : ℕ → List
     pub near_image : length image ≤ 4096 * ring
     near_image = omega (arith, image_size, near)
 
-    module _ (one two : D) (went : WentRound ring t.position some disk 1 image few low near_image old one true)
+    abbrev pub Went : D → Bool → Type 0
+    Went one done = WentRound ring t.position some disk 1 image few low near_image old one done
+
+    pub image_went : {one : D} (done : Bool) → DidAll disk old (ring_works ring t.position 1 image) done one
+        → Went one done
+    image_went done did = went_round ring t.position some disk 1 image few low near_image done log_long did
+
+    module _ (one two : D) (went : Went one true)
         (sync : Did disk one Sync true two) where
       one_honest : disk.is_honest one
-      one_honest = went.has.honest.1 honest
+      one_honest = went.has.honest.1 begun.honest
 
       two_honest : disk.is_honest two
       two_honest = sync.honest.1 one_honest
@@ -290,7 +310,7 @@ module _ {D : Type 0} (disk : Ghosts D) (t : TailValue) (contents : ℕ → List
       -- what the write of the seal's byte leaves
       left_seal : (c : List ℕ) → TornFrom place 1 (disk.may_leave two) c → Left c
       left_seal c from =
-          left_sealing (disk.seen one) (went.has.torn honest) (went.is refl honest) c
+          left_sealing (disk.seen one) (went.has.torn begun.honest) (went.is refl begun.honest) c
           (torn_synced disk one_honest sync place 1 c from)
 
       pub seal_failed : {new : D} → Did disk two (WriteAt place (0xA7 ∷ [])) false new → Leaves new false
@@ -316,8 +336,8 @@ module _ {D : Type 0} (disk : Ghosts D) (t : TailValue) (contents : ℕ → List
                 let P : List ℕ → Type 0 = λ l. HoldsMore l in
                 let room_two : place + 1 ≤ length (disk.seen two) =
                 omega (arith, block_low ring t.position some, log_long, went.has.same_length, sync.same_length) in
-                subst P (sym same) (sealed (disk.seen one) (went.has.torn honest) (went.is refl honest) c
-                (torn_synced disk one_honest sync place 1 c (did.left c (seen_is_left three is)))
+                subst P (sym same) (sealed (disk.seen one) (went.has.torn begun.honest) (went.is refl begun.honest) c
+                (torn_synced disk one_honest sync place 1 c (did.left c (begun.seen_is_left three is)))
                 (byte_written disk place 0xA7 did two_honest room_two));
           }
 
@@ -328,21 +348,20 @@ module _ {D : Type 0} (disk : Ghosts D) (t : TailValue) (contents : ℕ → List
         elim (did_split disk (ring_works ring t.position 1 image)
         (Sync ∷ WriteAt place (0xA7 ∷ []) ∷ Sync ∷ []) old new done did) [
           | inl failed ↦
-              let went = went_round ring t.position some disk 1 image few low near_image false log_long failed.0 in
+              let went = image_went false failed.0 in
               failed_as (sym failed.1) (record {
                 crash = leaves_weaker went.has.time left_unsealed;
                 durable = λ made. absurd (false≢true made);
                 committed = λ made. absurd (false≢true made);
               })
           | inr both ↦
-              behind both.0 (went_round ring t.position some disk 1 image few low near_image true log_long both.1)
-              both.2
+              behind both.0 (image_went true both.1) both.2
         ]
       where
         failed_as : false ≡ done → Leaves new false → Leaves new done
         failed_as is leaves = let P : Bool → Type 0 = λ b. Leaves new b in subst P is leaves
 
-        behind : (one : D) → WentRound ring t.position some disk 1 image few low near_image old one true
+        behind : (one : D) → Went one true
             → DidAll disk one (Sync ∷ WriteAt place (0xA7 ∷ []) ∷ Sync ∷ []) done new → Leaves new done
         behind one went (inl failed) =
             failed_as (sym failed.1) (record {

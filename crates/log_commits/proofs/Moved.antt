@@ -4,7 +4,7 @@ use Rattle.std.proofs.Common.{true, false, cond, length, take, drop, refl, sym, 
 use Rattle.std.proofs.lemmas.List.{take_at, drop_at}
 use Rattle.volume_codec.specs.Layout.{block_at}
 use Rattle.log_codec.specs.Log.{LogValue, ring_block, ring_bytes, log_descriptor_blocks, log_commit_blocks}
-use Rattle.log_codec.specs.Commit.{LogDescriptor, log_body, log_seal}
+use Rattle.log_codec.specs.Commit.{LogDescriptor}
 use Rattle.log_codec.specs.Chain.{IsNextCommit, LogEndsAt, IsChain, records_position}
 use Rattle.log_codec.specs.Chain.{position_after, chain_end, chain_blocks, logged_or, newest_or}
 use Rattle.log_codec.proofs.Public.{next_alike}

@@ -1,13 +1,13 @@
 -- What the calls of a commit leave that selects a start.
-use Rattle.std.proofs.Common.{◌≡◌, ◌⊎◌, ℕ, ◌+◌, ◌-◌, ◌*◌, ◌<◌, ◌≤◌, Bool, true, false, List, [], ◌∷◌, ◌++◌}
-use Rattle.std.proofs.Common.{length, get_or, inl, inr, refl, sym, ap, subst, ◌∙◌, arith, length-append}
+use Rattle.std.proofs.Common.{◌≡◌, ◌⊎◌, ℕ, ◌+◌, ◌*◌, ◌≤◌, Bool, true, false, List, [], ◌∷◌, ◌++◌}
+use Rattle.std.proofs.Common.{length, get_or, inl, inr, refl, sym, ap, subst, ◌∙◌, arith}
 use Rattle.std.specs.Prelude.{not}
 use Rattle.std.proofs.lemmas.Bool.{cases_eq, false≢true}
 use Rattle.device.specs.Device.{Torn, TornFrom, Only, LeavesOnly}
 use Rattle.device.specs.Work.{WriteAt, Sync}
 use Rattle.device.specs.Did.{Did}
 use Rattle.device.specs.declared.device.Device.{Ghosts}
-use Rattle.device.proofs.Public.{leaves_at_start, leaves_weaker, leaves_then, done_seen, written_within}
+use Rattle.device.proofs.Public.{leaves_at_start, leaves_weaker, leaves_then, done_seen}
 use Rattle.device.proofs.Ranges.{torn_by_write}
 use Rattle.log_codec.specs.declared.sealing.Sealing.{Sealing}
 use Rattle.log_codec.specs.declared.sealing.Sealing.TheVariants.{ByByte, ByDigest}
@@ -26,10 +26,10 @@ use Rattle.log_commits.specs.Selecting.{IsSureBy, selecting_works}
 use Rattle.log_commits.proofs.Places.{block_low}
 use Rattle.log_commits.proofs.Ranges.{RingTorn, RingHas, torn_within}
 use Rattle.log_commits.proofs.Kept.{selects}
-use Rattle.log_commits.proofs.Left.{recovers, commit_size, keeps, unsealed, sealed, closed, seal_torn, image_size}
-use Rattle.log_commits.proofs.Left.{near}
+use Rattle.log_commits.proofs.Left.{IsBegun, Went, recovers, some, log_long, size, keeps, unsealed, sealed, closed}
+use Rattle.log_commits.proofs.Left.{seal_torn, image_went}
 use Rattle.log_commits.proofs.UnderWay.{torn_by_digest, whole_by_digest}
-use Rattle.log_commits.proofs.Works.{RingFrom, WentRound, went_round, did_split, one_did, crash_synced, torn_synced}
+use Rattle.log_commits.proofs.Works.{RingFrom, went_round, did_split, one_did, crash_synced, torn_synced}
 use Rattle.log_commits.proofs.Works.{byte_written}
 use Rattle.log_commits.proofs.Ready.{Before, After, Either, Left, torn_outside, ready_same, ready_more}
 use Rattle.log_commits.proofs.Ready.{left_selecting, left_either, selected_with}
@@ -46,9 +46,6 @@ module _ {D : Type 0} (disk : Ghosts D) (t : TailValue) (contents : ℕ → List
     (seen_is_left : (device : D) → disk.is_honest device → disk.may_leave device (disk.seen device)) where
   abbrev ring : ℕ
   ring = t.log.ring
-
-  abbrev n : ℕ
-  n = log_commit_blocks (length homes)
 
   abbrev bytes : List ℕ
   bytes = commit_bytes t homes records
@@ -85,17 +82,20 @@ module _ {D : Type 0} (disk : Ghosts D) (t : TailValue) (contents : ℕ → List
   abbrev lists_held : (c : List ℕ) → disk.may_leave old c → HoldsLog t contents c
   lists_held c may = (held c may).held
 
-  some : 0 < ring
-  some = omega (arith, log.some_ring)
-
-  log_long : 4096 * (4 + ring) ≤ length (disk.seen old)
-  log_long = omega (arith, log.some_homes)
+  abbrev begun : IsBegun disk t contents homes records room old
+  begun = record {
+    log = log;
+    may = may;
+    head_size = head_size;
+    records_size = records_size;
+    honest = honest;
+    long = long;
+    held = lists_held;
+    seen_is_left = seen_is_left;
+  }
 
   low : 16384 ≤ length (disk.seen old)
-  low = omega (arith, log_long)
-
-  size : length bytes ≡ 4096 * n
-  size = commit_size t homes records head_size records_size
+  low = omega (arith, log_long begun)
 
   failed_as : {new : D} (done : Bool) → done ≡ false → Leaves new false → Leaves new done
   failed_as {new} done is leaves = let P : Bool → Type 0 = λ b. Leaves new b in subst P (sym is) leaves
@@ -163,13 +163,12 @@ module _ {D : Type 0} (disk : Ghosts D) (t : TailValue) (contents : ℕ → List
         let P : Sealing → Type 0 = λ s. TellsTornBy s t homes records c in subst P digest tells
 
     kept : (c : List ℕ) (torn : RingTorn ring t.position 0 (length bytes) seen c) → IsSameOutside t.log seen c
-    kept c torn = torn_outside t.log t.position 0 (length bytes) seen c some torn
+    kept c torn = torn_outside t.log t.position 0 (length bytes) seen c (some begun) torn
 
     torn_either : (c : List ℕ) → RingTorn ring t.position 0 (length bytes) seen c → Mid c
     torn_either c torn tells =
         elim (torn_by_digest t contents seen c homes records room log seen_held may head_size records_size
-        (keeps disk t contents homes records room log may head_size records_size old honest long lists_held
-        seen_is_left key digest seen c seen_held torn) key digest (tells_by c tells)) [
+        (keeps begun key digest seen c seen_held torn) key digest (tells_by c tells)) [
           | inl is ↦ inl (ready_same t contents homes records room oldest log may can second ds younger seen c ready
               (kept c torn) is)
           | inr is ↦ inr (ready_more t contents homes records room oldest log may can second ds younger seen c ready
@@ -189,23 +188,22 @@ module _ {D : Type 0} (disk : Ghosts D) (t : TailValue) (contents : ℕ → List
     selecting_by_digest {new} done did =
         elim (did_split disk (ring_works ring t.position 0 bytes) (select_works second) old new done did) [
           | inl failed ↦
-              let went = went_round ring t.position some disk 0 bytes (omega arith) (omega arith)
-              (omega (arith, size, may.free)) false log_long failed.0 in
+              let went = went_round ring t.position (some begun) disk 0 bytes (omega arith) (omega arith)
+              (omega (arith, size begun, may.free)) false (log_long begun) failed.0 in
               failed_as done failed.1 (failed_by (leaves_weaker went.has.time left_ring))
           | inr both ↦
               let mid : D = both.0 in
-              let went = went_round ring t.position some disk 0 bytes (omega arith) (omega arith)
-              (omega (arith, size, may.free)) true log_long both.1 in
+              let went = went_round ring t.position (some begun) disk 0 bytes (omega arith) (omega arith)
+              (omega (arith, size begun, may.free)) true (log_long begun) both.1 in
               let torn = went.has.torn honest in
-              let has : RingHas ring t.position 0 (4096 * n) bytes (disk.seen mid) = λ k least most.
-              went.is refl honest k least (omega (arith, size)) in
+              let has : RingHas ring t.position 0 (4096 * log_commit_blocks (length homes)) bytes (disk.seen mid) =
+              λ k least most. went.is refl honest k least (omega (arith, size begun)) in
               select_last mid (went.has.honest.1 honest) (omega (arith, went.has.same_length, low))
               (λ c may. from_either c (went.has.left c may))
               (λ tells. ready_more t contents homes records room oldest log may can second ds younger seen
               (disk.seen mid) ready (kept (disk.seen mid) torn)
               (whole_by_digest t contents seen (disk.seen mid) homes records room log seen_held may head_size
-              records_size (keeps disk t contents homes records room log may head_size records_size old honest long
-              lists_held seen_is_left key digest seen (disk.seen mid) seen_held torn) key digest
+              records_size (keeps begun key digest seen (disk.seen mid) seen_held torn) key digest
               (tells_by (disk.seen mid) tells) has))
               (leaves_weaker went.has.time left_ring) done both.2
         ]
@@ -219,29 +217,9 @@ module _ {D : Type 0} (disk : Ghosts D) (t : TailValue) (contents : ℕ → List
     abbrev place : ℕ
     place = 4096 * ring_block ring t.position
 
-    size_image : length image ≡ 4096 * n + 1
-    size_image =
-        image_size disk t contents homes records room log may head_size records_size old honest long lists_held
-        seen_is_left byte
-
-    few : 1 < 4096
-    few = omega arith
-
-    some_image : 1 ≤ length image
-    some_image = omega (arith, size_image)
-
-    fits_image : length image ≤ 4096 * ring
-    fits_image = omega (
-      arith,
-      size_image,
-      near disk t contents homes records room log may head_size records_size old honest long lists_held seen_is_left
-          byte,
-    )
-
     left_unsealed : (c : List ℕ) → RingFrom ring t.position 1 (length image) (disk.may_leave old) c → Crash c
     left_unsealed c from tells =
-        inl (recovers t contents c (unsealed disk t contents homes records room log may head_size records_size old
-        honest long lists_held seen_is_left byte from.0 c (lists_held from.0 from.1) from.2))
+        inl (recovers t contents c (unsealed begun byte from.0 c (lists_held from.0 from.1) from.2))
 
     same_chain : (lists_held (disk.seen old) (seen_is_left old honest)).chain ≡ seen_held.chain
     same_chain = (held (disk.seen old) (seen_is_left old honest)).chain_is ∙ sym ready.holds.chain_is
@@ -250,14 +228,12 @@ module _ {D : Type 0} (disk : Ghosts D) (t : TailValue) (contents : ℕ → List
         (has : RingHas ring t.position 1 (length image) image m) (c : List ℕ) (seal : Torn place 1 m c) where
       outside : IsSameOutside t.log (disk.seen old) c
       outside =
-          torn_outside t.log t.position 0 (4096 * n + 1) (disk.seen old) c some
-          (seal_torn disk t contents homes records room log may head_size records_size old honest long lists_held
-          seen_is_left byte m torn has c seal)
+          torn_outside t.log t.position 0 (4096 * log_commit_blocks (length homes) + 1) (disk.seen old) c (some begun)
+          (seal_torn begun byte m torn has c seal)
 
       opened_with : get_or c place 0 ≡ 0xA7 → With c
       opened_with is =
-          let more = sealed disk t contents homes records room log may head_size records_size old honest long
-          lists_held seen_is_left byte m torn has c seal is in
+          let more = sealed begun byte m torn has c seal is in
           ready_more t contents homes records room oldest log may can second ds younger (disk.seen old) c ready outside
           (more.0, more.1 ∙ ap (λ (l : List LogDescriptor). l ++ next_logged t homes ∷ []) same_chain)
 
@@ -265,14 +241,12 @@ module _ {D : Type 0} (disk : Ghosts D) (t : TailValue) (contents : ℕ → List
       seal_either tells = elim (cases_eq (get_or c place 0) 0xA7) [
         | inl is ↦ inr (opened_with is)
         | inr other ↦
-            let still = closed disk t contents homes records room log may head_size records_size old honest long
-            lists_held seen_is_left byte m torn has c seal other in
+            let still = closed begun byte m torn has c seal other in
             inl (ready_same t contents homes records room oldest log may can second ds younger (disk.seen old) c ready
             outside (still.0, still.1 ∙ same_chain))
       ]
 
-    module _ (one two : D) (went : WentRound ring t.position some disk 1 image few some_image fits_image old one true)
-        (sync : Did disk one Sync true two) where
+    module _ (one two : D) (went : Went begun byte one true) (sync : Did disk one Sync true two) where
       one_is : disk.is_honest one
       one_is = went.has.honest.1 honest
 
@@ -299,7 +273,8 @@ module _ {D : Type 0} (disk : Ghosts D) (t : TailValue) (contents : ℕ → List
           let is = did.honest.1 two_is in
           let c : List ℕ = disk.seen three in
           let fits : place + 1 ≤ length (disk.seen two) =
-          omega (arith, block_low ring t.position some, log_long, went.has.same_length, sync.same_length) in
+          omega (arith, block_low ring t.position (some begun), log_long begun, went.has.same_length, sync.same_length)
+          in
           select_last three is
           (omega (arith, low, went.has.same_length, sync.same_length, did.same_length))
           (λ x may. either_seal x (did.left x may))
@@ -314,16 +289,13 @@ module _ {D : Type 0} (disk : Ghosts D) (t : TailValue) (contents : ℕ → List
         elim (did_split disk (ring_works ring t.position 1 image)
         (Sync ∷ WriteAt place (0xA7 ∷ []) ∷ select_works second) old new done did) [
           | inl failed ↦
-              let went = went_round ring t.position some disk 1 image few some_image fits_image false log_long
-              failed.0 in
+              let went = image_went begun byte false failed.0 in
               failed_as done failed.1 (failed_by (leaves_weaker went.has.time left_unsealed))
           | inr both ↦
-              further both.0 (went_round ring t.position some disk 1 image few some_image fits_image true log_long
-              both.1) both.2
+              further both.0 (image_went begun byte true both.1) both.2
         ]
       where
-        further : (one : D)
-            → WentRound ring t.position some disk 1 image few some_image fits_image old one true
+        further : (one : D) → Went begun byte one true
             → DidAll disk one (Sync ∷ WriteAt place (0xA7 ∷ []) ∷ select_works second) done new → Leaves new done
         further one went (inl failed) =
             failed_as done failed.1 (failed_by (crash_synced {P = Crash} went.has failed.0 left_unsealed))

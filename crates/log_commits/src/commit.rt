@@ -1,6 +1,5 @@
 // Commits.
-ghost use Rattle.std.specs.Prelude.{◌≡◌, ◌≢◌, ◌↔◌, ◌⊎◌, ◌<◌, ◌≤◌, ◌+◌, ◌*◌, ◌^◌, ◌++◌, [], ◌∷◌, ℕ, Bool, List, true, is_ok, length, take, IsTrue, IfOk, IfErr, OnOk, OnErr};
-ghost use Rattle.volume_codec.specs.Descriptor.{RiseWithin};
+ghost use Rattle.std.specs.Prelude.{◌≡◌, ◌≢◌, ◌↔◌, ◌⊎◌, ◌<◌, ◌≤◌, ◌+◌, ◌*◌, ◌^◌, ◌++◌, [], ◌∷◌, ℕ, Bool, List, true, is_ok, length, take, IfOk, IfErr, OnOk, OnErr};
 ghost use Rattle.log_codec.specs.Chain.{spare_blocks};
 ghost use Rattle.device.specs.Work.{Sync, WriteAt};
 ghost use Rattle.log_codec.specs.Log.{log_descriptor_blocks};
