@@ -33,6 +33,17 @@ const DISK: (&str, &str) = ("DISK", "The file that holds the volume");
 
 const SCRIPT: (&str, &str) = ("SCRIPT", "The file that holds the script, a JSON object");
 
+// What a command has that says nothing else of it.
+const PLAIN: Shape = Shape {
+    name: "",
+    about: "",
+    usage: None,
+    options: &[],
+    words: &[],
+    optional: &[],
+    last: None,
+};
+
 const COMMANDS: &[Shape] = &[
     Shape {
         name: "format",
@@ -79,21 +90,18 @@ const COMMANDS: &[Shape] = &[
             "SLOTS",
             "In layouts 3 and 4 alone: record slots of each journal of the new volume, 2 to 1020, in layout 4 to 65535",
         )],
-        last: None,
+        ..PLAIN
     },
     Shape {
         name: "run",
         about: "Runs a script of steps on a volume, and prints a reply for each step",
-        usage: None,
         options: &[Choice::Trust],
         words: &[DISK, SCRIPT],
-        optional: &[],
-        last: None,
+        ..PLAIN
     },
     Shape {
         name: "threads",
         about: "Runs a program for each processor in a thread of its own, and prints a trace of all steps",
-        usage: None,
         options: &[Choice::Trust],
         words: &[
             DISK,
@@ -102,75 +110,60 @@ const COMMANDS: &[Shape] = &[
                 "The file that holds the script with the programs, a JSON object",
             ),
         ],
-        optional: &[],
-        last: None,
+        ..PLAIN
     },
     Shape {
         name: "serve",
         about: "Answers requests on a volume: the first line of the input is the shape of a machine, and each further one a request",
-        usage: None,
         options: &[Choice::Trust],
         words: &[DISK],
-        optional: &[],
-        last: None,
+        ..PLAIN
     },
     Shape {
         name: "replay",
         about: "Runs a trace again on a copy of a volume, and prints whether each reply is the same",
-        usage: None,
         options: &[Choice::Trust],
         words: &[DISK, ("TRACE", "The file that holds the trace")],
-        optional: &[],
-        last: None,
+        ..PLAIN
     },
     Shape {
         name: "dump",
         about: "Prints the files of a volume as it would be opened, and leaves it as it is",
-        usage: None,
         options: &[Choice::Trust, Choice::Json],
         words: &[DISK],
-        optional: &[],
-        last: None,
+        ..PLAIN
     },
     Shape {
         name: "info",
         about: "Prints what the bytes of a volume say: its shape, its files, its journals, and what opening would do",
-        usage: None,
         options: &[Choice::Trust, Choice::Json],
         words: &[DISK],
-        optional: &[],
-        last: None,
+        ..PLAIN
     },
     Shape {
         name: "check",
         about: "Prints whether a volume is clean, needs opening or is damaged, with status 0, 1 or 3",
-        usage: None,
         options: &[Choice::Trust, Choice::Json],
         words: &[DISK],
-        optional: &[],
-        last: None,
+        ..PLAIN
     },
     Shape {
         name: "export",
         about: "Copies a file of a volume, as it would be opened, to the file OUT, and leaves the volume as it is",
-        usage: None,
         options: &[Choice::Trust, Choice::Json],
         words: &[
             DISK,
             ("FILE", "The name of the file in the volume"),
             ("OUT", "The file to make or replace"),
         ],
-        optional: &[],
-        last: None,
+        ..PLAIN
     },
     Shape {
         name: "crashes",
         about: "Prints what a crash within each device call of a script leaves of a copy of a volume",
-        usage: None,
         options: &[Choice::Trust, Choice::JsonLines, Choice::Html],
         words: &[DISK, SCRIPT],
-        optional: &[],
-        last: None,
+        ..PLAIN
     },
 ];
 
