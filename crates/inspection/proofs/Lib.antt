@@ -1,7 +1,6 @@
 mod Healthy
 mod Journals
 mod LogHealthy
-mod LogWriting
 mod Looked
 mod Places
 mod Writing

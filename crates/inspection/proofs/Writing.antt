@@ -1,17 +1,14 @@
 -- What is written to an output, one thing after the other.
 use Rattle.std.proofs.Common.{◌≡◌, ℕ, suc, add-one, ◌+◌, ◌<◌, List, [], ◌∷◌, ◌++◌, length, take, get_or, map}
-use Rattle.std.proofs.Common.{slice_index, Option, Result, OnOk, sym, ◌∙◌, ap, subst}
+use Rattle.std.proofs.Common.{Option, Result, OnOk, sym, ◌∙◌, ap, subst}
 use Rattle.std.specs.List.{flat_map}
 use Rattle.std.specs.Io.KnownBytes.{Appends}
 use Rattle.std.proofs.lemmas.List.{take_more, flat_map_more, map_push, map_more}
 use Rattle.std.proofs.lemmas.Result.{on_ok_weaker}
-use Rattle.volume_codec.specs.Super.{SuperValue}
 use Rattle.file_rows.proofs.Public.{appends_both}
 use Rattle.serde_json.specs.Data.{Data}
 use Rattle.serde_json.specs.View.{view}
 use Rattle.serde_json.specs.declared.value.Value.{Value}
-use Rattle.inspection.specs.Text.{file_line, file_lines}
-use Rattle.inspection.specs.Json.{file_data, files_data}
 
 -- three texts, where the last one is what a call writes that succeeds
 pub appends_all : {T E : Type 0} (a b c d : Option (List ℕ)) (xs ys zs : List ℕ) (last : Result T E) → Appends a b xs
@@ -19,17 +16,13 @@ pub appends_all : {T E : Type 0} (a b c d : Option (List ℕ)) (xs ys zs : List 
 appends_all a b c d xs ys zs last first second third = on_ok_weaker last
     (λ (end : Appends c d zs). appends_both a c d (xs ++ ys) zs (appends_both a b c xs ys first second) end) third
 
--- one file more
-pub file_more : (old mid new : Option (List ℕ)) (v : SuperValue) (lengths : List ℕ) (i n : ℕ)
-    → n ≡ slice_index lengths i → Appends old mid (file_lines v lengths i) → Appends mid new (file_line v i n)
-    → Appends old new (file_lines v lengths (i + 1))
-file_more old mid new v lengths i n is before this =
+-- one line more, where lines are counted
+pub line_more : (lines : ℕ → List ℕ) (line : List ℕ) (old mid new : Option (List ℕ)) (i : ℕ)
+    → lines i ++ line ≡ lines (suc i) → Appends old mid (lines i) → Appends mid new line
+    → Appends old new (lines (i + 1))
+line_more lines line old mid new i more before this =
     let P : List ℕ → Type 0 = λ text. Appends old new text in
-    let Q : ℕ → Type 0 = λ k. Appends mid new (file_line v i k) in
-    let next : file_lines v lengths (suc i) ≡ file_lines v lengths (i + 1) =
-    sym (ap (file_lines v lengths) (add-one i)) in
-    subst P next (appends_both old mid new (file_lines v lengths i)
-    (file_line v i (slice_index lengths i)) before (subst Q is this))
+    subst P (more ∙ ap lines (sym (add-one i))) (appends_both old mid new (lines i) line before this)
 
 -- one item more
 pub item_more : {X : Type 0} (f : X → List ℕ) (old mid new : Option (List ℕ)) (xs : List X) (i : ℕ) (d : X)
@@ -58,10 +51,10 @@ value_more f old new xs i d value below pushed is before =
     ap (map view) pushed ∙ map_push view old value ∙ ap (λ front. front ++ view value ∷ []) before
     ∙ ap (λ last. map f (take i xs) ++ last ∷ []) is ∙ sym (map_more f xs i d below)
 
--- one file more
-pub file_value_more : (old new : List Value) (v : SuperValue) (lengths : List ℕ) (i : ℕ) (value : Value)
-    → new ≡ old ++ value ∷ [] → view value ≡ file_data v i (slice_index lengths i)
-    → map view old ≡ files_data v lengths i → map view new ≡ files_data v lengths (i + 1)
-file_value_more old new v lengths i value pushed is before =
+-- one value more, where values are counted
+pub counted_more : (all : ℕ → List Data) (last : Data) (old new : List Value) (i : ℕ) (value : Value)
+    → all i ++ last ∷ [] ≡ all (suc i) → new ≡ old ++ value ∷ [] → view value ≡ last → map view old ≡ all i
+    → map view new ≡ all (i + 1)
+counted_more all last old new i value more pushed is before =
     ap (map view) pushed ∙ map_push view old value ∙ ap (λ front. front ++ view value ∷ []) before
-    ∙ ap (λ last. files_data v lengths i ++ last ∷ []) is ∙ ap (files_data v lengths) (sym (add-one i))
+    ∙ ap (λ d. all i ++ d ∷ []) is ∙ more ∙ ap all (sym (add-one i))

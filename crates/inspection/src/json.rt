@@ -93,17 +93,18 @@ fn file_value<A: Allocator + Copy>(
     let name = name_of(table, file);
     let capacity = capacity_of(table, file);
     let pages = table.pages(file);
-    let home = table.first_home(file);
+    let home = u64::from(table.first_home(file));
     file_object(global, name, bytes, capacity, pages, home)
 }
 
-fn file_object(
+/// A file, whose home blocks begin at `home`.
+pub fn file_object(
     global: Global,
     name: &str,
     bytes: u64,
     capacity: u64,
     pages: u32,
-    home: u32,
+    home: u64,
 ) -> Result<Value, AllocError>
     ensures { IfOk result (λ value. view value ≡ file_members name.now bytes capacity pages home) }
 {

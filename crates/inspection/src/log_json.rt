@@ -3,10 +3,11 @@ ghost use Rattle.std.specs.Prelude.{◌≡◌, ◌<◌, length, IfOk};
 ghost use Rattle.serde_json.specs.View.{view};
 ghost use Rattle.log_volume.specs.Super.{log_of};
 ghost use Rattle.log_recovery.specs.Reading.{IsFoundLog};
-ghost use Rattle.inspection.specs.Json.{list, file_members};
+ghost use Rattle.inspection.specs.Json.{list};
 ghost use Rattle.inspection.specs.LogJson.{log_file_data, log_files_data, log_data, log_volume_data, log_value_data, log_info_data};
 
 use crate::file::{capacity_of, name_of};
+use crate::json::file_object;
 use crate::log_text::{home_of, layout_of};
 use log_codec::LogGeometry;
 use log_reading::{LoggedVolume, used_blocks};
@@ -124,23 +125,4 @@ fn file_value<A: Allocator + Copy>(
     let capacity = capacity_of(files, file);
     let pages = files.pages(file);
     file_object(global, name, bytes, capacity, pages, home)
-}
-
-fn file_object(
-    global: Global,
-    name: &str,
-    bytes: u64,
-    capacity: u64,
-    pages: u32,
-    home: u64,
-) -> Result<Value, AllocError>
-    ensures { IfOk result (λ value. view value ≡ file_members name.now bytes capacity pages home) }
-{
-    json!(in global; {
-        "capacity": capacity,
-        "home": home,
-        "length": bytes,
-        "name": name,
-        "pages": pages
-    })
 }

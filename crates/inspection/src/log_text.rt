@@ -1,14 +1,13 @@
 // What is found of a volume with a log, as text.
 ghost use Rattle.std.specs.Prelude.{◌≡◌, ◌<◌, OnOk, length, slice_index};
 ghost use Rattle.std.specs.Io.KnownBytes.{Appends};
-ghost use Rattle.volume_codec.specs.Super.{pages_of};
 ghost use Rattle.log_volume.specs.Super.{log_of};
 ghost use Rattle.log_recovery.specs.Reading.{IsFoundLog};
-ghost use Rattle.inspection.specs.Text.{file_size, file_text};
+ghost use Rattle.inspection.specs.Text.{file_text};
 ghost use Rattle.inspection.specs.LogText.{log_layout, log_volume_text, log_volume_line, log_home_of, log_file_line, log_file_lines, log_line, log_info_text};
 
 use crate::file::{capacity_of, name_of};
-use crate::text::{write_capacity, write_file_name};
+use crate::text::write_file_text;
 use log_codec::{LogGeometry, Sealing};
 use log_reading::{LoggedVolume, used_blocks};
 use log_volume::LogSuper;
@@ -107,30 +106,7 @@ fn write_log_file<A: Allocator + Copy, W: io::Write>(
     let name = name_of(files, file);
     let capacity = capacity_of(files, file);
     let pages = files.pages(file);
-    write_file_at(name, bytes, capacity, pages, home, out)
-}
-
-fn write_file_at<W: io::Write>(
-    name: &str,
-    bytes: u64,
-    capacity: u64,
-    pages: u32,
-    home: u64,
-    out: &mut W,
-) -> io::Result<()>
-    requires { pages ≡ pages_of capacity }
-    ensures { OnOk result (Appends (W.contents out.old) (W.contents out.new)
-        (file_text name.now bytes capacity home)) }
-{
-    write_file_name(name, out)?;
-    write_size_at(bytes, pages, home, out)?;
-    write_capacity(bytes, capacity, out)
-}
-
-fn write_size_at<W: io::Write>(bytes: u64, pages: u32, home: u64, out: &mut W) -> io::Result<()>
-    ensures { OnOk result (Appends (W.contents out.old) (W.contents out.new) (file_size bytes pages home)) }
-{
-    write!(out, "{bytes} bytes, {pages} pages, home {home}")
+    write_file_text(name, bytes, capacity, pages, home, out)
 }
 
 // The line of the log.

@@ -76,16 +76,17 @@ fn write_file<A: Allocator + Copy, W: io::Write>(
     let name = name_of(table, file);
     let capacity = capacity_of(table, file);
     let pages = table.pages(file);
-    let home = table.first_home(file);
+    let home = u64::from(table.first_home(file));
     write_file_text(name, bytes, capacity, pages, home, out)
 }
 
-fn write_file_text<W: io::Write>(
+/// The line of a file, whose home blocks begin at `home`.
+pub fn write_file_text<W: io::Write>(
     name: &str,
     bytes: u64,
     capacity: u64,
     pages: u32,
-    home: u32,
+    home: u64,
     out: &mut W,
 ) -> io::Result<()>
     requires { pages ≡ pages_of capacity }
@@ -97,21 +98,21 @@ fn write_file_text<W: io::Write>(
     write_capacity(bytes, capacity, out)
 }
 
-/// The name of a file, before its size.
-pub fn write_file_name<W: io::Write>(name: &str, out: &mut W) -> io::Result<()>
+// The name of a file, before its size.
+fn write_file_name<W: io::Write>(name: &str, out: &mut W) -> io::Result<()>
     ensures { OnOk result (Appends (W.contents out.old) (W.contents out.new) (file_name name.now)) }
 {
     write!(out, "file {name}: ")
 }
 
-fn write_file_size<W: io::Write>(bytes: u64, pages: u32, home: u32, out: &mut W) -> io::Result<()>
+fn write_file_size<W: io::Write>(bytes: u64, pages: u32, home: u64, out: &mut W) -> io::Result<()>
     ensures { OnOk result (Appends (W.contents out.old) (W.contents out.new) (file_size bytes pages home)) }
 {
     write!(out, "{bytes} bytes, {pages} pages, home {home}")
 }
 
-/// The capacity of a file where that isn't its length, and the line's end.
-pub fn write_capacity<W: io::Write>(bytes: u64, capacity: u64, out: &mut W) -> io::Result<()>
+// The capacity of a file where that isn't its length, and the line's end.
+fn write_capacity<W: io::Write>(bytes: u64, capacity: u64, out: &mut W) -> io::Result<()>
     ensures { OnOk result (Appends (W.contents out.old) (W.contents out.new) (capacity_text bytes capacity)) }
 {
     if capacity == bytes {

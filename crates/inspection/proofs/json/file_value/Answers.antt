@@ -15,12 +15,12 @@ returns g c =
     let name = c.name_of-name in
     let capacity = c.capacity_of-capacity in
     let pages = c.pages-pages in
-    let home = c.first_home-home in
+    let home = c.from-home in
     let members : file_members name.result.now n capacity.result pages.result home.result ≡ file_data v i n =
     ap (λ s. file_members s n capacity.result pages.result home.result) name.ensures
     ∙ ap (λ k. file_members (name_of v i) n k pages.result home.result) capacity.ensures
     ∙ ap (λ p. file_members (name_of v i) n cap p home.result) pages.ensures
-    ∙ ap (file_members (name_of v i) n cap (pages_of cap)) home.ensures in
+    ∙ ap (file_members (name_of v i) n cap (pages_of cap)) (home.ensures ∙ c.first_home.ensures) in
     IfOk-weaker c.file_object.result
     (λ value. view value ≡ file_members name.result.now n capacity.result pages.result home.result) _
     (λ value is. is ∙ members)

@@ -15,11 +15,11 @@ returns g c =
     let n = c.args.bytes in
     let name = c.name_of-name in
     let capacity = c.capacity_of-capacity in
-    let home = c.first_home-home in
+    let home = c.from-home in
     let text : file_text name.result.now n capacity.result home.result ≡ file_line v i n =
     ap (λ s. file_text s n capacity.result home.result) name.ensures
     ∙ ap (λ k. file_text (name_of v i) n k home.result) capacity.ensures
-    ∙ ap (file_text (name_of v i) n (slice_index (capacities_in v) i)) home.ensures in
+    ∙ ap (file_text (name_of v i) n (slice_index (capacities_in v) i)) (home.ensures ∙ c.first_home.ensures) in
     let P : List ℕ → Type 0 =
     λ text. Appends (g.W.Write.contents c.args.out.now) (g.W.Write.contents c.write_file_text.new.out) text in
     on_ok_weaker c.write_file_text.result (subst P text) c.write_file_text.ensures
