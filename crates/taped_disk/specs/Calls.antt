@@ -1,6 +1,8 @@
 -- The calls of a device.
-use Rattle.std.specs.Prelude.{ℕ, List, [], ◌∷◌, ◌++◌, codes, length}
+use Rattle.std.specs.Prelude.{◌≡◌, ◌↔◌, ℕ, ◌+◌, ◌-◌, ◌^◌, ◌<◌, ◌≤◌, List, [], ◌∷◌, ◌++◌, codes, length}
+use Rattle.std.specs.Prelude.{Result, IsOk, IsErr}
 use Rattle.std.specs.Fmt.{decimal}
+use Rattle.device.specs.declared.device.Device.{Ghosts}
 use Rattle.taped_disk.specs.declared.call.Call.{Call}
 use Rattle.taped_disk.specs.declared.call.Call.TheVariants.{Read, Write, Sync}
 
@@ -24,3 +26,14 @@ abbrev pub words_of : TapedCall → List ℕ
 words_of (read at count) = codes "read " ++ decimal at ++ codes " " ++ decimal count
 words_of (write at bytes) = codes "write " ++ decimal at ++ codes " " ++ decimal (length bytes)
 words_of sync = codes "sync"
+
+-- the disk below was called: it counts the call, and a fault where it failed, and is as long and as honest as before
+pub record HasCalled {D T E : Type 0} (disk : Ghosts D) (old new : D) (result : Result T E) : Type 0 where
+  pub honest : disk.is_honest new ↔ disk.is_honest old
+  pub len : length (disk.seen new) ≡ length (disk.seen old)
+  pub carried : disk.carried new ≡ disk.carried old
+  pub calls : disk.calls_made old < 2 ^ 64 - 1 → disk.calls_made new ≡ disk.calls_made old + 1
+  pub calls_stay : 2 ^ 64 - 1 ≤ disk.calls_made old → disk.calls_made new ≡ disk.calls_made old
+  pub failed : IsErr result → disk.faults_met old < 2 ^ 64 - 1 → disk.faults_met new ≡ disk.faults_met old + 1
+  pub faults_stay : 2 ^ 64 - 1 ≤ disk.faults_met old → disk.faults_met new ≡ disk.faults_met old
+  pub done : IsOk result → disk.faults_met new ≡ disk.faults_met old

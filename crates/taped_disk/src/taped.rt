@@ -1,8 +1,8 @@
 // A disk over another that records its calls.
-ghost use Rattle.std.specs.Prelude.{◌≡◌, ◌↔◌, ℕ, ◌+◌, ◌-◌, ◌^◌, ◌<◌, ◌≤◌, ◌++◌, ◌∷◌, [], List, length, slice_range, OnOk, IsTrue, IsOk, IsErr};
+ghost use Rattle.std.specs.Prelude.{◌≡◌, ℕ, ◌+◌, ◌≤◌, ◌++◌, ◌∷◌, [], List, length, slice_range, OnOk, IsTrue, IsErr};
 ghost use Rattle.device.specs.Device.{written, Torn, TornFrom, Only, LeavesOnly};
 ghost use Rattle.taped_disk.specs.Calls.TapedCall.{read, write, sync};
-ghost use Rattle.taped_disk.specs.Calls.{taped_calls};
+ghost use Rattle.taped_disk.specs.Calls.{HasCalled, taped_calls};
 
 use crate::call::{Call, record, record_write};
 use device::{Device, DeviceFault};
@@ -73,18 +73,7 @@ impl<D: Device> Device for TapedDisk<D> {
             → (c : List ℕ) → D.may_leave self.old.inner c → D.may_leave self.new.inner c }
         ensures left { (c : List ℕ) → D.may_leave self.new.inner c → D.may_leave self.old.inner c }
         ensures time { LeavesOnly D.moment D.left_since self.old.inner self.new.inner (D.may_leave self.old.inner) }
-        ensures honest { D.is_honest self.new.inner ↔ D.is_honest self.old.inner }
-        ensures len { length (D.seen self.new.inner) ≡ length (D.seen self.old.inner) }
-        ensures carried { D.carried self.new.inner ≡ D.carried self.old.inner }
-        ensures calls { D.calls_made self.old.inner < 2 ^ 64 - 1
-            → D.calls_made self.new.inner ≡ D.calls_made self.old.inner + 1 }
-        ensures calls_stay { 2 ^ 64 - 1 ≤ D.calls_made self.old.inner
-            → D.calls_made self.new.inner ≡ D.calls_made self.old.inner }
-        ensures failed { IsErr result → D.faults_met self.old.inner < 2 ^ 64 - 1
-            → D.faults_met self.new.inner ≡ D.faults_met self.old.inner + 1 }
-        ensures faults_stay { 2 ^ 64 - 1 ≤ D.faults_met self.old.inner
-            → D.faults_met self.new.inner ≡ D.faults_met self.old.inner }
-        ensures done { IsOk result → D.faults_met self.new.inner ≡ D.faults_met self.old.inner }
+        ensures called { HasCalled D.Device self.old.inner self.new.inner result }
 
         // The call is recorded, whether it fails or not.
         ensures taped { IsTrue self.new.is_whole → taped_calls self.new.tape.items
@@ -109,18 +98,7 @@ impl<D: Device> Device for TapedDisk<D> {
             → D.may_leave self.new.inner c → TornFrom at (length bytes.now) (D.may_leave self.old.inner) c }
         ensures time { LeavesOnly D.moment D.left_since self.old.inner self.new.inner
             (TornFrom at (length bytes.now) (D.may_leave self.old.inner)) }
-        ensures honest { D.is_honest self.new.inner ↔ D.is_honest self.old.inner }
-        ensures len { length (D.seen self.new.inner) ≡ length (D.seen self.old.inner) }
-        ensures carried { D.carried self.new.inner ≡ D.carried self.old.inner }
-        ensures calls { D.calls_made self.old.inner < 2 ^ 64 - 1
-            → D.calls_made self.new.inner ≡ D.calls_made self.old.inner + 1 }
-        ensures calls_stay { 2 ^ 64 - 1 ≤ D.calls_made self.old.inner
-            → D.calls_made self.new.inner ≡ D.calls_made self.old.inner }
-        ensures failed { IsErr result → D.faults_met self.old.inner < 2 ^ 64 - 1
-            → D.faults_met self.new.inner ≡ D.faults_met self.old.inner + 1 }
-        ensures faults_stay { 2 ^ 64 - 1 ≤ D.faults_met self.old.inner
-            → D.faults_met self.new.inner ≡ D.faults_met self.old.inner }
-        ensures done { IsOk result → D.faults_met self.new.inner ≡ D.faults_met self.old.inner }
+        ensures called { HasCalled D.Device self.old.inner self.new.inner result }
 
         // The call is recorded, whether it fails or not.
         ensures taped { IsTrue self.new.is_whole → taped_calls self.new.tape.items
@@ -138,18 +116,7 @@ impl<D: Device> Device for TapedDisk<D> {
             → OnOk result (Only (D.may_leave self.new.inner) (D.seen self.old.inner)) }
         ensures left { (c : List ℕ) → D.may_leave self.new.inner c → D.may_leave self.old.inner c }
         ensures time { LeavesOnly D.moment D.left_since self.old.inner self.new.inner (D.may_leave self.old.inner) }
-        ensures honest { D.is_honest self.new.inner ↔ D.is_honest self.old.inner }
-        ensures len { length (D.seen self.new.inner) ≡ length (D.seen self.old.inner) }
-        ensures carried { D.carried self.new.inner ≡ D.carried self.old.inner }
-        ensures calls { D.calls_made self.old.inner < 2 ^ 64 - 1
-            → D.calls_made self.new.inner ≡ D.calls_made self.old.inner + 1 }
-        ensures calls_stay { 2 ^ 64 - 1 ≤ D.calls_made self.old.inner
-            → D.calls_made self.new.inner ≡ D.calls_made self.old.inner }
-        ensures failed { IsErr result → D.faults_met self.old.inner < 2 ^ 64 - 1
-            → D.faults_met self.new.inner ≡ D.faults_met self.old.inner + 1 }
-        ensures faults_stay { 2 ^ 64 - 1 ≤ D.faults_met self.old.inner
-            → D.faults_met self.new.inner ≡ D.faults_met self.old.inner }
-        ensures done { IsOk result → D.faults_met self.new.inner ≡ D.faults_met self.old.inner }
+        ensures called { HasCalled D.Device self.old.inner self.new.inner result }
 
         // The call is recorded, whether it fails or not.
         ensures taped { IsTrue self.new.is_whole → taped_calls self.new.tape.items
