@@ -1,7 +1,7 @@
 -- The first block of a disk, and openings that it keeps from being made.
 use Rattle.std.proofs.Common.{◌≡◌, ◌≢◌, ◌<◌, ◌+◌, ◌*◌, ℕ, Bool, true, false, cond, List, get_or, take, length}
 use Rattle.std.proofs.Common.{inl, inr, ap, sym, ◌∙◌, subst, arith, Option, Some, None}
-use Rattle.std.specs.Prelude.{Result, Ok, Err, IfErr, nat_le, slice_range}
+use Rattle.std.specs.Prelude.{nat_le, slice_range}
 use Rattle.std.proofs.lemmas.Bool.Decides.{nat_tests}
 use Rattle.std.proofs.lemmas.List.{take-take}
 use Rattle.device.specs.Memory.{seen_of}
@@ -54,10 +54,3 @@ refused_else disk never well why after refused is =
           (subst (λ (r : Refusal). RefusesOpening (seen_of (as_memory disk)) r) same (opens.ended well).reason)
       | inr memory ↦ absurd (let e : refusals.OutOfMemory ≡ refusals.NotAVolume = sym memory.0 ∙ same in cc)
     ]
-
-pub untouched_by : {X : Type 0} (result : Result X (Unread × Deferred)) (disk : Deferred)
-    → (IsNotAVolume (seen_of (as_memory disk)) → ⊥) → IsSuppliedWell disk
-    → IfErr result (λ e. RefusesPagerOpening deferred_disk disk (pager_refusal e.0) e.1)
-    → IfErr result (λ e. e.0 ≡ Refused refusals.NotAVolume → e.1 ≡ disk)
-untouched_by (Ok x) disk never well refused = tt
-untouched_by (Err e) disk never well refused = λ is. absurd (refused_else disk never well e.0 e.1 refused is)

@@ -1,6 +1,6 @@
 -- An opening that is refused at once: for want of memory, or by a read of a block that isn't known.
 use Rattle.std.proofs.Common.{◌≡◌, ℕ, ◌-◌, ◌*◌, Bool, false, List, get_or, Option, Some}
-use Rattle.std.proofs.Common.{inl, refl, arith}
+use Rattle.std.proofs.Common.{inl, inr, refl, sym, subst, arith}
 use Rattle.std.proofs.lemmas.Bool.Decides.{nat_tests}
 use Rattle.device.specs.Count.{raised}
 use Rattle.device.specs.Device.{LeavesOnly}
@@ -12,9 +12,10 @@ use Rattle.page_entry.specs.declared.refusal.Refusal.{Refusal}
 use Rattle.page_entry.specs.declared.refusal.Refusal.TheVariants as refusals
 use Rattle.recovery.specs.Counts.{HasCause, Rises, RisesWithin}
 use Rattle.recovery.specs.Opening.{LeftByOpening, RefusesOpening}
-use Rattle.volume_codec.specs.Recovery.{IsNotAVolume}
 use Rattle.pager.specs.Calls.{RefusesPagerOpening}
+use Rattle.embedded.specs.declared.reading.Unread.TheVariants.{Refused}
 use Rattle.embedded.specs.Recorded.{deferred_disk}
+use Rattle.embedded.specs.inside.Judging.{StopsOpening}
 
 pub lacks_first : (known : List Bool) (block : ℕ) → get_or known block false ≡ false
     → lacked_by_read known (4096 * block) 1 ≡ Some block
@@ -70,13 +71,13 @@ refuses_lacking disk block =
     refuses_unwritten disk refusals.Device (Some block) (raised disk.calls) (raised disk.faults)
     (raised_once disk.faults) (λ well. tt) (λ few. omega (arith, raised_once disk.calls few))
 
-pub refuses_memory : (disk : Deferred) → RefusesPagerOpening deferred_disk disk refusals.OutOfMemory disk
-refuses_memory disk =
-    refuses_unwritten disk refusals.OutOfMemory disk.wanted disk.calls disk.faults refl (λ well. tt)
-    (λ few. omega arith)
-
--- it has no volume with journals
-pub refuses_no_volume : (disk : Deferred) → (IsSuppliedWell disk → IsNotAVolume (seen_of (as_memory disk)))
-    → RefusesPagerOpening deferred_disk disk refusals.NotAVolume disk
-refuses_no_volume disk reason =
-    refuses_unwritten disk refusals.NotAVolume disk.wanted disk.calls disk.faults refl reason (λ few. omega arith)
+-- memory was refused, or it has no volume with journals
+pub refuses_stopped : (disk : Deferred) (why : Refusal) → StopsOpening disk (Refused why)
+    → RefusesPagerOpening deferred_disk disk why disk
+refuses_stopped disk why (inl memory) =
+    subst (λ (r : Refusal). RefusesPagerOpening deferred_disk disk r disk) (sym memory)
+    (refuses_unwritten disk refusals.OutOfMemory disk.wanted disk.calls disk.faults refl (λ well. tt)
+    (λ few. omega arith))
+refuses_stopped disk why (inr none) =
+    subst (λ (r : Refusal). RefusesPagerOpening deferred_disk disk r disk) (sym none.0)
+    (refuses_unwritten disk refusals.NotAVolume disk.wanted disk.calls disk.faults refl none.1 (λ few. omega arith))

@@ -1,2 +1,3 @@
 -- What ties private code to the definitions that public clauses name.
 pub mod Awaiting
+pub mod Judging

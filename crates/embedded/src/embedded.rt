@@ -9,11 +9,9 @@ ghost use Rattle.embedded.specs.Opening.{OpensVolume, KeepsForWanted};
 ghost use Rattle.embedded.specs.Reading.{pager_refusal};
 ghost use Rattle.embedded.specs.declared.reading.Unread.TheVariants.{Refused};
 
-use crate::judging::{First, judge_first};
+use crate::judging::{hand_back, judge};
 use crate::reading::Unread;
-use crate::trial::{Trial, after_lack, lacked_block};
 use deferred_disk::DeferredDisk;
-use page_entry::Refusal;
 use pager::Pager;
 use recovery::opened_as_recovered;
 use std::alloc::Allocator;
@@ -67,39 +65,20 @@ pub fn open<A: Allocator + Copy>(
     ensures wanted { IfErr result (λ e. KeepsForWanted disk e.0 e.1) }
     ensures untouched { IsSuppliedWell disk → IfErr result (λ e. e.0 ≡ Refused NotAVolume → e.1 ≡ disk) }
 {
-    match judge_first(&disk) {
-        First::Unknown => Err((Unread::Wanted(0), after_lack(disk, 0))),
-        First::NoVolume => Err((Unread::Refused(Refusal::NotAVolume), disk)),
-        First::Volume => open_volume(alloc, disk, most),
-    }
-}
-
-// Opens the volume of a disk whose first block begins with the magic of one with journals.
-fn open_volume<A: Allocator + Copy>(
-    alloc: A,
-    disk: DeferredDisk<A>,
-    most: u32,
-) -> Result<Embedded<A>, (Unread, DeferredDisk<A>)>
-    ensures opens { IfOk result (OpensVolume disk most) }
-    ensures refused { IfErr result (λ e. RefusesPagerOpening deferred_disk disk (pager_refusal e.0) e.1) }
-    ensures wanted { IfErr result (λ e. KeepsForWanted disk e.0 e.1) }
-{
-    match lacked_block(&disk, recovery::open(alloc, Trial::new(&disk))) {
-        Ok(Some(block)) => return Err((Unread::Wanted(block), after_lack(disk, block))),
-        Ok(None) => {}
-        Err(_) => return Err((Unread::Refused(Refusal::OutOfMemory), disk)),
-    }
-    match Pager::open(alloc, disk, most) {
-        Ok(pager) => {
-            opened_as_recovered(pager.device());
-            Ok(Embedded {
-                pager,
-                committed: None,
-                due: 0,
-                acknowledged: None,
-            })
-        }
-        Err((refusal, disk)) => Err((Unread::Refused(refusal), disk)),
+    match judge(alloc, &disk) {
+        Ok(()) => match Pager::open(alloc, disk, most) {
+            Ok(pager) => {
+                opened_as_recovered(pager.device());
+                Ok(Embedded {
+                    pager,
+                    committed: None,
+                    due: 0,
+                    acknowledged: None,
+                })
+            }
+            Err((refusal, disk)) => Err((Unread::Refused(refusal), disk)),
+        },
+        Err(why) => Err(hand_back(disk, why)),
     }
 }
 
