@@ -2,7 +2,6 @@ pub mod Boxed
 pub mod Cases
 pub mod Opened
 pub mod Opening
+pub mod Journals
+pub mod Logs
 pub mod Reading
-pub mod Writing
-pub mod LogReading
-pub mod LogWriting

@@ -1,5 +1,5 @@
 -- The codes that the calls answer: the numbers of `enum famsync_core_code` in famsync_core.h.
-use Rattle.std.specs.Prelude.{ℕ, ℤ, pos, neg_ℤ, Result, Ok, Err}
+use Rattle.std.specs.Prelude.{ℕ, ℤ, pos, neg_ℤ, Bool, if◌then◌else◌, Result, Ok, Err}
 use Rattle.page_entry.specs.declared.refusal.Refusal.{Refusal}
 use Rattle.page_entry.specs.declared.refusal.Refusal.TheVariants as refusals
 use Rattle.embedded.specs.declared.reading.Unread.{Unread}
@@ -75,10 +75,15 @@ unread_block (unreads.Wanted block) before = block
 unread_block (unreads.Refused refusal) before = before
 
 -- a request that was carried out, or not, and the block that is wanted then
-abbrev pub reading_code : Result (Unit {0}) Unread → ℤ
-reading_code (Ok done) = ok_code
+abbrev pub reading_code : {T : Type 0} → Result T Unread → ℤ
+reading_code (Ok value) = ok_code
 reading_code (Err why) = unread_code why
 
-abbrev pub wanted_block : Result (Unit {0}) Unread → ℕ → ℕ
-wanted_block (Ok done) before = before
+abbrev pub wanted_block : {T : Type 0} → Result T Unread → ℕ → ℕ
+wanted_block (Ok value) before = before
 wanted_block (Err why) before = unread_block why before
+
+-- steps that were made, after which one is left or none, or that weren't made
+abbrev pub steps_code : Result Bool Unread → ℤ
+steps_code (Ok left) = if left then ok_code else none_code
+steps_code (Err why) = unread_code why

@@ -1,16 +1,20 @@
 -- What each call does, and what it answers.
-use Rattle.std.specs.Prelude.{ℕ, ℤ, ◌≡◌, ◌⊎◌, ◌&&◌, nat_le, List, length, Option, Some, None, MatchBool}
+use Rattle.std.specs.Prelude.{ℕ, ℤ, ◌≡◌, ◌⊎◌, ◌&&◌, nat_le, List, length, Bool, Option, Some, None, MatchBool}
+use Rattle.std.specs.Prelude.{Result, Ok, Err}
+use Rattle.std.specs.Result.{result_unwrap_or}
 use Rattle.page_entry.specs.declared.numbers.FilePage.{FilePage}
+use Rattle.page_entry.specs.declared.refusal.Refusal.{Refusal}
 use Rattle.device.specs.Memory.{DiskChange}
 use Rattle.device.specs.Memory.DiskChange.{write, sync}
+use Rattle.embedded.specs.declared.reading.Unread.{Unread}
 use Rattle.embedded.specs.Embedded.{EmbeddedState}
 use Rattle.embedded_log.specs.State.{EmbeddedLogState}
 use Rattle.famsync_core.specs.Codes.{ok_code, argument_code, memory_code, none_code}
+use Rattle.famsync_core.specs.Codes.{outcome_code, reading_code, steps_code, wanted_block}
 use Rattle.famsync_core.specs.Held.{HeldVolume, is_block, has_block, needs_no, waiting_in}
 use Rattle.famsync_core.specs.Held.{after_supplied, after_forgotten, after_calls_made}
-use Rattle.famsync_core.specs.Journals.{AnswersRead, AnswersWrite, AnswersLength, AnswersCommit, AnswersSteps}
-use Rattle.famsync_core.specs.Logs.{AnswersLogRead, AnswersLogWrite, AnswersLogLength, AnswersLogCommit}
-use Rattle.famsync_core.specs.Logs.{AnswersLogSteps}
+use Rattle.famsync_core.specs.Journals.{ReadsPage, WritesPage, SetsLength, MakesCommit, WritesHome}
+use Rattle.famsync_core.specs.Logs.{ReadsLogPage, WritesLogPage, SetsLogLength, MakesLogCommit, WritesLogHome}
 use Rattle.famsync_core.specs.declared.volume.OpenVolume.{OpenVolume}
 use Rattle.famsync_core.specs.declared.volume.OpenVolume.TheVariants.{Journals, Log}
 
@@ -24,31 +28,61 @@ ByKind journals log (Log e) (Log e') = log e e'
 ByKind journals log (Journals e) (Log e') = ⊥
 ByKind journals log (Log e) (Journals e') = ⊥
 
+-- what a reading into a block came to: these bytes, or none
+abbrev pub bytes_read : Result (Unit {0}) Unread → List ℕ → Result (List ℕ) Unread
+bytes_read (Ok done) block = Ok block
+bytes_read (Err why) block = Err why
+
 -- a page is read, or written; a length is set
-abbrev pub IsRead : OpenVolume → FilePage → (old new : List ℕ) → ℤ → (before wanted : ℕ) → OpenVolume → Type 0
-IsRead v page old new code before wanted v' = ByKind
-    (λ e e'. AnswersRead e page old new code before wanted e')
-    (λ e e'. AnswersLogRead e page old new code before wanted e') v v'
+abbrev pub IsRead : OpenVolume → FilePage → Result (List ℕ) Unread → OpenVolume → Type 0
+IsRead v page outcome v' =
+    ByKind (λ e e'. ReadsPage e page outcome e') (λ e e'. ReadsLogPage e page outcome e') v v'
 
-abbrev pub IsWritten : OpenVolume → FilePage → List ℕ → ℤ → OpenVolume → Type 0
-IsWritten v page bytes code v' = ByKind
-    (λ e e'. AnswersWrite e page bytes code e') (λ e e'. AnswersLogWrite e page bytes code e') v v'
+abbrev pub IsWritten : OpenVolume → FilePage → List ℕ → Result (Unit {0}) Refusal → OpenVolume → Type 0
+IsWritten v page bytes outcome v' =
+    ByKind (λ e e'. WritesPage e page bytes outcome e') (λ e e'. WritesLogPage e page bytes outcome e') v v'
 
-abbrev pub IsLengthSet : OpenVolume → (file length : ℕ) → ℤ → (before wanted : ℕ) → OpenVolume → Type 0
-IsLengthSet v file length code before wanted v' = ByKind
-    (λ e e'. AnswersLength e file length code before wanted e')
-    (λ e e'. AnswersLogLength e file length code before wanted e') v v'
+abbrev pub IsLengthSet : OpenVolume → (file length : ℕ) → Result (Unit {0}) Unread → OpenVolume → Type 0
+IsLengthSet v file length outcome v' =
+    ByKind (λ e e'. SetsLength e file length outcome e') (λ e e'. SetsLogLength e file length outcome e') v v'
 
--- a commit is made, or steps are; in a volume with journals no block is wanted for them
-abbrev pub IsCommitted : OpenVolume → ℤ → (before mark before' wanted : ℕ) → OpenVolume → Type 0
-IsCommitted v code before mark before' wanted v' = ByKind
-    (λ e e'. AnswersCommit e code before mark e' × (wanted ≡ before'))
-    (λ e e'. AnswersLogCommit e code before mark before' wanted e') v v'
+-- a commit is made, or steps are
+abbrev pub IsCommitted : OpenVolume → Result ℕ Unread → OpenVolume → Type 0
+IsCommitted v outcome v' = ByKind (λ e e'. MakesCommit e outcome e') (λ e e'. MakesLogCommit e outcome e') v v'
+
+abbrev pub IsWrittenHome : ℕ → OpenVolume → Result Bool Unread → OpenVolume → Type 0
+IsWrittenHome most v outcome v' =
+    ByKind (λ e e'. WritesHome most e outcome e') (λ e e'. WritesLogHome most e outcome e') v v'
+
+-- ---- so it is answered
+
+-- other than 4,096 bytes are no page; where none was read, the bytes stay
+abbrev pub AnswersRead : OpenVolume → FilePage → (old new : List ℕ) → ℤ → (before wanted : ℕ) → OpenVolume → Type 0
+AnswersRead v page old new code before wanted v' = MatchBool (is_block old)
+    ((outcome : Result (List ℕ) Unread) × (code ≡ reading_code outcome) × (wanted ≡ wanted_block outcome before)
+    × (new ≡ result_unwrap_or outcome old) × IsRead v page outcome v')
+    ((code ≡ argument_code) × (new ≡ old) × (wanted ≡ before) × (v' ≡ v))
+
+abbrev pub AnswersWrite : OpenVolume → FilePage → List ℕ → ℤ → OpenVolume → Type 0
+AnswersWrite v page bytes code v' = MatchBool (is_block bytes)
+    ((outcome : Result (Unit {0}) Refusal) × (code ≡ outcome_code outcome) × IsWritten v page bytes outcome v')
+    ((code ≡ argument_code) × (v' ≡ v))
+
+abbrev pub AnswersSetLength : OpenVolume → (file length : ℕ) → ℤ → (before wanted : ℕ) → OpenVolume → Type 0
+AnswersSetLength v file length code before wanted v' =
+    (outcome : Result (Unit {0}) Unread) × (code ≡ reading_code outcome) × (wanted ≡ wanted_block outcome before)
+    × IsLengthSet v file length outcome v'
+
+-- where none was committed, the mark that was told before stays
+abbrev pub AnswersCommit : OpenVolume → ℤ → (before mark before' wanted : ℕ) → OpenVolume → Type 0
+AnswersCommit v code before mark before' wanted v' =
+    (outcome : Result ℕ Unread) × (code ≡ reading_code outcome) × (wanted ≡ wanted_block outcome before')
+    × (mark ≡ result_unwrap_or outcome before) × IsCommitted v outcome v'
 
 abbrev pub AnswersWriteOut : ℕ → OpenVolume → ℤ → (before wanted : ℕ) → OpenVolume → Type 0
-AnswersWriteOut most v code before wanted v' = ByKind
-    (λ e e'. AnswersSteps most e code e' × (wanted ≡ before))
-    (λ e e'. AnswersLogSteps most e code before wanted e') v v'
+AnswersWriteOut most v code before wanted v' =
+    (outcome : Result Bool Unread) × (code ≡ steps_code outcome) × (wanted ≡ wanted_block outcome before)
+    × IsWrittenHome most v outcome v'
 
 -- ---- the host
 

@@ -1,20 +1,19 @@
 // What is asked of an open volume, and how one is opened.
-ghost use Rattle.std.specs.Prelude.{◌≡◌, ◌↔◌, ℕ, ◌-◌, ◌^◌, min, is_some, IfSome, IfNone, IsTrue, Some, None};
+ghost use Rattle.std.specs.Prelude.{◌≡◌, ℕ, ◌-◌, ◌^◌, min, is_some, IfSome, IfNone, None};
 ghost use Rattle.std.specs.Option.{option_map};
-ghost use Rattle.page_entry.specs.declared.refusal.Refusal.TheVariants.{NotAVolume};
 ghost use Rattle.deferred_disk.specs.Deferred.{carried_moment};
-ghost use Rattle.embedded.specs.declared.reading.Unread.TheVariants.{Refused};
 ghost use Rattle.famsync_core.specs.Codes.{order_code};
 ghost use Rattle.famsync_core.specs.Held.{disk_of, page_numbered};
-ghost use Rattle.famsync_core.specs.Opening.{AnswersOpen, OpensLog, TellsRefused, most_pages};
-ghost use Rattle.famsync_core.specs.Requests.{IsRead, IsWritten, IsLengthSet, IsCommitted, AnswersWriteOut};
+ghost use Rattle.famsync_core.specs.Opening.{AnswersOpen, TellsOpening, most_pages};
+ghost use Rattle.famsync_core.specs.Requests.{AnswersRead, AnswersWrite, AnswersSetLength, AnswersCommit, AnswersWriteOut};
 
+use crate::answering::{change_length, make_commit, make_steps, read_page, write_page};
 use crate::codes::{OK, ORDER, code_of_unread};
 use crate::state::State;
-use crate::volume::OpenVolume;
+use crate::volume::{OpenVolume, open_volume};
 use deferred_disk::DeferredDisk;
 use embedded::Unread;
-use page_entry::{FilePage, Refusal};
+use page_entry::FilePage;
 use std::alloc::Global;
 
 // The page of a file with these numbers. One that is too large for its type is the largest, which no volume has.
@@ -34,13 +33,6 @@ fn most_pages(pages: u32) -> u32
     if pages == 0 { u32::MAX } else { pages }
 }
 
-// Whether a disk has no volume with journals.
-fn is_not_a_volume(why: &Unread) -> bool
-    ensures { IsTrue result ↔ (why.now ≡ Refused NotAVolume) }
-{
-    matches!(why, Unread::Refused(Refusal::NotAVolume))
-}
-
 impl State {
     /// Opens the volume.
     pub(crate) fn open(&mut self, alloc: Global, pages: u32, wanted: &mut u32) -> i32
@@ -50,62 +42,33 @@ impl State {
             AnswersOpen self.old disk (most_pages pages) result wanted.old wanted.new self.new) }
     {
         match self.disk.take() {
-            Some(disk) => self.open_disk(alloc, disk, most_pages(pages), wanted),
+            Some(disk) => {
+                let opened = open_volume(alloc, disk, most_pages(pages));
+                self.hold(opened, wanted)
+            }
             None => ORDER,
         }
     }
 
-    // Opens the volume of a disk, or keeps the disk.
-    fn open_disk(
+    // Holds the volume that was opened, or keeps the disk that wasn't.
+    fn hold(
         &mut self,
-        alloc: Global,
-        disk: DeferredDisk<Global>,
-        most: u32,
+        opened: Result<OpenVolume, (Unread, DeferredDisk<Global>)>,
         wanted: &mut u32,
     ) -> i32
         requires { self.old.disk ≡ None }
-        ensures { AnswersOpen self.old disk most result wanted.old wanted.new self.new }
+        ensures { TellsOpening self.old opened result wanted.old wanted.new self.new }
     {
-        match embedded::open(alloc, disk, most) {
+        match opened {
             Ok(volume) => {
-                self.volume = Some(OpenVolume::Journals(volume));
+                self.volume = Some(volume);
                 OK
             }
             Err((why, disk)) => {
-                if is_not_a_volume(&why) {
-                    return self.open_log(alloc, disk, most, wanted);
-                }
-                self.keep(disk, &why, wanted)
+                self.disk = Some(disk);
+                code_of_unread(&why, wanted)
             }
         }
-    }
-
-    // Opens the volume with a log of a disk, or keeps the disk.
-    fn open_log(
-        &mut self,
-        alloc: Global,
-        disk: DeferredDisk<Global>,
-        most: u32,
-        wanted: &mut u32,
-    ) -> i32
-        requires { self.old.disk ≡ None }
-        ensures { OpensLog self.old disk most result wanted.old wanted.new self.new }
-    {
-        match embedded_log::open(alloc, disk, most) {
-            Ok(volume) => {
-                self.volume = Some(OpenVolume::Log(volume));
-                OK
-            }
-            Err((why, disk)) => self.keep(disk, &why, wanted),
-        }
-    }
-
-    // Keeps a disk that wasn't opened.
-    fn keep(&mut self, disk: DeferredDisk<Global>, why: &Unread, wanted: &mut u32) -> i32
-        ensures { TellsRefused self.old why.now disk result wanted.old wanted.new self.new }
-    {
-        self.disk = Some(disk);
-        code_of_unread(why, wanted)
     }
 
     /// Reads a page of a file.
@@ -115,12 +78,12 @@ impl State {
         ensures open { is_some self.new.volume ≡ is_some self.old.volume }
         ensures disk { self.new.disk ≡ self.old.disk }
         ensures answers { IfSome self.old.volume (λ v. IfSome self.new.volume
-            (IsRead v (page_numbered file page) to.old to.new result wanted.old wanted.new)) }
+            (AnswersRead v (page_numbered file page) to.old to.new result wanted.old wanted.new)) }
     {
         let Some(volume) = &mut self.volume else {
             return ORDER;
         };
-        volume.read(page_numbered(file, page), to, wanted)
+        read_page(volume, page_numbered(file, page), to, wanted)
     }
 
     /// Writes a page of a file.
@@ -129,12 +92,12 @@ impl State {
         ensures open { is_some self.new.volume ≡ is_some self.old.volume }
         ensures disk { self.new.disk ≡ self.old.disk }
         ensures answers { IfSome self.old.volume (λ v. IfSome self.new.volume
-            (IsWritten v (page_numbered file page) bytes.now result)) }
+            (AnswersWrite v (page_numbered file page) bytes.now result)) }
     {
         let Some(volume) = &mut self.volume else {
             return ORDER;
         };
-        volume.write(page_numbered(file, page), bytes)
+        write_page(volume, page_numbered(file, page), bytes)
     }
 
     /// Makes a commit. In a volume with a log it may want a block: the steps that were made stay.
@@ -144,14 +107,14 @@ impl State {
         ensures open { is_some self.new.volume ≡ is_some self.old.volume }
         ensures disk { self.new.disk ≡ self.old.disk }
         ensures answers { IfSome self.old.volume (λ v. IfSome self.new.volume
-            (IsCommitted v result mark.old mark.new wanted.old wanted.new)) }
+            (AnswersCommit v result mark.old mark.new wanted.old wanted.new)) }
         ensures carried { option_map (λ v. carried_moment (disk_of v)) self.new.volume
             ≡ option_map (λ v. carried_moment (disk_of v)) self.old.volume }
     {
         let Some(volume) = &mut self.volume else {
             return ORDER;
         };
-        volume.commit(mark, wanted)
+        make_commit(volume, mark, wanted)
     }
 
     /// Makes further steps of the commits that were made. In a volume with a log it may want a block: the steps that
@@ -169,7 +132,7 @@ impl State {
         let Some(volume) = &mut self.volume else {
             return ORDER;
         };
-        volume.write_out(most, wanted)
+        make_steps(volume, most, wanted)
     }
 
     /// Sets the length of a file.
@@ -179,11 +142,11 @@ impl State {
         ensures open { is_some self.new.volume ≡ is_some self.old.volume }
         ensures disk { self.new.disk ≡ self.old.disk }
         ensures answers { IfSome self.old.volume (λ v. IfSome self.new.volume
-            (IsLengthSet v (min file (2 ^ 16 - 1)) length result wanted.old wanted.new)) }
+            (AnswersSetLength v (min file (2 ^ 16 - 1)) length result wanted.old wanted.new)) }
     {
         let Some(volume) = &mut self.volume else {
             return ORDER;
         };
-        volume.set_length(file.min(0xFFFF) as u16, length, wanted)
+        change_length(volume, file.min(0xFFFF) as u16, length, wanted)
     }
 }

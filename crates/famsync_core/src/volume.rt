@@ -1,17 +1,18 @@
 // An open volume, which has journals or a log.
-ghost use Rattle.std.specs.Prelude.{◌≡◌, true, false, OnOk, OnErr};
+ghost use Rattle.std.specs.Prelude.{◌≡◌, ◌↔◌, true, false, IsTrue, OnOk, OnErr};
+ghost use Rattle.page_entry.specs.declared.refusal.Refusal.TheVariants.{NotAVolume};
 ghost use Rattle.deferred_disk.specs.Deferred.{after_forget, carried_moment};
 ghost use Rattle.volume_codec.specs.Lengths.{AreLengths};
+ghost use Rattle.embedded.specs.declared.reading.Unread.TheVariants.{Refused};
 ghost use Rattle.embedded.specs.Supplying.{with_supplied};
 ghost use Rattle.famsync_core.specs.Held.{disk_of, file_lengths, may_lose, over_disk, table_in, without_oldest_call};
-ghost use Rattle.famsync_core.specs.Requests.{IsRead, IsWritten, IsLengthSet, IsCommitted, AnswersWriteOut};
+ghost use Rattle.famsync_core.specs.Opening.{OpensEither};
+ghost use Rattle.famsync_core.specs.Requests.{IsRead, IsWritten, IsLengthSet, IsCommitted, IsWrittenHome, bytes_read};
 
-use crate::journals::{change_length, commit_journals, read_page, write_out_journals, write_page};
-use crate::logs::{change_log_length, commit_log, read_log_page, write_log_page, write_out_log};
 use deferred_disk::DeferredDisk;
-use embedded::Embedded;
+use embedded::{Embedded, Unread};
 use embedded_log::EmbeddedLog;
-use page_entry::{FileNumber, FilePage};
+use page_entry::{FileNumber, FilePage, Refusal};
 use std::alloc::{AllocError, Global};
 use volume_codec::Super;
 
@@ -22,6 +23,35 @@ pub enum OpenVolume {
     Journals(Embedded<Global>),
     /// Of layouts 5 and 6.
     Log(EmbeddedLog<Global>),
+}
+
+// Whether a disk has no volume with journals.
+fn is_not_a_volume(why: &Unread) -> bool
+    ensures { IsTrue result ↔ (why.now ≡ Refused NotAVolume) }
+{
+    matches!(why, Unread::Refused(Refusal::NotAVolume))
+}
+
+/// Opens the volume of a disk, of whichever kind it is, or hands the disk back.
+pub(crate) fn open_volume(
+    alloc: Global,
+    disk: DeferredDisk<Global>,
+    most: u32,
+) -> Result<OpenVolume, (Unread, DeferredDisk<Global>)>
+    ensures { OpensEither disk most result }
+{
+    match embedded::open(alloc, disk, most) {
+        Ok(volume) => Ok(OpenVolume::Journals(volume)),
+        Err((why, disk)) => {
+            if !is_not_a_volume(&why) {
+                return Err((why, disk));
+            }
+            match embedded_log::open(alloc, disk, most) {
+                Ok(volume) => Ok(OpenVolume::Log(volume)),
+                Err(left) => Err(left),
+            }
+        }
+    }
 }
 
 impl OpenVolume {
@@ -89,55 +119,61 @@ impl OpenVolume {
         }
     }
 
-    /// Reads a page, if there is room for as many bytes as a page has.
-    pub(crate) fn read(&mut self, page: FilePage, to: &mut [u8], wanted: &mut u32) -> i32
-        ensures { IsRead self.old page to.old to.new result wanted.old wanted.new self.new }
+    /// Reads a page into a block.
+    pub(crate) fn read(&mut self, page: FilePage, block: &mut [u8; 4096]) -> Result<(), Unread>
+        ensures { IsRead self.old page (bytes_read result block.new) self.new }
     {
         match self {
-            OpenVolume::Journals(volume) => read_page(volume, page, to, wanted),
-            OpenVolume::Log(volume) => read_log_page(volume, page, to, wanted),
+            OpenVolume::Journals(volume) => volume.read(page, block),
+            OpenVolume::Log(volume) => volume.read(page, block),
         }
     }
 
-    /// Writes a page of these bytes, if there are as many as a page has.
-    pub(crate) fn write(&mut self, page: FilePage, bytes: &[u8]) -> i32
+    /// Writes a page.
+    pub(crate) fn write(&mut self, page: FilePage, bytes: &[u8; 4096]) -> Result<(), Refusal>
         ensures { IsWritten self.old page bytes.now result self.new }
     {
         match self {
-            OpenVolume::Journals(volume) => write_page(volume, page, bytes),
-            OpenVolume::Log(volume) => write_log_page(volume, page, bytes),
+            OpenVolume::Journals(volume) => volume.put(page, bytes),
+            OpenVolume::Log(volume) => volume.put(page, bytes),
         }
     }
 
     /// Sets the length of a file.
-    pub(crate) fn set_length(&mut self, file: FileNumber, length: u64, wanted: &mut u32) -> i32
-        ensures { IsLengthSet self.old file length result wanted.old wanted.new self.new }
+    pub(crate) fn set_length(&mut self, file: FileNumber, length: u64) -> Result<(), Unread>
+        ensures { IsLengthSet self.old file length result self.new }
     {
         match self {
-            OpenVolume::Journals(volume) => change_length(volume, file, length, wanted),
-            OpenVolume::Log(volume) => change_log_length(volume, file, length, wanted),
+            OpenVolume::Journals(volume) => volume.set_length(file, length),
+            OpenVolume::Log(volume) => volume.set_length(file, length),
         }
     }
 
-    /// Makes a commit.
-    pub(crate) fn commit(&mut self, mark: &mut u32, wanted: &mut u32) -> i32
-        ensures answers { IsCommitted self.old result mark.old mark.new wanted.old wanted.new self.new }
+    /// Makes a commit, up to its acknowledgement by the pager. In a log, steps make room for it first.
+    pub(crate) fn commit(&mut self) -> Result<u32, Unread>
+        ensures made { IsCommitted self.old result self.new }
         ensures carried { carried_moment (disk_of self.new) ≡ carried_moment (disk_of self.old) }
     {
         match self {
-            OpenVolume::Journals(volume) => commit_journals(volume, mark),
-            OpenVolume::Log(volume) => commit_log(volume, mark, wanted),
+            OpenVolume::Journals(volume) => match volume.commit() {
+                Ok(mark) => Ok(mark),
+                Err(why) => Err(Unread::Refused(why)),
+            },
+            OpenVolume::Log(volume) => volume.commit(),
         }
     }
 
     /// Makes further steps of the commits that were made.
-    pub(crate) fn write_out(&mut self, most: u32, wanted: &mut u32) -> i32
-        ensures answers { AnswersWriteOut most self.old result wanted.old wanted.new self.new }
+    pub(crate) fn write_out(&mut self, most: u32) -> Result<bool, Unread>
+        ensures made { IsWrittenHome most self.old result self.new }
         ensures carried { carried_moment (disk_of self.new) ≡ carried_moment (disk_of self.old) }
     {
         match self {
-            OpenVolume::Journals(volume) => write_out_journals(volume, most),
-            OpenVolume::Log(volume) => write_out_log(volume, most, wanted),
+            OpenVolume::Journals(volume) => match volume.write_out(most) {
+                Ok(left) => Ok(left),
+                Err(why) => Err(Unread::Refused(why)),
+            },
+            OpenVolume::Log(volume) => volume.write_out(most),
         }
     }
 }
