@@ -25,14 +25,8 @@ use Rattle.log_codec.specs.Log.{LogValue, IsLog}
 use Rattle.log_codec.specs.Chain.{LogRecovers, IsLogHome}
 use Rattle.log_volume.specs.Super.{LogSuperValue, FitsLog, log_of, log_super_text}
 use Rattle.log_volume.specs.Files.{log_files_in}
-use Rattle.log_commits.specs.Tail.{TailValue}
 use Rattle.log_commits.proofs.Public.{recovers}
-use Rattle.log_commits.specs.Commit.{TellsTornBy}
-use Rattle.log_commits.specs.Homes.{StaysLastBy}
-use Rattle.log_store.specs.declared.stage.HomeStage.{HomeStage}
-use Rattle.log_store.specs.declared.stage.HomeStage.TheVariants.{Resting, Copying, Written, Sure}
-use Rattle.log_store.specs.Store.{TrustsBy, committing_tail}
-use Rattle.log_store.proofs.Public.{committing_log}
+use Rattle.log_store.proofs.Public.{commit_behind, commit_told, first_stays, step_behind, step_trusted}
 use Rattle.log_pager.specs.Pager.{IsPagerOver, contents_put, records_put}
 use Rattle.log_files.specs.State.{LogFilesState, log_home_of}
 use Rattle.log_histories.specs.Histories.{IsJustOpened, HasComeLog, HasGoneLog, IsLogCommitting, IsLogStepping}
@@ -41,7 +35,6 @@ use Rattle.log_histories.specs.Histories.{LogResized}
 use Rattle.log_histories.specs.Histories.{ReadsBackLog, RecoversIn, TellsCommit, TrustsStep}
 use Rattle.log_histories.proofs.Lowered.{lower, depth, lowered, home_lowered, blocks_lowered, files_lowered}
 use Rattle.log_histories.proofs.Lowered.{lengths_lowered, lengths_say, has_lengths_of, is_lengths_of}
-use Rattle.log_histories.proofs.First.{commit_behind, step_behind, first_stays}
 use Rattle.log_histories.proofs.Keeping.{KeepsLog, HaveLogFiles, keeps_page, keeps_commit, keeps_mark, keeps_read}
 use Rattle.log_histories.proofs.Keeping.{keeps_refused, keeps_step, marked_before}
 use Rattle.log_histories.proofs.Resized.{keeps_resize}
@@ -246,21 +239,10 @@ module _ {D : Type 0} (disk : Ghosts D) (files : List File) (history : List Even
 
     pub tells_by_byte : (c : List ℕ) → TellsCommit s c
     tells_by_byte c =
-        let t : TailValue = committing_tail s.pager.store in
-        let byte_seals = ap (λ (g : LogValue). g.sealing) (committing_log s.pager.store) ∙ sealed in
-        subst (λ x. TellsTornBy x t (homes_in s.pager.staged) (records_put s.pager.staged) c) (sym byte_seals) tt
+        commit_told s.pager.store sealed (homes_in s.pager.staged) (records_put s.pager.staged) c
 
     pub trusts_by_byte : (c : List ℕ) → TrustsStep s c
-    trusts_by_byte c = by s.pager.store.stage
-      where
-        by : (stage : HomeStage) → TrustsBy s.pager.store stage c
-        by Resting = tt
-        by Copying = tt
-        by Written = tt
-        by Sure =
-            let t : TailValue = s.pager.store.tail in
-            let left : ℕ = t.log.ring - (t.used - s.pager.store.work.oldest.blocks) in
-            subst (λ x. StaysLastBy x t left c) (sym sealed) tt
+    trusts_by_byte c = step_trusted s.pager.store sealed s.pager.store.stage c
 
   -- ---- what callers see
 

@@ -22,7 +22,7 @@ use Rattle.log_volume.specs.Super.{LogSuperValue, FitsLog, log_of, log_super_tex
 use Rattle.log_commits.specs.Tail.{TailValue}
 use Rattle.log_store.specs.declared.fault.Progress.{Progress}
 use Rattle.log_store.specs.Store.{StoreValue}
-use Rattle.log_store.proofs.Public.{committing_log}
+use Rattle.log_store.proofs.Public.{commit_behind, committing_log, first_stays, step_behind}
 use Rattle.log_pager.specs.Pager.{IsPagerOver, contents_put}
 use Rattle.log_pager.proofs.Public.{steps_log}
 use Rattle.log_files.specs.State.{LogFilesState, log_home_of, on_device}
@@ -30,7 +30,6 @@ use Rattle.log_files.specs.Calls.{after_page_put}
 use Rattle.log_histories.specs.Histories.{IsLogPut, IsLogRead, IsLogRefused, IsLogCommitted, IsEmptyLogCommit}
 use Rattle.log_histories.specs.Histories.{IsLogStepped}
 use Rattle.log_histories.proofs.Lowered.{lower, depth, lowered, home_lowered}
-use Rattle.log_histories.proofs.First.{commit_behind, step_behind, first_stays}
 
 -- the contents have the files after a history
 abbrev pub HaveLogFiles : List File → LogSuperValue → (ℕ → List ℕ) → List Event → Type 0

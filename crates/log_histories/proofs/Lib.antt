@@ -1,5 +1,4 @@
 pub mod Lowered
-pub mod First
 pub mod Keeping
 pub mod Resized
 pub mod Crashes

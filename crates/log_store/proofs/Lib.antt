@@ -2,5 +2,7 @@ mod Stores
 mod Cases
 mod Steps
 mod Sound
+mod First
+mod ByByte
 mod Ending
 pub mod Public
