@@ -373,7 +373,7 @@ module _ (v : SuperValue) where
             (r.volume.journals.all j lt (other_gate batch.journal j c c' other same is))
       ])
 
-  has_front : (front : List Batch) (oldest : Batch) (j : ℕ)
+  pub has_front : (front : List Batch) (oldest : Batch) (j : ℕ)
       → oldest.journal ≢ j → has_journal (front ++ oldest ∷ []) j ≡ true
       → has_journal front j ≡ true
   has_front [] oldest j other has = absurd (elim (or_cases (oldest.journal == j) false has) [
@@ -386,18 +386,17 @@ module _ (v : SuperValue) where
         | inr later ↦ or_right (batch.journal == j) (has_journal front j) (has_front front oldest j other later)
       ]
 
-  -- the gate of the oldest batch closes, whose records are all at home
+  -- the gate of the oldest batch closes: each of its blocks is at home, or has a record in a newer batch
   pub gate_closes : (front : List Batch) (oldest : Batch) (contents : ℕ → List ℕ) (c c' : List ℕ)
       → RecoversBy v (front ++ oldest ∷ []) contents c
       → oldest.journal < journals_of v.layout → has_journal front oldest.journal ≡ false
-      → ((i : ℕ) → i < length oldest.homes
-      → block_at c (get_or oldest.homes i 0) ≡ block_at c (record_block v.slots oldest.journal i))
+      → AreHome v.slots front oldest c
       → SameBut (gate_block v.slots oldest.journal) c c' → (IsOpen c' v.slots oldest.journal → ⊥)
       → RecoversBy v front contents c'
-  gate_closes front oldest contents c c' r lt none applied same shut =
+  gate_closes front oldest contents c c' r lt none home same shut =
       holds_recovers front contents c'
       (gate_stays front contents oldest.journal c c' (holds_without front oldest contents c
-      (holds_of (front ++ oldest ∷ []) contents c r) (λ i within. inr (applied i within))) lt none same)
+      (holds_of (front ++ oldest ∷ []) contents c r) home) lt none same)
       (λ j there is. elim (cases_eq j oldest.journal) [
         | inl here ↦ absurd (shut (subst (IsOpen c' v.slots) here is))
         | inr other ↦ has_front front oldest j (λ e. other (sym e))

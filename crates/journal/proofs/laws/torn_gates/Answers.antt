@@ -1,4 +1,4 @@
-use Rattle.std.proofs.Common.{[], ◌∷◌, arith}
+use Rattle.std.proofs.Common.{[], ◌∷◌, inr, arith}
 use Rattle.volume_codec.specs.Layout.{gate_block}
 use Rattle.volume_codec.specs.Super.{geometry_of}
 use Rattle.volume_codec.specs.Recovery.{IsOpenBatch}
@@ -17,6 +17,7 @@ returns c = record {
       (same_but_torn (gate_block v.slots batch.journal) 1 c torn (omega arith) is) opens;
   closes = λ v newer oldest contents c torn r none applied is shut.
       gate_closes v newer oldest contents c torn r
-      (all_back (IsOpenBatch (geometry_of v) c) newer (oldest ∷ []) r.volume.journals.each).0.there none applied
+      (all_back (IsOpenBatch (geometry_of v) c) newer (oldest ∷ []) r.volume.journals.each).0.there none
+      (λ i within. inr (applied i within))
       (same_but_torn (gate_block v.slots oldest.journal) 1 c torn (omega arith) is) shut;
 }

@@ -1,0 +1,5 @@
+mod Closing
+mod Gates
+pub mod Public
+mod Records
+mod Texts

@@ -1,0 +1,82 @@
+-- A volume of which only the blocks that were written are kept, and what it recovers to.
+use Rattle.std.specs.Prelude.{◌≡◌, ◌≢◌, ◌⊎◌, ⊤, ℕ, ◌+◌, ◌*◌, ◌<◌, List, [], ◌∷◌, length, Some, false, slice_index}
+use Rattle.std.specs.List.{Contains}
+use Rattle.device.specs.Device.{written}
+use Rattle.volume_codec.specs.Layout.{GeometryValue, block_at, journals_of, gate_block}
+use Rattle.volume_codec.specs.Layout.{descriptor_block, descriptor_blocks, record_block}
+use Rattle.volume_codec.specs.Descriptor.{descriptor_text}
+use Rattle.volume_codec.specs.Super.{SuperValue, block_count, geometry_of}
+use Rattle.volume_codec.specs.Recovery.{Batch, IsVolume, IsNewer, has_journal}
+use Rattle.kept_blocks.specs.Blocks.{Blocks, bytes_in}
+use Rattle.journal.specs.Recovered.{RecoversBy}
+use Rattle.journal.specs.WriteOut.{IsBatch}
+
+-- where it has its parts, the blocks that are kept, and the batches of its open journals, the newest first
+pub record ShownValue : Type 0 where
+  pub geometry : GeometryValue
+  pub blocks : Blocks
+  pub opened : List Batch
+
+-- the block is no gate
+abbrev pub IsNoGate : GeometryValue → ℕ → Type 0
+IsNoGate g b = (j : ℕ) → j < journals_of g.layout → b ≢ gate_block g.slots j
+
+-- These bytes are those of the volume: its open journals have these batches, the gates of the others are zeros, and a
+-- block that is kept is what they have there.
+pub record HasShown (t : SuperValue) (s : ShownValue) (bytes : List ℕ) : Type 0 where
+  pub geometry : s.geometry ≡ geometry_of t
+  pub long : length bytes ≡ 4096 * block_count t
+  pub volume : IsVolume t s.opened bytes
+  pub closed : (j : ℕ) → j < journals_of s.geometry.layout → has_journal s.opened j ≡ false
+      → slice_index bytes (4096 * gate_block s.geometry.slots j) ≡ 0
+  pub kept : (b : ℕ) (block : List ℕ) → bytes_in s.blocks b ≡ Some block
+      → IsNoGate s.geometry b × (block_at bytes b ≡ block)
+
+-- new bytes are those of the volume after a call, and recover to the same contents
+pub record StaysShown (old new : ShownValue) (change : List ℕ → List ℕ) : Type 0 where
+  pub shown : (t : SuperValue) (bytes : List ℕ) → HasShown t old bytes → HasShown t new (change bytes)
+  pub recovers : (t : SuperValue) (bytes : List ℕ) (contents : ℕ → List ℕ) → HasShown t old bytes
+      → RecoversBy t old.opened contents bytes → RecoversBy t new.opened contents (change bytes)
+
+-- one of these batches has the home block
+abbrev pub HasHomeBlock : List Batch → ℕ → Type 0
+HasHomeBlock [] b = ⊥
+HasHomeBlock (batch ∷ older) b = Contains batch.homes b ⊎ HasHomeBlock older b
+
+-- the block belongs to the descriptor or to a record slot of this journal
+abbrev pub IsOfJournal : GeometryValue → ℕ → ℕ → Type 0
+IsOfJournal g j b =
+    ((i : ℕ) × (i < descriptor_blocks g.slots) × (b ≡ descriptor_block g.slots j + i))
+    ⊎ ((i : ℕ) × (i < g.slots) × (b ≡ record_block g.slots j i))
+
+-- Recovery doesn't read the block: it belongs to a journal that is closed, or it is a home block of which an open
+-- journal has a record.
+abbrev pub IsAdmitted : ShownValue → ℕ → Type 0
+IsAdmitted s b =
+    ((j : ℕ) × (j < journals_of s.geometry.layout) × (has_journal s.opened j ≡ false) × IsOfJournal s.geometry j b)
+    ⊎ HasHomeBlock s.opened b
+
+-- The journal of the batch is closed, and the batch is newer than those of the open journals. The kept blocks have its
+-- descriptor.
+pub record MayOpen (s : ShownValue) (batch : Batch) : Type 0 where
+  pub is_batch : IsBatch s.geometry batch
+  pub newer : IsNewer batch s.opened
+  pub closed : has_journal s.opened batch.journal ≡ false
+  pub described : (i : ℕ) → i < descriptor_blocks s.geometry.slots
+      → bytes_in s.blocks (descriptor_block s.geometry.slots batch.journal + i)
+      ≡ Some (block_at (descriptor_text s.geometry.slots (record { mark = batch.mark; homes = batch.homes })) i)
+
+-- the contents with the records of a batch, which are kept
+pub record HasRecords (s : ShownValue) (batch : Batch) (old new : ℕ → List ℕ) : Type 0 where
+  pub records : (i : ℕ) → i < length batch.homes
+      → bytes_in s.blocks (record_block s.geometry.slots batch.journal i) ≡ Some (new (slice_index batch.homes i))
+  pub others : (b : ℕ) → (Contains batch.homes b → ⊥) → new b ≡ old b
+
+-- after the gate of a batch was opened, new bytes are those of the volume, and recover to the contents with its records
+pub record OpensShown (old : ShownValue) (batch : Batch) (new : ShownValue) : Type 0 where
+  pub shown : (t : SuperValue) (bytes : List ℕ) → HasShown t old bytes
+      → HasShown t new (written bytes (4096 * gate_block old.geometry.slots batch.journal) (0xA7 ∷ []))
+  pub recovers : (t : SuperValue) (bytes : List ℕ) (before after : ℕ → List ℕ) → HasShown t old bytes
+      → RecoversBy t old.opened before bytes → HasRecords old batch before after
+      → RecoversBy t new.opened after
+      (written bytes (4096 * gate_block old.geometry.slots batch.journal) (0xA7 ∷ []))
