@@ -1,0 +1,183 @@
+-- What a step or a commit of a pager does, by its clauses.
+use Rattle.std.proofs.Common.{◌≡◌, ◌≢◌, ◌⊎◌, ℕ, Bool, true, false, List, [], ◌∷◌, inl, inr, refl, sym, ap}
+use Rattle.std.proofs.Common.{subst, ◌∙◌}
+use Rattle.std.specs.Prelude.{⊤, Result, Ok, Err, IfOk, IfErr, OnOk}
+use Rattle.device.specs.declared.device.Device.{Ghosts}
+use Rattle.device.specs.Work.{Work}
+use Rattle.device.proofs.Public.{leaves_at_start}
+use Rattle.kept_blocks.specs.Blocks.{Blocks, homes_in}
+use Rattle.volume_codec.specs.Layout.{block_at}
+use Rattle.log_commits.specs.Calls.{DidAll}
+use Rattle.log_commits.specs.Commit.{TellsTorn}
+use Rattle.log_commits.specs.Tail.{TailValue}
+use Rattle.log_commits.specs.declared.behind.MoveFault.TheVariants as moves
+use Rattle.log_commits.specs.declared.fault.CommitFault.TheVariants as commits
+use Rattle.log_store.specs.declared.fault.Progress.{Progress}
+use Rattle.log_store.specs.declared.fault.StoreFault.TheVariants as stores
+use Rattle.log_store.specs.Store.{HasNoted, KeepsStore, MayStepBy, StepsBy, TrustsBy, committing_tail, step_works}
+use Rattle.log_store.specs.Store.{store_commit_works}
+use Rattle.log_store.proofs.Public.{AreBehind, commit_behind, commit_told, committing_log, failed_step_may}
+use Rattle.log_store.proofs.Public.{first_stays, step_behind, step_trusted}
+use Rattle.log_pager.specs.declared.fault.PagerFault.{PagerFault}
+use Rattle.log_pager.specs.declared.fault.PagerFault.TheVariants.{Full, Short, Store}
+use Rattle.log_pager.specs.Pager.{IsPagerOver, LogPagerValue, RefusesPagerStep, contents_put, records_put}
+use Rattle.log_pager.proofs.Public.{steps_log}
+use Rattle.log_room.specs.Room.{KeepsFirst}
+use Rattle.log_room.specs.inside.Leading.{KeepsContents, PutsContents, StaysOver}
+
+-- ---- whether a device call failed
+
+abbrev step_failure : PagerFault
+step_failure = Store (stores.Move moves.Device)
+
+abbrev commit_failure : PagerFault
+commit_failure = Store (stores.Commit commits.Device)
+
+step_failed : (fault : PagerFault) → (fault ≡ step_failure) ⊎ (fault ≢ step_failure)
+step_failed Full = inr (λ same. cc)
+step_failed Short = inr (λ same. cc)
+step_failed (Store (stores.Commit f)) = inr (λ same. cc)
+step_failed (Store (stores.Move moves.Spent)) = inr (λ same. cc)
+step_failed (Store (stores.Move moves.Range)) = inr (λ same. cc)
+step_failed (Store (stores.Move moves.Device)) = inl refl
+step_failed (Store stores.Range) = inr (λ same. cc)
+step_failed (Store stores.Device) = inr (λ same. cc)
+step_failed (Store stores.OutOfMemory) = inr (λ same. cc)
+
+commit_failed : (fault : PagerFault) → (fault ≡ commit_failure) ⊎ (fault ≢ commit_failure)
+commit_failed Full = inr (λ same. cc)
+commit_failed Short = inr (λ same. cc)
+commit_failed (Store (stores.Commit commits.Spent)) = inr (λ same. cc)
+commit_failed (Store (stores.Commit commits.Count)) = inr (λ same. cc)
+commit_failed (Store (stores.Commit commits.Homes)) = inr (λ same. cc)
+commit_failed (Store (stores.Commit commits.Room)) = inr (λ same. cc)
+commit_failed (Store (stores.Commit commits.Number)) = inr (λ same. cc)
+commit_failed (Store (stores.Commit commits.Busy)) = inr (λ same. cc)
+commit_failed (Store (stores.Commit commits.Start)) = inr (λ same. cc)
+commit_failed (Store (stores.Commit commits.Device)) = inl refl
+commit_failed (Store (stores.Move f)) = inr (λ same. cc)
+commit_failed (Store stores.Range) = inr (λ same. cc)
+commit_failed (Store stores.Device) = inr (λ same. cc)
+commit_failed (Store stores.OutOfMemory) = inr (λ same. cc)
+
+is_none : (blocks : Blocks) → (blocks ≡ []) ⊎ (blocks ≢ [])
+is_none [] = inl refl
+is_none (block ∷ blocks) = inr (λ same. cc)
+
+module _ {D : Type 0} (disk : Ghosts D) (old new : LogPagerValue D) where
+  abbrev step_calls : List Work
+  step_calls = step_works old.store old.store.stage
+
+  abbrev commit_calls : List Work
+  commit_calls = store_commit_works old.store (homes_in old.staged) (records_put old.staged)
+
+  -- ---- the log stays where it is
+
+  pub step_log : (result : Result Progress PagerFault) → IfOk result (StepsBy old.store old.store.stage new.store)
+      → IfErr result (λ fault. fault ≢ step_failure → new ≡ old)
+      → IfErr result (λ fault. fault ≡ step_failure → new.store.tail ≡ record old.store.tail { spent = true })
+      → new.store.tail.log ≡ old.store.tail.log
+  step_log (Ok progress) steps unchanged spent =
+      steps_log old.store old.store.stage new.store progress steps
+  step_log (Err fault) steps unchanged spent = elim (step_failed fault) [
+    | inl failed ↦ ap (λ (t : TailValue). t.log) (spent failed)
+    | inr other ↦ ap (λ (s : LogPagerValue D). s.store.tail.log) (unchanged other)
+  ]
+
+  pub commit_log : (result : Result ⊤ PagerFault) → (old.staged ≡ [] → (result ≡ Ok tt) × (new ≡ old))
+      → OnOk result (old.staged ≢ [] → HasNoted old.store new.store (homes_in old.staged))
+      → IfErr result (λ fault. fault ≢ commit_failure
+      → KeepsStore old.store new.store × (new.device ≡ old.device))
+      → IfErr result (λ fault. fault ≡ commit_failure → new.store.tail ≡ record old.store.tail { spent = true })
+      → new.store.tail.log ≡ old.store.tail.log
+  commit_log (Ok x) idle noted unchanged spent = elim (is_none old.staged) [
+    | inl none ↦ ap (λ (s : LogPagerValue D). s.store.tail.log) (idle none).1
+    | inr some ↦ ap (λ (t : TailValue). t.log) (noted some).tail ∙ committing_log old.store
+  ]
+  commit_log (Err fault) idle noted unchanged spent = elim (commit_failed fault) [
+    | inl failed ↦ ap (λ (t : TailValue). t.log) (spent failed)
+    | inr other ↦ ap (λ (t : TailValue). t.log) (unchanged other).0.tail
+  ]
+
+  -- ---- the contents
+
+  pub step_keeps : (result : Result Progress PagerFault)
+      → ((contents : ℕ → List ℕ) → disk.is_honest old.device → IsPagerOver disk old contents
+      → OnOk result (TrustsBy old.store old.store.stage (disk.seen new.device) → IsPagerOver disk new contents))
+      → OnOk result (KeepsContents disk old new)
+  step_keeps (Ok progress) over = λ contents is.
+      over contents is.honest is.over (step_trusted old.store is.byte old.store.stage (disk.seen new.device))
+  step_keeps (Err fault) over = tt
+
+  pub step_stays : (result : Result Progress PagerFault)
+      → IfErr result (λ fault. fault ≢ step_failure → new ≡ old) → IfErr result (StaysOver disk old new)
+  step_stays (Ok progress) unchanged = tt
+  step_stays (Err fault) unchanged = λ not_commit not_step contents is.
+      subst (λ (s : LogPagerValue D). IsPagerOver disk s contents) (sym (unchanged not_step)) is.over
+
+  pub commit_puts : (result : Result ⊤ PagerFault)
+      → ((contents : ℕ → List ℕ) → disk.is_honest old.device → IsPagerOver disk old contents
+      → OnOk result (TellsTorn (committing_tail old.store) (homes_in old.staged) (records_put old.staged)
+      (disk.seen new.device) → IsPagerOver disk new (contents_put contents old.staged)))
+      → OnOk result (PutsContents disk old new)
+  commit_puts (Ok x) over = λ contents is. over contents is.honest is.over
+      (commit_told old.store is.byte (homes_in old.staged) (records_put old.staged) (disk.seen new.device))
+  commit_puts (Err fault) over = tt
+
+  pub commit_stays : (result : Result ⊤ PagerFault)
+      → ((contents : ℕ → List ℕ) → disk.is_honest old.device → IsPagerOver disk old contents
+      → IfErr result (λ fault. fault ≢ commit_failure → IsPagerOver disk new contents))
+      → IfErr result (StaysOver disk old new)
+  commit_stays (Ok x) stays = tt
+  commit_stays (Err fault) stays = λ not_commit not_step contents is. stays contents is.honest is.over not_commit
+
+  -- ---- the first block stays as it is
+
+  module _ (since_now : (device : D) (c : List ℕ) → disk.left_since device (disk.moment device) c
+      → disk.may_leave device c) (text : List ℕ)
+      (has : (c : List ℕ) → disk.may_leave old.device c → block_at c 0 ≡ text) where
+    first_by : (works : List Work) (done : Bool) → AreBehind works → DidAll disk old.device works done new.device
+        → KeepsFirst disk text old.device new.device
+    first_by works done behind did =
+        let stays = first_stays disk since_now text works done old.device new.device behind has did in
+        record { crash = stays.crash; left = stays.left }
+
+    first_same : new.device ≡ old.device → KeepsFirst disk text old.device new.device
+    first_same same =
+        let none : KeepsFirst disk text old.device old.device = record {
+          crash = leaves_at_start (λ c left. has c (since_now old.device c left));
+          left = has;
+        } in
+        subst (KeepsFirst disk text old.device) (sym same) none
+
+    pub step_first : (result : Result Progress PagerFault)
+        → OnOk result (MayStepBy old.store old.store.stage) → IfErr result (RefusesPagerStep disk old)
+        → IfErr result (λ fault. fault ≢ step_failure → new ≡ old)
+        → (MayStepBy old.store old.store.stage
+        → OnOk result (DidAll disk old.device step_calls true new.device))
+        → (MayStepBy old.store old.store.stage
+        → IfErr result (λ fault. fault ≡ step_failure → DidAll disk old.device step_calls false new.device))
+        → KeepsFirst disk text old.device new.device
+    step_first (Ok progress) may refused unchanged did failed =
+        first_by step_calls true (step_behind old.store old.store.stage may) (did may)
+    step_first (Err fault) may refused unchanged did failed = elim (step_failed fault) [
+      | inl is ↦
+          (let might = failed_step_may old.store old.store.stage (subst (RefusesPagerStep disk old) is refused) in
+          first_by step_calls false (step_behind old.store old.store.stage might) (failed might is))
+      | inr other ↦ first_same (ap (λ (s : LogPagerValue D). s.device) (unchanged other))
+    ]
+
+    pub commit_first : (result : Result ⊤ PagerFault) → (old.staged ≡ [] → (result ≡ Ok tt) × (new ≡ old))
+        → OnOk result (old.staged ≢ [] → DidAll disk old.device commit_calls true new.device)
+        → IfErr result (λ fault. fault ≡ commit_failure → DidAll disk old.device commit_calls false new.device)
+        → IfErr result (λ fault. fault ≢ commit_failure
+        → KeepsStore old.store new.store × (new.device ≡ old.device))
+        → KeepsFirst disk text old.device new.device
+    commit_first (Ok x) idle did failed unchanged = elim (is_none old.staged) [
+      | inl none ↦ first_same (ap (λ (s : LogPagerValue D). s.device) (idle none).1)
+      | inr some ↦ first_by commit_calls true (commit_behind old.store _ _) (did some)
+    ]
+    commit_first (Err fault) idle did failed unchanged = elim (commit_failed fault) [
+      | inl is ↦ first_by commit_calls false (commit_behind old.store _ _) (failed is)
+      | inr other ↦ first_same (unchanged other).1
+    ]

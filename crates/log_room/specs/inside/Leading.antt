@@ -1,0 +1,71 @@
+-- What private calls do to a pager over a log where a byte seals.
+use Rattle.std.specs.Prelude.{⊤, ◌≡◌, ◌≢◌, ◌↔◌, ◌⊎◌, ℕ, List, [], length, Result, OnOk, OnErr, IfErr}
+use Rattle.device.specs.declared.device.Device.{Ghosts}
+use Rattle.device.specs.Device.{LeavesOnly}
+use Rattle.volume_codec.specs.Layout.{block_at}
+use Rattle.log_codec.specs.declared.sealing.Sealing.TheVariants.{ByByte}
+use Rattle.log_codec.specs.Chain.{LogRecovers}
+use Rattle.log_commits.specs.declared.behind.MoveFault.TheVariants as moves
+use Rattle.log_commits.specs.declared.fault.CommitFault.TheVariants as commits
+use Rattle.log_store.specs.declared.fault.StoreFault.TheVariants.{Commit, Move}
+use Rattle.log_pager.specs.declared.fault.PagerFault.{PagerFault}
+use Rattle.log_pager.specs.declared.fault.PagerFault.TheVariants.{Store}
+use Rattle.log_pager.specs.Pager.{LogPagerValue, IsPagerOver, contents_put}
+use Rattle.log_room.specs.Room.{KeepsFirst}
+
+-- a byte seals, and the pager is over its device, which is honest
+pub record IsSealedOver {D : Type 0} (disk : Ghosts D) (s : LogPagerValue D) (contents : ℕ → List ℕ) : Type 0 where
+  pub honest : disk.is_honest s.device
+  pub byte : s.store.tail.log.sealing ≡ ByByte
+  pub over : IsPagerOver disk s contents
+
+-- calls lead from one state of a pager to another one; the last of them may have failed
+pub record Leads {D : Type 0} (disk : Ghosts D) (old new : LogPagerValue D) : Type 0 where
+  pub log : new.store.tail.log ≡ old.store.tail.log
+  pub len : length (disk.seen new.device) ≡ length (disk.seen old.device)
+  pub honest : disk.is_honest new.device ↔ disk.is_honest old.device
+  pub leaves : (contents : ℕ → List ℕ) → IsSealedOver disk old contents
+      → LeavesOnly disk.moment disk.left_since old.device new.device
+      (λ c. LogRecovers old.store.tail.log contents c
+      ⊎ LogRecovers old.store.tail.log (contents_put contents old.staged) c)
+  pub first : (text : List ℕ) → ((c : List ℕ) → disk.may_leave old.device c → block_at c 0 ≡ text)
+      → KeepsFirst disk text old.device new.device
+
+-- the pager is over its device with the same contents
+abbrev pub KeepsContents : {D : Type 0} → Ghosts D → LogPagerValue D → LogPagerValue D → Type 0
+KeepsContents disk old new =
+    (contents : ℕ → List ℕ) → IsSealedOver disk old contents → IsPagerOver disk new contents
+
+-- with what was put
+abbrev pub PutsContents : {D : Type 0} → Ghosts D → LogPagerValue D → LogPagerValue D → Type 0
+PutsContents disk old new =
+    (contents : ℕ → List ℕ) → IsSealedOver disk old contents
+    → IsPagerOver disk new (contents_put contents old.staged)
+
+-- with the same contents, unless a device call failed
+abbrev pub StaysOver : {D : Type 0} → Ghosts D → LogPagerValue D → LogPagerValue D → PagerFault → Type 0
+StaysOver disk old new fault =
+    fault ≢ Store (Commit commits.Device) → fault ≢ Store (Move moves.Device) → KeepsContents disk old new
+
+-- steps were made, or calls that changed nothing
+pub record HasStepped {D : Type 0} (disk : Ghosts D) (old new : LogPagerValue D) : Type 0 where
+  pub leads : Leads disk old new
+  pub staged : new.staged ≡ old.staged
+  pub keeps : KeepsContents disk old new
+
+-- a call that makes steps
+pub record MakesSteps {D X : Type 0} (disk : Ghosts D) (old : LogPagerValue D) (result : Result X PagerFault)
+    (new : LogPagerValue D) : Type 0 where
+  pub leads : Leads disk old new
+  pub staged : new.staged ≡ old.staged
+  pub keeps : OnOk result (KeepsContents disk old new)
+  pub stays : IfErr result (StaysOver disk old new)
+
+-- a call that commits what was put
+pub record Commits {D : Type 0} (disk : Ghosts D) (old : LogPagerValue D) (result : Result ⊤ PagerFault)
+    (new : LogPagerValue D) : Type 0 where
+  pub leads : Leads disk old new
+  pub value : OnOk result (new.staged ≡ [])
+  pub kept : OnErr result (new.staged ≡ old.staged)
+  pub puts : OnOk result (PutsContents disk old new)
+  pub stays : IfErr result (StaysOver disk old new)

@@ -1,0 +1,144 @@
+// A commit, with the rounds of steps that it needs.
+ghost use Rattle.std.specs.Prelude.{◌≡◌, ◌≢◌, ◌↔◌, ◌⊎◌, ℕ, List, [], Ok, length, Err, IsTrue, IfOk, IfErr, OnOk, OnErr};
+ghost use Rattle.device.specs.Device.{LeavesOnly};
+ghost use Rattle.volume_codec.specs.Layout.{block_at};
+ghost use Rattle.log_codec.specs.declared.sealing.Sealing.TheVariants.{ByByte};
+ghost use Rattle.log_codec.specs.Chain.{LogRecovers};
+ghost use Rattle.log_store.specs.Store.{StepsBy};
+ghost use Rattle.log_pager.specs.Pager.{IsPagerOver, contents_put};
+ghost use Rattle.log_room.specs.Room.{KeepsFirst};
+ghost use Rattle.log_room.specs.inside.Leading.{Commits, MakesSteps};
+
+use device::Device;
+use log_commits::{CommitFault, MoveFault};
+use log_pager::{LogPager, PagerFault};
+use log_store::{Progress, StoreFault, rounds_end};
+use std::alloc::Allocator;
+
+// The log has no room.
+const BUSY: PagerFault = PagerFault::Store(StoreFault::Commit(CommitFault::Busy));
+
+// Whether a step moved the start.
+fn has_moved(progress: Progress) -> bool
+    ensures { IsTrue result ↔ (progress ≡ Progress.Moved) }
+{
+    matches!(progress, Progress::Moved)
+}
+
+// Whether there was no step to make.
+fn was_idle(progress: Progress) -> bool
+    ensures { IsTrue result ↔ (progress ≡ Progress.Idle) }
+{
+    matches!(progress, Progress::Idle)
+}
+
+// Whether the log has no room for a commit.
+fn is_busy(made: &Result<(), PagerFault>) -> bool
+    ensures { IsTrue result ↔ (made.now ≡ Err (PagerFault.Store (StoreFault.Commit CommitFault.Busy))) }
+{
+    matches!(
+        made,
+        Err(PagerFault::Store(StoreFault::Commit(CommitFault::Busy)))
+    )
+}
+
+// The next step.
+fn make_step<D: Device, A: Allocator + Copy>(
+    pager: &mut LogPager<D, A>,
+) -> Result<Progress, PagerFault>
+    ensures steps { MakesSteps D.Device pager.old result pager.new }
+    ensures value { IfOk result (StepsBy pager.old.store pager.old.store.stage pager.new.store) }
+{
+    pager.step()
+}
+
+// Makes steps up to the one that moves the start.
+fn make_round<D: Device, A: Allocator + Copy>(pager: &mut LogPager<D, A>) -> Result<(), PagerFault>
+    ensures { MakesSteps D.Device pager.old result pager.new }
+{
+    rounds_end();
+    'steps: loop {
+        let progress = match make_step(pager) {
+            Ok(progress) => progress,
+            Err(fault) => return Err(fault),
+        };
+        if has_moved(progress) {
+            return Ok(());
+        }
+        if was_idle(progress) {
+            return Err(BUSY);
+        }
+    }
+}
+
+// Commits what was put, if the log has room for it.
+fn commit_put<D: Device, A: Allocator + Copy>(pager: &mut LogPager<D, A>) -> Result<(), PagerFault>
+    ensures commits { Commits D.Device pager.old result pager.new }
+    ensures idle { pager.old.staged ≡ [] → (result ≡ Ok tt) × (pager.new ≡ pager.old) }
+{
+    pager.commit()
+}
+
+// Commits what was put, after a round of steps.
+fn commit_after_round<D: Device, A: Allocator + Copy>(
+    pager: &mut LogPager<D, A>,
+) -> Result<(), PagerFault>
+    ensures { Commits D.Device pager.old result pager.new }
+{
+    match make_round(pager) {
+        Ok(()) => commit_put(pager),
+        Err(fault) => Err(fault),
+    }
+}
+
+// Commits what was put, after as many rounds of steps as it needs: the rest of the one that is under way, and one of
+// all commits of the log.
+fn commit_in_rounds<D: Device, A: Allocator + Copy>(
+    pager: &mut LogPager<D, A>,
+) -> Result<(), PagerFault>
+    ensures commits { Commits D.Device pager.old result pager.new }
+    ensures idle { pager.old.staged ≡ [] → (result ≡ Ok tt) × (pager.new ≡ pager.old) }
+{
+    let first = commit_put(pager);
+    if !is_busy(&first) {
+        return first;
+    }
+    let second = commit_after_round(pager);
+    if !is_busy(&second) {
+        return second;
+    }
+    commit_after_round(pager)
+}
+
+/// Commits what was put. While the log has no room for it, the commits so far are written home and the start moves
+/// behind them. Where nothing was put, no device call is made. An error keeps what was put.
+pub fn commit_with_room<D: Device, A: Allocator + Copy>(
+    pager: &mut LogPager<D, A>,
+) -> Result<(), PagerFault>
+    ensures log { pager.new.store.tail.log ≡ pager.old.store.tail.log }
+    ensures value { OnOk result (pager.new.staged ≡ []) }
+    ensures kept { OnErr result (pager.new.staged ≡ pager.old.staged) }
+    ensures idle { pager.old.staged ≡ [] → (result ≡ Ok tt) × (pager.new ≡ pager.old) }
+    ensures len { length (D.seen pager.new.device) ≡ length (D.seen pager.old.device) }
+    ensures honest { D.is_honest pager.new.device ↔ D.is_honest pager.old.device }
+
+    // Where a byte seals.
+    ensures over { (contents : ℕ → List ℕ) → D.is_honest pager.old.device
+        → pager.old.store.tail.log.sealing ≡ ByByte → IsPagerOver D.Device pager.old contents
+        → OnOk result (IsPagerOver D.Device pager.new (contents_put contents pager.old.staged)) }
+    ensures stays { (contents : ℕ → List ℕ) → D.is_honest pager.old.device
+        → pager.old.store.tail.log.sealing ≡ ByByte → IsPagerOver D.Device pager.old contents
+        → IfErr result (λ fault. fault ≢ PagerFault.Store (StoreFault.Commit CommitFault.Device)
+        → fault ≢ PagerFault.Store (StoreFault.Move MoveFault.Device) → IsPagerOver D.Device pager.new contents) }
+    ensures leaves { (contents : ℕ → List ℕ) → D.is_honest pager.old.device
+        → pager.old.store.tail.log.sealing ≡ ByByte → IsPagerOver D.Device pager.old contents
+        → LeavesOnly D.moment D.left_since pager.old.device pager.new.device
+        (λ c. LogRecovers pager.old.store.tail.log contents c
+        ⊎ LogRecovers pager.old.store.tail.log (contents_put contents pager.old.staged) c) }
+
+    // The first block of the device stays, at each moment and from then on, also where the result is an error.
+    ensures first { (text : List ℕ) → ((c : List ℕ) → D.may_leave pager.old.device c → block_at c 0 ≡ text)
+        → KeepsFirst D.Device text pager.old.device pager.new.device }
+{
+    commit_in_rounds(pager)
+}
