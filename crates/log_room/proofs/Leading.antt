@@ -1,5 +1,5 @@
 -- Calls of a pager, one after another.
-use Rattle.std.proofs.Common.{◌≡◌, ◌⊎◌, ℕ, List, refl, ap, subst, ◌∙◌, inl}
+use Rattle.std.proofs.Common.{◌≡◌, ◌⊎◌, ℕ, List, refl, ap, subst, ◌∙◌, inl, arith}
 use Rattle.std.specs.Prelude.{⊤, Result, Ok, Err}
 use Rattle.std.proofs.lemmas.Result.{IfErr-weaker}
 use Rattle.device.specs.declared.device.Device.{Ghosts}
@@ -24,6 +24,7 @@ module _ {D : Type 0} (disk : Ghosts D) where
       log = refl;
       len = refl;
       honest = (λ well. well, λ well. well);
+      later = omega arith;
       leaves = λ contents is. leaves_at_start (λ c left. inl (recovers s.store.tail contents c
           (is.over.store.holds c (since_now s.device c left)).held));
       first = λ text has. record { crash = leaves_at_start (λ c left. has c (since_now s.device c left)); left = has };
@@ -48,6 +49,7 @@ module _ {D : Type 0} (disk : Ghosts D) where
         λ well. stepped.leads.honest.0 (next.honest.0 well),
         λ well. next.honest.1 (stepped.leads.honest.1 well),
       );
+      later = omega (arith, stepped.leads.later, next.later);
       leaves = λ contents is.
           let P : LogValue → Blocks → List ℕ → Type 0 = λ g put x.
           LogRecovers g contents x ⊎ LogRecovers g (contents_put contents put) x in

@@ -1,6 +1,6 @@
 -- What a step or a commit of a pager does, by its clauses.
 use Rattle.std.proofs.Common.{◌≡◌, ◌≢◌, ◌⊎◌, ℕ, Bool, true, false, List, [], ◌∷◌, inl, inr, refl, sym, ap}
-use Rattle.std.proofs.Common.{subst, ◌∙◌}
+use Rattle.std.proofs.Common.{subst, ◌∙◌, ◌≤◌, arith}
 use Rattle.std.specs.Prelude.{⊤, Result, Ok, Err, IfOk, IfErr, OnOk}
 use Rattle.device.specs.declared.device.Device.{Ghosts}
 use Rattle.device.specs.Work.{Work}
@@ -131,6 +131,50 @@ module _ {D : Type 0} (disk : Ghosts D) (old new : LogPagerValue D) where
   commit_stays (Ok x) stays = tt
   commit_stays (Err fault) stays = λ not_commit not_step contents is. stays contents is.honest is.over not_commit
 
+  -- ---- what any device calls leave that write none of the first bytes
+
+  -- what follows of the clauses of a step, and of a commit
+  abbrev StepTells : Type 0 → Type 0
+  StepTells Q = (result : Result Progress PagerFault)
+      → OnOk result (MayStepBy old.store old.store.stage) → IfErr result (RefusesPagerStep disk old)
+      → IfErr result (λ fault. fault ≢ step_failure → new ≡ old)
+      → (MayStepBy old.store old.store.stage
+      → OnOk result (DidAll disk old.device step_calls true new.device))
+      → (MayStepBy old.store old.store.stage
+      → IfErr result (λ fault. fault ≡ step_failure → DidAll disk old.device step_calls false new.device))
+      → Q
+
+  abbrev CommitTells : Type 0 → Type 0
+  CommitTells Q = (result : Result ⊤ PagerFault) → (old.staged ≡ [] → (result ≡ Ok tt) × (new ≡ old))
+      → OnOk result (old.staged ≢ [] → DidAll disk old.device commit_calls true new.device)
+      → IfErr result (λ fault. fault ≡ commit_failure → DidAll disk old.device commit_calls false new.device)
+      → IfErr result (λ fault. fault ≢ commit_failure
+      → KeepsStore old.store new.store × (new.device ≡ old.device))
+      → Q
+
+  module _ (Q : Type 0)
+      (by_works : (works : List Work) (done : Bool) → AreBehind works → DidAll disk old.device works done new.device → Q)
+      (by_same : new.device ≡ old.device → Q) where
+    step_leaves : StepTells Q
+    step_leaves (Ok progress) may refused unchanged did failed =
+        by_works step_calls true (step_behind old.store old.store.stage may) (did may)
+    step_leaves (Err fault) may refused unchanged did failed = elim (step_failed fault) [
+      | inl is ↦
+          (let might = failed_step_may old.store old.store.stage (subst (RefusesPagerStep disk old) is refused) in
+          by_works step_calls false (step_behind old.store old.store.stage might) (failed might is))
+      | inr other ↦ by_same (ap (λ (s : LogPagerValue D). s.device) (unchanged other))
+    ]
+
+    commit_leaves : CommitTells Q
+    commit_leaves (Ok x) idle did failed unchanged = elim (is_none old.staged) [
+      | inl none ↦ by_same (ap (λ (s : LogPagerValue D). s.device) (idle none).1)
+      | inr some ↦ by_works commit_calls true (commit_behind old.store _ _) (did some)
+    ]
+    commit_leaves (Err fault) idle did failed unchanged = elim (commit_failed fault) [
+      | inl is ↦ by_works commit_calls false (commit_behind old.store _ _) (failed is)
+      | inr other ↦ by_same (unchanged other).1
+    ]
+
   -- ---- the first block stays as it is
 
   module _ (since_now : (device : D) (c : List ℕ) → disk.left_since device (disk.moment device) c
@@ -150,34 +194,30 @@ module _ {D : Type 0} (disk : Ghosts D) (old new : LogPagerValue D) where
         } in
         subst (KeepsFirst disk text old.device) (sym same) none
 
-    pub step_first : (result : Result Progress PagerFault)
-        → OnOk result (MayStepBy old.store old.store.stage) → IfErr result (RefusesPagerStep disk old)
-        → IfErr result (λ fault. fault ≢ step_failure → new ≡ old)
-        → (MayStepBy old.store old.store.stage
-        → OnOk result (DidAll disk old.device step_calls true new.device))
-        → (MayStepBy old.store old.store.stage
-        → IfErr result (λ fault. fault ≡ step_failure → DidAll disk old.device step_calls false new.device))
-        → KeepsFirst disk text old.device new.device
-    step_first (Ok progress) may refused unchanged did failed =
-        first_by step_calls true (step_behind old.store old.store.stage may) (did may)
-    step_first (Err fault) may refused unchanged did failed = elim (step_failed fault) [
-      | inl is ↦
-          (let might = failed_step_may old.store old.store.stage (subst (RefusesPagerStep disk old) is refused) in
-          first_by step_calls false (step_behind old.store old.store.stage might) (failed might is))
-      | inr other ↦ first_same (ap (λ (s : LogPagerValue D). s.device) (unchanged other))
-    ]
+    pub step_first : StepTells (KeepsFirst disk text old.device new.device)
+    step_first = step_leaves (KeepsFirst disk text old.device new.device) first_by first_same
 
-    pub commit_first : (result : Result ⊤ PagerFault) → (old.staged ≡ [] → (result ≡ Ok tt) × (new ≡ old))
-        → OnOk result (old.staged ≢ [] → DidAll disk old.device commit_calls true new.device)
-        → IfErr result (λ fault. fault ≡ commit_failure → DidAll disk old.device commit_calls false new.device)
-        → IfErr result (λ fault. fault ≢ commit_failure
-        → KeepsStore old.store new.store × (new.device ≡ old.device))
-        → KeepsFirst disk text old.device new.device
-    commit_first (Ok x) idle did failed unchanged = elim (is_none old.staged) [
-      | inl none ↦ first_same (ap (λ (s : LogPagerValue D). s.device) (idle none).1)
-      | inr some ↦ first_by commit_calls true (commit_behind old.store _ _) (did some)
-    ]
-    commit_first (Err fault) idle did failed unchanged = elim (commit_failed fault) [
-      | inl is ↦ first_by commit_calls false (commit_behind old.store _ _) (failed is)
-      | inr other ↦ first_same (unchanged other).1
-    ]
+    pub commit_first : CommitTells (KeepsFirst disk text old.device new.device)
+    commit_first = commit_leaves (KeepsFirst disk text old.device new.device) first_by first_same
+
+  -- ---- time goes on
+
+  did_later : (works : List Work) (done : Bool) (a b : D) → DidAll disk a works done b
+      → disk.moment a ≤ disk.moment b
+  did_later [] done a b did = subst (λ x. disk.moment a ≤ disk.moment x) (sym did.0) (omega arith)
+  did_later (work ∷ more) done a b (inl failed) = failed.0.time.later
+  did_later (work ∷ more) done a b (inr both) =
+      omega (arith, both.1.time.later, did_later more done both.0 b both.2)
+
+  later_by : (works : List Work) (done : Bool) → AreBehind works → DidAll disk old.device works done new.device
+      → disk.moment old.device ≤ disk.moment new.device
+  later_by works done behind did = did_later works done old.device new.device did
+
+  later_same : new.device ≡ old.device → disk.moment old.device ≤ disk.moment new.device
+  later_same same = subst (λ x. disk.moment old.device ≤ disk.moment x) (sym same) (omega arith)
+
+  pub step_later : StepTells (disk.moment old.device ≤ disk.moment new.device)
+  step_later = step_leaves (disk.moment old.device ≤ disk.moment new.device) later_by later_same
+
+  pub commit_later : CommitTells (disk.moment old.device ≤ disk.moment new.device)
+  commit_later = commit_leaves (disk.moment old.device ≤ disk.moment new.device) later_by later_same

@@ -1,5 +1,5 @@
 // A commit, with the rounds of steps that it needs.
-ghost use Rattle.std.specs.Prelude.{◌≡◌, ◌≢◌, ◌↔◌, ◌⊎◌, ℕ, List, [], Ok, length, Err, IsTrue, IfOk, IfErr, OnOk, OnErr};
+ghost use Rattle.std.specs.Prelude.{◌≡◌, ◌≢◌, ◌↔◌, ◌⊎◌, ◌≤◌, ℕ, List, [], Ok, length, Err, IsTrue, IfOk, IfErr, OnOk, OnErr};
 ghost use Rattle.device.specs.Device.{LeavesOnly};
 ghost use Rattle.volume_codec.specs.Layout.{block_at};
 ghost use Rattle.log_codec.specs.declared.sealing.Sealing.TheVariants.{ByByte};
@@ -121,6 +121,7 @@ pub fn commit_with_room<D: Device, A: Allocator + Copy>(
     ensures idle { pager.old.staged ≡ [] → (result ≡ Ok tt) × (pager.new ≡ pager.old) }
     ensures len { length (D.seen pager.new.device) ≡ length (D.seen pager.old.device) }
     ensures honest { D.is_honest pager.new.device ↔ D.is_honest pager.old.device }
+    ensures later { D.moment pager.old.device ≤ D.moment pager.new.device }
 
     // Where a byte seals.
     ensures over { (contents : ℕ → List ℕ) → D.is_honest pager.old.device

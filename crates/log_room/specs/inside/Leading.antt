@@ -1,5 +1,5 @@
 -- What private calls do to a pager over a log where a byte seals.
-use Rattle.std.specs.Prelude.{⊤, ◌≡◌, ◌≢◌, ◌↔◌, ◌⊎◌, ℕ, List, [], length, Result, OnOk, OnErr, IfErr}
+use Rattle.std.specs.Prelude.{⊤, ◌≤◌, ◌≡◌, ◌≢◌, ◌↔◌, ◌⊎◌, ℕ, List, [], length, Result, OnOk, OnErr, IfErr}
 use Rattle.device.specs.declared.device.Device.{Ghosts}
 use Rattle.device.specs.Device.{LeavesOnly}
 use Rattle.volume_codec.specs.Layout.{block_at}
@@ -24,6 +24,7 @@ pub record Leads {D : Type 0} (disk : Ghosts D) (old new : LogPagerValue D) : Ty
   pub log : new.store.tail.log ≡ old.store.tail.log
   pub len : length (disk.seen new.device) ≡ length (disk.seen old.device)
   pub honest : disk.is_honest new.device ↔ disk.is_honest old.device
+  pub later : disk.moment old.device ≤ disk.moment new.device
   pub leaves : (contents : ℕ → List ℕ) → IsSealedOver disk old contents
       → LeavesOnly disk.moment disk.left_since old.device new.device
       (λ c. LogRecovers old.store.tail.log contents c

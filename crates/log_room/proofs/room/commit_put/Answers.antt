@@ -2,7 +2,7 @@ use Rattle.device.proofs.Public.{leaves_weaker}
 use Rattle.kept_blocks.specs.Blocks.{homes_in}
 use Rattle.log_store.proofs.Public.{commit_told}
 use Rattle.log_pager.specs.Pager.{records_put}
-use Rattle.log_room.proofs.Made.{commit_first, commit_log, commit_puts, commit_stays}
+use Rattle.log_room.proofs.Made.{commit_first, commit_later, commit_log, commit_puts, commit_stays}
 use Rattle.log_room.proofs.room.commit_put.Goals as goal
 
 pub returns-clause-commits : goal.returns-clause-commits
@@ -17,6 +17,8 @@ returns-clause-commits g c =
         log = commit_log disk old new result made.idle made.noted made.unchanged made.spent;
         len = made.len;
         honest = made.honest;
+        later = commit_later disk old new result made.idle made.did
+            made.failed made.unchanged;
         leaves = λ contents is. leaves_weaker (made.leaves contents is.honest is.over)
             (λ x recovers. recovers (commit_told old.store is.byte (homes_in old.staged) (records_put old.staged) x));
         first = λ text has. commit_first disk old new g.met.D.Device.since_now text has result made.idle made.did

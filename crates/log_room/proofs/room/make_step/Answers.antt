@@ -1,7 +1,7 @@
 use Rattle.std.proofs.Common.{inl}
 use Rattle.device.proofs.Public.{leaves_weaker}
 use Rattle.log_store.proofs.Public.{step_trusted}
-use Rattle.log_room.proofs.Made.{step_first, step_log, step_keeps, step_stays}
+use Rattle.log_room.proofs.Made.{step_first, step_later, step_log, step_keeps, step_stays}
 use Rattle.log_room.proofs.room.make_step.Goals as goal
 
 pub returns-clause-steps : goal.returns-clause-steps
@@ -16,6 +16,8 @@ returns-clause-steps g c =
         log = step_log disk old new result made.value made.unchanged made.spent;
         len = made.len;
         honest = made.honest;
+        later = step_later disk old new result made.may made.refused
+            made.unchanged made.did made.failed;
         leaves = λ contents is. leaves_weaker (made.leaves contents is.honest is.over)
             (λ x recovers. inl (recovers (step_trusted old.store is.byte old.store.stage x)));
         first = λ text has. step_first disk old new g.met.D.Device.since_now text has result made.may made.refused
