@@ -1,0 +1,282 @@
+-- A disk keeps what it keeps in each call.
+use Rattle.std.proofs.Common.{◌≡◌, ◌⊎◌, inl, inr, ⊎_elim, ℕ, ◌+◌, ◌≤◌, Bool, false, List, [], ◌∷◌, length}
+use Rattle.std.proofs.Common.{refl, sym, ap, subst, ◌∙◌, arith}
+use Rattle.std.specs.Prelude.{◌↔◌, Result, Ok, Err, is_ok, is_err, not}
+use Rattle.device.specs.Device.{LeavesOnly, written}
+use Rattle.device.specs.Memory.{DiskChange, Recorded, left_since_of, may_leave_of, moment_of, seen_of, after_change}
+use Rattle.device.specs.Memory.DiskChange.{write, sync}
+use Rattle.device.specs.declared.device.Device.{Ghosts}
+use Rattle.device.specs.inside.Laws.{seen_is_left_of}
+use Rattle.device.specs.inside.Replay.{AreWithin}
+use Rattle.device.proofs.Public.{leaves_at_start, leaves_weaker, sync_told, write_told, length-content_after}
+use Rattle.volume_codec.specs.Super.{SuperValue}
+use Rattle.shown_volume.specs.Shown.{ShownValue, HasShown, StaysShown}
+use Rattle.log_codec.specs.Log.{LogValue}
+use Rattle.log_codec.specs.Chain.{LogRecovers}
+use Rattle.log_commits.proofs.Public.{recovers}
+use Rattle.log_pager.specs.Pager.{LogPagerValue, IsPagerOver}
+use Rattle.log_volume.specs.Super.{LogSuperValue, log_of}
+use Rattle.log_disk.specs.Disk.{LogDiskValue}
+use Rattle.log_disk.specs.inside.Keeping.{RecoverAlike, IsHonestBelow, IsOverLog, IsKeptDisk}
+use Rattle.log_disk.specs.inside.Keeping.{WritesOn}
+use Rattle.log_disk.specs.inside.Keeping.{changed, shown_contents}
+use Rattle.log_disk.proofs.Moments.{backed_on, moments_next}
+
+abbrev pub fine : Result (Unit {0}) (Unit {0})
+fine = Ok tt
+
+module _ {D : Type 0} (disk : Ghosts D)
+    (since_now : (d : D) (c : List ℕ) → disk.left_since d (disk.moment d) c → disk.may_leave d c)
+    (now_is_since : (d : D) (r : ℕ) (c : List ℕ) → r ≤ disk.moment d → disk.may_leave d c → disk.left_since d r c)
+    (v : LogSuperValue) (t : SuperValue) (first : List ℕ) (changes : List DiskChange) (moments : List (ℕ × ℕ))
+    (pager : LogPagerValue D) (shown : ShownValue)
+    (kept : IsKeptDisk disk v t first changes moments pager shown false) where
+  abbrev memory : Recorded
+  memory = changed first changes
+
+  abbrev seen : List ℕ
+  seen = seen_of memory
+
+  abbrev as_disk : LogPagerValue D → List DiskChange → List (ℕ × ℕ) → LogDiskValue D
+  as_disk pager changes moments = record {
+    device = pager.device;
+    volume = v;
+    table = t;
+    memory = changed first changes;
+    moments = moments;
+  }
+
+  -- what may be left of the device now is alike to what the disk has
+  alike_by : (pager : LogPagerValue D) (shown : ShownValue) (bytes : List ℕ) → pager.store.tail.log ≡ log_of v
+      → IsOverLog disk v t pager shown bytes → (c : List ℕ) → disk.may_leave pager.device c → RecoverAlike v t c bytes
+  alike_by pager shown bytes log over c left = record {
+    contents = over.contents;
+    first = over.first c left;
+    volume = subst (λ (g : LogValue). LogRecovers g over.contents c) log
+        (recovers pager.store.tail over.contents c (over.over.store.holds c left).held);
+    disk = record {
+      batches = shown.opened;
+      volume = over.recovers.volume;
+      contents_are = over.recovers.contents_are;
+    };
+  }
+
+  pub alike_now : IsHonestBelow disk v pager → (c : List ℕ) → disk.may_leave pager.device c → RecoverAlike v t c seen
+  alike_now honest = alike_by pager shown seen kept.log (kept.over honest refl)
+
+  -- ---- a write or a sync more
+
+  module _ (after : LogPagerValue D) (opened : ShownValue) (change : DiskChange) (failed : Bool) where
+    abbrev changes' : List DiskChange
+    changes' = change ∷ changes
+
+    abbrev memory' : Recorded
+    memory' = changed first changes'
+
+    pub record Next : Type 0 where
+      pub log : after.store.tail.log ≡ log_of v
+      pub within : AreWithin (length first) changes'
+      pub keeps : LeavesOnly moment_of left_since_of memory memory' (λ w. Unit {0})
+      pub old_left : may_leave_of memory' seen
+      pub later : disk.moment pager.device ≤ disk.moment after.device
+      pub honest : IsHonestBelow disk v after → IsHonestBelow disk v pager
+      pub shows : failed ≡ false → HasShown t opened (seen_of memory')
+      pub none_put : failed ≡ false → after.staged ≡ []
+      pub over : IsHonestBelow disk v pager → failed ≡ false → IsOverLog disk v t after opened (seen_of memory')
+      pub leaves : IsHonestBelow disk v pager → LeavesOnly disk.moment disk.left_since pager.device after.device
+          (λ c. RecoverAlike v t c seen ⊎ RecoverAlike v t c (seen_of memory'))
+
+    pub kept_next : Next → IsKeptDisk disk v t first changes'
+        ((moment_of memory', disk.moment after.device) ∷ moments) after opened failed
+    kept_next next = record {
+      fits = kept.fits;
+      table = kept.table;
+      log = next.log;
+      long = kept.long;
+      within = next.within;
+      moments_are = moments_next (moment_of memory) (disk.moment pager.device) (moment_of memory')
+          (disk.moment after.device) moments ((moment_of memory', disk.moment after.device) ∷ moments)
+          kept.moments_are refl (omega arith) next.later;
+      shows = next.shows;
+      none_put = next.none_put;
+      over = λ honest works. next.over (next.honest honest) works;
+      backed = λ honest. backed_on disk (as_disk pager changes moments)
+          (as_disk after changes' ((moment_of memory', disk.moment after.device) ∷ moments))
+          kept.moments_are refl refl refl next.keeps (next.leaves (next.honest honest))
+          (λ c alike. ⊎_elim (λ old. (seen, inl (seen_is_left_of memory), old))
+          (λ new. (seen_of memory', inr (seen_is_left_of memory'), new)) alike)
+          (λ c left. ⊎_elim (λ old. (seen, next.old_left, old))
+          (λ new. (seen_of memory', seen_is_left_of memory', new))
+          ((next.leaves (next.honest honest)).each c
+          (now_is_since after.device (disk.moment pager.device) c next.later left)))
+          (since_now after.device) (kept.backed (next.honest honest));
+    }
+
+  -- counts play no part
+  uncounted : (change : DiskChange) {P : List ℕ → Type 0}
+      → LeavesOnly moment_of left_since_of memory (after_change memory change) P
+      → LeavesOnly moment_of left_since_of memory (changed first (change ∷ changes)) P
+  uncounted change leaves =
+      record { later = leaves.later; each = leaves.each; before = leaves.before; keeps = leaves.keeps }
+
+  seen_long : length seen ≡ length first
+  seen_long = length-content_after first changes kept.within
+
+  module _ (at : ℕ) (bytes : List ℕ) (fits : at + length bytes ≤ length seen) where
+    pub write_within : AreWithin (length first) (write at bytes ∷ changes)
+    write_within = (omega (arith, fits, seen_long), kept.within)
+
+    pub write_keeps : LeavesOnly moment_of left_since_of memory (changed first (write at bytes ∷ changes)) (λ w. Unit {0})
+    write_keeps = uncounted (write at bytes) (leaves_weaker (write_told (λ (r : Recorded). r) fine memory
+        (after_change memory (write at bytes)) at bytes fits refl tt).1.1.0 (λ w torn. tt))
+
+    pub write_old_left : may_leave_of (changed first (write at bytes ∷ changes)) seen
+    write_old_left = (write_told (λ (r : Recorded). r) fine memory (after_change memory (write at bytes)) at bytes fits
+        refl tt).0 seen (seen_is_left_of memory)
+
+    -- of a block that recovery doesn't read, or a gate that closes
+    pub kept_write : (opened : ShownValue) → StaysShown shown opened (λ s. written s at bytes)
+        → IsKeptDisk disk v t first (write at bytes ∷ changes)
+        ((moment_of (changed first (write at bytes ∷ changes)), disk.moment pager.device) ∷ moments) pager opened false
+    kept_write opened stays = kept_next pager opened (write at bytes) false (record {
+      log = kept.log;
+      within = write_within;
+      keeps = write_keeps;
+      old_left = write_old_left;
+      later = omega arith;
+      honest = λ honest. honest;
+      shows = λ works. stays.shown t seen (kept.shows works);
+      none_put = kept.none_put;
+      over = λ honest works. let over = kept.over honest works in record {
+        contents = over.contents;
+        over = over.over;
+        first = over.first;
+        recovers = stays.recovers t seen (shown_contents v t over.contents) (kept.shows works) over.recovers;
+      };
+      leaves = λ honest. leaves_at_start (λ c left. inl (alike_now honest c (since_now pager.device c left)));
+    })
+
+  pub kept_sync : IsKeptDisk disk v t first (sync ∷ changes)
+      ((moment_of (changed first (sync ∷ changes)), disk.moment pager.device) ∷ moments) pager shown false
+  kept_sync =
+      let told = sync_told (λ (r : Recorded). r) fine memory (after_change memory sync) refl tt in
+      kept_next pager shown sync false (record {
+        log = kept.log;
+        within = kept.within;
+        keeps = uncounted sync (leaves_weaker told.1 (λ w left. tt));
+        old_left = seen_is_left_of (changed first (sync ∷ changes));
+        later = omega arith;
+        honest = λ honest. honest;
+        shows = kept.shows;
+        none_put = kept.none_put;
+        over = kept.over;
+        leaves = λ honest. leaves_at_start (λ c left. inl (alike_now honest c (since_now pager.device c left)));
+      })
+
+  -- ---- calls of the device that aren't seen
+
+  pub kept_read : (after : LogPagerValue D) → after.store.tail.log ≡ log_of v → after.staged ≡ []
+      → disk.moment pager.device ≤ disk.moment after.device
+      → (IsHonestBelow disk v after → IsHonestBelow disk v pager)
+      → ((c : List ℕ) → disk.may_leave after.device c → disk.may_leave pager.device c)
+      → ((contents : ℕ → List ℕ) → IsHonestBelow disk v pager → IsPagerOver disk pager contents
+      → IsPagerOver disk after contents)
+      → LeavesOnly disk.moment disk.left_since pager.device after.device (disk.may_leave pager.device)
+      → IsKeptDisk disk v t first changes ((moment_of memory, disk.moment after.device) ∷ moments) after shown false
+  kept_read after log none later honest left over leaves = record {
+    fits = kept.fits;
+    table = kept.table;
+    log = log;
+    long = kept.long;
+    within = kept.within;
+    moments_are = moments_next (moment_of memory) (disk.moment pager.device) (moment_of memory)
+        (disk.moment after.device) moments ((moment_of memory, disk.moment after.device) ∷ moments)
+        kept.moments_are refl (omega arith) later;
+    shows = kept.shows;
+    none_put = λ works. none;
+    over = λ h works. let was = kept.over (honest h) works in record {
+      contents = was.contents;
+      over = over was.contents (honest h) was.over;
+      first = λ c now. was.first c (left c now);
+      recovers = was.recovers;
+    };
+    backed = λ h. backed_on disk (as_disk pager changes moments)
+        (as_disk after changes ((moment_of memory, disk.moment after.device) ∷ moments))
+        kept.moments_are refl refl refl
+        (leaves_at_start {moment = moment_of} {left_since = left_since_of} {device = memory} {P = λ w. Unit {0}}
+        (λ w now. tt))
+        leaves (λ c was. (seen, inl (seen_is_left_of memory), alike_now (honest h) c was))
+        (λ c now. (seen, seen_is_left_of memory, alike_now (honest h) c (left c now)))
+        (since_now after.device) (kept.backed (honest h));
+  }
+
+-- as the past tells it
+pub as_told : {D : Type 0} (disk : Ghosts D) (v : LogSuperValue) (t : SuperValue) (first : List ℕ)
+    (changes : List DiskChange) (moments : List (ℕ × ℕ)) (pager : LogPagerValue D) (shown : ShownValue)
+    (failed now : Bool) (count : ℕ) (first0 : List ℕ) (changes0 : List DiskChange) (moments0 : List (ℕ × ℕ))
+    (device : D) → (first0 ≡ first) × (changes0 ≡ changes)
+    × (moments0 ≡ (count, disk.moment device) ∷ moments) → device ≡ pager.device → failed ≡ now
+    → moment_of (changed first changes) ≡ count
+    → IsKeptDisk disk v t first changes ((moment_of (changed first changes), disk.moment pager.device) ∷ moments) pager
+    shown now
+    → IsKeptDisk disk v t first0 changes0 moments0 pager shown failed
+as_told {D} disk v t first changes moments pager shown failed now count first0 changes0 moments0 device told is same
+    counted kept =
+    let pair : (moment_of (changed first changes), disk.moment pager.device) ∷ moments ≡ moments0 =
+    ap (λ (n : ℕ). (n, disk.moment pager.device) ∷ moments) counted
+    ∙ ap (λ (d : D). (count, disk.moment d) ∷ moments) (sym is) ∙ sym told.2 in
+    subst (λ f. IsKeptDisk disk v t f changes0 moments0 pager shown failed) (sym told.0)
+    (subst (λ l. IsKeptDisk disk v t first l moments0 pager shown failed) (sym told.1)
+    (subst (λ m. IsKeptDisk disk v t first changes m pager shown failed) pair
+    (subst (λ f. IsKeptDisk disk v t first changes ((moment_of (changed first changes), disk.moment pager.device)
+    ∷ moments) pager shown f) (sym same) kept)))
+
+-- what a call did to the disk, by its parts
+pub writes_told : {D : Type 0} (disk : Ghosts D) (v : LogSuperValue) (t : SuperValue) (first : List ℕ)
+    (changes : List DiskChange) (moments : List (ℕ × ℕ)) (calls faults : ℕ) (before after device : D)
+    (old : LogDiskValue D) (change : DiskChange) (first0 : List ℕ) (changes0 : List DiskChange)
+    (moments0 : List (ℕ × ℕ))
+    → record {
+      device = before;
+      volume = v;
+      table = t;
+      memory = record { first = first; changes = changes; start = 0; calls = calls; faults = faults };
+      moments = moments;
+    } ≡ old
+    → (first0 ≡ first) × (changes0 ≡ change ∷ changes)
+    × (moments0 ≡ (length changes + 1, disk.moment device) ∷ moments)
+    → device ≡ after → disk.moment before ≤ disk.moment after → (disk.is_honest after ↔ disk.is_honest before)
+    → WritesOn disk old change (record {
+      device = after;
+      volume = v;
+      table = t;
+      memory = record { first = first0; changes = changes0; start = 0; calls = calls; faults = faults };
+      moments = moments0;
+    })
+writes_told {D} disk v t first changes moments calls faults before after device old change first0 changes0 moments0 view
+    told is later honest =
+    let new : LogDiskValue D = record {
+      device = after;
+      volume = v;
+      table = t;
+      memory = record { first = first0; changes = changes0; start = 0; calls = calls; faults = faults };
+      moments = moments0;
+    } in
+    let count : length changes + 1 ≡ 0 + length (change ∷ changes) = omega arith in
+    subst (λ old. WritesOn disk old change new) view (record {
+      memory = ap (λ (f : List ℕ). let r : Recorded =
+          record { first = f; changes = changes0; start = 0; calls = calls; faults = faults } in r) told.0
+          ∙ ap (λ (l : List DiskChange). let r : Recorded =
+          record { first = first; changes = l; start = 0; calls = calls; faults = faults } in r) told.1;
+      volume = refl;
+      table = refl;
+      moments = told.2 ∙ ap (λ (d : D). (length changes + 1, disk.moment d) ∷ moments) is
+          ∙ ap (λ (n : ℕ). (n, disk.moment after) ∷ moments) count
+          ∙ ap (λ (l : List DiskChange). (0 + length l, disk.moment after) ∷ moments) (sym told.1);
+      later = later;
+      honest = honest;
+    })
+
+pub err_not : {T E : Type 0} (r : Result T E) → is_err r ≡ not (is_ok r)
+err_not (Ok x) = refl
+err_not (Err e) = refl

@@ -1,0 +1,12 @@
+mod Alike
+mod Committed
+mod Gate
+mod Gated
+mod Kept
+mod Moments
+mod Opened
+mod Pasts
+mod Reading
+mod Tables
+mod Times
+mod Trait

@@ -1,0 +1,5 @@
+pub mod Serving
+pub mod Disk
+pub mod Opening
+pub mod Laws
+pub mod inside

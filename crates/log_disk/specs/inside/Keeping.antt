@@ -1,0 +1,98 @@
+-- What a disk over a volume with a log keeps.
+use Rattle.std.specs.Prelude.{◌≡◌, ℕ, ◌*◌, ◌≤◌, ◌↔◌, Bool, false, List, [], ◌∷◌, length}
+use Rattle.std.specs.List.{AllByRecursion}
+use Rattle.device.specs.declared.device.Device.{Ghosts}
+use Rattle.device.specs.Memory.{DiskChange, Recorded, left_since_of, moment_of, seen_of}
+use Rattle.device.specs.inside.Replay.{AreWithin}
+use Rattle.volume_codec.specs.Layout.{block_at}
+use Rattle.volume_codec.specs.Super.{SuperValue, block_count}
+use Rattle.volume_codec.specs.Recovery.{Recovers}
+use Rattle.journal.specs.Recovered.{RecoversBy}
+use Rattle.shown_volume.specs.Shown.{ShownValue, HasShown}
+use Rattle.log_codec.specs.declared.sealing.Sealing.TheVariants.{ByByte}
+use Rattle.log_codec.specs.Chain.{LogRecovers}
+use Rattle.log_volume.specs.Super.{LogSuperValue, FitsLog, log_of, log_super_text}
+use Rattle.log_pager.specs.Pager.{LogPagerValue, IsPagerOver}
+use Rattle.log_disk.specs.Serving.{IsShownTable, volume_home}
+use Rattle.log_disk.specs.Disk.{LogDiskValue}
+
+-- contents of the volume, as the disk shows them
+abbrev pub shown_contents : LogSuperValue → SuperValue → (ℕ → List ℕ) → ℕ → List ℕ
+shown_contents v t contents b = contents (volume_home v t b)
+
+-- bytes of the device and of the disk recover to the same contents
+pub record RecoverAlike (v : LogSuperValue) (t : SuperValue) (c w : List ℕ) : Type 0 where
+  pub contents : ℕ → List ℕ
+  pub first : block_at c 0 ≡ log_super_text v
+  pub volume : LogRecovers (log_of v) contents c
+  pub disk : Recovers t (shown_contents v t contents) w
+
+-- each list that a crash of the device left since a moment so far is alike to one that a crash of the disk might have
+-- left since its moment then
+abbrev pub AreBacked : {D : Type 0} → Ghosts D → D → LogSuperValue → SuperValue → Recorded → List (ℕ × ℕ) → Type 0
+AreBacked disk device v t memory moments = AllByRecursion (λ m. (c : List ℕ) → disk.left_since device m.1 c
+    → (w : List ℕ) × left_since_of memory m.0 w × RecoverAlike v t c w) moments
+
+-- the newest pair of moments is this one, and none is later
+pub record AreMoments (u r : ℕ) (moments : List (ℕ × ℕ)) : Type 0 where
+  pub older : List (ℕ × ℕ)
+  pub newest : moments ≡ (u, r) ∷ older
+  pub each : AllByRecursion (λ m. (m.0 ≤ u) × (m.1 ≤ r)) older
+
+-- a disk in memory that held these bytes at first, by its writes and syncs alone
+abbrev pub changed : List ℕ → List DiskChange → Recorded
+changed first changes = record { first = first; changes = changes; start = 0; calls = 0; faults = 0 }
+
+-- The log of the device has the contents that the disk shows, and the device has the super block of the volume.
+pub record IsOverLog {D : Type 0} (disk : Ghosts D) (v : LogSuperValue) (t : SuperValue) (pager : LogPagerValue D)
+    (shown : ShownValue) (seen : List ℕ) : Type 0 where
+  pub contents : ℕ → List ℕ
+  pub over : IsPagerOver disk pager contents
+  pub first : (c : List ℕ) → disk.may_leave pager.device c → block_at c 0 ≡ log_super_text v
+  pub recovers : RecoversBy t shown.opened (shown_contents v t contents) seen
+
+-- the device is honest, and a byte seals commits
+abbrev pub IsHonestBelow : {D : Type 0} → Ghosts D → LogSuperValue → LogPagerValue D → Type 0
+IsHonestBelow disk v pager = disk.is_honest pager.device × (v.sealing ≡ ByByte)
+
+-- A disk that has failed takes no further call. Until then what its users see is the volume that it keeps, and nothing
+-- is put without a commit.
+pub record IsKeptDisk {D : Type 0} (disk : Ghosts D) (v : LogSuperValue) (t : SuperValue) (first : List ℕ)
+    (changes : List DiskChange) (moments : List (ℕ × ℕ)) (pager : LogPagerValue D) (shown : ShownValue)
+    (failed : Bool) : Type 0 where
+  pub fits : FitsLog v
+  pub table : IsShownTable v t
+  pub log : pager.store.tail.log ≡ log_of v
+  pub long : length first ≡ 4096 * block_count t
+  pub within : AreWithin (length first) changes
+  pub moments_are : AreMoments (moment_of (changed first changes)) (disk.moment pager.device) moments
+  pub shows : failed ≡ false → HasShown t shown (seen_of (changed first changes))
+  pub none_put : failed ≡ false → pager.staged ≡ []
+  pub over : IsHonestBelow disk v pager → failed ≡ false
+      → IsOverLog disk v t pager shown (seen_of (changed first changes))
+  pub backed : IsHonestBelow disk v pager → AreBacked disk pager.device v t (changed first changes) moments
+
+-- ---- what calls do
+
+-- the device was only called in ways that aren't seen on the disk
+pub record ReadsOn {D : Type 0} (disk : Ghosts D) (old new : LogDiskValue D) : Type 0 where
+  pub memory : new.memory ≡ old.memory
+  pub volume : new.volume ≡ old.volume
+  pub table : new.table ≡ old.table
+  pub moments : new.moments ≡ (moment_of old.memory, disk.moment new.device) ∷ old.moments
+  pub later : disk.moment old.device ≤ disk.moment new.device
+  pub honest : disk.is_honest new.device ↔ disk.is_honest old.device
+
+-- the disk has a write or a sync more
+pub record WritesOn {D : Type 0} (disk : Ghosts D) (old : LogDiskValue D) (change : DiskChange)
+    (new : LogDiskValue D) : Type 0 where
+  pub memory : new.memory ≡ record old.memory { changes = change ∷ old.memory.changes }
+  pub volume : new.volume ≡ old.volume
+  pub table : new.table ≡ old.table
+  pub moments : new.moments ≡ (moment_of new.memory, disk.moment new.device) ∷ old.moments
+  pub later : disk.moment old.device ≤ disk.moment new.device
+  pub honest : disk.is_honest new.device ↔ disk.is_honest old.device
+
+-- with these counts of its calls and of those that failed
+abbrev pub with_counts : {D : Type 0} → LogDiskValue D → ℕ → ℕ → LogDiskValue D
+with_counts disk calls faults = record disk { memory = record disk.memory { calls = calls; faults = faults } }

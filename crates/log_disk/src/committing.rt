@@ -1,0 +1,87 @@
+// A batch of the disk is committed to the log.
+ghost use Rattle.std.specs.Prelude.{◌≡◌, ℕ, ◌+◌, ◌^◌, ◌<◌, ◌≤◌, List, [], length, is_ok, OnOk};
+ghost use Rattle.volume_codec.specs.Layout.{first_home};
+ghost use Rattle.journal.specs.WriteOut.{IsBatch};
+ghost use Rattle.log_pager.specs.Pager.{IsPagerOver};
+ghost use Rattle.shown_volume.specs.Shown.{MayOpen};
+ghost use Rattle.log_disk.specs.inside.Committing.{ArePut, CommitsBatch, moved_home};
+
+use device::{Device, DeviceFault};
+use log_pager::LogPager;
+use log_room::commit_with_room;
+use shown_volume::{OpenJournal, ShownVolume};
+use std::alloc::Allocator;
+
+// Where home blocks begin: those of the disk, and those of the volume.
+#[derive(Clone, Copy)]
+pub(crate) struct Firsts {
+    pub(crate) shown: u32,
+    pub(crate) volume: u32,
+}
+
+// The home block of the volume for one of the disk.
+pub(crate) fn moved_home(firsts: Firsts, home: u32) -> u32
+    requires low { firsts.shown ≤ home }
+    requires high { home + firsts.volume < firsts.shown + 2 ^ 32 }
+    ensures { result ≡ moved_home firsts.volume firsts.shown home }
+{
+    home - firsts.shown + firsts.volume
+}
+
+// Puts the records of a batch.
+fn put_records<D: Device, A: Allocator + Copy>(
+    pager: &mut LogPager<D, A>,
+    shown: &ShownVolume<A>,
+    batch: &OpenJournal<A>,
+    firsts: Firsts,
+) -> Result<(), DeviceFault>
+    requires empty { pager.old.staged ≡ [] }
+    requires batch { IsBatch shown.now.geometry batch.now }
+    requires low { firsts.shown ≡ first_home shown.now.geometry.layout shown.now.geometry.slots }
+    requires high { shown.now.geometry.blocks + firsts.volume ≤ firsts.shown + 2 ^ 32 }
+    ensures put { OnOk result (ArePut shown.now batch.now firsts.shown firsts.volume (length batch.now.homes)
+        pager.new.staged) }
+    ensures staged { pager.new ≡ record pager.old { staged = pager.new.staged } }
+    ensures over { (contents : ℕ → List ℕ) → IsPagerOver D.Device pager.old contents
+        → IsPagerOver D.Device pager.new contents }
+{
+    let _slots = shown.geometry().slots();
+    for (place, home) in batch.homes().iter().enumerate() {
+        let Some(record) = shown.record(batch, place as u32) else {
+            return Err(DeviceFault);
+        };
+        match pager.put(moved_home(firsts, *home), record) {
+            Ok(()) => {}
+            Err(_) => return Err(DeviceFault),
+        }
+    }
+    Ok(())
+}
+
+// Commits the records of a batch to the log, and opens its gate.
+pub(crate) fn commit_batch<D: Device, A: Allocator + Copy>(
+    pager: &mut LogPager<D, A>,
+    shown: &mut ShownVolume<A>,
+    batch: OpenJournal<A>,
+    firsts: Firsts,
+) -> Result<(), DeviceFault>
+    requires empty { pager.old.staged ≡ [] }
+    requires may { MayOpen shown.old batch }
+    requires low { firsts.shown ≡ first_home shown.old.geometry.layout shown.old.geometry.slots }
+    requires high { shown.old.geometry.blocks + firsts.volume ≤ firsts.shown + 2 ^ 32 }
+    ensures { CommitsBatch D.Device pager.old shown.old batch firsts.shown firsts.volume (is_ok result)
+        pager.new shown.new }
+{
+    match put_records(pager, shown, &batch, firsts) {
+        Ok(()) => {}
+        Err(fault) => return Err(fault),
+    }
+    match shown.open(batch) {
+        Ok(()) => {}
+        Err(_) => return Err(DeviceFault),
+    }
+    match commit_with_room(pager) {
+        Ok(()) => Ok(()),
+        Err(_) => Err(DeviceFault),
+    }
+}
