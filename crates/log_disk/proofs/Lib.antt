@@ -1,5 +1,6 @@
 mod Alike
 mod Committed
+mod Crashing
 mod Gate
 mod Gated
 mod Kept

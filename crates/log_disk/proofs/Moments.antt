@@ -271,33 +271,34 @@ module _ {D : Type 0} (moment : D → ℕ) (old : LogDiskValue D)
 -- ---- what a crash leaves of the device is alike to what it leaves of the disk
 
 module _ {D : Type 0} (disk : Ghosts D) where
-  -- If a crash of the disk since an earlier state leaves only lists that have P, a crash of the device since that state
-  -- leaves only bytes that are alike to such a list.
-  pub left_between : (self old : LogDiskValue D) {P : List ℕ → Type 0} → (P [] → ⊥)
-      → ((w : List ℕ) → left_in self (moment_in disk.moment old) w → P w)
+  -- What a crash of the device left since an earlier state is alike to what one of the disk might have left since then.
+  -- If no moment is that of the earlier state, nothing is said of the disk.
+  pub left_between : (self old : LogDiskValue D)
       → AreBacked disk self.device self.volume self.table self.memory self.moments
       → (c : List ℕ) → disk.left_since self.device (disk.moment old.device) c
-      → (w : List ℕ) × P w × RecoverAlike self.volume self.table c w
-  left_between self old {P} never each backed c left =
+      → ((w : List ℕ) × left_in self (moment_in disk.moment old) w × RecoverAlike self.volume self.table c w)
+      ⊎ ((w : List ℕ) → left_in self (moment_in disk.moment old) w)
+  left_between self old backed c left =
       by (find_joint (moment_in disk.moment old) (IsBacked disk self.device self.volume self.table self.memory)
       self.moments backed)
     where
       by : AllByRecursion (λ m. joint_moment m.0 m.1 ≢ moment_in disk.moment old) self.moments
           ⊎ ((m : ℕ × ℕ) × (joint_moment m.0 m.1 ≡ moment_in disk.moment old)
           × IsBacked disk self.device self.volume self.table self.memory m)
-          → (w : List ℕ) × P w × RecoverAlike self.volume self.table c w
-      by (inl none) = absurd (never (each []
-          (map_pairs (λ m. joint_moment m.0 m.1 ≢ moment_in disk.moment old)
-          (IsLeftAt self.memory (moment_in disk.moment old) [])
-          self.moments (λ m other same. absurd (other same)) none)))
+          → ((w : List ℕ) × left_in self (moment_in disk.moment old) w × RecoverAlike self.volume self.table c w)
+          ⊎ ((w : List ℕ) → left_in self (moment_in disk.moment old) w)
+      by (inl none) = inr (λ w.
+          map_pairs (λ m. joint_moment m.0 m.1 ≢ moment_in disk.moment old)
+          (IsLeftAt self.memory (moment_in disk.moment old) w)
+          self.moments (λ m other same. absurd (other same)) none)
       by (inr found) =
           let one = joint_one found.0.0 found.0.1 (moment_of old.memory) (disk.moment old.device) found.1 in
           let at = found.2 c (subst (λ r. disk.left_since self.device r c) (sym one.1) left) in
-          let w = at.0 in (
+          let w = at.0 in inl (
             w,
-            each w (all_pairs (IsLeftAt self.memory (moment_in disk.moment old) w) self.moments (λ m same.
+            all_pairs (IsLeftAt self.memory (moment_in disk.moment old) w) self.moments (λ m same.
                 subst (λ u. left_since_of self.memory u w)
-                (joint_one found.0.0 found.0.1 m.0 m.1 (found.1 ∙ sym same)).0 at.1)),
+                (joint_one found.0.0 found.0.1 m.0 m.1 (found.1 ∙ sym same)).0 at.1),
             at.2,
           )
 

@@ -5,6 +5,7 @@
 mod calls;
 mod committing;
 mod disk;
+mod laws;
 mod opening;
 mod past;
 mod serving;
