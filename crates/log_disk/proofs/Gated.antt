@@ -98,10 +98,12 @@ module _ {D : Type 0} (disk : Ghosts D)
       ((moment_of (changed first_bytes (write at bytes ∷ changes)), disk.moment after.device) ∷ moments) after opened
       failed
   kept_commit done failed after opened made is fits =
-      kept_next disk since_now now_is_since v t first_bytes changes moments pager shown kept after opened (write at bytes)
+      kept_next disk since_now now_is_since v t first_bytes changes moments pager shown kept after opened
+      (write at bytes)
       failed (record {
         log = made.log ∙ kept.log;
-        within = write_within disk since_now now_is_since v t first_bytes changes moments pager shown kept at bytes fits;
+        within = write_within disk since_now now_is_since v t first_bytes changes moments pager shown kept at bytes
+            fits;
         keeps = write_keeps disk since_now now_is_since v t first_bytes changes moments pager shown kept at bytes fits;
         old_left =
             write_old_left disk since_now now_is_since v t first_bytes changes moments pager shown kept at bytes fits;

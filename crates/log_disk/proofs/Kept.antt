@@ -126,7 +126,8 @@ module _ {D : Type 0} (disk : Ghosts D)
     pub write_within : AreWithin (length first) (write at bytes ∷ changes)
     write_within = (omega (arith, fits, seen_long), kept.within)
 
-    pub write_keeps : LeavesOnly moment_of left_since_of memory (changed first (write at bytes ∷ changes)) (λ w. Unit {0})
+    pub write_keeps : LeavesOnly moment_of left_since_of memory (changed first (write at bytes ∷ changes))
+        (λ w. Unit {0})
     write_keeps = uncounted (write at bytes) (leaves_weaker (write_told (λ (r : Recorded). r) fine memory
         (after_change memory (write at bytes)) at bytes fits refl tt).1.1.0 (λ w torn. tt))
 

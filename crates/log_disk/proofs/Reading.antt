@@ -42,7 +42,8 @@ home_within v t b table home =
     }
 
 -- nothing is put
-pub none_put_bytes : (contents : ℕ → List ℕ) (put : Blocks) (b : ℕ) → put ≡ [] → contents_put contents put b ≡ contents b
+pub none_put_bytes : (contents : ℕ → List ℕ) (put : Blocks) (b : ℕ) → put ≡ []
+    → contents_put contents put b ≡ contents b
 none_put_bytes contents put b none = ap (λ (l : Blocks). contents_put contents l b) none
 
 -- a result that is passed on

@@ -33,7 +33,8 @@ module _ {D : Type 0} (disk : Ghosts D) (old mid new : LogDiskValue D) (calls fa
   counted = with_counts mid calls faults
 
   counted_are : AreMoments (moment_of counted.memory) (disk.moment counted.device) counted.moments
-  counted_are = subst (λ (d : LogDiskValue D). AreMoments (moment_of d.memory) (disk.moment d.device) d.moments) is new_are
+  counted_are = subst (λ (d : LogDiskValue D). AreMoments (moment_of d.memory) (disk.moment d.device) d.moments) is
+      new_are
 
   pub on_same : mid ≡ old → Leaves new (may_leave_of old.memory)
   on_same same =

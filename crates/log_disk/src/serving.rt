@@ -39,8 +39,8 @@ impl<D: Device, A: Allocator + Copy> LogDisk<D, A> {
         self.shown.journal_of_gate(block)
     }
 
-    // Opens the gate of a journal, whose batch is committed to the log. Where that fails, a crash may leave the gate open
-    // or closed.
+    // Opens the gate of a journal, whose batch is committed to the log. Where that fails, a crash may leave the gate
+    // open or closed.
     pub(crate) fn open_gate(
         &mut self,
         journal: u32,

@@ -153,7 +153,8 @@ module _ {D : Type 0} (disk : Ghosts D) (old new : LogPagerValue D) where
       → Q
 
   module _ (Q : Type 0)
-      (by_works : (works : List Work) (done : Bool) → AreBehind works → DidAll disk old.device works done new.device → Q)
+      (by_works : (works : List Work) (done : Bool) → AreBehind works → DidAll disk old.device works done new.device
+      → Q)
       (by_same : new.device ≡ old.device → Q) where
     step_leaves : StepTells Q
     step_leaves (Ok progress) may refused unchanged did failed =

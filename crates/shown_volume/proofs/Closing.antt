@@ -1,5 +1,6 @@
 -- The gate of the oldest batch closes, and blocks are forgotten.
-use Rattle.std.proofs.Common.{◌≡◌, ℕ, zero, suc, ◌+◌, ◌*◌, ◌-◌, Bool, true, false, List, [], ◌∷◌, ◌++◌, Option, Some, None, cond}
+use Rattle.std.proofs.Common.{◌≡◌, ℕ, zero, suc, ◌+◌, ◌*◌, ◌-◌}
+use Rattle.std.proofs.Common.{List, [], ◌∷◌, ◌++◌, Option, Some, None}
 use Rattle.std.proofs.Common.{length, length-append, get_or, take, inl, inr, refl, sym, ap, subst, ◌∙◌, arith}
 use Rattle.std.proofs.lemmas.Bool.{cases_Bool, cond-true, cond-false}
 use Rattle.std.proofs.lemmas.List.{take_at}
@@ -48,7 +49,8 @@ closes s j geometry blocks opened some left view may rest fewer =
     let opened_is : opened ≡ s.opened = ap (λ (v : ShownValue). v.opened) view in
     let newer : may.newer ≡ left = sym (rest ∙ front_of may.newer may.oldest opened (opened_is ∙ may.parts)) in
     subst (λ v. StaysShown s v (λ seen. written seen (4096 * gate_block s.geometry.slots j) (0 ∷ [])))
-    (ap (λ (l : List Batch). let v : ShownValue = record { geometry = s.geometry; blocks = some; opened = l } in v) newer
+    (ap (λ (l : List Batch). let v : ShownValue = record { geometry = s.geometry; blocks = some; opened = l } in v)
+    newer
     ∙ ap (λ (v : ShownValue). let w : ShownValue = record { geometry = v.geometry; blocks = some; opened = left } in w)
     (sym view))
     (close_stays s j some may (λ q bytes is. ap (λ (v : ShownValue). bytes_in v.blocks q) (sym view)

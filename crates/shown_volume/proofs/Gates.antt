@@ -1,14 +1,15 @@
 -- What a volume recovers to once a block is written, a gate opens, or the gate of the oldest batch closes.
-use Rattle.std.proofs.Common.{◌≡◌, ◌≢◌, ℕ, suc, ◌+◌, ◌*◌, ◌<◌, ◌≤◌, Bool, true, false, List, [], ◌∷◌, ◌++◌, length}
-use Rattle.std.proofs.Common.{Option, Some, None, cond, inl, inr, refl, sym, ap, subst, ◌∙◌, arith, get_or, eqb, ◌==◌}
+use Rattle.std.proofs.Common.{◌≡◌, ◌≢◌, ℕ, suc, ◌+◌, ◌*◌, ◌<◌, ◌≤◌, false, List, [], ◌∷◌, ◌++◌, length}
+use Rattle.std.proofs.Common.{Option, Some, None, inl, inr, refl, sym, ap, subst, ◌∙◌, arith, get_or, eqb, ◌==◌}
 use Rattle.std.specs.List.{AllByRecursion, Contains}
-use Rattle.std.proofs.lemmas.Bool.{cases_eq, cases_Bool, cond-true, cond-false, eq-eqb, ne_eqb, both_ways, or_left, or_right}
+use Rattle.std.proofs.lemmas.Bool.{cases_eq, cases_Bool, cond-true, cond-false}
+use Rattle.std.proofs.lemmas.Bool.{eq-eqb, ne_eqb, both_ways, or_left, or_right}
 use Rattle.std.proofs.lemmas.List.{get_or_default}
 use Rattle.device.specs.Device.{written}
 use Rattle.volume_codec.specs.Layout.{GeometryValue, IsHome, block_at, journals_of, gate_block, first_home}
-use Rattle.volume_codec.specs.Layout.{descriptor_block, descriptor_blocks, record_block}
+use Rattle.volume_codec.specs.Layout.{descriptor_block, record_block}
 use Rattle.volume_codec.specs.Super.{SuperValue, block_count, geometry_of}
-use Rattle.volume_codec.specs.Recovery.{Batch, IsOpen, IsOpenBatch, has_journal, IsVolume, contents_in}
+use Rattle.volume_codec.specs.Recovery.{Batch, IsOpenBatch, has_journal, IsVolume, contents_in}
 use Rattle.volume_codec.specs.Recovery.{recovered_block}
 use Rattle.volume_codec.specs.Descriptor.{RiseWithin}
 use Rattle.kept_blocks.specs.Blocks.{Blocks, bytes_in, with_home}
@@ -19,7 +20,7 @@ use Rattle.journal.proofs.Public.{first-written, AreHome, agrees_recovers, unrea
 use Rattle.journal.proofs.Public.{unread_descriptor, unread_home, gate_opens, gate_closes, gate-below}
 use Rattle.journal.proofs.Public.{descriptor-below, record-below, gate_no_descriptor, gate_no_record}
 use Rattle.journal.proofs.Public.{home_at, descriptor_there, gates_apart, has_front}
-use Rattle.shown_volume.specs.Shown.{ShownValue, HasShown, IsNoGate, StaysShown, HasHomeBlock, IsOfJournal}
+use Rattle.shown_volume.specs.Shown.{ShownValue, HasShown, IsNoGate, StaysShown, HasHomeBlock}
 use Rattle.shown_volume.specs.Shown.{IsAdmitted, MayOpen, HasRecords, OpensShown}
 use Rattle.shown_volume.specs.inside.Closing.{AreHomeBy, ClosesOldest}
 use Rattle.shown_volume.proofs.Records.{one_has, covered}
@@ -53,7 +54,8 @@ not_has batch older j none = elim (cases_Bool (has_journal older j)) [
   | inr not ↦ not
 ]
 
-not_has_last : (t : SuperValue) (newer : List Batch) (oldest : Batch) (j : ℕ) → has_journal newer j ≡ false → (j ≡ oldest.journal → ⊥)
+not_has_last : (t : SuperValue) (newer : List Batch) (oldest : Batch) (j : ℕ) → has_journal newer j ≡ false
+    → (j ≡ oldest.journal → ⊥)
     → has_journal (newer ++ oldest ∷ []) j ≡ false
 not_has_last t newer oldest j none other = elim (cases_Bool (has_journal (newer ++ oldest ∷ []) j)) [
   | inl has ↦ absurd (both_ways (has_journal newer j) none (has_front t newer oldest j (λ e. other (sym e)) has))
@@ -134,7 +136,8 @@ module _ (t : SuperValue) (blocks : Blocks) (opened : List Batch) (seen : List �
     kept_written q bytes is = elim (cases_eq q b) [
       | inl here ↦
           (let new : Some block ≡ Some bytes =
-          sym (cond-true (eqb q b) (Some block) (bytes_in blocks q) (eq-eqb q b here)) ∙ sym (bytes_put blocks b block q)
+          sym (cond-true (eqb q b) (Some block) (bytes_in blocks q) (eq-eqb q b here))
+          ∙ sym (bytes_put blocks b block q)
           ∙ is in (
             subst (IsNoGate (geometry_of t)) (sym here) (no_gate b admitted),
             ap (block_at after) here ∙ block-written b block seen size (within_volume b (is_low b admitted))

@@ -1,5 +1,5 @@
 -- A volume of which only the blocks that were written are kept, and what it recovers to.
-use Rattle.std.specs.Prelude.{◌≡◌, ◌≢◌, ◌⊎◌, ⊤, ℕ, ◌+◌, ◌*◌, ◌<◌, List, [], ◌∷◌, length, Some, false, slice_index}
+use Rattle.std.specs.Prelude.{◌≡◌, ◌≢◌, ◌⊎◌, ℕ, ◌+◌, ◌*◌, ◌<◌, List, [], ◌∷◌, length, Some, false, slice_index}
 use Rattle.std.specs.List.{Contains}
 use Rattle.device.specs.Device.{written}
 use Rattle.volume_codec.specs.Layout.{GeometryValue, block_at, journals_of, gate_block}

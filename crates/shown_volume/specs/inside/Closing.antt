@@ -1,6 +1,6 @@
 -- Kept blocks that say a descriptor, and a batch that is wholly at home.
 use Rattle.std.specs.Prelude.{◌≡◌, ◌⊎◌, ℕ, ◌+◌, ◌*◌, ◌<◌, List, [], ◌∷◌, ◌++◌, length, Some, false, slice_index}
-use Rattle.volume_codec.specs.Layout.{GeometryValue, block_at, descriptor_block, descriptor_blocks, record_block}
+use Rattle.volume_codec.specs.Layout.{block_at, descriptor_block, descriptor_blocks, record_block}
 use Rattle.volume_codec.specs.Recovery.{Batch, has_journal}
 use Rattle.kept_blocks.specs.Blocks.{Blocks, bytes_in}
 use Rattle.shown_volume.specs.Shown.{ShownValue, HasHomeBlock}

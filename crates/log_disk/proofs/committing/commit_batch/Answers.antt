@@ -19,7 +19,8 @@ returns-in-Ok-commit_with_room g c =
     committed g.D.Device c.args.pager.now c.args.shown.now c.args.batch c.args.firsts.shown c.args.firsts.volume
     put.new.pager made.new.pager c.open.new.self made.result true (ap is_ok c.in-Ok-commit_with_room.is)
     put.ensures.staged c.in-Ok.ensures.put put.ensures.over c.in-Ok-open.ensures.opened c.in-Ok-open.ensures.opens
-    made.ensures.log made.ensures.value made.ensures.honest made.ensures.later made.ensures.over made.ensures.leaves made.ensures.first
+    made.ensures.log made.ensures.value made.ensures.honest made.ensures.later made.ensures.over made.ensures.leaves
+    made.ensures.first
 
 pub returns-in-Err-commit_with_room : goal.returns-in-Err-commit_with_room
 returns-in-Err-commit_with_room g c =
@@ -28,4 +29,5 @@ returns-in-Err-commit_with_room g c =
     committed g.D.Device c.args.pager.now c.args.shown.now c.args.batch c.args.firsts.shown c.args.firsts.volume
     put.new.pager made.new.pager c.open.new.self made.result false (ap is_ok c.in-Err-commit_with_room.is)
     put.ensures.staged c.in-Ok.ensures.put put.ensures.over c.in-Ok-open.ensures.opened c.in-Ok-open.ensures.opens
-    made.ensures.log made.ensures.value made.ensures.honest made.ensures.later made.ensures.over made.ensures.leaves made.ensures.first
+    made.ensures.log made.ensures.value made.ensures.honest made.ensures.later made.ensures.over made.ensures.leaves
+    made.ensures.first

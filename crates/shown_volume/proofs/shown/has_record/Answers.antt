@@ -1,4 +1,4 @@
-use Rattle.std.proofs.Common.{◌≡◌, ℕ, false, List, get_or, inl, inr, ap, ◌∙◌, sym, subst, arith, refl}
+use Rattle.std.proofs.Common.{◌≡◌, false, get_or, inl, inr, ap, ◌∙◌, sym, subst, arith, refl}
 use Rattle.std.specs.List.{Contains}
 use Rattle.std.proofs.lemmas.Bool.{cases_eq, both_ways}
 use Rattle.std.proofs.lemmas.List.{get_or_default}
@@ -26,7 +26,8 @@ pub returns-then-has_block : goal.returns-then-has_block
 returns-then-has_block g c =
     let f = c.one-item.result in (
       λ e. has_at c.args.opened.now c.loop-one.one-index f c.args.home c.loop-one-test.true
-          (subst (λ (x : Batch). Contains x.homes c.args.home) c.one-item.is (c.has_block.ensures.0 c.if-has_block.true)),
+          (subst (λ (x : Batch). Contains x.homes c.args.home) c.one-item.is
+          (c.has_block.ensures.0 c.if-has_block.true)),
       λ has. refl,
     )
 

@@ -1,4 +1,5 @@
-use Rattle.std.proofs.Common.{◌≡◌, ◌+◌, ◌*◌, ◌≤◌, ◌∷◌, [], ℕ, List, Bool, false, subst, sym, length, arith, ap, ◌∙◌, refl}
+use Rattle.std.proofs.Common.{◌≡◌, ◌+◌, ◌*◌, ◌≤◌, ◌∷◌, [], ℕ, List}
+use Rattle.std.proofs.Common.{Bool, false, subst, sym, length, arith, ap, ◌∙◌, refl}
 use Rattle.device.specs.Device.{written}
 use Rattle.device.specs.Memory.{seen_of}
 use Rattle.device.specs.Memory.DiskChange.{write}
@@ -16,7 +17,8 @@ invariant_of-self-2 g c =
     let at = c.args.at in
     let bytes = c.args.bytes.now in
     let opened = c.close.new.self in
-    let K : Bool → Type 0 = λ failed. IsKeptDisk g.D.Device d.volume d.table d.past.first d.past.changes d.past.moments d.pager d.shown
+    let K : Bool → Type 0 = λ failed. IsKeptDisk g.D.Device d.volume d.table d.past.first d.past.changes
+    d.past.moments d.pager d.shown
     failed in
     let kept : K false = subst K c.if-self.false c.self.invariant in
     let place : 4096 * gate_block d.shown.geometry.slots c.args.journal ≡ at =
@@ -34,8 +36,11 @@ invariant_of-self-2 g c =
       ap length c.requires.byte,
       ap (λ (d : LogDiskValue _). length (seen_of d.memory)) c.self.view_is,
     ) in
-    as_told g.D.Device d.volume d.table d.past.first (write at bytes ∷ d.past.changes) d.past.moments d.pager opened d.failed false
-    (length d.past.changes + 1) past.result.first past.result.changes past.result.moments c.device.result.now past.ensures
+    as_told g.D.Device d.volume d.table d.past.first (write at bytes ∷ d.past.changes) d.past.moments d.pager opened
+    d.failed false
+    (length d.past.changes + 1) past.result.first past.result.changes past.result.moments c.device.result.now
+    past.ensures
     c.device.ensures c.if-self.false (omega arith)
-    (kept_write g.D.Device g.met.D.Device.since_now g.met.D.Device.now_is_since d.volume d.table d.past.first d.past.changes
+    (kept_write g.D.Device g.met.D.Device.since_now g.met.D.Device.now_is_since d.volume d.table d.past.first
+    d.past.changes
     d.past.moments d.pager d.shown kept at bytes fits opened stays)

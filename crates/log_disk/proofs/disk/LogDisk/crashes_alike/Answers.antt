@@ -24,7 +24,8 @@ returns-clause-now g c =
     let k = c.self.invariant in
     subst (λ (d : LogDiskValue _). IsHonestLog g.D.Device.is_honest d → (c : _) → g.D.Device.may_leave d.device c
     → StandsForOne (may_leave_of d.memory) c) c.self.view_is
-    (λ honest. stands_now g.D.Device g.met.D.Device.now_is_since c.one_reading.ensures.contents c.one_reading.ensures.files
+    (λ honest. stands_now g.D.Device g.met.D.Device.now_is_since c.one_reading.ensures.contents
+    c.one_reading.ensures.files
     value k.fits k.table k.moments_are (k.backed honest))
 
 pub returns-clause-since : goal.returns-clause-since

@@ -12,7 +12,8 @@ returns-then-is_open g c =
     let seen = seen_of (changed d.past.first d.past.changes) in
     let block = c.args.block in
     let at : block ≡ gate_block d.table.slots c.in-Some.journal =
-    c.in-Some.ensures.1 ∙ ap (λ (d : LogDiskValue _). gate_block d.table.slots c.in-Some.journal) (sym c.self.view_is) in
+    c.in-Some.ensures.1 ∙ ap (λ (d : LogDiskValue _). gate_block d.table.slots c.in-Some.journal)
+    (sym c.self.view_is) in
     subst (λ (d : LogDiskValue _). get_or (seen_of d.memory) (4096 * block) 0 ≡ 0xA7) c.self.view_is
     (ap (λ b. get_or seen (4096 * b) 0) at
     ∙ open_byte d.table d.shown seen c.in-Some.journal (c.self.invariant.shows c.if-self.false)
@@ -24,7 +25,8 @@ returns g c =
     let seen = seen_of (changed d.past.first d.past.changes) in
     let block = c.args.block in
     let at : block ≡ gate_block d.table.slots c.in-Some.journal =
-    c.in-Some.ensures.1 ∙ ap (λ (d : LogDiskValue _). gate_block d.table.slots c.in-Some.journal) (sym c.self.view_is) in
+    c.in-Some.ensures.1 ∙ ap (λ (d : LogDiskValue _). gate_block d.table.slots c.in-Some.journal)
+    (sym c.self.view_is) in
     let lt : c.in-Some.journal < journals_of d.table.layout =
     subst (λ (d : LogDiskValue _). c.in-Some.journal < journals_of d.table.layout) (sym c.self.view_is)
     c.in-Some.ensures.0 in

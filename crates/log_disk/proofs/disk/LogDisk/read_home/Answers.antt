@@ -70,7 +70,8 @@ returns-clause-bytes g c = λ honest.
     ≡ block_at (seen_of c.args.self.now.memory) block =
     none_put_bytes over.contents d.pager.staged c.moved_home.result (c.self.invariant.none_put c.if-self.false)
     ∙ ap over.contents place
-    ∙ home_bytes c.recovered_from.ensures.no_record g.D.Device d.volume d.table d.pager d.shown seen over block home lacks
+    ∙ home_bytes c.recovered_from.ensures.no_record g.D.Device d.volume d.table d.pager d.shown seen over block home
+    lacks
     ∙ ap (λ (d : LogDiskValue _). block_at (seen_of d.memory) block) c.self.view_is in
     let read = ok_map c.read-outcome.result (λ e. e ∙ is)
     (c.read-outcome.ensures.bytes over.contents below.0 over.over there) in

@@ -14,7 +14,8 @@ invariant_of-self-2 g c =
     let past = c.with_write-self-inside in
     let at = c.args.at in
     let bytes = c.args.bytes.now in
-    let K : Bool → Type 0 = λ failed. IsKeptDisk g.D.Device d.volume d.table d.past.first d.past.changes d.past.moments d.pager d.shown
+    let K : Bool → Type 0 = λ failed. IsKeptDisk g.D.Device d.volume d.table d.past.first d.past.changes
+    d.past.moments d.pager d.shown
     failed in
     let kept : K false = subst K c.if-self.false c.self.invariant in
     let stays : StaysShown d.shown c.write.new.self (λ s. written s at bytes) =
@@ -27,8 +28,11 @@ invariant_of-self-2 g c =
       c.told-bytes,
       ap (λ (d : LogDiskValue _). length (seen_of d.memory)) c.self.view_is,
     ) in
-    as_told g.D.Device d.volume d.table d.past.first (write at bytes ∷ d.past.changes) d.past.moments d.pager c.write.new.self d.failed false
-    (length d.past.changes + 1) past.result.first past.result.changes past.result.moments c.device.result.now past.ensures
+    as_told g.D.Device d.volume d.table d.past.first (write at bytes ∷ d.past.changes) d.past.moments d.pager
+    c.write.new.self d.failed false
+    (length d.past.changes + 1) past.result.first past.result.changes past.result.moments c.device.result.now
+    past.ensures
     c.device.ensures c.if-self.false (omega arith)
-    (kept_write g.D.Device g.met.D.Device.since_now g.met.D.Device.now_is_since d.volume d.table d.past.first d.past.changes
+    (kept_write g.D.Device g.met.D.Device.since_now g.met.D.Device.now_is_since d.volume d.table d.past.first
+    d.past.changes
     d.past.moments d.pager d.shown kept at bytes fits c.write.new.self stays)

@@ -1,12 +1,9 @@
-use Rattle.std.proofs.Common.{◌≡◌, ◌+◌, ◌<◌, ◌^◌, ℕ, List, Some, arith, ap, sym, subst, ◌∙◌, length, inl, inr, get_or}
+use Rattle.std.proofs.Common.{◌≡◌, ℕ, List, Some, arith, ap, sym, subst, ◌∙◌, length, inl, inr, get_or}
 use Rattle.std.specs.Option.{option_copied}
 use Rattle.std.proofs.lemmas.Bool.{cases_eq}
-use Rattle.std.proofs.lemmas.List.{get_or_default}
 use Rattle.volume_codec.specs.Layout.{record_block}
 use Rattle.kept_blocks.specs.Blocks.{bytes_in}
 use Rattle.shown_volume.specs.Shown.{ShownValue, HasHomeBlock}
-use Rattle.shown_volume.specs.inside.Closing.{AreHomeUpTo}
-use Rattle.shown_volume.proofs.Texts.{more_text}
 use Rattle.shown_volume.proofs.shown.ShownVolume.are_home.Goals as goal
 
 pub loop-place-init : goal.loop-place-init

@@ -1,7 +1,7 @@
-use Rattle.std.proofs.Common.{◌≡◌, ◌+◌, ℕ, List, Some, ap, sym, subst, ◌∙◌, refl}
+use Rattle.std.proofs.Common.{◌≡◌, ℕ, List, Some, ap, sym, subst, ◌∙◌, refl}
 use Rattle.std.specs.Prelude.{IfSome}
 use Rattle.volume_codec.specs.Layout.{GeometryValue, block_at}
-use Rattle.volume_codec.specs.Descriptor.{DescriptorValue, IsDescribed, IsDescriptor}
+use Rattle.volume_codec.specs.Descriptor.{DescriptorValue, IsDescriptor}
 use Rattle.volume_codec.specs.Recovery.{Batch}
 use Rattle.shown_volume.specs.Shown.{ShownValue, MayOpen}
 use Rattle.shown_volume.specs.inside.Closing.{HasText}

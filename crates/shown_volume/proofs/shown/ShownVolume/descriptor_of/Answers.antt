@@ -1,6 +1,6 @@
-use Rattle.std.proofs.Common.{◌≡◌, ◌+◌, ℕ, List, Some, arith, ap, sym, subst, ◌∙◌}
+use Rattle.std.proofs.Common.{◌≡◌, ◌+◌, ℕ, Some, arith, ap, sym, subst, ◌∙◌}
 use Rattle.std.specs.Option.{option_copied}
-use Rattle.volume_codec.specs.Layout.{descriptor_block, descriptor_blocks}
+use Rattle.volume_codec.specs.Layout.{descriptor_blocks}
 use Rattle.kept_blocks.specs.Blocks.{bytes_in}
 use Rattle.shown_volume.specs.Shown.{ShownValue}
 use Rattle.shown_volume.specs.inside.Closing.{HasText, HasTextUpTo}
@@ -19,7 +19,8 @@ loop-i-preserved g c =
     sym c.get.ensures ∙ ap option_copied c.in-Some.is in
     subst (HasTextUpTo c.self.inside.blocks first (c.loop-i.i + 1))
     (sym c.in_ok-extend_from_slice-in-Some.ensures.items)
-    (more_text c.self.inside.blocks first c.loop-i.i c.loop-i.bytes.items block c.loop-i.invariant c.is_whole.ensures there)
+    (more_text c.self.inside.blocks first c.loop-i.i c.loop-i.bytes.items block c.loop-i.invariant
+    c.is_whole.ensures there)
 
 pub returns : goal.returns
 returns g c =

@@ -1,7 +1,7 @@
-use Rattle.std.proofs.Common.{◌≡◌, ◌+◌, ℕ, List, [], ◌∷◌, ◌++◌, ap, sym, subst, ◌∙◌, take, length, arith, refl}
-use Rattle.volume_codec.specs.Recovery.{Batch, has_journal}
+use Rattle.std.proofs.Common.{◌≡◌, List, [], ◌∷◌, ◌++◌, ap, sym, ◌∙◌, take, arith}
+use Rattle.volume_codec.specs.Recovery.{Batch}
 use Rattle.shown_volume.specs.Shown.{ShownValue}
-use Rattle.shown_volume.specs.inside.Closing.{ClosesOldest, AreHomeBy}
+use Rattle.shown_volume.specs.inside.Closing.{ClosesOldest}
 use Rattle.shown_volume.proofs.Closing.{last_of}
 use Rattle.shown_volume.proofs.shown.ShownVolume.may_close.Goals as goal
 
@@ -16,7 +16,8 @@ returns g c = λ are.
       oldest = c.index-oldest.result.now;
       parts = sym is ∙ last_of items c.in-Some.last c.index-oldest.result.now
           (omega (arith, c.in-Some.ensures, c.len.ensures, c.self.inside.opened.ok)) c.index-oldest.ensures
-          ∙ ap (λ (l : List Batch). take c.in-Some.last l ++ c.index-oldest.result.now ∷ []) (sym c.deref.ensures.value);
+          ∙ ap (λ (l : List Batch). take c.in-Some.last l ++ c.index-oldest.result.now ∷ [])
+          (sym c.deref.ensures.value);
       journal_is = sym c.journal.ensures ∙ c.if-journal.false;
       alone = sym c.has_journal.ensures ∙ c.if-has_journal.false;
       home = c.are_home.ensures are;

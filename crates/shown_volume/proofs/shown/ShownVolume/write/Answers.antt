@@ -1,8 +1,8 @@
-use Rattle.std.proofs.Common.{◌≡◌, ◌*◌, sym, ap, subst, ◌∙◌, List, ℕ, length}
+use Rattle.std.proofs.Common.{◌≡◌, ◌*◌, sym, ap, subst, ◌∙◌, List, ℕ}
 use Rattle.device.specs.Device.{written}
 use Rattle.device.proofs.Public.{ok_map}
 use Rattle.kept_blocks.specs.Blocks.{Blocks, with_home}
-use Rattle.shown_volume.specs.Shown.{ShownValue, IsAdmitted, StaysShown}
+use Rattle.shown_volume.specs.Shown.{ShownValue, StaysShown}
 use Rattle.shown_volume.proofs.Gates.{write_stays}
 use Rattle.shown_volume.proofs.shown.ShownVolume.write.Goals as goal
 
