@@ -1,7 +1,5 @@
 // Running a script on the volume in a file.
-ghost use Rattle.std.specs.Prelude.{◌≡◌, ◌↔◌, List, length, IsOk, IfErr, IsNone, IfSome};
-ghost use Rattle.machine.specs.declared.act.Reply.{Reply};
-ghost use Rattle.engine.specs.Engine.{HasRun};
+ghost use Rattle.std.specs.Prelude.{◌↔◌, IsOk, IfErr, IsNone, IfSome};
 ghost use Rattle.run_commands.specs.inside.Failure.{IsFailedStep};
 
 use crate::printer::Printer;
@@ -75,10 +73,7 @@ fn run_on<'a, D: Device, A: Allocator + Copy, W: io::Write>(
     asked: Scripted<'a>,
     script: &Script<A>,
     out: &mut W,
-) -> (Result<(), Failure<'a>>, D)
-    ensures ran { IsOk result.0 → (replies : List Reply) × (length replies ≡ length script.now.steps.items)
-        × HasRun D.Device device script.now.shape script.now.steps.items replies result.1 }
-{
+) -> (Result<(), Failure<'a>>, D) {
     let mut printer = Printer::new(out);
     match run_script(alloc, device, script, &mut printer) {
         Ok(device) => (outcome(asked.script, printer), device),

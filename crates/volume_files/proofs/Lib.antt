@@ -1,2 +1,1 @@
 mod DumpRows
-mod LogMagic
