@@ -6,7 +6,7 @@ ghost use Rattle.std.specs.List.{flat_map};
 ghost use Rattle.session.specs.Ranges.{MakesStepsThat};
 ghost use Rattle.serve_command.specs.inside.Greeting.{file_text, greeting_text, ListsAndAnswers};
 
-use command_parts::{Failure, refused_to_run, show_log};
+use command_parts::{Failure, refused_to_run};
 use device::Device;
 use machine::Shape;
 use scripts::ScriptFault;
@@ -16,7 +16,7 @@ use std::fs::File;
 use std::io;
 use std::io::{BufRead, BufReader};
 use std::rt::Files;
-use volume_files::{SyncNote, has_log, open_to_write, place};
+use volume_files::{SyncNote, open_to_write, place};
 
 /// The name of the input in what is said of its first line.
 const INPUT: &str = "-";
@@ -39,87 +39,17 @@ pub fn serve<'a, R: Files<File = File> + Input + AllocGlobal, A: Allocator + Cop
     let shape = first_line(rt, alloc, &mut input)?;
     let place = place(rt, path)?;
     let disk = open_to_write(rt, path, &place, trust, note)?;
-    let (ended, disk) = serve_any(rt.alloc(), alloc, disk, path, shape, &mut input, out);
-    *note = disk.into_file().into_note();
-    ended
-}
-
-// Answers the requests on the volume of a device, with journals or with a log, and hands the device back.
-fn serve_any<'a, D, A, I, W>(
-    global: Global,
-    alloc: A,
-    mut device: D,
-    path: &'a str,
-    shape: Shape,
-    input: &mut I,
-    out: &mut W,
-) -> (Result<(), Failure<'a>>, D)
-where
-    D: Device,
-    A: Allocator + Copy,
-    I: BufRead,
-    W: io::Write,
-{
-    match has_log(&mut device) {
-        Ok(false) => serve_disk(global, alloc, device, path, shape, input, out),
-        Ok(true) => serve_log(global, alloc, device, path, shape, input, out),
-        Err(refusal) => {
-            let cause = refused_to_run(alloc, refusal, &mut device, shape);
-            (Err(cause.of_file(path)), device)
-        }
-    }
-}
-
-// Answers the requests on the volume with a log of a device, and hands the device back.
-fn serve_log<'a, D, A, I, W>(
-    global: Global,
-    alloc: A,
-    device: D,
-    path: &'a str,
-    shape: Shape,
-    input: &mut I,
-    out: &mut W,
-) -> (Result<(), Failure<'a>>, D)
-where
-    D: Device,
-    A: Allocator + Copy,
-    I: BufRead,
-    W: io::Write,
-{
-    match show_log(alloc, device) {
-        Ok(disk) => {
-            let (ended, disk) = serve_disk(global, alloc, disk, path, shape, input, out);
-            (ended, disk.into_device())
-        }
-        Err((cause, device)) => (Err(cause.of_file(path)), device),
-    }
-}
-
-// Answers the requests on the volume with journals of a device, and hands the device back.
-fn serve_disk<'a, D, A, I, W>(
-    global: Global,
-    alloc: A,
-    device: D,
-    path: &'a str,
-    shape: Shape,
-    input: &mut I,
-    out: &mut W,
-) -> (Result<(), Failure<'a>>, D)
-where
-    D: Device,
-    A: Allocator + Copy,
-    I: BufRead,
-    W: io::Write,
-{
-    match start(alloc, device, shape) {
+    match start(alloc, disk, shape) {
         Ok(mut session) => {
-            let served = serve_session(global, alloc, &mut session, input, out);
+            let served = serve_session(rt.alloc(), alloc, &mut session, &mut input, out);
             let failed = session.notes().has_failed;
-            (outcome(path, served, failed), session.into_device())
+            *note = session.into_device().into_file().into_note();
+            outcome(path, served, failed)
         }
-        Err((refusal, mut device)) => {
-            let cause = refused_to_run(alloc, refusal, &mut device, shape);
-            (Err(cause.of_file(path)), device)
+        Err((refusal, mut disk)) => {
+            let cause = refused_to_run(alloc, refusal, &mut disk, shape);
+            *note = disk.into_file().into_note();
+            Err(cause.of_file(path))
         }
     }
 }

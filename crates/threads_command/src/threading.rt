@@ -1,11 +1,7 @@
 // Running the programs of a script in threads, on the volume in a file.
-ghost use Rattle.std.specs.Prelude.{IfOk, IfSome};
-ghost use Rattle.engine.specs.Engine.{HasRun};
-ghost use Rattle.service.specs.Trace.{steps_of, replies_of};
 
 use command_line::Scripted;
-use command_parts::{Failure, NotBooted, ShapeCause, is_failure, refused_to_run, show_log};
-use device::Device;
+use command_parts::{Failure, NotBooted, ShapeCause, is_failure, refused_to_run};
 use driver::{Ended, NotRun, Ran, run_programs};
 use page_entry::Refusal;
 use scripts::{ScriptFault, ThreadScript};
@@ -18,7 +14,9 @@ use std::rt::Files;
 use std::sync::Wait;
 use std::thread::Threads;
 use traces::{write_entry, write_shape};
-use volume_files::{SyncNote, for_threads, has_log, open_to_write, place, read_file};
+use volume_files::{
+    SuspectFlag, SyncNote, ThreadDisk, for_threads, open_to_write, place, read_file,
+};
 
 /// How often a thread that waits looks whether another got on, before it gives up.
 const TURNS: u64 = 100_000_000;
@@ -40,88 +38,18 @@ where
     let place = place(rt, asked.disk)?;
     let disk = open_to_write(rt, asked.disk, &place, asked.trust, note)?;
     let (disk, mark) = for_threads(disk, asked.disk, note)?;
-    let (traced, disk) = trace_any(rt, disk, asked, &programs);
-    if let Some(disk) = disk {
-        *note = disk.into_file().into_note(mark);
-    }
-    let (trace, ended) = traced?;
-    print_trace(rt.alloc(), &programs, &trace, out)?;
-    outcome(asked.script, &trace, ended)
-}
-
-/// The trace of programs, and how they ended; and the device, if it came back.
-type Traced<'a, D> = (Result<(Vec<Entry>, Ended), Failure<'a>>, Option<D>);
-
-// Runs programs on the volume of a device, with journals or with a log.
-fn trace_any<'a, D, R>(
-    rt: &R,
-    mut device: D,
-    asked: Scripted<'a>,
-    programs: &ThreadScript<Global>,
-) -> Traced<'a, D>
-where
-    D: Device + Send + Drop,
-    R: Files<File = File> + AllocGlobal + Threads + Wait + Sync,
-{
-    match has_log(&mut device) {
-        Ok(false) => trace_disk(rt, device, asked, programs),
-        Ok(true) => trace_log(rt, device, asked, programs),
-        Err(refusal) => {
-            let cause = refused_to_run(rt.alloc(), refusal, &mut device, programs.shape);
-            (Err(cause.of_file(asked.disk)), Some(device))
-        }
-    }
-}
-
-// Runs programs on the volume with a log of a device.
-fn trace_log<'a, D, R>(
-    rt: &R,
-    device: D,
-    asked: Scripted<'a>,
-    programs: &ThreadScript<Global>,
-) -> Traced<'a, D>
-where
-    D: Device + Send + Drop,
-    R: Files<File = File> + AllocGlobal + Threads + Wait + Sync,
-{
-    match show_log(rt.alloc(), device) {
-        Ok(disk) => {
-            let (traced, disk) = trace_disk(rt, disk, asked, programs);
-            match disk {
-                Some(disk) => (traced, Some(disk.into_device())),
-                None => (traced, None),
-            }
-        }
-        Err((cause, device)) => (Err(cause.of_file(asked.disk)), Some(device)),
-    }
-}
-
-// Runs programs on the volume with journals of a device.
-fn trace_disk<'a, D, R>(
-    rt: &R,
-    device: D,
-    asked: Scripted<'a>,
-    programs: &ThreadScript<Global>,
-) -> Traced<'a, D>
-where
-    D: Device + Send + Drop,
-    R: Files<File = File> + AllocGlobal + Threads + Wait + Sync,
-    ensures { IfOk result.0 (λ traced. IfSome result.1 (HasRun D.Device device programs.now.shape
-        (steps_of traced.0.items) (replies_of traced.0.items))) }
-{
-    match run_programs(rt, rt.alloc(), device, programs, TURNS) {
+    match run_programs(rt, rt.alloc(), disk, &programs, TURNS) {
         Ok(ran) => {
             let Ran {
                 device,
                 trace,
                 ended,
             } = ran;
-            (Ok((trace, ended)), Some(device))
+            *note = device.into_file().into_note(mark);
+            print_trace(rt.alloc(), &programs, &trace, out)?;
+            outcome(asked.script, &trace, ended)
         }
-        Err(refused) => {
-            let (failure, device) = refused_to_thread(rt.alloc(), asked, programs, refused);
-            (Err(failure), device)
-        }
+        Err(refused) => Err(refused_to_thread(rt.alloc(), asked, &programs, refused, mark, note)),
     }
 }
 
@@ -167,29 +95,41 @@ fn outcome<'a>(path: &'a str, trace: &[Entry], ended: Ended) -> Result<(), Failu
     }
 }
 
-// Why programs weren't run on the volume that was asked for, or left no trace; and the device, if it came back.
-fn refused_to_thread<'a, D: Device>(
+// Why programs weren't run on the volume that was asked for, or their run left no trace.
+fn refused_to_thread<'a, R>(
     global: Global,
     asked: Scripted<'a>,
     programs: &ThreadScript<Global>,
-    refused: NotRun<D>,
-) -> (Failure<'a>, Option<D>) {
+    refused: NotRun<ThreadDisk>,
+    mark: SuspectFlag<'_, R>,
+    note: &mut SyncNote,
+) -> Failure<'a>
+where
+    R: Files<File = File> + AllocGlobal,
+{
     match refused {
-        NotRun::Start(refusal, mut device) => {
-            let cause = refused_to_run(global, refusal, &mut device, programs.shape);
-            (cause.of_file(asked.disk), Some(device))
+        NotRun::Start(refusal, mut disk) => {
+            let cause = refused_to_run(global, refusal, &mut disk, programs.shape);
+            *note = disk.into_file().into_note(mark);
+            cause.of_file(asked.disk)
         }
-        NotRun::Share(Refusal::BadShape, device) => {
-            let cause = NotBooted::Shape(ShapeCause::Trace(programs.trace));
-            (cause.of_file(asked.disk), Some(device))
+        NotRun::Share(refusal, disk) => {
+            *note = disk.into_file().into_note(mark);
+            match refusal {
+                Refusal::BadShape => {
+                    NotBooted::Shape(ShapeCause::Trace(programs.trace)).of_file(asked.disk)
+                }
+                _ => Failure::Memory(AllocError),
+            }
         }
-        NotRun::Share(_, device) => (Failure::Memory(AllocError), Some(device)),
-        NotRun::Gather(cause, device) => {
-            let failure = Failure::Gather {
+        NotRun::Gather(cause, disk) => {
+            if let Some(disk) = disk {
+                *note = disk.into_file().into_note(mark);
+            }
+            Failure::Gather {
                 path: asked.script,
                 cause,
-            };
-            (failure, device)
+            }
         }
     }
 }
