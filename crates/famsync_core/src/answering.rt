@@ -2,7 +2,8 @@
 ghost use Rattle.std.specs.Prelude.{◌≡◌};
 ghost use Rattle.deferred_disk.specs.Deferred.{carried_moment};
 ghost use Rattle.famsync_core.specs.Held.{disk_of};
-ghost use Rattle.famsync_core.specs.Requests.{AnswersRead, AnswersWrite, AnswersSetLength, AnswersCommit, AnswersWriteOut};
+ghost use Rattle.famsync_core.specs.Requests.{AnswersRead, AnswersWrite, AnswersSetLength, AnswersCommit};
+ghost use Rattle.famsync_core.specs.Requests.{AnswersWriteOut};
 
 use crate::codes::{ARGUMENT, NONE, OK, code_of_outcome, code_of_reading, code_of_unread};
 use crate::volume::OpenVolume;

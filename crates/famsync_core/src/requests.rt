@@ -5,7 +5,8 @@ ghost use Rattle.deferred_disk.specs.Deferred.{carried_moment};
 ghost use Rattle.famsync_core.specs.Codes.{order_code};
 ghost use Rattle.famsync_core.specs.Held.{disk_of, page_numbered};
 ghost use Rattle.famsync_core.specs.Opening.{AnswersOpen, TellsOpening, most_pages};
-ghost use Rattle.famsync_core.specs.Requests.{AnswersRead, AnswersWrite, AnswersSetLength, AnswersCommit, AnswersWriteOut};
+ghost use Rattle.famsync_core.specs.Requests.{AnswersRead, AnswersWrite, AnswersSetLength, AnswersCommit};
+ghost use Rattle.famsync_core.specs.Requests.{AnswersWriteOut};
 
 use crate::answering::{change_length, make_commit, make_steps, read_page, write_page};
 use crate::codes::{OK, ORDER, code_of_unread};

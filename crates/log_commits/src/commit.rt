@@ -1,5 +1,6 @@
 // Commits.
-ghost use Rattle.std.specs.Prelude.{◌≡◌, ◌≢◌, ◌↔◌, ◌⊎◌, ◌<◌, ◌≤◌, ◌+◌, ◌*◌, ◌^◌, ◌++◌, [], ◌∷◌, ℕ, Bool, List, true, is_ok, length, take, IfOk, IfErr, OnOk, OnErr};
+ghost use Rattle.std.specs.Prelude.{◌≡◌, ◌≢◌, ◌↔◌, ◌⊎◌, ◌<◌, ◌≤◌, ◌+◌, ◌*◌, ◌^◌, ◌++◌, [], ◌∷◌, ℕ, Bool, List, true};
+ghost use Rattle.std.specs.Prelude.{is_ok, length, take, IfOk, IfErr, OnOk, OnErr};
 ghost use Rattle.log_codec.specs.Chain.{spare_blocks};
 ghost use Rattle.device.specs.Work.{Sync, WriteAt};
 ghost use Rattle.log_codec.specs.Log.{log_descriptor_blocks};
@@ -10,7 +11,9 @@ ghost use Rattle.log_codec.specs.Commit.{LogDescriptor};
 ghost use Rattle.log_commits.specs.Tail.{HoldsLog};
 ghost use Rattle.log_commits.specs.Behind.{HasCommits, HoldsCommits, IsSameOutside};
 ghost use Rattle.log_commits.specs.Selecting.{last_works};
-ghost use Rattle.log_commits.specs.Commit.{MayCommit, RefusesTailCommit, CommitLeaves, TellsTorn, committed_to, next_logged, commit_bytes, commit_works, works_with, records_in, tail_after};
+ghost use Rattle.log_commits.specs.Commit.{MayCommit, RefusesTailCommit, CommitLeaves, TellsTorn, committed_to};
+ghost use Rattle.log_commits.specs.Commit.{next_logged, commit_bytes, commit_works, works_with, records_in};
+ghost use Rattle.log_commits.specs.Commit.{tail_after};
 
 use crate::behind::select_other;
 use crate::fault::CommitFault;

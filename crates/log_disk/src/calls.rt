@@ -1,5 +1,6 @@
 // The disk as a device.
-ghost use Rattle.std.specs.Prelude.{◌≡◌, ◌⊎◌, ℕ, ◌+◌, ◌*◌, ◌^◌, ◌<◌, ◌≤◌, [], ◌∷◌, length, slice_index, slice_range, is_ok, IsErr, IfSome, OnOk, if◌then◌else◌};
+ghost use Rattle.std.specs.Prelude.{◌≡◌, ◌⊎◌, ℕ, ◌+◌, ◌*◌, ◌^◌, ◌<◌, ◌≤◌, [], ◌∷◌, length, slice_index, slice_range};
+ghost use Rattle.std.specs.Prelude.{is_ok, IsErr, IfSome, OnOk, if◌then◌else◌};
 ghost use Rattle.device.specs.Count.{raised};
 ghost use Rattle.device.specs.Memory.{seen_of, moment_of};
 ghost use Rattle.device.specs.Memory.DiskChange.{write, sync};

@@ -11,7 +11,8 @@ ghost use Rattle.log_volume.specs.Super.{IsLogSuper, log_of};
 ghost use Rattle.log_volume.specs.Files.{RecoversToLog};
 ghost use Rattle.log_opening.specs.Opening.{HasWrittenNothing};
 ghost use Rattle.log_opening.specs.Volume.{LeftByOpeningVolume};
-ghost use Rattle.log_disk.specs.Opening.{opened_disk, HasOpenedDisk, RefusesShown, RefusesDisk, IsCountedDisk, disk_result, disk_leaves};
+ghost use Rattle.log_disk.specs.Opening.{opened_disk, HasOpenedDisk, RefusesShown, RefusesDisk, IsCountedDisk};
+ghost use Rattle.log_disk.specs.Opening.{disk_result, disk_leaves};
 ghost use Rattle.log_disk.specs.Serving.{IsShownTable};
 ghost use Rattle.log_disk.specs.inside.Opened.{asked_whole, IsOpenedLog};
 

@@ -1,11 +1,13 @@
 // A volume becomes one of another layout, on another device.
-ghost use Rattle.std.specs.Prelude.{◌≡◌, ◌⊎◌, ◌+◌, ◌-◌, ◌*◌, ◌^◌, ◌<◌, ◌≤◌, ℕ, List, length, take, slice_index, slice_range, IfOk, IfErr, OnOk};
+ghost use Rattle.std.specs.Prelude.{◌≡◌, ◌⊎◌, ◌+◌, ◌-◌, ◌*◌, ◌^◌, ◌<◌, ◌≤◌, ℕ, List, length, take, slice_index};
+ghost use Rattle.std.specs.Prelude.{slice_range, IfOk, IfErr, OnOk};
 ghost use Rattle.device.specs.Device.{written, Torn, TornFrom, LeavesOnly};
 ghost use Rattle.volume_codec.specs.Files.{asked_by};
 ghost use Rattle.volume_codec.specs.Super.{SuperValue, IsAsked, block_count, total_pages};
 ghost use Rattle.recovery.specs.Counts.{IsAccounted};
 ghost use Rattle.recovery.specs.Format.{HasShape, IsEmptied, RefusesFormat};
-ghost use Rattle.recovery.specs.Migration.{asked_of, home_at, AreAccounted, Copies, AreCopied, HasMigrated, LeftByMigration};
+ghost use Rattle.recovery.specs.Migration.{asked_of, home_at, AreAccounted, Copies, AreCopied, HasMigrated};
+ghost use Rattle.recovery.specs.Migration.{LeftByMigration};
 ghost use Rattle.recovery.specs.Opening.{IsUnwritten};
 ghost use Rattle.recovery.specs.Volume.{IsWellFormed, files_of, bytes_of};
 ghost use Rattle.recovery.specs.inside.Copying.{LeftByLaying};

@@ -1,5 +1,6 @@
 // Writes to the volume, and its gates.
-ghost use Rattle.std.specs.Prelude.{◌≡◌, ◌↔◌, ◌⊎◌, ◌<◌, ◌≤◌, ◌+◌, ◌*◌, ℕ, List, [], ◌∷◌, IsTrue, IfOk, IfErr, IfSome, OnOk, OnErr, length, Some, slice_index, true};
+ghost use Rattle.std.specs.Prelude.{◌≡◌, ◌↔◌, ◌⊎◌, ◌<◌, ◌≤◌, ◌+◌, ◌*◌, ℕ, List, [], ◌∷◌, IsTrue, IfOk, IfErr, IfSome};
+ghost use Rattle.std.specs.Prelude.{OnOk, OnErr, length, Some, slice_index, true};
 ghost use Rattle.device.specs.Device.{written};
 ghost use Rattle.volume_codec.specs.Layout.{journals_of, gate_block, descriptor_block, descriptor_blocks, record_block};
 ghost use Rattle.volume_codec.specs.Recovery.{Batch, IsNewer, has_journal};
