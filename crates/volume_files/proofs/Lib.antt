@@ -1,1 +1,2 @@
 mod DumpRows
+mod LogMagic

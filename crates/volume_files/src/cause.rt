@@ -291,7 +291,7 @@ fn cause_of_magic<D: Device>(device: &mut D) -> Cause<'static>
 }
 
 // Whether a block begins with the magic of a layout with a log.
-fn begins_with_log_magic(block: &[u8; 4096]) -> bool
+pub(crate) fn begins_with_log_magic(block: &[u8; 4096]) -> bool
     ensures yes { result ≡ true → (take 8 block.now ≡ codes "FAMSYNC5") ⊎ (take 8 block.now ≡ codes "FAMSYNC6") }
     ensures no { result ≡ false → (take 8 block.now ≢ codes "FAMSYNC5") × (take 8 block.now ≢ codes "FAMSYNC6") }
 {

@@ -6,6 +6,7 @@ mod disk;
 mod exporting;
 mod failure;
 mod listing;
+mod log_magic;
 mod logged;
 mod making;
 mod marker;
@@ -24,6 +25,7 @@ pub use disk::{
 };
 pub use exporting::{ExportPlan, export};
 pub use failure::FileFailure;
+pub use log_magic::has_log;
 pub use logged::{LogPlan, draw_key, format_log};
 pub use making::{Plan, format};
 pub use marker::{Marker, Noted};
