@@ -1,0 +1,3 @@
+pub mod Reopened
+pub mod Standing
+pub mod Surviving

@@ -1,0 +1,219 @@
+-- What survives of a run on a volume with a log, by the laws of runs on the disk that shows it.
+use Rattle.std.proofs.Common.{◌≡◌, ◌⊎◌, inl, inr, ℕ, zero, suc, ◌≤◌, List, [], ◌∷◌, ◌++◌, take, Result, Ok, Err}
+use Rattle.std.proofs.Common.{refl, sym, ap, subst, arith}
+use Rattle.device.specs.Device.{LeavesOnly, Only}
+use Rattle.device.specs.declared.device.Device.{Ghosts}
+use Rattle.page_entry.specs.declared.refusal.Refusal.{Refusal}
+use Rattle.volume_codec.specs.Files.{File}
+use Rattle.volume_codec.specs.Recovery.{RecoversTo}
+use Rattle.volume_codec.specs.Super.{SuperValue}
+use Rattle.recovery.specs.Opening.{Opens}
+use Rattle.recovery.specs.Openings.{RecoversAs}
+use Rattle.history.specs.History.{Event, files_after, IsDurablePrefix}
+use Rattle.machine.specs.declared.act.Reply.{Reply}
+use Rattle.machine.specs.declared.act.Shape.{Shape}
+use Rattle.machine.specs.declared.act.Step.{Step}
+use Rattle.machine.specs.Crashes.{Begins, Throughout}
+use Rattle.machine.specs.Laws.{EachStep, FaultsAreServed, IsLawful, ReadsBackSince}
+use Rattle.machine.specs.Observed.{Observed, observe, observe_all}
+use Rattle.machine.specs.Reached.{IsReached}
+use Rattle.machine.specs.Runs.{StepsTaken}
+use Rattle.machine.specs.State.{Whole}
+use Rattle.machine.specs.Steps.{observed_first}
+use Rattle.engine.specs.Engine.{HasStarted}
+use Rattle.engine.specs.Survival.{history_of}
+use Rattle.engine.proofs.Public.{begins, taken_kept}
+use Rattle.log_volume.specs.Files.{RecoversToLog}
+use Rattle.log_opening.specs.Volume.{LeftByOpeningVolume}
+use Rattle.log_disk.specs.Disk.{LogDiskValue, IsHonestLog, left_at, moment_in}
+use Rattle.log_engine.specs.Openings.{FindsAfterLogCrash, FindsOnLog, KeepsOnLog}
+use Rattle.log_engine.specs.Survival.{BeforeOrWith, StepSurvivesOnLog, SurvivesOnLog, shown_by}
+use Rattle.log_engine.specs.inside.Standing.{Stands, StepsStand, StepStands}
+use Rattle.log_engine.proofs.Reopened.{ReadsBackOnLog}
+use Rattle.log_engine.proofs.Standing.{last_stands, stand_more, taken_of}
+
+-- what is observed of one step more
+observe_more : {D : Type 0} (disk : Ghosts D) (observed : Observed) (old : Whole D) (steps : List Step)
+    (replies : List Reply) (new : Whole D) (step : Step) (reply : Reply) → StepsTaken disk old steps replies new
+    → observe_all observed (steps ++ step ∷ []) (replies ++ reply ∷ [])
+    ≡ observe (observe_all observed steps replies) step reply
+observe_more disk observed old [] [] new step reply taken = refl
+observe_more disk observed old (s ∷ steps) (r ∷ replies) new step reply (mid, first, taken) =
+    observe_more disk (observe observed s r) mid steps replies new step reply taken
+observe_more disk observed old [] (r ∷ replies) new step reply taken = absurd taken
+observe_more disk observed old (s ∷ steps) [] new step reply taken = absurd taken
+
+-- the history after none of one step, or after it
+one_of_two : (observed : Observed) (step : Step) (reply : Reply) (n : ℕ)
+    → BeforeOrWith observed step reply (observe_all observed (take n (step ∷ [])) (take n (reply ∷ []))).history
+one_of_two observed step reply zero = inl refl
+one_of_two observed step reply (suc zero) = inr refl
+one_of_two observed step reply (suc (suc n)) = inr refl
+
+none_of_none : (observed : Observed) (n : ℕ)
+    → (observe_all observed (take n []) (take n [])).history ≡ observed.history
+none_of_none observed zero = refl
+none_of_none observed (suc n) = refl
+
+-- what is true of any crash since a machine of a run on a disk, as of a machine's laws
+abbrev ReadsBackAfter : {D : Type 0} → Ghosts D → Type 0
+ReadsBackAfter {D} disk =
+    (files : List File) (start mid last : Whole D) (earlier later : List Step) (replied more : List Reply) (c : List ℕ)
+    → IsReached disk files start earlier replied mid → StepsTaken disk mid later more last
+    → disk.left_since last.device (disk.moment mid.device) c
+    → ReadsBackSince files (observe_all (observed_first files start.state) earlier replied) later more c
+
+module _ {D : Type 0} (disk : Ghosts D) (files : List File) (start : Whole (LogDiskValue D))
+    (begun : Begins (shown_by disk) files start)
+    (now_is_since : (d : D) (t : ℕ) (c : List ℕ) → t ≤ disk.moment d → disk.may_leave d c → disk.left_since d t c)
+    (since : ReadsBackAfter (shown_by disk)) where
+  abbrev Shown : Type 0
+  Shown = LogDiskValue D
+
+  abbrev first : Observed
+  first = observed_first files start.state
+
+  reached : (steps : List Step) (replies : List Reply) (last : Whole Shown) → StepsStand disk start steps replies last
+      → IsReached (shown_by disk) files start steps replies last
+  reached steps replies last led = record { begins = begun; taken = taken_of disk start steps replies last led }
+
+  pub honest_at : (steps : List Step) (replies : List Reply) (last : Whole Shown)
+      → StepsStand disk start steps replies last → IsHonestLog disk.is_honest last.device
+  honest_at steps replies last led =
+      let taken = taken_of disk start steps replies last led in
+      (taken_kept (shown_by disk) start steps replies last taken).0.1 begun.honest
+
+  -- a crash of the volume's device within a step
+  within_step : (earlier : List Step) (replied : List Reply) (step : Step) (reply : Reply) (mid new : Whole Shown)
+      → StepsStand disk start earlier replied mid → StepStands disk mid step reply new
+      → (c : List ℕ) → disk.left_since new.device.device (disk.moment mid.device.device) c
+      → ReadsBackOnLog files (BeforeOrWith (observe_all first earlier replied) step reply) c
+  within_step earlier replied step reply mid new led this c left =
+      let further = stand_more disk start mid new earlier replied step reply led this in
+      let here = honest_at (earlier ++ step ∷ []) (replied ++ reply ∷ []) new further in
+      let stands = this.stands.since here mid.device c left in
+      let back = since files start mid new earlier (step ∷ []) replied (reply ∷ []) stands.0
+      (reached earlier replied mid led) (new, this.taken, refl) stands.1 in
+      let o = observe_all first earlier replied in
+      record {
+        history = (observe_all o (take back.0 (step ∷ [])) (take back.0 (reply ∷ []))).history;
+        is_one = one_of_two o step reply back.0;
+        prefix = back.1.prefix;
+        durable = back.1.durable;
+        recovers = stands.2 (files_after files back.1.prefix) back.1.recovers;
+      }
+
+  -- a crash of the volume's device after the last step
+  after_run : (steps : List Step) (replies : List Reply) (last : Whole Shown)
+      → StepsStand disk start steps replies last → Stands disk last.device
+      → (c : List ℕ) → disk.may_leave last.device.device c
+      → ReadsBackOnLog files (λ history. history ≡ history_of files start steps replies) c
+  after_run steps replies last led stand c may =
+      let here = honest_at steps replies last led in
+      let left = now_is_since last.device.device (disk.moment last.device.device) c (omega arith) may in
+      let stands = stand.since here last.device c left in
+      let back = since files start last last steps [] replies [] stands.0 (reached steps replies last led) refl
+      stands.1 in
+      let o = observe_all first steps replies in
+      record {
+        history = (observe_all o (take back.0 []) (take back.0 [])).history;
+        is_one = none_of_none o back.0;
+        prefix = back.1.prefix;
+        durable = back.1.durable;
+        recovers = stands.2 (files_after files back.1.prefix) back.1.recovers;
+      }
+
+  -- a crash of the volume's device while the machine is booted
+  while_booting : (shown : Shown) (shape : Shape) → HasStarted (shown_by disk) shown shape start
+      → IsHonestLog disk.is_honest shown → RecoversTo ((shown_by disk).seen shown) files
+      → Only ((shown_by disk).may_leave shown) ((shown_by disk).seen shown) → Stands disk start.device
+      → ((before after : Shown) (result : Result SuperValue Refusal) (c : List ℕ)
+      → IsHonestLog disk.is_honest before → Opens (shown_by disk) before result after
+      → left_at disk.moment after (moment_in disk.moment before) c
+      → RecoversAs ((shown_by disk).may_leave before) c)
+      → (c : List ℕ) → disk.left_since start.device.device (disk.moment shown.device) c → RecoversToLog c files
+  while_booting shown shape started honest recovers only stand left_as c left =
+      let stands = stand.since begun.honest shown c left in
+      let device : start.device ≡ started.volume.device = ap (λ (w : Whole Shown). w.device) started.booted in
+      let L : Shown → Type 0 = λ d. left_at disk.moment d (moment_in disk.moment shown) stands.0 in
+      let alike = left_as shown started.volume.device (Ok started.volume.table) stands.0 honest started.opened
+      (subst L device stands.1) in
+      let R : List ℕ → Type 0 = λ l. RecoversTo l files in
+      let before : RecoversTo alike.0 files = subst R (sym (only alike.0 alike.1)) recovers in
+      stands.2 files (record {
+        table = before.table;
+        contents = before.contents;
+        recovers = alike.2 before.table before.contents before.recovers;
+        lengths = before.lengths;
+        files_are = before.files_are;
+      })
+
+  module _ (found_after : (files : List File) (histories : List Event → Type 0) (lists : List ℕ → Type 0)
+      → ((c : List ℕ) → lists c → ReadsBackOnLog files histories c)
+      → FindsAfterLogCrash disk files histories lists) where
+    throughout : (earlier : List Step) (replied : List Reply) (mid : Whole Shown) (steps : List Step)
+        (replies : List Reply) (new : Whole Shown) → StepsStand disk start earlier replied mid
+        → StepsStand disk mid steps replies new
+        → Throughout (StepSurvivesOnLog disk files) (observe_all first earlier replied) mid steps replies new
+    throughout earlier replied mid [] [] new led stand = stand
+    throughout earlier replied mid (step ∷ steps) (reply ∷ replies) new led (next, this, stand) =
+        let T : Observed → Type 0 = λ o. Throughout (StepSurvivesOnLog disk files) o next steps replies new in
+        let further = stand_more disk start mid next earlier replied step reply led this in
+        let taken = taken_of disk start earlier replied mid led in (
+          next,
+          record {
+            taken = this.taken;
+            within = found_after files (BeforeOrWith (observe_all first earlier replied) step reply)
+                (disk.left_since next.device.device (disk.moment mid.device.device))
+                (within_step earlier replied step reply mid next led this);
+          },
+          subst T (observe_more (shown_by disk) first start earlier replied mid step reply taken)
+              (throughout (earlier ++ step ∷ []) (replied ++ reply ∷ []) next steps replies new further stand),
+        )
+    throughout earlier replied mid [] (r ∷ replies) new led stand = absurd stand
+    throughout earlier replied mid (s ∷ steps) [] new led stand = absurd stand
+
+    pub survive : (before : D) (shown : Shown) (shape : Shape) (steps : List Step) (replies : List Reply)
+        (last : Whole Shown) → HasStarted (shown_by disk) shown shape start
+        → IsHonestLog disk.is_honest shown → RecoversTo ((shown_by disk).seen shown) files
+        → Only ((shown_by disk).may_leave shown) ((shown_by disk).seen shown) → Stands disk start.device
+        → ((before after : Shown) (result : Result SuperValue Refusal) (c : List ℕ)
+        → IsHonestLog disk.is_honest before → Opens (shown_by disk) before result after
+        → left_at disk.moment after (moment_in disk.moment before) c
+        → RecoversAs ((shown_by disk).may_leave before) c)
+        → ((d : D) → disk.is_honest d → disk.may_leave d (disk.seen d))
+        → ((files : List File) (lists : List ℕ → Type 0) → ((c : List ℕ) → lists c → RecoversToLog c files)
+        → KeepsOnLog disk files lists)
+        → ((files : List File) (device : D) → RecoversToLog (disk.seen device) files → FindsOnLog disk files device)
+        → ((all : (c : List ℕ) → disk.may_leave before c → RecoversToLog c files) (c : List ℕ)
+        → disk.left_since shown.device (disk.moment before) c → RecoversToLog c files)
+        → EachStep (IsLawful files) first steps replies → FaultsAreServed steps replies
+        → StepsStand disk start steps replies last
+        → SurvivesOnLog disk files before shown start steps replies last
+    survive before shown shape steps replies last started honest recovers only stand left_as seen_is_left keeps finds
+        opened lawful served led =
+        let at_last = last_stands disk start steps replies last stand led in
+        let here = honest_at steps replies last led in
+        let now = after_run steps replies last led at_last (disk.seen last.device.device)
+        (seen_is_left last.device.device here.0) in
+        let whole : List Event → Type 0 = λ history. history ≡ history_of files start steps replies in
+        record {
+          opening = λ all. keeps files (disk.left_since shown.device (disk.moment before)) (opened all);
+          booting = keeps files (disk.left_since start.device.device (disk.moment shown.device))
+              (while_booting shown shape started honest recovers only stand left_as);
+          within = throughout [] [] start steps replies last refl led;
+          after = found_after files whole (disk.may_leave last.device.device)
+              (after_run steps replies last led at_last);
+          ended = record {
+            found = files_after files now.prefix;
+            durable = record {
+              prefix = now.prefix;
+              durable = subst (λ (h : List Event). IsDurablePrefix now.prefix h) now.is_one now.durable;
+              files_are = refl;
+            };
+            finds = finds (files_after files now.prefix) last.device.device now.recovers;
+          };
+          honest = here.0;
+          lawful = lawful;
+          served = served;
+        }

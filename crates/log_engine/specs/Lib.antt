@@ -1,0 +1,4 @@
+pub mod Openings
+pub mod Survival
+pub mod Runs
+pub mod inside

@@ -1,0 +1,75 @@
+-- What of a run on a volume with a log survives the end of it and a crash at any moment, by what is observed of its
+-- steps and replies.
+use Rattle.std.specs.Prelude.{ℕ, ◌≡◌, ◌⊎◌, List}
+use Rattle.device.specs.declared.device.Device.{Ghosts}
+use Rattle.device.specs.Memory.{seen_of, may_leave_of}
+use Rattle.volume_codec.specs.Files.{File}
+use Rattle.history.specs.History.{Event}
+use Rattle.history.specs.Later.{AreDurable}
+use Rattle.machine.specs.declared.act.Reply.{Reply}
+use Rattle.machine.specs.declared.act.Step.{Step}
+use Rattle.machine.specs.Crashes.{Throughout}
+use Rattle.machine.specs.Laws.{EachStep, FaultsAreServed, IsLawful}
+use Rattle.machine.specs.Observed.{Observed, observe}
+use Rattle.machine.specs.Runs.{StepTaken}
+use Rattle.machine.specs.State.{Whole}
+use Rattle.machine.specs.Steps.{observed_first}
+use Rattle.engine.specs.Survival.{history_of}
+use Rattle.log_volume.specs.Files.{RecoversToLog}
+use Rattle.log_disk.specs.Disk.{LogDiskValue, IsHonestLog, left_at, moment_in}
+use Rattle.log_engine.specs.Openings.{FindsAfterLogCrash, FindsOnLog, KeepsOnLog}
+
+-- the disk that shows a volume with a log, as a device
+abbrev pub shown_by : {D : Type 0} → Ghosts D → Ghosts (LogDiskValue D)
+shown_by disk = record {
+  seen = λ d. seen_of d.memory;
+  may_leave = λ d. may_leave_of d.memory;
+  moment = moment_in disk.moment;
+  left_since = left_at disk.moment;
+  calls_made = λ d. d.memory.calls;
+  faults_met = λ d. d.memory.faults;
+  carried = λ d. 0;
+  is_honest = IsHonestLog disk.is_honest;
+}
+
+-- the history before a step, or that with it
+abbrev pub BeforeOrWith : Observed → Step → Reply → List Event → Type 0
+BeforeOrWith observed step reply history =
+    (history ≡ observed.history) ⊎ (history ≡ (observe observed step reply).history)
+
+-- One step, by what was observed before it: it was made, and what a crash of the volume's device at any moment within
+-- it leaves is found so by the history before it, or by that with it. A mark that was acknowledged before belongs to
+-- both.
+pub record StepSurvivesOnLog {D : Type 0} (disk : Ghosts D) (files : List File) (observed : Observed)
+    (old : Whole (LogDiskValue D)) (step : Step) (reply : Reply) (new : Whole (LogDiskValue D)) : Type 0 where
+  pub taken : StepTaken (shown_by disk) old step reply new
+  pub within : FindsAfterLogCrash disk files (BeforeOrWith observed step reply)
+      (disk.left_since new.device.device (disk.moment old.device.device))
+
+-- The files after a durable prefix of the history are found on the device.
+pub record FindsDurableOnLog {D : Type 0} (disk : Ghosts D) (files : List File) (history : List Event) (device : D)
+    : Type 0 where
+  pub found : List File
+  pub durable : AreDurable files history found
+  pub finds : FindsOnLog disk found device
+
+-- These steps of a machine that was booted over the disk that shows a volume with these files, and their replies.
+pub record SurvivesOnLog {D : Type 0} (disk : Ghosts D) (files : List File) (before : D) (shown : LogDiskValue D)
+    (start : Whole (LogDiskValue D)) (steps : List Step) (replies : List Reply) (last : Whole (LogDiskValue D))
+    : Type 0 where
+  -- a crash within the opening, where all that one might have left before it recovers to these files
+  pub opening : ((c : List ℕ) → disk.may_leave before c → RecoversToLog c files)
+      → KeepsOnLog disk files (disk.left_since shown.device (disk.moment before))
+  -- a crash while the machine is booted
+  pub booting : KeepsOnLog disk files (disk.left_since start.device.device (disk.moment shown.device))
+  -- a crash within a step
+  pub within : Throughout (StepSurvivesOnLog disk files) (observed_first files start.state) start steps replies last
+  -- a crash after the last step: by the whole history
+  pub after : FindsAfterLogCrash disk files (λ history. history ≡ history_of files start steps replies)
+      (disk.may_leave last.device.device)
+  -- so it is without a crash, and the same can be done again on the device
+  pub ended : FindsDurableOnLog disk files (history_of files start steps replies) last.device.device
+  pub honest : disk.is_honest last.device.device
+  -- loads, stores and faults are answered by what was observed before them, and a fault that is served is served
+  pub lawful : EachStep (IsLawful files) (observed_first files start.state) steps replies
+  pub served : FaultsAreServed steps replies

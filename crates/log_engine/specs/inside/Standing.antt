@@ -1,0 +1,31 @@
+-- Disks over a volume with a log, of which a crash leaves what stands for bytes of the disk.
+use Rattle.std.specs.Prelude.{ℕ, ◌≡◌, List, [], ◌∷◌}
+use Rattle.device.specs.declared.device.Device.{Ghosts}
+use Rattle.device.specs.Memory.{may_leave_of}
+use Rattle.machine.specs.declared.act.Reply.{Reply}
+use Rattle.machine.specs.declared.act.Step.{Step}
+use Rattle.machine.specs.Runs.{StepTaken}
+use Rattle.machine.specs.State.{Whole}
+use Rattle.log_disk.specs.Disk.{LogDiskValue, IsHonestLog}
+use Rattle.log_disk.specs.Laws.{StandsForOne, StandsSince}
+use Rattle.log_engine.specs.Survival.{shown_by}
+
+-- what a crash leaves of the device, now and since any earlier state
+pub record Stands {D : Type 0} (disk : Ghosts D) (d : LogDiskValue D) : Type 0 where
+  pub now : IsHonestLog disk.is_honest d → (c : List ℕ) → disk.may_leave d.device c
+      → StandsForOne (may_leave_of d.memory) c
+  pub since : IsHonestLog disk.is_honest d → (old : LogDiskValue D) → StandsSince disk old d
+
+-- a step was made, and the disk after it is one of these
+pub record StepStands {D : Type 0} (disk : Ghosts D) (old : Whole (LogDiskValue D)) (step : Step) (reply : Reply)
+    (new : Whole (LogDiskValue D)) : Type 0 where
+  pub taken : StepTaken (shown_by disk) old step reply new
+  pub stands : Stands disk new.device
+
+-- these replies to these steps, with such a disk after each
+abbrev pub StepsStand : {D : Type 0} → Ghosts D → Whole (LogDiskValue D) → List Step → List Reply
+    → Whole (LogDiskValue D) → Type 0
+StepsStand disk old [] [] new = new ≡ old
+StepsStand {D} disk old (step ∷ steps) (reply ∷ replies) new =
+    (mid : Whole (LogDiskValue D)) × StepStands disk old step reply mid × StepsStand disk mid steps replies new
+StepsStand disk old steps replies new = ⊥
