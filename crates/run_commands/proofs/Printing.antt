@@ -1,8 +1,10 @@
 -- What a printer that was told the replies of a run has printed.
 use Rattle.std.proofs.Common.{◌≡◌, inl, inr, ℕ, ◌+◌, ◌<◌, ◌^◌, List, [], ◌∷◌, length, Option, Some, None}
-use Rattle.std.proofs.Common.{refl, sym, ◌∙◌, ap, subst, arith}
+use Rattle.std.proofs.Common.{Result, IfOk, take, refl, sym, ◌∙◌, ap, subst, arith}
+use Rattle.std.proofs.lemmas.Result.{IfOk-weaker}
 use Rattle.std.specs.List.{flat_map}
 use Rattle.machine.specs.declared.act.Reply.{Reply}
+use Rattle.machine.specs.declared.act.Step.{Step}
 use Rattle.engine.specs.Listening.{HasHeard, HasListened}
 use Rattle.command_parts.proofs.Public.{appends_none, appends_both}
 use Rattle.run_commands.specs.declared.printer.Printer.{Printer}
@@ -55,3 +57,19 @@ module _ {W : Type 0} (contents : W → Option (List ℕ)) where
         printed = printed_of old stopped.earlier stopped.before stopped.heard;
         failed = stopped.stopped;
       })
+
+-- the replies of a run that a printer was told are printed
+pub printed_run : {W D E : Type 0} (contents : W → Option (List ℕ)) (old new : Printer W) (slice steps : List Step)
+    (result : Result D E) (Ran : List Step → List Reply → D → Type 0) → slice ≡ steps
+    → IfOk result (λ after. (replies : List Reply) × HasListened (Prints contents) (length slice) old replies new
+    × Ran (take (length replies) slice) replies after)
+    → IfOk result (λ after. (replies : List Reply) × ArePrintedOf contents (length steps) old replies new
+    × Ran (take (length replies) steps) replies after)
+printed_run {D = D} contents old new slice steps result Ran same ran =
+    let Told : List Step → D → Type 0 = λ made after. (replies : List Reply)
+    × HasListened (Prints contents) (length made) old replies new × Ran (take (length replies) made) replies after in
+    let Printed : D → Type 0 = λ after. (replies : List Reply) × ArePrintedOf contents (length steps) old replies new
+    × Ran (take (length replies) steps) replies after in
+    IfOk-weaker result (Told steps) Printed
+    (λ after told. (told.0, printed_of_run contents (length steps) old told.0 new told.1, told.2))
+    (subst (λ (made : List Step). IfOk result (Told made)) same ran)

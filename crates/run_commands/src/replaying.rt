@@ -6,7 +6,7 @@ ghost use Rattle.engine.specs.Engine.{HasNotStarted, HasRun};
 ghost use Rattle.run_commands.specs.inside.Replay.{is_text, texts_of, verdict_by, IsVerdict, Compares};
 
 use command_line::Scripted;
-use command_parts::{Failure, is_failure, refused_to_run};
+use command_parts::{Failure, NotBooted, is_failure, refused_to_run, show_log};
 use device::{Device, OverlayDisk};
 use engine::Listener;
 use machine::{Reply, Step};
@@ -17,7 +17,7 @@ use std::fs::File;
 use std::io;
 use std::rt::Files;
 use traces::{Line, Trace, TraceFault};
-use volume_files::{Access, SyncNote, open_disk, place, read_file};
+use volume_files::{Access, SyncNote, has_log, open_disk, place, read_file};
 
 /// What is said of a trace that was run again.
 #[derive(Clone, Copy, Debug, PartialEq, Eq)]
@@ -178,13 +178,81 @@ pub fn replay<'a, R: Files<File = File> + AllocGlobal, A: Allocator + Copy, W: i
     let place = place(rt, asked.disk)?;
     let disk = open_disk(rt, asked.disk, &place, Access::Read, asked.trust, note)?;
     let copy = OverlayDisk::new(alloc, disk);
-    match replay_on(rt.alloc(), alloc, copy, &lines, &steps) {
-        Ok((replayed, copy)) => said(asked.script, replayed, copy.was_refused_memory(), out),
-        Err((Refusal::Device, copy)) if copy.was_refused_memory() => Err(Failure::Memory(
-            AllocError,
-        )),
-        Err((refusal, mut copy)) => {
-            Err(refused_to_run(alloc, refusal, &mut copy, lines.shape).of_file(asked.disk))
+    let (ended, copy) = replay_on_any(rt.alloc(), alloc, copy, &lines, &steps);
+    let is_refused_memory = copy.was_refused_memory();
+    match ended {
+        Ok(replayed) => said(asked.script, replayed, is_refused_memory, out),
+        Err(cause) => Err(not_replayed(asked.disk, cause, is_refused_memory)),
+    }
+}
+
+// Why a trace wasn't run again on a copy of the volume in a file, whose calls also fail if memory is refused.
+fn not_replayed<'a>(path: &'a str, cause: NotBooted<'a>, is_refused_memory: bool) -> Failure<'a> {
+    match cause {
+        NotBooted::Disk(refused) if is_refused_memory && refused.refusal == Refusal::Device => {
+            Failure::Memory(AllocError)
+        }
+        _ => cause.of_file(path),
+    }
+}
+
+// Runs a trace again on the volume of a device, with journals or with a log, and hands the device back.
+fn replay_on_any<'a, D: Device, A: Allocator + Copy>(
+    global: Global,
+    alloc: A,
+    mut device: D,
+    trace: &Trace<A>,
+    steps: &[Step],
+) -> (Result<Replayed, NotBooted<'a>>, D)
+    requires { steps.now ≡ map (λ line. line.step) trace.now.entries.items }
+{
+    match has_log(&mut device) {
+        Ok(false) => replayed_on(global, alloc, device, trace, steps),
+        Ok(true) => replay_on_log(global, alloc, device, trace, steps),
+        Err(refusal) => {
+            let cause = refused_to_run(alloc, refusal, &mut device, trace.shape);
+            (Err(cause), device)
+        }
+    }
+}
+
+// Runs a trace again on the volume with a log of a device, and hands the device back.
+fn replay_on_log<'a, D: Device, A: Allocator + Copy>(
+    global: Global,
+    alloc: A,
+    device: D,
+    trace: &Trace<A>,
+    steps: &[Step],
+) -> (Result<Replayed, NotBooted<'a>>, D)
+    requires { steps.now ≡ map (λ line. line.step) trace.now.entries.items }
+{
+    match show_log(alloc, device) {
+        Ok(disk) => {
+            let (ended, disk) = replayed_on(global, alloc, disk, trace, steps);
+            (ended, disk.into_device())
+        }
+        Err((cause, device)) => (Err(cause), device),
+    }
+}
+
+// Runs a trace again on the volume with journals of a device, and hands the device back.
+fn replayed_on<'a, D: Device, A: Allocator + Copy>(
+    global: Global,
+    alloc: A,
+    device: D,
+    trace: &Trace<A>,
+    steps: &[Step],
+) -> (Result<Replayed, NotBooted<'a>>, D)
+    requires { steps.now ≡ map (λ line. line.step) trace.now.entries.items }
+    ensures { IfOk result.0 (λ replayed. (replies : List Reply)
+        × HasRun D.Device device trace.now.shape (take (length replies) steps.now) replies result.1
+        × IfSome replayed.verdict (IsVerdict (texts_of trace.now.entries.items) replies)) }
+{
+    match replay_on(global, alloc, device, trace, steps) {
+        Ok((replayed, device)) => (Ok(replayed), device),
+        Err((refusal, mut device)) => {
+            let cause = refused_to_run(alloc, refusal, &mut device, trace.shape);
+            (Err(cause), device)
         }
     }
 }

@@ -1,16 +1,24 @@
 // Running a script on the volume in a file.
-ghost use Rattle.std.specs.Prelude.{◌↔◌, IsOk, IfErr, IsNone, IfSome};
+ghost use Rattle.std.specs.Prelude.{◌≡◌, ◌↔◌, List, length, take, IsOk, IsErr, IfErr, IsNone, IfSome};
+ghost use Rattle.machine.specs.declared.act.Reply.{Reply};
+ghost use Rattle.engine.specs.Engine.{HasRun};
+ghost use Rattle.log_engine.specs.Runs.{HasRunOnLog};
+ghost use Rattle.run_commands.specs.Replies.{ArePrintedOf};
 ghost use Rattle.run_commands.specs.inside.Failure.{IsFailedStep};
 
 use crate::printer::Printer;
-use crate::scripted::run_script;
+use crate::scripted::{run_script, run_script_on_log};
 use command_line::Scripted;
-use command_parts::{Failure, read_script, refused_to_run};
+use command_parts::{Failure, NotBooted, read_script, refused_to_run, show_log};
+use device::Device;
+use machine::Shape;
+use page_entry::Refusal;
+use scripts::Script;
 use std::alloc::Allocator;
 use std::fs::File;
 use std::io;
 use std::rt::Files;
-use volume_files::{SyncNote, open_to_write, place};
+use volume_files::{SyncNote, has_log, open_to_write, place, refused_to_read};
 
 /// Runs a script on the volume in a file, and prints the reply of each step before the next one is made. The script is
 /// read whole before the disk is opened. `note` gets what is to be said of syncs that failed.
@@ -25,15 +33,89 @@ pub fn run<'a, R: Files<File = File> + AllocGlobal, A: Allocator + Copy, W: io::
     let place = place(rt, asked.disk)?;
     let disk = open_to_write(rt, asked.disk, &place, asked.trust, note)?;
     let mut printer = Printer::new(out);
-    match run_script(alloc, disk, &steps, &mut printer) {
-        Ok(disk) => {
-            *note = disk.into_file().into_note();
-            outcome(asked.script, printer)
+    let (booted, disk) = run_on_any(alloc, disk, &steps, &mut printer);
+    *note = disk.into_file().into_note();
+    match booted {
+        Ok(()) => outcome(asked.script, printer),
+        Err(cause) => Err(cause.of_file(asked.disk)),
+    }
+}
+
+// Runs a script on the volume of a device, with journals or with a log, and hands the device back.
+fn run_on_any<'a, D: Device, A: Allocator + Copy, W: io::Write + Drop>(
+    alloc: A,
+    mut device: D,
+    script: &Script<A>,
+    printer: &mut Printer<W>,
+) -> (Result<(), NotBooted<'a>>, D) {
+    match has_log(&mut device) {
+        Ok(false) => run_on(alloc, device, script, printer),
+        Ok(true) => run_on_log(alloc, device, script, printer),
+        Err(refusal) => {
+            let cause = refused_to_run(alloc, refusal, &mut device, script.shape);
+            (Err(cause), device)
         }
-        Err((refusal, mut disk)) => {
-            let cause = refused_to_run(alloc, refusal, &mut disk, steps.shape);
-            *note = disk.into_file().into_note();
-            Err(cause.of_file(asked.disk))
+    }
+}
+
+// Runs a script on the volume with a log of a device, and hands the device back.
+fn run_on_log<'a, D: Device, A: Allocator + Copy, W: io::Write + Drop>(
+    alloc: A,
+    device: D,
+    script: &Script<A>,
+    printer: &mut Printer<W>,
+) -> (Result<(), NotBooted<'a>>, D)
+    ensures ran { IsOk result.0 → (replies : List Reply)
+        × ArePrintedOf W.contents (length script.now.steps.items) printer.old replies printer.new
+        × HasRunOnLog D.Device device script.now.shape (take (length replies) script.now.steps.items) replies result.1 }
+    ensures refused { IsErr result.0 → printer.new ≡ printer.old }
+{
+    match run_script_on_log(alloc, device, script, printer) {
+        Ok(device) => (Ok(()), device),
+        Err((refusal, device)) => {
+            let (cause, device) = refused_on_log(alloc, refusal, device, script.shape);
+            (Err(cause), device)
+        }
+    }
+}
+
+// Why a script wasn't run on the volume with a log of a device. The disk that shows the volume has a shape's limits.
+fn refused_on_log<'a, D: Device, A: Allocator + Copy>(
+    alloc: A,
+    refusal: Refusal,
+    mut device: D,
+    shape: Shape,
+) -> (NotBooted<'a>, D) {
+    if refusal != Refusal::BadShape {
+        let cause = NotBooted::Disk(refused_to_read(alloc, refusal, &mut device));
+        return (cause, device);
+    }
+    match show_log(alloc, device) {
+        Ok(mut disk) => {
+            let cause = refused_to_run(alloc, refusal, &mut disk, shape);
+            (cause, disk.into_device())
+        }
+        Err(refused) => refused,
+    }
+}
+
+// Runs a script on the volume with journals of a device, and hands the device back.
+fn run_on<'a, D: Device, A: Allocator + Copy, W: io::Write + Drop>(
+    alloc: A,
+    device: D,
+    script: &Script<A>,
+    printer: &mut Printer<W>,
+) -> (Result<(), NotBooted<'a>>, D)
+    ensures ran { IsOk result.0 → (replies : List Reply)
+        × ArePrintedOf W.contents (length script.now.steps.items) printer.old replies printer.new
+        × HasRun D.Device device script.now.shape (take (length replies) script.now.steps.items) replies result.1 }
+    ensures refused { IsErr result.0 → printer.new ≡ printer.old }
+{
+    match run_script(alloc, device, script, printer) {
+        Ok(device) => (Ok(()), device),
+        Err((refusal, mut device)) => {
+            let cause = refused_to_run(alloc, refusal, &mut device, script.shape);
+            (Err(cause), device)
         }
     }
 }

@@ -2,6 +2,7 @@
 ghost use Rattle.std.specs.Prelude.{◌≡◌, List, length, take, IfOk, IfErr};
 ghost use Rattle.machine.specs.declared.act.Reply.{Reply};
 ghost use Rattle.engine.specs.Engine.{HasNotStarted, HasRun, KeepsDevice, handed_back};
+ghost use Rattle.log_engine.specs.Runs.{HasNotRunOnLog, HasRunOnLog};
 ghost use Rattle.run_commands.specs.Replies.{ArePrintedOf};
 
 use crate::printer::Printer;
@@ -27,4 +28,20 @@ pub fn run_script<D: Device, A: Allocator + Copy, W: Write + Drop>(
     ensures kept { KeepsDevice D.Device device (handed_back result) }
 {
     engine::run(alloc, device, script.shape, &script.steps, printer)
+}
+
+/// The same on a volume with a log.
+pub fn run_script_on_log<D: Device, A: Allocator + Copy, W: Write + Drop>(
+    alloc: A,
+    device: D,
+    script: &Script<A>,
+    printer: &mut Printer<W>,
+) -> Result<D, (Refusal, D)>
+    ensures ran { IfOk result (λ after. (replies : List Reply)
+        × ArePrintedOf W.contents (length script.now.steps.items) printer.old replies printer.new
+        × HasRunOnLog D.Device device script.now.shape (take (length replies) script.now.steps.items) replies after) }
+    ensures refused { IfErr result (λ refused. HasNotRunOnLog D.Device device script.now.shape refused.1 refused.0
+        × (printer.new ≡ printer.old)) }
+{
+    log_engine::run(alloc, device, script.shape, &script.steps, printer)
 }

@@ -6,7 +6,7 @@ ghost use Rattle.std.specs.List.{flat_map};
 ghost use Rattle.session.specs.Ranges.{MakesStepsThat};
 ghost use Rattle.serve_command.specs.inside.Greeting.{file_text, greeting_text, ListsAndAnswers};
 
-use command_parts::{Failure, refused_to_run};
+use command_parts::{Failure, NotBooted, refused_to_run, show_log};
 use device::Device;
 use machine::Shape;
 use scripts::ScriptFault;
@@ -16,7 +16,7 @@ use std::fs::File;
 use std::io;
 use std::io::{BufRead, BufReader};
 use std::rt::Files;
-use volume_files::{SyncNote, open_to_write, place};
+use volume_files::{SyncNote, has_log, open_to_write, place};
 
 /// The name of the input in what is said of its first line.
 const INPUT: &str = "-";
@@ -39,17 +39,95 @@ pub fn serve<'a, R: Files<File = File> + Input + AllocGlobal, A: Allocator + Cop
     let shape = first_line(rt, alloc, &mut input)?;
     let place = place(rt, path)?;
     let disk = open_to_write(rt, path, &place, trust, note)?;
-    match start(alloc, disk, shape) {
-        Ok(mut session) => {
-            let served = serve_session(rt.alloc(), alloc, &mut session, &mut input, out);
-            let failed = session.notes().has_failed;
-            *note = session.into_device().into_file().into_note();
-            outcome(path, served, failed)
+    let (served, disk) = serve_any(rt.alloc(), alloc, disk, shape, &mut input, out);
+    *note = disk.into_file().into_note();
+    match served {
+        Ok(served) => outcome(path, served),
+        Err(cause) => Err(cause.of_file(path)),
+    }
+}
+
+/// How a session ended.
+struct Served {
+    /// Whether it answered all requests of the input.
+    ended: Result<(), SessionFault>,
+    /// Whether a step was answered that the device failed.
+    has_failed: bool,
+}
+
+// Answers the requests on the volume of a device, with journals or with a log, and hands the device back.
+fn serve_any<'a, D, A, I, W>(
+    global: Global,
+    alloc: A,
+    mut device: D,
+    shape: Shape,
+    input: &mut I,
+    out: &mut W,
+) -> (Result<Served, NotBooted<'a>>, D)
+where
+    D: Device,
+    A: Allocator + Copy,
+    I: BufRead,
+    W: io::Write,
+{
+    match has_log(&mut device) {
+        Ok(false) => serve_disk(global, alloc, device, shape, input, out),
+        Ok(true) => serve_log(global, alloc, device, shape, input, out),
+        Err(refusal) => {
+            let cause = refused_to_run(alloc, refusal, &mut device, shape);
+            (Err(cause), device)
         }
-        Err((refusal, mut disk)) => {
-            let cause = refused_to_run(alloc, refusal, &mut disk, shape);
-            *note = disk.into_file().into_note();
-            Err(cause.of_file(path))
+    }
+}
+
+// Answers the requests on the volume with a log of a device, and hands the device back.
+fn serve_log<'a, D, A, I, W>(
+    global: Global,
+    alloc: A,
+    device: D,
+    shape: Shape,
+    input: &mut I,
+    out: &mut W,
+) -> (Result<Served, NotBooted<'a>>, D)
+where
+    D: Device,
+    A: Allocator + Copy,
+    I: BufRead,
+    W: io::Write,
+{
+    match show_log(alloc, device) {
+        Ok(disk) => {
+            let (served, disk) = serve_disk(global, alloc, disk, shape, input, out);
+            (served, disk.into_device())
+        }
+        Err((cause, device)) => (Err(cause), device),
+    }
+}
+
+// Answers the requests on the volume with journals of a device, and hands the device back.
+fn serve_disk<'a, D, A, I, W>(
+    global: Global,
+    alloc: A,
+    device: D,
+    shape: Shape,
+    input: &mut I,
+    out: &mut W,
+) -> (Result<Served, NotBooted<'a>>, D)
+where
+    D: Device,
+    A: Allocator + Copy,
+    I: BufRead,
+    W: io::Write,
+{
+    match start(alloc, device, shape) {
+        Ok(mut session) => {
+            let ended = serve_session(global, alloc, &mut session, input, out);
+            let has_failed = session.notes().has_failed;
+            (Ok(Served { ended, has_failed }), session.into_device())
+        }
+        Err((refusal, mut device)) => {
+            let cause = refused_to_run(alloc, refusal, &mut device, shape);
+            (Err(cause), device)
         }
     }
 }
@@ -137,13 +215,10 @@ fn write_file<A: Allocator + Copy, W: io::Write>(file: &FileLine<A>, out: &mut W
 }
 
 // How a session ended: before its input did, or with a step that was answered that the device failed, or neither.
-fn outcome<'a>(
-    path: &'a str,
-    served: Result<(), SessionFault>,
-    failed: bool,
-) -> Result<(), Failure<'a>> {
-    match served {
-        Ok(()) if failed => Err(Failure::Session { path }),
+fn outcome(path: &str, served: Served) -> Result<(), Failure<'_>> {
+    let Served { ended, has_failed } = served;
+    match ended {
+        Ok(()) if has_failed => Err(Failure::Session { path }),
         Ok(()) => Ok(()),
         Err(SessionFault::Input(cause)) => Err(Failure::Input(cause)),
         Err(SessionFault::Output(cause)) => Err(Failure::Output(cause)),

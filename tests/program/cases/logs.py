@@ -1,11 +1,14 @@
-"""Volumes with a log, in layouts 5 and 6: made, looked at, and refused by the commands that don't serve them."""
+"""Volumes with a log, in layouts 5 and 6: made, looked at, run on, and refused by commands that don't serve them."""
 
 import subprocess
 
 from files.program import PROGRAM, Outcome, bytes_of, write
 from lib.xxh64 import xxh64
 from cases.images import change_file, changed, made_of
-from cases.trial import agree, complained, complains, holds, leaves, prints, shows, words_of, write_bytes
+from cases.runs import BEGIN, COMMIT, GROWN, GROWS, REPLIES, STORE, STORED_BYTES
+from cases.trial import (
+    agree, complained, complains, ended_so, holds, leaves, prints, run, shows, words_of, write_bytes,
+)
 
 # What isn't zero in a volume of layout 5 of the files `a` of 5,000 bytes, which may grow to 12,288, and `b` of 4,096,
 # with a log of 9 blocks. It has 18 blocks. The starts are in blocks 2 and 3, the log is in blocks 4 to 12, the lengths
@@ -148,15 +151,87 @@ REFUSALS = [
 
 NOT_SERVED = 'disk "log.img": notavolume: the volume is in layout 5 or 6, which this command doesn\'t serve\n'
 
-NO_STEPS = '{"cpus":1,"tlb":8,"frames":4,"copies":0,"steps":[]}'
-NO_PROGRAM = '{"cpus":1,"tlb":8,"frames":4,"copies":0,"trace":9,"steps":[],"programs":[[]]}'
-NO_ENTRY = '{"copies":0,"cpus":1,"frames":4,"tlb":8,"trace":9}\n'
+NO_STEPS = '{{"cpus":1,"tlb":8,"frames":{},"copies":0,"steps":[]}}'
 
 # Commands that don't serve these layouts.
-OTHERS = [
-    "run|log.img|log.json", "threads|log.img|threads.json", "replay|log.img|log.trace", "crashes|log.img|log.json",
-    "migrate|log.img|new.img|4",
-]
+OTHERS = ["crashes|log.img|log.json", "migrate|log.img|new.img|4"]
+
+# An opening of the volume writes start 1, in epoch 2, and the selector.
+OPENED = ((12_288, bytes([0, 0, 0, 0, 0, 0, 0, 1, 0, 0, 0, 0, 0, 0, 0, 2])), (4096, bytes([0xA7])))
+
+# Then a run commits 65 in the first page of `a`: the descriptor is in block 4, and its record in block 5.
+RUN = (
+    *OPENED,
+    (16_392, bytes([0, 0, 0, 0, 0, 0, 0, 1, 0, 0, 0, 1])),
+    (16_416, bytes([0, 0, 0, 14])),
+    (20_480, bytes([65])),
+)
+
+# The next opening writes this page home, start 0 in epoch 3, behind the commit, and the selector. Then a run commits 66
+# in the second page of `a`.
+RUN_AGAIN = (
+    *RUN,
+    (57_344, bytes([65])),
+    (8192, bytes([0, 0, 0, 0, 0, 0, 0, 2, 0, 0, 0, 0, 0, 0, 0, 3, 0, 0, 0, 2])),
+    (4096, bytes([0])),
+    (24_584, bytes([0, 0, 0, 0, 0, 0, 0, 2, 0, 0, 0, 1])),
+    (24_608, bytes([0, 0, 0, 15])),
+    (28_672, bytes([66])),
+)
+
+# A run sets the length of `a` to 9,000: a commit has the lengths and two pages.
+RUN_THAT_GROWS = (
+    *OPENED,
+    (16_392, bytes([0, 0, 0, 0, 0, 0, 0, 1, 0, 0, 0, 3])),
+    (16_416, bytes([0, 0, 0, 13, 0, 0, 0, 15, 0, 0, 0, 16])),
+    (20_480, bytes([0, 0, 0, 0, 0, 0, 0x23, 0x28, 0, 0, 0, 0, 0, 0, 0x10, 0])),
+)
+
+# The replies to `BEGIN`, a store, and its commit.
+BEGUN = "space 1\nmapped\nswitched\n"
+STORED = "fixed\nstored\n"
+COMMITTED = "begun\nmarked {0}\ngoing\ngoing\ngoing\ngoing\ncommitted {0}\ngoing\ngoing\ngoing\ndone {0}\n"
+
+STORES_BEHIND = (
+    ',[0,"fix",8192,"write"],[0,"store",8192,[66]],[0,"msync",8192,4096,4],[0,"change"]' + ',[0,"flush"]' * 9
+)
+
+RUN_DUMP = "a 5000\n000000000000 41 00 00 00 00 00 00 00 00 00 00 00 00 00 00 00\nb 4096\n"
+
+# The last of several commits has 69.
+LAST_DUMP = RUN_DUMP.replace(" 41 ", " 45 ")
+
+AGAIN_DUMP = """\
+a 5000
+000000000000 41 00 00 00 00 00 00 00 00 00 00 00 00 00 00 00
+000000001000 42 00 00 00 00 00 00 00 00 00 00 00 00 00 00 00
+b 4096
+"""
+
+# The lines of a session that stores a byte, commits it and loads it, and the answers.
+LINES = """\
+{"cpus":1,"tlb":8,"frames":4,"copies":0}
+[0,"create"]
+[0,"map",1,4096,12288,0,0,"rw","rw"]
+[0,"switch",1,"drop"]
+[0,"stores",4096,"41"]
+[0,"commit"]
+[0,"loads",4096,1]
+"""
+
+ANSWERS = "ready 2\na 5000\nb 4096\nspace 1\nmapped\nswitched\nstored 1\ncommitted 1\nloaded 41\n"
+
+PROGRAMS = (
+    '{"cpus":1,"tlb":8,"frames":4,"copies":0,"trace":100,"steps":[[0,"create"],'
+    '[0,"map",1,4096,12288,0,0,"rw","rw"],[0,"switch",1,"drop"]],'
+    '"programs":[[["store",4096,[65]],["msync",4096,4096,4]]]}'
+)
+
+# The volume in layout 4 that shows a log of 9 blocks has 7 record slots.
+TOO_MANY_FRAMES = (
+    'disk "log.img": badshape: frames is 7, and 1 to 6 are served, as the volume has 6 record slots and one for the '
+    "lengths\n"
+)
 
 
 def image_of_five(parts=(), changes=()):
@@ -295,23 +370,153 @@ def words_are_refused():
     yield from leaves()
 
 
+def sealed(image, commits):
+    """The image of layout 6 with the digests of these commits: of each its block, its blocks and its epoch."""
+    for block, blocks, epoch in commits:
+        image = sealed_by_digest(image, block, blocks, epoch)
+    return image
+
+
+def both_after(parts, commits):
+    """What a log that was `log.img` at first is to hold, in layout 5 and in layout 6."""
+    seals = tuple((4096 * block, bytes([0xA7])) for block, _, _ in commits)
+    yield image_of_five(), image_of_five((*parts, *seals))
+    yield image_of_six(), sealed(image_of_six(parts), commits)
+
+
+def a_script_runs_on_a_log():
+    """A commit of a run is one to the log. A run without `msync` leaves its opening alone."""
+    write("log.json", f"{BEGIN}{STORE}65{COMMIT}]}}")
+    write("lost.json", f"{BEGIN}{STORE}65]]]}}")
+    for fresh, after in both_after(OPENED, ()):
+        write_bytes("log.img", fresh)
+        yield from prints("run|log.img|lost.json", 0, BEGUN + STORED)
+        yield from holds("log.img", after)
+        yield from prints("dump|log.img", 0, NO_BYTES)
+        yield from prints("check|log.img", 0, "clean\n")
+    for fresh, after in both_after(RUN, ((4, 2, 2),)):
+        write_bytes("log.img", fresh)
+        yield from prints("run|log.img|log.json", 0, BEGUN + STORED + COMMITTED.format(1))
+        yield from holds("log.img", after)
+        yield from prints("dump|log.img", 0, RUN_DUMP)
+        yield from shows("info|log.img", "log: 1 commits in 2 blocks, epoch 2\n")
+        yield from prints("check|log.img", 1, "needs opening\n")
+        yield from prints("export|log.img|a|a.copy", 0, "exported 5000 bytes\n")
+        yield from holds("a.copy", changed(bytes(5000), [(0, 65)]))
+    yield from leaves("log.img", "log.json", "lost.json", "a.copy")
+
+
+def a_run_goes_on_from_the_one_before():
+    """The second run opens the volume that the first one left, and commits behind its commit."""
+    write("log.json", f"{BEGIN}{STORE}65{COMMIT}]}}")
+    write("again.json", f"{BEGIN}{STORES_BEHIND}]}}")
+    for fresh, after in both_after(RUN_AGAIN, ((4, 2, 2), (6, 2, 3))):
+        write_bytes("log.img", fresh)
+        yield from prints("run|log.img|log.json", 0, BEGUN + STORED + COMMITTED.format(1))
+        yield from prints("run|log.img|again.json", 0, BEGUN + STORED + COMMITTED.format(1))
+        yield from holds("log.img", after)
+        yield from prints("dump|log.img", 0, AGAIN_DUMP)
+        yield from shows("info|log.img", "log: 1 commits in 2 blocks, epoch 3\n")
+    yield from leaves("log.img", "log.json", "again.json")
+
+
+def a_file_of_a_log_grows():
+    """A new length is a record of the commit, with the pages at the old end."""
+    write("grows.json", BEGIN + GROWS)
+    for fresh, after in both_after(RUN_THAT_GROWS, ((4, 4, 2),)):
+        write_bytes("log.img", fresh)
+        yield from prints("run|log.img|grows.json", 0, GROWN)
+        yield from holds("log.img", after)
+        yield from prints("dump|log.img", 0, "a 9000\nb 4096\n")
+    yield from leaves("log.img", "grows.json")
+
+
+def commits_make_room_in_a_log():
+    """Commits that don't all fit into the log: five in a log of 9 blocks, and in one of 4."""
+    commits = "".join(f"{STORE}{byte}{COMMIT}" for byte in STORED_BYTES)
+    write("log.json", f'{BEGIN}{commits},[0,"flush"]]}}')
+    write("small.json", f'{BEGIN}{commits},[0,"flush"]]}}'.replace('"frames":3', '"frames":1'))
+    for image in (image_of_five(), image_of_six()):
+        write_bytes("log.img", image)
+        yield from prints("run|log.img|log.json", 0, REPLIES)
+        yield from prints("dump|log.img", 0, LAST_DUMP)
+    for layout in (5, 6):
+        yield from prints(f"format|--layout|{layout}|--log|4|log.img|a=5000/12288|b=4096", 0, "formatted 13 blocks\n")
+        yield from prints("run|log.img|small.json", 0, REPLIES)
+        yield from prints("dump|log.img", 0, LAST_DUMP)
+        yield from prints("run|log.img|small.json", 0, REPLIES)
+        yield from prints("dump|log.img", 0, LAST_DUMP)
+    yield from leaves("log.img", "log.json", "small.json")
+
+
+def a_session_is_served_on_a_log():
+    for fresh, after in both_after(RUN, ((4, 2, 2),)):
+        write_bytes("log.img", fresh)
+        yield from ended_so("serve|log.img", served("serve|log.img", LINES), 0, ANSWERS)
+        yield from holds("log.img", after)
+        yield from prints("dump|log.img", 0, RUN_DUMP)
+    yield from leaves("log.img")
+
+
+def a_trace_is_replayed_on_a_log():
+    """The trace of threads on a volume in layout 4 is that of one with a log, too, which is left as it is."""
+    write("threads.json", PROGRAMS)
+    yield from prints("format|--layout|4|four.img|7|a=5000/12288|b=4096", 0, "formatted 42 blocks\n")
+    ran = run("threads|four.img|threads.json")
+    yield from agree("threads", (0, ""), (ran.status, ran.err))
+    write("log.trace", ran.out)
+    for image in (image_of_five(), image_of_six()):
+        write_bytes("log.img", image)
+        yield from prints("replay|log.img|log.trace", 0, f"same {len(ran.out.splitlines()) - 1}\n")
+        yield from complains("threads|log.img|threads.json", 3, NOT_SERVED)
+        yield from holds("log.img", image)
+    yield from leaves("four.img", "log.img", "threads.json", "log.trace")
+
+
+def a_machine_fits_the_log():
+    """A machine over a log of 9 blocks has up to 6 frames. One that has more is refused once the volume is opened."""
+    write("fits.json", NO_STEPS.format(6))
+    write("log.json", NO_STEPS.format(7))
+    for fresh, after in both_after(OPENED, ()):
+        write_bytes("log.img", fresh)
+        yield from complains("run|log.img|log.json", 3, TOO_MANY_FRAMES)
+        yield from holds("log.img", after)
+        line = "serve|log.img"
+        yield from complained(line, served(line, '{"cpus":1,"tlb":8,"frames":7,"copies":0}\n'), 3, TOO_MANY_FRAMES)
+        yield from prints("run|log.img|fits.json", 0)
+        yield from prints("dump|log.img", 0, NO_BYTES)
+    yield from leaves("log.img", "log.json", "fits.json")
+
+
+def runs_on_a_spoilt_log_are_refused():
+    """Nothing is written to an image that no volume with a log has."""
+    write("log.json", NO_STEPS.format(4))
+    write("log.trace", '{"copies":0,"cpus":1,"frames":4,"tlb":8,"trace":9}\n')
+    for changes, cause in SPOILT_IMAGES:
+        image = image_of_five((), changes)
+        write_bytes("spoilt.img", image)
+        for line in ("run|spoilt.img|log.json", "replay|spoilt.img|log.trace"):
+            yield from complains(line, 3, f'disk "spoilt.img": {cause}\n')
+        ran = served("serve|spoilt.img", '{"cpus":1,"tlb":8,"frames":4,"copies":0}\n')
+        yield from complained("serve|spoilt.img", ran, 3, f'disk "spoilt.img": {cause}\n')
+        yield from holds("spoilt.img", image)
+    yield from leaves("spoilt.img", "log.json", "log.trace")
+
+
 def other_commands_refuse_a_log():
     """The commands that don't serve these layouts say so, and leave the file as it is."""
-    for name, text in (("log.json", NO_STEPS), ("threads.json", NO_PROGRAM), ("log.trace", NO_ENTRY)):
-        write(name, text)
+    write("log.json", NO_STEPS.format(4))
     for image in (image_of_five(SEALED), image_of_six()):
         write_bytes("log.img", image)
         for line in OTHERS:
             yield from complains(line, 3, NOT_SERVED)
-        yield from complained("serve|log.img", served("serve|log.img"), 3, NOT_SERVED)
         yield from holds("log.img", image)
-    yield from leaves("log.img", "log.json", "threads.json", "log.trace")
+    yield from leaves("log.img", "log.json")
 
 
-def served(line):
-    """A run with the shape of a machine as its input."""
-    ran = subprocess.run([PROGRAM, *words_of(line)], input='{"cpus":1,"tlb":8,"frames":4,"copies":0}\n',
-                         capture_output=True, text=True, timeout=120)
+def served(line, lines):
+    """A run with these lines as its input."""
+    ran = subprocess.run([PROGRAM, *words_of(line)], input=lines, capture_output=True, text=True, timeout=120)
     return Outcome(ran.returncode, ran.stdout, ran.stderr)
 
 
@@ -324,5 +529,13 @@ GROUPS = [
     a_file_of_a_log_is_copied,
     images_with_a_log_are_refused,
     words_are_refused,
+    a_script_runs_on_a_log,
+    a_run_goes_on_from_the_one_before,
+    a_file_of_a_log_grows,
+    commits_make_room_in_a_log,
+    a_session_is_served_on_a_log,
+    a_trace_is_replayed_on_a_log,
+    a_machine_fits_the_log,
+    runs_on_a_spoilt_log_are_refused,
     other_commands_refuse_a_log,
 ]

@@ -39,24 +39,21 @@ b 4096
 
 FOREIGN = "notavolume: the file doesn't begin with FAMSYNC1, FAMSYNC2, FAMSYNC3 or FAMSYNC4"
 
-HAS_LOG = "notavolume: the volume is in layout 5 or 6, which this command doesn't serve"
-
 SPOILT = "damaged: the super block breaks the format"
 
 SPOILT_JOURNAL = "damaged: the descriptor of an open journal breaks the format, or two journals have one mark"
 
-# What `dump` says in place of these. It serves layouts 5 and 6, too.
+# What `dump` says in place of this.
 OF_DUMP = {
     FOREIGN: "notavolume: the file doesn't begin with FAMSYNC1, FAMSYNC2, FAMSYNC3, FAMSYNC4, FAMSYNC5 or FAMSYNC6",
-    HAS_LOG: SPOILT,
 }
 
 # What is changed in the image of a volume, and the fault then.
 SPOILT_IMAGES = [
     ([(0, ord("G"))], FOREIGN),
     ([(7, ord("2"))], SPOILT),
-    ([(7, ord("5"))], HAS_LOG),
-    ([(7, ord("6"))], HAS_LOG),
+    ([(7, ord("5"))], SPOILT),
+    ([(7, ord("6"))], SPOILT),
     ([(7, ord("7"))], FOREIGN),
     # The count of files.
     ([(11, 0)], SPOILT),

@@ -1,0 +1,21 @@
+// The disk that shows a volume with a log.
+use crate::shape::NotBooted;
+use device::Device;
+use log_disk::LogDisk;
+use std::alloc::Allocator;
+use volume_files::refused_to_read;
+
+/// Opens the volume with a log on a device, and shows it as a disk in layout 4, on which a machine runs. A refusal says
+/// why, and hands the device back.
+pub fn show_log<'a, D: Device, A: Allocator + Copy>(
+    alloc: A,
+    device: D,
+) -> Result<LogDisk<D, A>, (NotBooted<'a>, D)> {
+    match LogDisk::open(alloc, device) {
+        Ok(disk) => Ok(disk),
+        Err((refusal, mut device)) => {
+            let cause = NotBooted::Disk(refused_to_read(alloc, refusal, &mut device));
+            Err((cause, device))
+        }
+    }
+}
