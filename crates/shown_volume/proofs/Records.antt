@@ -47,3 +47,8 @@ of_journal g j b low high = elim (cases_lt (b - descriptor_block g.slots j) (des
     omega (arith, low, ge),
   )
 ]
+
+pub journal_within : (g : GeometryValue) (j b : ℕ) → IsOfJournal g j b
+    → (descriptor_block g.slots j ≤ b) × (b < descriptor_block g.slots j + (descriptor_blocks g.slots + g.slots))
+journal_within g j b (inl at) = (omega (arith, at.2), omega (arith, at.1, at.2))
+journal_within g j b (inr at) = (omega (arith, at.2), omega (arith, at.1, at.2))

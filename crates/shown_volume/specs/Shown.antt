@@ -49,6 +49,10 @@ IsOfJournal g j b =
     ((i : ℕ) × (i < descriptor_blocks g.slots) × (b ≡ descriptor_block g.slots j + i))
     ⊎ ((i : ℕ) × (i < g.slots) × (b ≡ record_block g.slots j i))
 
+-- the block belongs to no journal's descriptor and to no record slot
+abbrev pub IsOfNoJournal : GeometryValue → ℕ → Type 0
+IsOfNoJournal g b = (j : ℕ) → j < journals_of g.layout → IsOfJournal g j b → ⊥
+
 -- Recovery doesn't read the block: it belongs to a journal that is closed, or it is a home block of which an open
 -- journal has a record.
 abbrev pub IsAdmitted : ShownValue → ℕ → Type 0

@@ -7,7 +7,7 @@ ghost use Rattle.volume_codec.specs.Layout.{GeometryValue, journals_of, gate_blo
 ghost use Rattle.volume_codec.specs.Recovery.{Batch, has_journal};
 ghost use Rattle.kept_blocks.specs.Blocks.{bytes_in};
 ghost use Rattle.journal.specs.WriteOut.{IsBatch};
-ghost use Rattle.shown_volume.specs.Shown.{HasHomeBlock, IsOfJournal};
+ghost use Rattle.shown_volume.specs.Shown.{HasHomeBlock, IsNoGate, IsOfJournal, IsOfNoJournal};
 
 use crate::opened::OpenJournal;
 use kept_blocks::Blocks;
@@ -78,33 +78,50 @@ impl<A: Allocator + Copy> ShownVolume<A> {
         has_record(&self.opened, home)
     }
 
-    /// The journal whose gate this block is.
+    /// The journal whose gate this block is, if it is one.
     pub fn journal_of_gate(&self, block: u32) -> Option<u32>
         ensures some { IfSome result (λ j. (j < journals_of self.now.geometry.layout)
             × (block ≡ gate_block self.now.geometry.slots j)) }
+        ensures none { IfNone result (IsNoGate self.now.geometry block) }
     {
         for journal in 0..self.geometry.journals() {
-            if self.geometry.gate_block(journal) == block {
+            let gate = self.geometry.gate_block(journal);
+            if gate == block {
                 return Some(journal);
             }
         }
         None
     }
 
-    /// The journal to whose descriptor or record slots a block belongs.
+    /// The journal to whose descriptor or record slots a block belongs, if there is one.
     pub fn journal_of(&self, block: u32) -> Option<u32>
         ensures some { IfSome result (λ j. (j < journals_of self.now.geometry.layout)
             × IsOfJournal self.now.geometry j block) }
+        ensures none { IfNone result (IsOfNoJournal self.now.geometry block) }
     {
         for journal in 0..self.geometry.journals() {
-            let first = self.geometry.descriptor_block(journal);
-            let count = self.geometry.descriptor_blocks() + self.geometry.slots();
-            if block >= first && block - first < count {
+            if is_of_journal(&self.geometry, journal, block) {
                 return Some(journal);
             }
         }
         None
     }
+}
+
+// Whether a block belongs to the descriptor or the record slots of a journal.
+fn is_of_journal(geometry: &Geometry, journal: u32, block: u32) -> bool
+    requires { journal < journals_of geometry.now.layout }
+    ensures { IsTrue result ↔ IsOfJournal geometry.now journal block }
+{
+    let first = geometry.descriptor_block(journal);
+    let count = geometry.descriptor_blocks() + geometry.slots();
+    if block < first {
+        return false;
+    }
+    if block - first >= count {
+        return false;
+    }
+    true
 }
 
 // Whether this journal is one of these.
