@@ -6,10 +6,12 @@ use Rattle.std.specs.Prelude.{slice_range}
 use Rattle.std.specs.List.{AllByRecursion}
 use Rattle.std.proofs.lemmas.Bool.{both_ways, eqb-true, or_cases}
 use Rattle.std.proofs.lemmas.List.{length-take, length-drop, get_or-take, get_or-drop, ext_get_or}
+use Rattle.device.specs.Memory.{seen_of}
 use Rattle.volume_codec.specs.Layout.{GeometryValue, gate_block, block_at, journals_of}
 use Rattle.volume_codec.specs.Super.{SuperValue, geometry_of}
 use Rattle.volume_codec.specs.Recovery.{Batch, IsOpen, IsOpenBatch, has_journal}
 use Rattle.shown_volume.specs.Shown.{ShownValue, HasShown}
+use Rattle.log_disk.specs.Disk.{LogDiskValue}
 
 open_of : (t : SuperValue) (bytes : List ℕ) (opened : List Batch) (j : ℕ)
     → AllByRecursion (IsOpenBatch (geometry_of t) bytes) opened → has_journal opened j ≡ true
@@ -53,3 +55,13 @@ closed_byte t shown bytes j h lt none =
     let P : GeometryValue → Type 0 = λ g. (j : ℕ) → j < journals_of g.layout → has_journal shown.opened j ≡ false
     → get_or bytes (4096 * gate_block g.slots j) 0 ≡ 0 in
     subst P h.geometry h.closed j lt none
+
+-- what a disk has at the gate block of a journal
+pub byte_there : {D : Type 0} {disk value : LogDiskValue D} {block byte : ℕ} (j : ℕ) → disk ≡ value
+    → block ≡ gate_block value.table.slots j
+    → get_or (seen_of disk.memory) (4096 * gate_block disk.table.slots j) 0 ≡ byte
+    → get_or (seen_of value.memory) (4096 * block) 0 ≡ byte
+byte_there {D} {disk} {value} {block} {byte} j view is there =
+    subst (λ (d : LogDiskValue D). get_or (seen_of d.memory) (4096 * block) 0 ≡ byte) view
+    (ap (λ b. get_or (seen_of disk.memory) (4096 * b) 0)
+    (is ∙ ap (λ (d : LogDiskValue D). gate_block d.table.slots j) (sym view)) ∙ there)

@@ -211,6 +211,12 @@ module _ {D : Type 0} (disk : Ghosts D)
         (since_now after.device) (kept.backed (honest h));
   }
 
+-- what is written ends within what the disk has
+pub write_fits : {D : Type 0} {disk value : LogDiskValue D} {n m : ℕ} (at : ℕ) → disk ≡ value
+    → at + m ≤ length (seen_of value.memory) → n ≡ m → at + n ≤ length (seen_of disk.memory)
+write_fits {D} at view fits same =
+    omega (arith, fits, same, ap (λ (d : LogDiskValue D). length (seen_of d.memory)) view)
+
 -- as the past tells it
 pub as_told : {D : Type 0} (disk : Ghosts D) (v : LogSuperValue) (t : SuperValue) (first : List ℕ)
     (changes : List DiskChange) (moments : List (ℕ × ℕ)) (pager : LogPagerValue D) (shown : ShownValue)

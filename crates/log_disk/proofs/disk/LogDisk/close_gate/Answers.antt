@@ -7,7 +7,7 @@ use Rattle.volume_codec.specs.Layout.{GeometryValue, gate_block}
 use Rattle.shown_volume.specs.Shown.{StaysShown}
 use Rattle.log_disk.specs.Disk.{LogDiskValue}
 use Rattle.log_disk.specs.inside.Keeping.{IsKeptDisk, changed}
-use Rattle.log_disk.proofs.Kept.{kept_write, as_told}
+use Rattle.log_disk.proofs.Kept.{kept_write, as_told, write_fits}
 use Rattle.log_disk.proofs.disk.LogDisk.close_gate.Goals as goal
 
 pub invariant_of-self-2 : goal.invariant_of-self-2
@@ -30,12 +30,7 @@ invariant_of-self-2 g c =
     (subst (λ n. StaysShown d.shown opened (λ s. written s n (0 ∷ []))) place
     (c.close.ensures.closed c.if-not-close.false)) in
     let fits : at + length bytes ≤ length (seen_of (changed d.past.first d.past.changes)) =
-    omega (
-      arith,
-      c.requires.fits,
-      ap length c.requires.byte,
-      ap (λ (d : LogDiskValue _). length (seen_of d.memory)) c.self.view_is,
-    ) in
+    write_fits at c.self.view_is c.requires.fits (ap length c.requires.byte) in
     as_told g.D.Device d.volume d.table d.past.first (write at bytes ∷ d.past.changes) d.past.moments d.pager opened
     d.failed false
     (length d.past.changes + 1) past.result.first past.result.changes past.result.moments c.device.result.now

@@ -8,7 +8,7 @@ use Rattle.log_codec.specs.Log.{first_log_home}
 use Rattle.log_disk.specs.Disk.{LogDiskValue}
 use Rattle.log_disk.specs.inside.Keeping.{IsKeptDisk, changed}
 use Rattle.log_disk.proofs.Gated.{kept_commit}
-use Rattle.log_disk.proofs.Kept.{as_told, err_not, writes_told}
+use Rattle.log_disk.proofs.Kept.{as_told, err_not, write_fits, writes_told}
 use Rattle.log_disk.proofs.disk.LogDisk.open_gate.Goals as goal
 
 pub invariant_of-self : goal.invariant_of-self
@@ -31,12 +31,7 @@ invariant_of-self g c =
     ∙ ap (λ (d : LogDiskValue _). 4096 * gate_block d.table.slots c.args.journal) c.self.view_is
     ∙ sym c.requires.at in
     let fits : at + length bytes ≤ length (seen_of (changed d.past.first d.past.changes)) =
-    omega (
-      arith,
-      c.requires.fits,
-      ap length c.requires.byte,
-      ap (λ (d : LogDiskValue _). length (seen_of d.memory)) c.self.view_is,
-    ) in
+    write_fits at c.self.view_is c.requires.fits (ap length c.requires.byte) in
     let low : c.firsts-firsts.result.shown ≡ first_home d.table.layout d.table.slots =
     c.firsts-firsts.ensures.shown
     ∙ ap (λ (d : LogDiskValue _). first_home d.table.layout d.table.slots) (sym c.self.view_is) in

@@ -1,11 +1,10 @@
-use Rattle.std.proofs.Common.{◌+◌, ◌≤◌, ◌∷◌, Bool, false, subst, sym, length, arith, ap}
+use Rattle.std.proofs.Common.{◌+◌, ◌≤◌, ◌∷◌, Bool, false, subst, sym, length, arith}
 use Rattle.device.specs.Device.{written}
 use Rattle.device.specs.Memory.{seen_of}
 use Rattle.device.specs.Memory.DiskChange.{write}
 use Rattle.shown_volume.specs.Shown.{StaysShown}
-use Rattle.log_disk.specs.Disk.{LogDiskValue}
 use Rattle.log_disk.specs.inside.Keeping.{IsKeptDisk, changed}
-use Rattle.log_disk.proofs.Kept.{kept_write, as_told}
+use Rattle.log_disk.proofs.Kept.{kept_write, as_told, write_fits}
 use Rattle.log_disk.proofs.disk.LogDisk.write_block.Goals as goal
 
 pub invariant_of-self-2 : goal.invariant_of-self-2
@@ -22,12 +21,7 @@ invariant_of-self-2 g c =
     subst (λ n. StaysShown d.shown c.write.new.self (λ s. written s n bytes)) (sym c.requires.at)
     c.in-Ok.ensures.stays in
     let fits : at + length bytes ≤ length (seen_of (changed d.past.first d.past.changes)) =
-    omega (
-      arith,
-      c.requires.fits,
-      c.told-bytes,
-      ap (λ (d : LogDiskValue _). length (seen_of d.memory)) c.self.view_is,
-    ) in
+    write_fits at c.self.view_is c.requires.fits c.told-bytes in
     as_told g.D.Device d.volume d.table d.past.first (write at bytes ∷ d.past.changes) d.past.moments d.pager
     c.write.new.self d.failed false
     (length d.past.changes + 1) past.result.first past.result.changes past.result.moments c.device.result.now
