@@ -1,7 +1,8 @@
 -- The disk over a volume with a log.
 use Rattle.std.specs.Prelude.{◌≡◌, ℕ, ◌+◌, ◌*◌, ◌≤◌, List, ◌∷◌}
 use Rattle.std.specs.List.{AllByRecursion}
-use Rattle.device.specs.Memory.{Recorded, left_since_of, moment_of}
+use Rattle.device.specs.declared.device.Device.{Ghosts}
+use Rattle.device.specs.Memory.{Recorded, left_since_of, may_leave_of, moment_of, seen_of}
 use Rattle.volume_codec.specs.Super.{SuperValue}
 use Rattle.log_codec.specs.declared.sealing.Sealing.TheVariants.{ByByte}
 use Rattle.log_volume.specs.Super.{LogSuperValue}
@@ -31,3 +32,16 @@ moment_in moment disk = joint_moment (moment_of disk.memory) (moment disk.device
 -- The disk is as honest as the device, where a byte seals commits. Where a digest does, nothing is promised of content.
 abbrev pub IsHonestLog : {D : Type 0} → (D → Type 0) → LogDiskValue D → Type 0
 IsHonestLog is_honest disk = is_honest disk.device × (disk.volume.sealing ≡ ByByte)
+
+-- the disk as a device, over a device
+abbrev pub shown_by : {D : Type 0} → Ghosts D → Ghosts (LogDiskValue D)
+shown_by disk = record {
+  seen = λ shown. seen_of shown.memory;
+  may_leave = λ shown. may_leave_of shown.memory;
+  moment = moment_in disk.moment;
+  left_since = left_at disk.moment;
+  calls_made = λ shown. shown.memory.calls;
+  faults_met = λ shown. shown.memory.faults;
+  carried = λ shown. 0;
+  is_honest = IsHonestLog disk.is_honest;
+}

@@ -41,6 +41,12 @@ pub record HasOpenedDisk {D : Type 0} (disk : Ghosts D) (old : D) (new : LogDisk
   pub next : LogStart
   pub opened : HasOpenedVolume disk old new.volume lengths next new.device
 
+-- a device was opened, and this disk shows its volume
+pub record HasShown {D : Type 0} (disk : Ghosts D) (before : D) (shown : LogDiskValue D) : Type 0 where
+  pub opened : disk.is_honest before → HasOpenedDisk disk before shown
+  pub fresh : shown ≡ opened_disk disk shown.volume shown.table shown.device
+  pub table : IsShownTable shown.volume shown.table
+
 -- how an opening ended, and the device that it leaves
 abbrev pub disk_result : {D : Type 0} → Result (LogDiskValue D) (Refusal × D) → Result (LogDiskValue D) Refusal
 disk_result (Ok disk) = Ok disk

@@ -7,8 +7,7 @@ use Rattle.machine.specs.declared.act.Reply.{Reply}
 use Rattle.machine.specs.declared.act.Step.{Step}
 use Rattle.machine.specs.Runs.{StepsTaken}
 use Rattle.machine.specs.State.{Whole}
-use Rattle.log_disk.specs.Disk.{LogDiskValue}
-use Rattle.log_engine.specs.Survival.{shown_by}
+use Rattle.log_disk.specs.Disk.{LogDiskValue, shown_by}
 use Rattle.log_engine.specs.inside.Standing.{Stands, StepsStand, StepStands}
 
 module _ {D : Type 0} (disk : Ghosts D) where

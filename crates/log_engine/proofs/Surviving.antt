@@ -25,9 +25,9 @@ use Rattle.engine.specs.Survival.{history_of}
 use Rattle.engine.proofs.Public.{begins, taken_kept}
 use Rattle.log_volume.specs.Files.{RecoversToLog}
 use Rattle.log_opening.specs.Volume.{LeftByOpeningVolume}
-use Rattle.log_disk.specs.Disk.{LogDiskValue, IsHonestLog, left_at, moment_in}
+use Rattle.log_disk.specs.Disk.{LogDiskValue, IsHonestLog, left_at, moment_in, shown_by}
 use Rattle.log_engine.specs.Openings.{FindsAfterLogCrash, FindsOnLog, KeepsOnLog}
-use Rattle.log_engine.specs.Survival.{BeforeOrWith, StepSurvivesOnLog, SurvivesOnLog, shown_by}
+use Rattle.log_engine.specs.Survival.{BeforeOrWith, StepSurvivesOnLog, SurvivesOnLog}
 use Rattle.log_engine.specs.inside.Standing.{Stands, StepsStand, StepStands}
 use Rattle.log_engine.proofs.Reopened.{ReadsBackOnLog}
 use Rattle.log_engine.proofs.Standing.{last_stands, stand_more, taken_of}

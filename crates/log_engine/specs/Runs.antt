@@ -11,16 +11,9 @@ use Rattle.machine.specs.State.{Whole}
 use Rattle.engine.specs.Engine.{HasStarted, HasNotStarted}
 use Rattle.log_codec.specs.declared.sealing.Sealing.TheVariants.{ByByte}
 use Rattle.log_volume.specs.Files.{RecoversToLog}
-use Rattle.log_disk.specs.Disk.{LogDiskValue}
-use Rattle.log_disk.specs.Opening.{HasOpenedDisk, RefusesDisk, opened_disk}
-use Rattle.log_disk.specs.Serving.{IsShownTable}
-use Rattle.log_engine.specs.Survival.{SurvivesOnLog, shown_by}
-
--- A volume with a log was opened as this disk: it shows the volume's files in layout 4.
-pub record IsShown {D : Type 0} (disk : Ghosts D) (before : D) (shown : LogDiskValue D) : Type 0 where
-  pub fresh : shown ≡ opened_disk disk shown.volume shown.table shown.device
-  pub table : IsShownTable shown.volume shown.table
-  pub opened : disk.is_honest before → HasOpenedDisk disk before shown
+use Rattle.log_disk.specs.Disk.{LogDiskValue, shown_by}
+use Rattle.log_disk.specs.Opening.{HasShown, RefusesDisk}
+use Rattle.log_engine.specs.Survival.{SurvivesOnLog}
 
 -- A run over the device of a volume with a log: a machine was started over the disk that shows it, and these steps were
 -- made and answered so.
@@ -29,7 +22,7 @@ pub record HasRunOnLog {D : Type 0} (disk : Ghosts D) (before : D) (shape : Shap
   pub shown : LogDiskValue D
   pub start : Whole (LogDiskValue D)
   pub last : Whole (LogDiskValue D)
-  pub is_shown : IsShown disk before shown
+  pub is_shown : HasShown disk before shown
   pub started : HasStarted (shown_by disk) shown shape start
   -- each reply by the rules, and the calls of the disk by each step
   pub made : StepsTaken (shown_by disk) start steps replies last
@@ -43,5 +36,5 @@ pub record HasRunOnLog {D : Type 0} (disk : Ghosts D) (before : D) (shape : Shap
 abbrev pub HasNotRunOnLog : {D : Type 0} → Ghosts D → D → Shape → D → Refusal → Type 0
 HasNotRunOnLog {D} disk before shape after refusal =
     (disk.is_honest before → RefusesDisk (disk.seen before) refusal)
-    ⊎ ((shown : LogDiskValue D) × IsShown disk before shown × (left : LogDiskValue D)
+    ⊎ ((shown : LogDiskValue D) × HasShown disk before shown × (left : LogDiskValue D)
     × HasNotStarted (shown_by disk) shown shape left refusal × (after ≡ left.device))

@@ -2,7 +2,6 @@
 -- steps and replies.
 use Rattle.std.specs.Prelude.{ℕ, ◌≡◌, ◌⊎◌, List}
 use Rattle.device.specs.declared.device.Device.{Ghosts}
-use Rattle.device.specs.Memory.{seen_of, may_leave_of}
 use Rattle.volume_codec.specs.Files.{File}
 use Rattle.history.specs.History.{Event}
 use Rattle.history.specs.Later.{AreDurable}
@@ -16,21 +15,8 @@ use Rattle.machine.specs.State.{Whole}
 use Rattle.machine.specs.Steps.{observed_first}
 use Rattle.engine.specs.Survival.{history_of}
 use Rattle.log_volume.specs.Files.{RecoversToLog}
-use Rattle.log_disk.specs.Disk.{LogDiskValue, IsHonestLog, left_at, moment_in}
+use Rattle.log_disk.specs.Disk.{LogDiskValue, shown_by}
 use Rattle.log_engine.specs.Openings.{FindsAfterLogCrash, FindsOnLog, KeepsOnLog}
-
--- the disk that shows a volume with a log, as a device
-abbrev pub shown_by : {D : Type 0} → Ghosts D → Ghosts (LogDiskValue D)
-shown_by disk = record {
-  seen = λ d. seen_of d.memory;
-  may_leave = λ d. may_leave_of d.memory;
-  moment = moment_in disk.moment;
-  left_since = left_at disk.moment;
-  calls_made = λ d. d.memory.calls;
-  faults_met = λ d. d.memory.faults;
-  carried = λ d. 0;
-  is_honest = IsHonestLog disk.is_honest;
-}
 
 -- the history before a step, or that with it
 abbrev pub BeforeOrWith : Observed → Step → Reply → List Event → Type 0

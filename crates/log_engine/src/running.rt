@@ -3,8 +3,7 @@ ghost use Rattle.std.specs.Prelude.{◌≡◌, List, length, take, IfOk, IfErr};
 ghost use Rattle.machine.specs.declared.act.Reply.{Reply};
 ghost use Rattle.engine.specs.Engine.{HasStarted, HasNotStarted};
 ghost use Rattle.engine.specs.Listening.{HasListened};
-ghost use Rattle.log_disk.specs.Disk.{LogDiskValue};
-ghost use Rattle.log_engine.specs.Survival.{shown_by};
+ghost use Rattle.log_disk.specs.Disk.{LogDiskValue, shown_by};
 ghost use Rattle.log_engine.specs.Runs.{HasRunOnLog, HasNotRunOnLog};
 ghost use Rattle.log_engine.specs.inside.Standing.{Stands, StepsStand, StepStands};
 

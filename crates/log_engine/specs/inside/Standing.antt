@@ -6,9 +6,8 @@ use Rattle.machine.specs.declared.act.Reply.{Reply}
 use Rattle.machine.specs.declared.act.Step.{Step}
 use Rattle.machine.specs.Runs.{StepTaken}
 use Rattle.machine.specs.State.{Whole}
-use Rattle.log_disk.specs.Disk.{LogDiskValue, IsHonestLog}
+use Rattle.log_disk.specs.Disk.{LogDiskValue, IsHonestLog, shown_by}
 use Rattle.log_disk.specs.Laws.{StandsForOne, StandsSince}
-use Rattle.log_engine.specs.Survival.{shown_by}
 
 -- what a crash leaves of the device, now and since any earlier state
 pub record Stands {D : Type 0} (disk : Ghosts D) (d : LogDiskValue D) : Type 0 where

@@ -6,9 +6,9 @@ use Rattle.engine.proofs.Public.{begins}
 use Rattle.machine.specs.Crashes.{Begins}
 use Rattle.log_codec.specs.declared.sealing.Sealing.TheVariants.{ByByte}
 use Rattle.log_volume.specs.Files.{RecoversToLog, log_files_in}
-use Rattle.log_disk.specs.Disk.{LogDiskValue, IsHonestLog}
-use Rattle.log_engine.specs.Runs.{IsShown}
-use Rattle.log_engine.specs.Survival.{SurvivesOnLog, shown_by}
+use Rattle.log_disk.specs.Disk.{LogDiskValue, IsHonestLog, shown_by}
+use Rattle.log_disk.specs.Opening.{HasShown}
+use Rattle.log_engine.specs.Survival.{SurvivesOnLog}
 use Rattle.log_engine.proofs.Reopened.{finds, found_after, keeps, one_files, opened_left}
 use Rattle.log_engine.proofs.Standing.{taken_of}
 use Rattle.log_engine.proofs.Surviving.{survive}
@@ -76,7 +76,7 @@ returns-in-Ok-boot-clause-ran g c =
 pub returns-in-Err-boot-clause-refused : goal.returns-in-Err-boot-clause-refused
 returns-in-Err-boot-clause-refused g c =
     let refused = c.in-Err-boot.ensures.refused in
-    let shown : IsShown g.D.Device c.args.device c.in-Ok.disk = record {
+    let shown : HasShown g.D.Device c.args.device c.in-Ok.disk = record {
       fresh = c.in-Ok.ensures.fresh;
       table = c.in-Ok.ensures.shown;
       opened = c.in-Ok.ensures.opened;
