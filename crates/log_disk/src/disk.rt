@@ -59,6 +59,33 @@ impl<D: Device, A: Allocator + Copy> Model for LogDisk<D, A> {
 }
 
 impl<D: Device, A: Allocator + Copy> LogDisk<D, A> {
+    /// The device of the volume.
+    pub fn device(&self) -> &D
+        ensures { result.now ≡ self.now.device }
+    {
+        self.pager.device()
+    }
+
+    /// The device of the volume, what its super block says, and what that of the disk says.
+    pub fn into_parts(self) -> (D, LogSuper<A>, Super<A>)
+        ensures device { result.0 ≡ self.device }
+        ensures volume { result.1 ≡ self.volume }
+        ensures table { result.2 ≡ self.table }
+    {
+        let LogDisk {
+            alloc: _,
+            volume,
+            table,
+            pager,
+            shown: _,
+            failed: _,
+            past: _,
+            calls: _,
+            faults: _,
+        } = self;
+        (pager.into_device(), volume, table)
+    }
+
     /// The device of the volume, as the calls left it.
     pub fn into_device(self) -> D
         ensures { result ≡ self.device }
