@@ -1,4 +1,5 @@
 pub mod Parts
+pub mod LogParts
 pub mod Calls
 pub mod Choices
 pub mod Held

@@ -5,6 +5,7 @@ use Rattle.volume_codec.specs.Layout.{first_home}
 use Rattle.volume_codec.specs.Super.{SuperValue, capacities_in, pages_of, first_home_of, block_count}
 use Rattle.crash_states.specs.declared.part.Part.{Part}
 use Rattle.crash_states.specs.declared.part.Part.TheVariants.{Super, Gate, Descriptor, Record, Home, Page, Outside}
+use Rattle.crash_states.specs.declared.part.Part.TheVariants.{Selector, Start, Log}
 
 -- the block is the home block of this page of this file
 pub record IsHomeOf (v : SuperValue) (file page block : ℕ) : Type 0 where
@@ -18,7 +19,7 @@ pub record IsOfNoFile (v : SuperValue) (block : ℕ) : Type 0 where
   pub high : block < block_count v
   pub none : (file page : ℕ) → IsHomeOf v file page block → ⊥
 
--- the block is this part of a volume with this table
+-- the block is this part of a volume with this table, which has journals
 abbrev pub IsPartOf : SuperValue → ℕ → Part → Type 0
 IsPartOf v block Super = block ≡ 0
 IsPartOf v block (Gate j) = (j < journals_of v.layout) × (block ≡ gate_block v.slots j)
@@ -28,3 +29,6 @@ IsPartOf v block (Record j i) = (j < journals_of v.layout) × (i < v.slots) × (
 IsPartOf v block (Home b) = (b ≡ block) × IsOfNoFile v block
 IsPartOf v block (Page file page) = IsHomeOf v file page block
 IsPartOf v block Outside = block_count v ≤ block
+IsPartOf v block Selector = ⊥
+IsPartOf v block (Start i) = ⊥
+IsPartOf v block (Log p) = ⊥

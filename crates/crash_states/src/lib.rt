@@ -2,14 +2,18 @@
 //! of a table of that.
 #![tactic(auto)]
 
+mod any_part;
 mod call;
 mod choice;
 mod crash_fault;
+mod log_part;
 mod part;
 mod row;
 
+pub use any_part::VolumePlaces;
 pub use call::{Call, CallKind, Listing, are_until};
 pub use choice::{Choice, Contents, MOST_MIXTURES};
 pub use crash_fault::CrashFault;
+pub use log_part::LogPlaces;
 pub use part::{Part, Places};
 pub use row::{Found, Row};

@@ -8,13 +8,19 @@ use page_entry::PAGE;
 use std::alloc::Allocator;
 use volume_codec::Super;
 
-/// A part of a volume. Journals and their record slots are counted from 0.
+/// A part of a volume. Journals, their record slots, starts and positions of a log are counted from 0.
 #[derive(Clone, Copy)]
 pub enum Part {
     Super,
     Gate(u32),
     Descriptor(u32),
     Record { journal: u32, slot: u32 },
+    /// What selects the start of a log that counts.
+    Selector,
+    /// A start of a log.
+    Start(u32),
+    /// The block at a position of a log.
+    Log(u32),
     /// A home block that is of no file.
     Home(u32),
     /// The home block of a file's page.
