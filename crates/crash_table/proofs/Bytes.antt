@@ -3,7 +3,7 @@ use Rattle.std.proofs.Common.{◌≡◌, ℕ, ◌+◌, List, [], ◌∷◌, refl
 use Rattle.volume_codec.specs.Files.{File}
 use Rattle.history.specs.History.{Event, Memory, bytes_of_pages, files_from_memory}
 use Rattle.history.specs.History.{files_after, memory_of, after, lengths_of, lengths_after}
-use Rattle.crash_table.specs.inside.Kept.{contents_of}
+use Rattle.crash_table.specs.Marks.{contents_of}
 
 same_from : (k : ℕ) (files : List File) (ns ms : List ℕ) (one other : Memory)
     → contents_of (files_from_memory k files ns one) ≡ contents_of (files_from_memory k files ms other)

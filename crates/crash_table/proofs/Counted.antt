@@ -9,13 +9,14 @@ use Rattle.machine.specs.declared.act.Reply.{Reply}
 use Rattle.machine.specs.declared.act.Step.{Step}
 use Rattle.machine.specs.Runs.{StepTaken, StepsTaken}
 use Rattle.machine.specs.State.{Whole}
-use Rattle.crash_table.specs.Calls.{StepsCounted, steps_before}
+use Rattle.crash_table.specs.Calls.{StepsCountedBy, steps_before}
 
-module _ {D : Type 0} (disk : Ghosts D) where
+module _ {D : Type 0} (disk : Ghosts D) (calls : D → ℕ) where
   counted_more : (old mid new : Whole D) (steps : List Step) (replies : List Reply) (counts : List ℕ) (step : Step)
-      (reply : Reply) (count : ℕ) → StepsCounted disk old steps replies counts mid → StepTaken disk mid step reply new
-      → disk.calls_made new.device ≡ count
-      → StepsCounted disk old (steps ++ step ∷ []) (replies ++ reply ∷ []) (counts ++ count ∷ []) new
+      (reply : Reply) (count : ℕ) → StepsCountedBy disk calls old steps replies counts mid
+      → StepTaken disk mid step reply new
+      → calls new.device ≡ count
+      → StepsCountedBy disk calls old (steps ++ step ∷ []) (replies ++ reply ∷ []) (counts ++ count ∷ []) new
   counted_more old mid new [] [] [] step reply count made this is =
       let P : Whole D → Type 0 = λ m. StepTaken disk m step reply new in
       (new, subst P made this, is, refl)
@@ -31,18 +32,19 @@ module _ {D : Type 0} (disk : Ghosts D) where
   -- the step at index i was made after those before it
   pub counted_next : (old mid new : Whole D) (steps : List Step) (i : ℕ) (step : Step) (replies : List Reply)
       (counts : List ℕ) (reply : Reply) (count : ℕ) → i < length steps → step ≡ get_or steps i step
-      → StepsCounted disk old (take i steps) replies counts mid → StepTaken disk mid step reply new
-      → disk.calls_made new.device ≡ count
-      → StepsCounted disk old (take (i + 1) steps) (replies ++ reply ∷ []) (counts ++ count ∷ []) new
+      → StepsCountedBy disk calls old (take i steps) replies counts mid → StepTaken disk mid step reply new
+      → calls new.device ≡ count
+      → StepsCountedBy disk calls old (take (i + 1) steps) (replies ++ reply ∷ []) (counts ++ count ∷ []) new
   counted_next old mid new steps i step replies counts reply count below at made this is =
-      let P : List Step → Type 0 = λ s. StepsCounted disk old s (replies ++ reply ∷ []) (counts ++ count ∷ []) new in
+      let P : List Step → Type 0 =
+      λ s. StepsCountedBy disk calls old s (replies ++ reply ∷ []) (counts ++ count ∷ []) new in
       let first : take (i + 1) steps ≡ take i steps ++ step ∷ [] =
       take_more steps i step below ∙ ap (λ s. take i steps ++ s ∷ []) (sym at) in
       subst P (sym first) (counted_more old mid new (take i steps) replies counts step reply count made this is)
 
   -- they are steps that were made
   pub counted_taken : (old new : Whole D) (steps : List Step) (replies : List Reply) (counts : List ℕ)
-      → StepsCounted disk old steps replies counts new → StepsTaken disk old steps replies new
+      → StepsCountedBy disk calls old steps replies counts new → StepsTaken disk old steps replies new
   counted_taken old new [] [] [] made = made
   counted_taken old new (x ∷ steps) (r ∷ replies) (n ∷ counts) (next, first, at, made) =
       (next, first, counted_taken next new steps replies counts made)

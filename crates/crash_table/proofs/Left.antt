@@ -22,7 +22,8 @@ use Rattle.engine.specs.Engine.{HasStarted}
 use Rattle.crash_table.specs.Calls.{listing_memory}
 use Rattle.crash_table.specs.Crashes.{history_of, HasEnded, IsUpTo, LeavesMark}
 use Rattle.crash_table.specs.declared.found.MarkFiles.{MarkFiles}
-use Rattle.crash_table.specs.inside.Kept.{contents_of, AreKept, IsNewest, HasKept}
+use Rattle.crash_table.specs.Marks.{contents_of, IsNewest}
+use Rattle.crash_table.specs.inside.Kept.{AreKept, HasKept}
 use Rattle.crash_table.proofs.Marks.{IsOneReading, ReadsBackLater}
 use Rattle.engine.proofs.Public.{taken_length}
 use Rattle.crash_table.proofs.Marks.{is_reached, observed_is}

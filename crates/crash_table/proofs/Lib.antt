@@ -8,3 +8,4 @@ pub mod Making
 pub mod Ended
 mod Contents
 pub mod Counted
+pub mod Public

@@ -27,7 +27,8 @@ use Rattle.machine.specs.Observed.{Observed, observe, observe_all, events_of}
 use Rattle.machine.proofs.Public.{taken_then}
 use Rattle.engine.specs.Engine.{HasStarted}
 use Rattle.engine.proofs.Public.{begins, taken_kept}
-use Rattle.crash_table.specs.inside.Kept.{up_to_mark, bytes_at, unmarked_after, flush_by, HasCommitted, IsAcknowledged}
+use Rattle.crash_table.specs.Marks.{up_to_mark, bytes_at}
+use Rattle.crash_table.specs.inside.Kept.{unmarked_after, flush_by, HasCommitted, IsAcknowledged}
 use Rattle.crash_table.proofs.Histories.{mark_at, up_to_begins, events_of_mark}
 use Rattle.crash_table.proofs.Making.{none_marked}
 use Rattle.crash_table.proofs.Histories.{events_of_commit, observe_then, unmarked_observed, nothing_in}

@@ -18,7 +18,8 @@ use Rattle.history.specs.Reading.{ReadsBack}
 use Rattle.machine.specs.Observed.{observe_all}
 use Rattle.crash_table.specs.Crashes.{history_of, IsAtMark}
 use Rattle.crash_table.specs.declared.found.MarkFiles.{MarkFiles}
-use Rattle.crash_table.specs.inside.Kept.{up_to_mark, bytes_at, contents_of, IsKept, AreKept, NoneFrom, IsNewest}
+use Rattle.crash_table.specs.Marks.{up_to_mark, bytes_at, contents_of, NoneFrom, IsNewest}
+use Rattle.crash_table.specs.inside.Kept.{IsKept, AreKept}
 use Rattle.crash_table.proofs.Histories.{up_to_begins}
 use Rattle.crash_table.proofs.Marks.{IsOneReading, ends_at_mark, no_later}
 use Rattle.crash_table.proofs.Bytes.{same_files}

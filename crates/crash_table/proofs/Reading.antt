@@ -6,7 +6,7 @@ use Rattle.device.specs.declared.device.Device.{Ghosts}
 use Rattle.volume_codec.specs.Files.{File}
 use Rattle.recovery.specs.Volume.{VolumeState, IsWellFormed, files_of, bytes_of}
 use Rattle.recovery.proofs.Public.{lengths_of_well_formed}
-use Rattle.crash_table.specs.inside.Kept.{contents_of}
+use Rattle.crash_table.specs.Marks.{contents_of}
 
 -- as many files as the table has
 pub as_many_files : {D : Type 0} (disk : Ghosts D) (volume : VolumeState D) → IsWellFormed disk volume

@@ -23,13 +23,18 @@ listing_memory = record {
   is_honest = λ disk. ⊤;
 }
 
--- these replies to these steps, with so many device calls in all after each of them
+-- these replies to these steps, with so many calls in all after each of them, as they are counted on the device
+abbrev pub StepsCountedBy : {D : Type 0} → Ghosts D → (D → ℕ) → Whole D → List Step → List Reply → List ℕ → Whole D
+    → Type 0
+StepsCountedBy disk calls old [] [] [] new = new ≡ old
+StepsCountedBy {D} disk calls old (step ∷ steps) (reply ∷ replies) (count ∷ counts) new =
+    (mid : Whole D) × StepTaken disk old step reply mid × (calls mid.device ≡ count)
+    × StepsCountedBy disk calls mid steps replies counts new
+StepsCountedBy disk calls old steps replies counts new = ⊥
+
+-- the same, with the calls of the device
 abbrev pub StepsCounted : {D : Type 0} → Ghosts D → Whole D → List Step → List Reply → List ℕ → Whole D → Type 0
-StepsCounted disk old [] [] [] new = new ≡ old
-StepsCounted {D} disk old (step ∷ steps) (reply ∷ replies) (count ∷ counts) new =
-    (mid : Whole D) × StepTaken disk old step reply mid × (disk.calls_made mid.device ≡ count)
-    × StepsCounted disk mid steps replies counts new
-StepsCounted disk old steps replies counts new = ⊥
+StepsCounted disk old steps replies counts new = StepsCountedBy disk disk.calls_made old steps replies counts new
 
 -- A run was made on a disk in memory that lists its calls: these were its replies, the numbers of calls after each, and
 -- all its calls, in order, with what they did, where, and what they wrote. None of them failed.

@@ -5,7 +5,8 @@ ghost use Rattle.machine.specs.declared.act.Shape.{Shape};
 ghost use Rattle.machine.specs.declared.act.Step.{Step};
 ghost use Rattle.volume_codec.specs.Files.{File};
 ghost use Rattle.volume_codec.specs.Recovery.{RecoversTo};
-ghost use Rattle.crash_table.specs.inside.Kept.{bytes_at, HasWrittenOut, IsKept, AreKept, IsNewest};
+ghost use Rattle.crash_table.specs.Marks.{bytes_at, IsNewest};
+ghost use Rattle.crash_table.specs.inside.Kept.{HasWrittenOut, IsKept, AreKept};
 
 use crate::files::{Files, are_same, fault_of, open_files};
 use crate::make::{acknowledge, make};

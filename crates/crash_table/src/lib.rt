@@ -2,6 +2,7 @@
 //! call and within it, and what a crash leaves then is opened. Each opening finds the files at a mark of the run.
 #![tactic(auto)]
 
+mod crashed_run;
 mod files;
 mod found;
 mod make;
@@ -9,5 +10,9 @@ mod row;
 mod same;
 mod trial;
 
+pub use crashed_run::CrashedRun;
+pub use files::{Files, are_same, fault_of};
+pub use make::run_on;
 pub use row::Rows;
-pub use trial::Trial;
+pub use same::are_same_replies;
+pub use trial::{Trial, calls_of, steps_before};

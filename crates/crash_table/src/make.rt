@@ -21,7 +21,7 @@ use std::alloc::{AllocError, Allocator};
 use volume_codec::{Geometry, one_reading};
 
 /// Makes steps one at a time, up to one that is answered that the device failed.
-pub fn make<D: Device, A: Allocator + Copy>(
+pub(crate) fn make<D: Device, A: Allocator + Copy>(
     alloc: A,
     machine: &mut Machine<D, A>,
     steps: &[Step],

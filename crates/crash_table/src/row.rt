@@ -2,44 +2,46 @@
 ghost use Rattle.std.specs.Prelude.{◌≡◌, ◌+◌, ◌<◌, ◌≤◌, true, false, length, map, Err, IfOk, IfErr, OnOk, Contains, alloc_error};
 ghost use Rattle.crash_states.specs.declared.choice.Choice.TheVariants as choices;
 ghost use Rattle.crash_states.specs.Choices.{content_before, content_within, left_by, choices_of};
-ghost use Rattle.crash_table.specs.Trials.{Leaves};
 ghost use Rattle.crash_table.specs.Rows.{IsRowOf, IsNext};
 ghost use Rattle.crash_states.specs.declared.row.Found.{Found};
 ghost use Rattle.crash_states.specs.Held.{content_of};
 
-use crate::trial::Trial;
+use crate::crashed_run::CrashedRun;
 use crash_states::{Choice, Contents, CrashFault, Found, Row};
 use std::alloc::{AllocError, Allocator};
 use std::marker::Model;
 
 /// The rows, one after the other. After an `Err` there is no further one.
 #[derive(Drop)]
-pub struct Rows<'a, A: Allocator + Copy> {
+pub struct Rows<'a, T: CrashedRun<A>, A: Allocator + Copy> {
     alloc: A,
-    trial: &'a Trial<'a, A>,
+    trial: &'a T,
     contents: Contents<A>,
     next: usize,
     // A row is begun that was not finished.
     begun: bool,
 }
 
-impl<'a, A: Allocator + Copy> Model for Rows<'a, A> {
+impl<'a, T: CrashedRun<A>, A: Allocator + Copy> Model for Rows<'a, T, A> {
     ghost use Rattle.std.specs.Prelude.{◌≡◌, false};
     ghost use Rattle.crash_states.specs.Choices.{content_before};
     ghost use Rattle.crash_table.specs.Rows.{RowsValue};
     ghost use Rattle.crash_states.specs.Held.{content_of};
+    ghost use Rattle.std.specs.Coded.{codes};
 
-    ghost Value = { RowsValue };
+    ghost Value = { RowsValue T };
+
+    ghost coded = { Prim.hlevel (codes, T.code) };
 
     ghost view = { λ r. record { trial = r.trial.now; next = r.next; failed = r.begun } };
 
     ghost invariant = { λ r. r.begun ≡ false
-        → content_of r.contents ≡ content_before r.trial.now.image r.trial.now.calls r.next };
+        → content_of r.contents ≡ content_before (T.bytes r.trial.now) (T.made r.trial.now) r.next };
 }
 
-impl<'a, A: Allocator + Copy> Rows<'a, A> {
+impl<'a, T: CrashedRun<A>, A: Allocator + Copy> Rows<'a, T, A> {
     /// The rows of a run. There is an `Err` only where memory was refused.
-    pub fn new(alloc: A, trial: &'a Trial<'a, A>) -> Result<Self, CrashFault>
+    pub fn new(alloc: A, trial: &'a T) -> Result<Self, CrashFault>
         ensures rows { IfOk result (λ rows. rows ≡ record { trial = trial.now; next = 0; failed = false }) }
         ensures memory { IfErr result (λ why. why ≡ CrashFault.Memory alloc_error) }
     {
@@ -55,13 +57,13 @@ impl<'a, A: Allocator + Copy> Rows<'a, A> {
         }
     }
 
-    /// The next row: one for each device call of the run, in their order, and one for its end. There is an `Err` where
-    /// memory was refused; after it there is no row: `Otherwise`.
+    /// The next row: one for each device call of the run, in their order, and one for its end. There is an `Err` for a
+    /// cause that the run states (`CrashedRun::cause`); after it there is no row: `Otherwise`.
     pub fn next(&mut self) -> Result<Option<Row<A>>, CrashFault>
-        ensures row { IfOk result (λ next. IsNext self.old next self.new) }
+        ensures row { IfOk result (λ next. IsNext T.bytes T.made T.leaves self.old next self.new) }
         ensures trial { self.new.trial ≡ self.old.trial }
-        ensures memory { self.old.failed ≡ false
-            → IfErr result (λ why. (why ≡ CrashFault.Memory alloc_error) × (self.new.failed ≡ true)) }
+        ensures cause { self.old.failed ≡ false
+            → IfErr result (λ why. T.may_fail self.old.trial why × (self.new.failed ≡ true)) }
         ensures otherwise { self.old.failed ≡ true → (result ≡ Err CrashFault.Otherwise) × (self.new ≡ self.old) }
     {
         let trial = self.trial;
@@ -73,7 +75,7 @@ impl<'a, A: Allocator + Copy> Rows<'a, A> {
         }
         self.begun = true;
         let Some(number) = self.next.checked_add(1) else {
-            return Err(CrashFault::Memory(AllocError));
+            return Err(trial.cause(CrashFault::Memory(AllocError)));
         };
         match make_row(self.alloc, trial, &mut self.contents, self.next) {
             Ok(row) => {
@@ -81,24 +83,23 @@ impl<'a, A: Allocator + Copy> Rows<'a, A> {
                 self.begun = false;
                 Ok(Some(row))
             }
-            // Each call lies within the disk, and so does what a crash leaves: only memory can have been refused.
-            Err(_) => Err(CrashFault::Memory(AllocError)),
+            Err(fault) => Err(trial.cause(fault)),
         }
     }
 }
 
 // The row of the call of this index, or of the run's end, which makes the call of a copy of the disk.
-fn make_row<A: Allocator + Copy>(
+fn make_row<T: CrashedRun<A>, A: Allocator + Copy>(
     alloc: A,
-    trial: &Trial<'_, A>,
+    trial: &T,
     contents: &mut Contents<A>,
     index: usize,
 ) -> Result<Row<A>, CrashFault>
-    requires { index ≤ length trial.now.calls }
-    ensures row { content_of contents.old ≡ content_before trial.now.image trial.now.calls index
-        → IfOk result (IsRowOf trial.now index) }
-    ensures after { content_of contents.old ≡ content_before trial.now.image trial.now.calls index
-        → OnOk result (content_of contents.new ≡ content_before trial.now.image trial.now.calls (index + 1)) }
+    requires { index ≤ length (T.made trial.now) }
+    ensures row { content_of contents.old ≡ content_before (T.bytes trial.now) (T.made trial.now) index
+        → IfOk result (IsRowOf (T.bytes trial.now) (T.made trial.now) (T.leaves trial.now) index) }
+    ensures after { content_of contents.old ≡ content_before (T.bytes trial.now) (T.made trial.now) index
+        → OnOk result (content_of contents.new ≡ content_before (T.bytes trial.now) (T.made trial.now) (index + 1)) }
 {
     match trial.calls().get(index) {
         Some(call) => {
@@ -112,15 +113,15 @@ fn make_row<A: Allocator + Copy>(
 }
 
 // The row of the call of this index, or of the run's end, where a copy of the disk holds this.
-fn row_of<A: Allocator + Copy>(
+fn row_of<T: CrashedRun<A>, A: Allocator + Copy>(
     alloc: A,
-    trial: &Trial<'_, A>,
+    trial: &T,
     contents: &Contents<A>,
     index: usize,
 ) -> Result<Row<A>, CrashFault>
-    requires { index ≤ length trial.now.calls }
-    ensures { content_of contents.now ≡ content_within trial.now.image trial.now.calls index
-        → IfOk result (IsRowOf trial.now index) }
+    requires { index ≤ length (T.made trial.now) }
+    ensures { content_of contents.now ≡ content_within (T.bytes trial.now) (T.made trial.now) index
+        → IfOk result (IsRowOf (T.bytes trial.now) (T.made trial.now) (T.leaves trial.now) index) }
 {
     let Some(number) = index.checked_add(1) else {
         return Err(CrashFault::Otherwise);
@@ -134,14 +135,14 @@ fn row_of<A: Allocator + Copy>(
 }
 
 // Each state that is tried of a crash within the call of this number.
-fn states<A: Allocator + Copy>(
+fn states<T: CrashedRun<A>, A: Allocator + Copy>(
     alloc: A,
-    trial: &Trial<'_, A>,
+    trial: &T,
     contents: &Contents<A>,
     number: u64,
 ) -> Result<Vec<Found, A>, CrashFault>
     ensures each { IfOk result (λ states. (found : Found) → Contains states.items found
-        → Leaves trial.now number (left_by found.choice (content_of contents.now)) found.mark) }
+        → T.leaves trial.now number (left_by found.choice (content_of contents.now)) found.mark) }
     ensures tried { IfOk result (λ states. map (λ f. f.choice) states.items
         ≡ choices_of (length (content_of contents.now).unsynced)) }
     ensures old { IfOk result (λ states. Contains (map (λ f. f.choice) states.items) choices.Old) }
@@ -158,14 +159,14 @@ fn states<A: Allocator + Copy>(
 }
 
 // The state that a choice leaves of a crash within the call of this number.
-fn state_of<A: Allocator + Copy>(
-    trial: &Trial<'_, A>,
+fn state_of<T: CrashedRun<A>, A: Allocator + Copy>(
+    trial: &T,
     contents: &Contents<A>,
     number: u64,
     choice: Choice,
 ) -> Result<Found, CrashFault>
     ensures leaves { IfOk result (λ found.
-        Leaves trial.now number (left_by found.choice (content_of contents.now)) found.mark) }
+        T.leaves trial.now number (left_by found.choice (content_of contents.now)) found.mark) }
     ensures named { IfOk result (λ found. found.choice ≡ choice) }
 {
     let bytes = contents.bytes_of(choice)?;

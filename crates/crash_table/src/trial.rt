@@ -1,5 +1,6 @@
 // A run, made once to learn its calls, its replies and the files at its marks, and again for each crash.
-ghost use Rattle.std.specs.Prelude.{◌≡◌, ◌≢◌, ◌↔◌, ◌<◌, ◌≤◌, false, IsTrue, List, length, slice_get, Some, Ok, Err};
+ghost use Rattle.std.specs.Prelude.{◌≡◌, ◌≢◌, ◌↔◌, ◌<◌, ◌≤◌, false, IsTrue, List, length, map, slice_get, Some};
+ghost use Rattle.std.specs.Prelude.{Ok, Err};
 ghost use Rattle.std.specs.Prelude.{IfOk, IfErr, OnOk, alloc_error};
 ghost use Rattle.device.specs.Memory.{new_disk, seen_of};
 ghost use Rattle.volume_codec.specs.Files.{File};
@@ -9,9 +10,11 @@ ghost use Rattle.engine.specs.Engine.{HasStarted};
 ghost use Rattle.machine.specs.declared.act.Shape.{Shape};
 ghost use Rattle.crash_states.specs.Calls.{ListedDisk, ListsItsCalls, device_calls_of, calls_until};
 ghost use Rattle.crash_table.specs.Calls.{AreMade, AreCallsOf, StepsCounted, listing_memory, steps_before};
+ghost use Rattle.crash_table.specs.Marks.{IsMarkOf};
 ghost use Rattle.crash_table.specs.Trials.{HasItsCalls, HasNoTrial, IsNotListed, cause_of, Leaves};
 ghost use Rattle.crash_table.specs.inside.Kept.{IsKept, AreKept};
 
+use crate::crashed_run::CrashedRun;
 use crate::files::{fault_of, open_files};
 use crate::found::{MarkFiles, Plan, files_at, newest};
 use crate::make::run_on;
@@ -97,62 +100,13 @@ impl<'a, A: Allocator + Copy> Trial<'a, A> {
         }
     }
 
-    /// The device calls of the run, in order. The first ones open the volume.
-    pub fn calls(&self) -> &[Call<A>]
-        ensures calls { device_calls_of result.now ≡ self.now.calls }
-        ensures run { HasItsCalls self.now }
+    /// The newest mark among those that these replies report whose files have these bytes; 0 if none has. `Otherwise`
+    /// if these replies, up to a mark that is looked at, aren't those of the run.
+    pub fn mark_of(&self, replies: &[Reply], found: &[Vec<u8, A>]) -> Result<u32, CrashFault>
+        ensures { IfOk result (IsMarkOf self.now replies.now (map (λ v. v.items) found.now)) }
     {
-        &self.listed.calls
-    }
-
-    /// How many device calls the run has.
-    pub fn call_count(&self) -> usize
-        ensures { result ≡ length self.now.calls }
-    {
-        self.listed.calls.len()
-    }
-
-    /// What the disk holds before the run.
-    pub fn image(&self) -> &'a [u8]
-        ensures { result.now ≡ self.now.image }
-    {
-        self.plan.image
-    }
-
-    /// The replies of the run.
-    pub fn replies(&self) -> &[Reply]
-        ensures { result.now ≡ self.now.replies }
-    {
-        &self.listed.replies
-    }
-
-    /// How many replies come before the device call of this number, counted from 1.
-    pub fn replies_before(&self, call: u64) -> usize
-        ensures { result ≡ steps_before self.now.counts call }
-    {
-        steps_before(&self.listed.counts, call)
-    }
-
-    /// The run is made again, and its device call of this number, counted from 1, fails; where there is none, no call
-    /// fails. Then a crash leaves these bytes in the places that were written and not synced, and what is left is
-    /// opened. The answer is the number of the newest mark whose files are found; 0: those before the run. The files
-    /// that are found are always those at a mark, and never older than the last one that was acknowledged. `Otherwise`
-    /// exactly where the choice isn't as long as the disk; and where memory was refused, `Memory` alone, also where a
-    /// run was answered otherwise of that.
-    pub fn crash(&self, fails: u64, choice: &[u8]) -> Result<u32, CrashFault>
-        ensures leaves { IfOk result (Leaves self.now fails choice.now) }
-        ensures otherwise { length choice.now ≢ length self.now.image → result ≡ Err CrashFault.Otherwise }
-        ensures memory { length choice.now ≡ length self.now.image
-            → IfErr result (λ why. why ≡ CrashFault.Memory alloc_error) }
-    {
-        if choice.len() != self.image().len() {
-            return Err(CrashFault::Otherwise);
-        }
-        match self.left(fails, choice) {
-            Ok(mark) => Ok(mark),
-            // A copy of the disk is opened, and each step answered, as the first time, unless memory is refused.
-            Err(_again) => Err(CrashFault::Memory(AllocError)),
-        }
+        one_reading();
+        newest(&self.marks, &self.listed.replies, replies, found)
     }
 
     // The same, with the cause for which there is no answer.
@@ -204,8 +158,81 @@ impl<'a, A: Allocator + Copy> Trial<'a, A> {
     }
 }
 
-// How many steps were answered before the device call of this number, by the numbers of calls after each step.
-fn steps_before(counts: &[u64], call: u64) -> usize
+impl<'a, A: Allocator + Copy> CrashedRun<A> for Trial<'a, A> {
+    ghost use Rattle.std.specs.Prelude.{◌≡◌, alloc_error};
+    ghost use Rattle.crash_states.specs.declared.crash_fault.CrashFault.TheVariants as faults;
+    ghost use Rattle.crash_table.specs.Trials.{Leaves};
+
+    ghost bytes = { λ trial. trial.image };
+
+    ghost made = { λ trial. trial.calls };
+
+    ghost replied = { λ trial. trial.replies };
+
+    ghost counted = { λ trial. trial.counts };
+
+    ghost leaves = { λ trial. Leaves trial };
+
+    ghost may_fail = { λ trial why. why ≡ faults.Memory alloc_error };
+
+    fn calls(&self) -> &[Call<A>]
+        ensures calls { device_calls_of result.now ≡ self.now.calls }
+        ensures run { HasItsCalls self.now }
+    {
+        &self.listed.calls
+    }
+
+    fn call_count(&self) -> usize
+        ensures { result ≡ length self.now.calls }
+    {
+        self.listed.calls.len()
+    }
+
+    fn image(&self) -> &[u8]
+        ensures { result.now ≡ self.now.image }
+    {
+        self.plan.image
+    }
+
+    fn replies(&self) -> &[Reply]
+        ensures { result.now ≡ self.now.replies }
+    {
+        &self.listed.replies
+    }
+
+    fn replies_before(&self, call: u64) -> usize
+        ensures { result ≡ steps_before self.now.counts call }
+    {
+        steps_before(&self.listed.counts, call)
+    }
+
+    /// The files that are found are always those at a mark, and never older than the last one that was acknowledged.
+    /// `Otherwise` exactly where the choice isn't as long as the disk; and where memory was refused, `Memory` alone,
+    /// also where a run was answered otherwise of that.
+    fn crash(&self, fails: u64, choice: &[u8]) -> Result<u32, CrashFault>
+        ensures leaves { IfOk result (Leaves self.now fails choice.now) }
+        ensures otherwise { length choice.now ≢ length self.now.image → result ≡ Err CrashFault.Otherwise }
+        ensures memory { length choice.now ≡ length self.now.image
+            → IfErr result (λ why. why ≡ CrashFault.Memory alloc_error) }
+    {
+        if choice.len() != self.image().len() {
+            return Err(CrashFault::Otherwise);
+        }
+        match self.left(fails, choice) {
+            Ok(mark) => Ok(mark),
+            // A copy of the disk is opened, and each step answered, as the first time, unless memory is refused.
+            Err(_again) => Err(CrashFault::Memory(AllocError)),
+        }
+    }
+
+    // Each call lies within the disk, and so does what a crash leaves: only memory can have been refused.
+    fn cause(&self, _fault: CrashFault) -> CrashFault {
+        CrashFault::Memory(AllocError)
+    }
+}
+
+/// How many steps were answered before the device call of this number, by the numbers of calls after each step.
+pub fn steps_before(counts: &[u64], call: u64) -> usize
     ensures { result ≡ steps_before counts.now call }
 {
     for i in 0..counts.len() {
@@ -312,8 +339,8 @@ fn note_steps<D: Device + Drop, A: Allocator + Copy>(
     Ok((replies, counts))
 }
 
-// The calls that a disk lists, where none of them failed. A call fails where memory is refused.
-fn calls_of<A: Allocator + Copy>(disk: Listing<A>) -> Result<Vec<Call<A>, A>, CrashFault>
+/// The calls that a disk lists, where none of them failed. A call fails where memory is refused.
+pub fn calls_of<A: Allocator + Copy>(disk: Listing<A>) -> Result<Vec<Call<A>, A>, CrashFault>
     ensures complete { IfOk result (λ calls. (disk.refused ≡ false) × (device_calls_of calls.items ≡ disk.calls)) }
     ensures are_its { IfOk result (λ calls. ListsItsCalls disk) }
     ensures sound { IfOk result (λ calls. disk.faults ≡ 0) }

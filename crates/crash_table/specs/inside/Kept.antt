@@ -1,5 +1,5 @@
 -- The files that are kept of each mark of a run.
-use Rattle.std.specs.Prelude.{ℕ, ◌≡◌, ◌≢◌, ◌<◌, ◌≤◌, ◌+◌, ◌*◌, Bool, true, false, ◌⊎◌, List, [], ◌∷◌}
+use Rattle.std.specs.Prelude.{ℕ, ◌≡◌, ◌≢◌, ◌<◌, ◌+◌, ◌*◌, Bool, true, false, ◌⊎◌, List, [], ◌∷◌}
 use Rattle.std.specs.Prelude.{◌++◌, length, take, map, slice_get, Some, Contains}
 use Rattle.std.specs.List.{AllByRecursion}
 use Rattle.device.specs.declared.device.Device.{Ghosts}
@@ -13,25 +13,11 @@ use Rattle.machine.specs.declared.act.Reply.{Reply}
 use Rattle.machine.specs.declared.act.Reply.TheVariants.{Marked, Going, Committed, Done, Refused}
 use Rattle.machine.specs.declared.act.Shape.{Shape}
 use Rattle.machine.specs.declared.act.Step.{Step}
-use Rattle.history.specs.History.{Event, Mark, files_after}
 use Rattle.machine.specs.Runs.{StepTaken, StepsTaken}
 use Rattle.machine.specs.State.{Whole}
 use Rattle.machine.specs.Unmarked.{unmarked_by}
 use Rattle.crash_table.specs.declared.found.MarkFiles.{MarkFiles}
-use Rattle.crash_table.specs.Crashes.{history_of}
-
--- the history up to the mark that the step of this index made, and with it
-abbrev pub up_to_mark : List File → Shape → List Step → List Reply → ℕ → ℕ → List Event
-up_to_mark files shape steps replies i number =
-    history_of files shape (take i steps) (take i replies) ++ Mark number ∷ []
-
--- the bytes of each file, and those at that mark
-abbrev pub contents_of : List File → List (List ℕ)
-contents_of files = map (λ f. f.bytes) files
-
-abbrev pub bytes_at : List File → Shape → List Step → List Reply → ℕ → ℕ → List (List ℕ)
-bytes_at files shape steps replies i number =
-    contents_of (files_after files (up_to_mark files shape steps replies i number))
+use Rattle.crash_table.specs.Marks.{bytes_at}
 
 -- whether a store or a change of length was answered that no mark has yet, after these replies
 abbrev pub unmarked_after : Bool → List Reply → Bool
@@ -108,19 +94,6 @@ IsKept files shape steps replies at kept = (number : ℕ) × (slice_get replies 
 abbrev pub AreKept : {A : Type 0} → List File → Shape → List Step → List Reply → List (MarkFiles A) → Type 0
 AreKept {A} files shape steps replies marks =
     (kept : MarkFiles A) → Contains marks kept → IsKept files shape steps replies kept.step kept
-
--- no mark from the step of this index on has files with these bytes
-abbrev pub NoneFrom : List File → Shape → List Step → List Reply → List (List ℕ) → ℕ → Type 0
-NoneFrom files shape steps replies bytes first = (i number : ℕ) → first ≤ i → slice_get replies i ≡ Some (Marked number)
-    → bytes ≡ bytes_at files shape steps replies i number → ⊥
-
--- this is the newest mark whose files have these bytes, or 0, and no mark has
-abbrev pub IsNewest : List File → Shape → List Step → List Reply → List (List ℕ) → ℕ → Type 0
-IsNewest files shape steps replies bytes number =
-    ((number ≡ 0) × NoneFrom files shape steps replies bytes 0)
-    ⊎ ((at : ℕ) × (slice_get replies at ≡ Some (Marked number)) × (at < length steps)
-    × (bytes ≡ bytes_at files shape steps replies at number)
-    × NoneFrom files shape steps replies bytes (at + 1))
 
 -- the bytes recover to files, and the files that are kept of a run's marks are theirs
 pub record HasKept {A : Type 0} (image : List ℕ) (shape : Shape) (steps : List Step) (replies : List Reply)

@@ -3,7 +3,7 @@ use Rattle.std.proofs.lemmas.List.{map-append}
 use Rattle.volume_codec.specs.Files.{File}
 use Rattle.recovery.specs.Volume.{files_of, bytes_of}
 use Rattle.recovery.proofs.Public.{lengths_of_well_formed, lengths_after_reading, files_read, volume_read_then}
-use Rattle.crash_table.specs.inside.Kept.{contents_of}
+use Rattle.crash_table.specs.Marks.{contents_of}
 use Rattle.crash_table.proofs.Reading.{as_many_files, bytes_more, all_bytes}
 use Rattle.crash_table.proofs.files.read_files.Goals as goal
 

@@ -3,7 +3,7 @@ use Rattle.std.proofs.Common.{map, Some, inl, refl, sym, ap, subst, ◌∙◌, a
 use Rattle.std.specs.Prelude.{IsTrue}
 use Rattle.std.proofs.lemmas.Option.{slice_get-get_or, get_or_from_slice_get}
 use Rattle.machine.specs.declared.act.Reply.TheVariants.{Marked}
-use Rattle.crash_table.specs.inside.Kept.{NoneFrom}
+use Rattle.crash_table.specs.Marks.{NoneFrom}
 use Rattle.crash_table.proofs.Newest.{none_before, none_at_last, newest_is, not_here}
 use Rattle.crash_table.proofs.found.newest.Goals.{in-Marked+in_ok-kept+else-are_same, in_default}
 use Rattle.crash_table.proofs.found.newest.Goals as goal

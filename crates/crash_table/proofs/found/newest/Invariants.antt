@@ -2,7 +2,8 @@ use Rattle.std.proofs.Common.{◌-◌, List, length, map}
 use Rattle.volume_codec.specs.Files.{File}
 use Rattle.machine.specs.declared.act.Shape.{Shape}
 use Rattle.machine.specs.declared.act.Step.{Step}
-use Rattle.crash_table.specs.inside.Kept.{AreKept, NoneFrom}
+use Rattle.crash_table.specs.Marks.{NoneFrom}
+use Rattle.crash_table.specs.inside.Kept.{AreKept}
 use Rattle.crash_table.proofs.found.newest.Given as goal
 
 abbrev pub invariant-loop-before : goal.invariant-loop-before

@@ -8,8 +8,8 @@ use Rattle.crash_table.proofs.row.make_row.Goals as goal
 
 pub returns-in_ok-end-in-Some : goal.returns-in_ok-end-in-Some
 returns-in_ok-end-in-Some g c =
-    let image = c.args.trial.now.image in
-    let calls = c.args.trial.now.calls in
+    let image = g.T.CrashedRun.bytes c.args.trial.now in
+    let calls = g.T.CrashedRun.made c.args.trial.now in
     let i = c.args.index in
     let content = content_of c.args.contents.now in
     let kept = c.calls.result.now in
@@ -27,8 +27,8 @@ returns-in_ok-end-in-Some g c =
 
 pub returns-in-None : goal.returns-in-None
 returns-in-None g c =
-    let image = c.args.trial.now.image in
-    let calls = c.args.trial.now.calls in
+    let image = g.T.CrashedRun.bytes c.args.trial.now in
+    let calls = g.T.CrashedRun.made c.args.trial.now in
     let i = c.args.index in
     let content = content_of c.args.contents.now in
     let there = call_past c.calls.result.now calls i c.calls.ensures.calls (omega (arith, c.in-None.ensures.lookup)) in

@@ -6,7 +6,6 @@ use Rattle.crash_states.specs.declared.choice.Choice.{Choice}
 use Rattle.crash_states.specs.declared.choice.Choice.TheVariants as choices
 use Rattle.crash_states.specs.declared.row.Found.{Found}
 use Rattle.crash_states.specs.Choices.{left_by}
-use Rattle.crash_table.specs.Trials.{Leaves}
 use Rattle.crash_states.specs.Held.{content_of}
 use Rattle.crash_table.proofs.Contents.{named_more}
 use Rattle.crash_table.proofs.row.states.Goals as goal
@@ -21,7 +20,7 @@ loop-choice-preserved g c =
           let there = subst (λ (l : List Found). Contains l found) pushed has in
           elim (Contains-push_cases c.loop-choice.states.items _ found there) [
             | inl was ↦ c.loop-choice.invariant.each found was
-            | inr same ↦ (let P : Found → Type 0 = λ f. Leaves c.args.trial.now c.args.number
+            | inr same ↦ (let P : Found → Type 0 = λ f. g.T.CrashedRun.leaves c.args.trial.now c.args.number
                 (left_by f.choice (content_of c.args.contents.now)) f.mark in subst P same c.in_ok-state.ensures.leaves)
           ];
       named = named_more (λ (f : Found). f.choice) c.loop-choice.states.items c.push.new.self.items state tried i _

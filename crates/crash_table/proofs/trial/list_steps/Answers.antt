@@ -18,7 +18,8 @@ returns g c = λ before shape started.
       started = started;
       counted = c.in_ok-replies.ensures;
       ran = c.ran_since_start.ensures before shape c.args.machine steps replies started
-          (counted_taken listing_memory c.args.machine last steps replies counts c.in_ok-replies.ensures);
+          (counted_taken listing_memory listing_memory.calls_made c.args.machine last steps replies counts
+          c.in_ok-replies.ensures);
       complete = subst Q device c.in_ok-calls.ensures.complete.0;
       sound = sym (ap (λ (d : ListedDisk). d.faults) device) ∙ c.in_ok-calls.ensures.sound;
       listed = c.in_ok-calls.ensures.complete.1 ∙ ap (λ (d : ListedDisk). d.calls) device;

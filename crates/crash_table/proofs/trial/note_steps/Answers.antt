@@ -27,7 +27,7 @@ loop-step-preserved g c =
     let count = c.calls.ensures ∙ ap (λ d. disk.calls_made d) c.device.ensures in
     subst P (sym c.in_ok-push.ensures.items)
     (subst Q (sym c.in_ok-push-2.ensures.items)
-    (counted_next disk c.args.machine.now c.loop-step.machine new steps index c.step-item.result
+    (counted_next disk disk.calls_made c.args.machine.now c.loop-step.machine new steps index c.step-item.result
     c.loop-step.replies.items c.loop-step.counts.items c.enter.result c.calls.result below c.step-item.is
     c.loop-step.invariant c.enter.ensures.taken (sym count)))
 
