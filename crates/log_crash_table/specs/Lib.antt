@@ -1,0 +1,4 @@
+pub mod Twins
+pub mod Runs
+pub mod Trials
+pub mod inside

@@ -1,0 +1,49 @@
+-- Runs over a disk that shows the volume with a log of a device.
+use Rattle.std.specs.Prelude.{ℕ, ◌≡◌, ◌⊎◌, false, List, [], Err}
+use Rattle.device.specs.declared.device.Device.{Ghosts}
+use Rattle.device.specs.Memory.{new_disk}
+use Rattle.page_entry.specs.declared.refusal.Refusal.TheVariants.{Device}
+use Rattle.machine.specs.declared.act.Reply.{Reply}
+use Rattle.machine.specs.declared.act.Shape.{Shape}
+use Rattle.machine.specs.declared.act.Step.{Step}
+use Rattle.machine.specs.State.{Whole}
+use Rattle.engine.specs.Engine.{HasRun, HasStarted}
+use Rattle.log_disk.specs.Disk.{LogDiskValue, shown_by}
+use Rattle.log_disk.specs.Opening.{HasShown, IsCountedDisk}
+use Rattle.crash_states.specs.Calls.{DeviceCall, ListedDisk, ListsItsCalls, listing}
+use Rattle.crash_table.specs.Calls.{listing_memory, StepsCountedBy}
+use Rattle.crash_table.specs.Crashes.{HasEnded}
+
+-- A device was opened by its log, and a run over the disk that shows its volume ended so, after as many steps as there
+-- are replies. Or a device call failed as it was opened, and no step was made.
+abbrev pub HasEndedByLog : {D : Type 0} → Ghosts D → D → Shape → List Step → List Reply → D → Type 0
+HasEndedByLog {D} disk before shape steps replies after =
+    ((shown last : LogDiskValue D) × HasShown disk before shown
+    × HasEnded (shown_by disk) shown shape steps replies last × (after ≡ last.device))
+    ⊎ ((replies ≡ []) × IsCountedDisk {X = LogDiskValue D} disk before (Err Device) after)
+
+-- the number of calls of the disk in memory under the disk that shows its volume
+abbrev pub calls_below : LogDiskValue ListedDisk → ℕ
+calls_below shown = shown.device.made
+
+-- A run was made over the disk that shows a volume with a log, on a disk in memory that lists its calls: these were its
+-- replies, the numbers of calls of that disk in memory after each, and all its calls, in order, with what they did,
+-- where, and what they wrote. None of them failed.
+pub record AreMadeByLog (before : ListedDisk) (shape : Shape) (steps : List Step) (replies : List Reply)
+    (counts : List ℕ) (calls : List DeviceCall) : Type 0 where
+  pub shown : LogDiskValue ListedDisk
+  pub opened : HasShown listing_memory before shown
+  pub start : Whole (LogDiskValue ListedDisk)
+  pub last : Whole (LogDiskValue ListedDisk)
+  pub started : HasStarted (shown_by listing_memory) shown shape start
+  pub counted : StepsCountedBy (shown_by listing_memory) calls_below start steps replies counts last
+  pub ran : HasRun (shown_by listing_memory) shown shape steps replies last.device
+  pub complete : last.device.device.refused ≡ false
+  pub sound : last.device.device.faults ≡ 0
+  pub listed : calls ≡ last.device.device.calls
+  pub are_its : ListsItsCalls last.device.device
+
+-- these are the replies and the device calls of a run over a disk with these bytes
+abbrev pub AreCallsByLog : List ℕ → Shape → List Step → List Reply → List ℕ → List DeviceCall → Type 0
+AreCallsByLog image shape steps replies counts calls =
+    AreMadeByLog (listing (new_disk image) 0) shape steps replies counts calls

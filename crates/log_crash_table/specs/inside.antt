@@ -1,0 +1,2 @@
+-- What ties private code to the definitions that public clauses name.
+pub mod Shown
