@@ -1,7 +1,7 @@
 // The table of crashes as JSON objects.
 use crate::printed::Printed;
 use crate::text::{part, word_of};
-use crash_states::{Call, Found, MOST_MIXTURES, Part, Places, Row};
+use crash_states::{Call, Found, MOST_MIXTURES, Part, Row, VolumePlaces};
 use machine::Reply;
 use std::alloc::Allocator;
 use std::{fmt, io};
@@ -26,7 +26,7 @@ impl fmt::Display for Quoted<'_> {
 
 /// An object for a call, or for the end of the run.
 pub fn json_row<A: Allocator + Copy, W: io::Write>(
-    places: &Places<A>,
+    places: &VolumePlaces<A>,
     call: Option<&Call<A>>,
     replies: &[Reply],
     row: &Row<A>,
@@ -57,14 +57,14 @@ pub fn json_row<A: Allocator + Copy, W: io::Write>(
 
 // The members of the call of this number: what it does, and what a read or a write touches.
 fn json_call<A: Allocator + Copy, W: io::Write>(
-    places: &Places<A>,
+    places: &VolumePlaces<A>,
     call: &Call<A>,
     number: u64,
     out: &mut W,
 ) -> io::Result<()> {
     let word = word_of(call.kind);
     write!(out, "{{\"call\":{number},\"does\":\"{word}\"")?;
-    let table = &places.table;
+    let table = places.table();
     match part(places, call) {
         None => return Ok(()),
         Some(Part::Super) => write!(out, ",\"part\":\"super\"")?,
@@ -80,6 +80,9 @@ fn json_call<A: Allocator + Copy, W: io::Write>(
                 ",\"part\":\"record\",\"journal\":{journal},\"slot\":{slot}"
             )?;
         }
+        Some(Part::Selector) => write!(out, ",\"part\":\"selector\"")?,
+        Some(Part::Start(start)) => write!(out, ",\"part\":\"start\",\"start\":{start}")?,
+        Some(Part::Log(position)) => write!(out, ",\"part\":\"log\",\"position\":{position}")?,
         Some(Part::Home(block)) => write!(out, ",\"part\":\"home\",\"block\":{block}")?,
         Some(Part::Page { file, page }) if file < table.file_count() => {
             let name = Quoted(table.name(file));

@@ -1,7 +1,7 @@
 // The table of crashes as an HTML page.
 use crate::printed::Printed;
 use crate::text::{Touched, word_of};
-use crash_states::{Call, MOST_MIXTURES, Places, Row};
+use crash_states::{Call, MOST_MIXTURES, Row, VolumePlaces};
 use machine::{Outcome, Reply};
 use std::alloc::Allocator;
 use std::{fmt, io};
@@ -84,7 +84,7 @@ impl fmt::Display for Shown<'_> {
 /// A row for a call, or for the end of the run.
 pub fn row_on_page<A: Allocator + Copy, W: io::Write>(
     alloc: A,
-    places: &Places<A>,
+    places: &VolumePlaces<A>,
     call: Option<&Call<A>>,
     row: &Row<A>,
     out: &mut W,

@@ -5,7 +5,7 @@ ghost use Rattle.crash_states.specs.Rows.{newest_of};
 ghost use Rattle.crash_report.specs.Text.{mark_text, marks_text, found_text};
 
 use crate::printed::Printed;
-use crash_states::{Call, CallKind, MOST_MIXTURES, Part, Places, Row};
+use crash_states::{Call, CallKind, MOST_MIXTURES, Part, Row, VolumePlaces};
 use machine::Reply;
 use std::alloc::Allocator;
 use std::{fmt, io};
@@ -22,19 +22,22 @@ pub fn word_of(kind: CallKind) -> &'static str {
 /// The part of a volume that a call touches, as text; nothing where it syncs.
 #[derive(Clone, Copy)]
 pub struct Touched<'a, A: Allocator + Copy> {
-    pub places: &'a Places<A>,
+    pub places: &'a VolumePlaces<A>,
     pub call: &'a Call<A>,
 }
 
 impl<A: Allocator + Copy> fmt::Display for Touched<'_, A> {
     fn fmt<W: fmt::Write>(&self, f: &mut fmt::Formatter<W>) -> fmt::Result {
-        let table = &self.places.table;
+        let table = self.places.table();
         match part(self.places, self.call) {
             None => Ok(()),
             Some(Part::Super) => f.write_str("super"),
             Some(Part::Gate(journal)) => write!(f, "gate {journal}"),
             Some(Part::Descriptor(journal)) => write!(f, "descriptor {journal}"),
             Some(Part::Record { journal, slot }) => write!(f, "record {journal}:{slot}"),
+            Some(Part::Selector) => f.write_str("selector"),
+            Some(Part::Start(start)) => write!(f, "start {start}"),
+            Some(Part::Log(position)) => write!(f, "log {position}"),
             Some(Part::Home(block)) => write!(f, "home {block}"),
             Some(Part::Page { file, page }) if file < table.file_count() => {
                 let name = table.name(file);
@@ -46,7 +49,7 @@ impl<A: Allocator + Copy> fmt::Display for Touched<'_, A> {
 }
 
 /// The part that a call touches, unless it syncs.
-pub fn part<A: Allocator + Copy>(places: &Places<A>, call: &Call<A>) -> Option<Part> {
+pub fn part<A: Allocator + Copy>(places: &VolumePlaces<A>, call: &Call<A>) -> Option<Part> {
     match call.kind {
         CallKind::Sync => None,
         CallKind::Read | CallKind::Write => Some(places.part_of(call.at)),
@@ -61,7 +64,7 @@ pub fn text_reply<W: io::Write>(reply: &Reply, out: &mut W) -> io::Result<()> {
 /// A line for a call, or for the end of the run. It ends with each mark at which crash states have the files.
 pub fn text_row<A: Allocator + Copy, W: io::Write>(
     alloc: A,
-    places: &Places<A>,
+    places: &VolumePlaces<A>,
     call: Option<&Call<A>>,
     row: &Row<A>,
     out: &mut W,
@@ -76,7 +79,7 @@ pub fn text_row<A: Allocator + Copy, W: io::Write>(
 // What a line begins with: a call, or the end of the run.
 fn text_head<A: Allocator + Copy, W: io::Write>(
     alloc: A,
-    places: &Places<A>,
+    places: &VolumePlaces<A>,
     call: Option<&Call<A>>,
     number: u64,
     out: &mut W,
@@ -92,7 +95,7 @@ fn text_head<A: Allocator + Copy, W: io::Write>(
 // The call of this number.
 fn text_call<A: Allocator + Copy, W: io::Write>(
     alloc: A,
-    places: &Places<A>,
+    places: &VolumePlaces<A>,
     call: &Call<A>,
     number: u64,
     out: &mut W,

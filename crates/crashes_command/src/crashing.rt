@@ -1,14 +1,16 @@
 // What a crash within each device call of a script leaves.
 use command_line::{Form, Scripted};
-use command_parts::{Failure, read_script, refused_to_run};
+use command_parts::{Failure, NotBooted, read_script, refused_to_run, show_log};
 use crash_report::{
     Printed, begin_page, end_page, json_end, json_row, reply_on_page, row_on_page, text_end,
     text_reply, text_row,
 };
-use crash_states::{Call, CrashFault, Places, Row};
-use crash_table::{Rows, Trial};
-use device::Device;
-use machine::Reply;
+use crash_states::{Call, CrashFault, LogPlaces, Places, Row, VolumePlaces};
+use crash_table::{CrashedRun, Rows, Trial};
+use device::{Device, MemDisk};
+use log_crash_table::{LogTrial, Twin};
+use log_volume::{LogSuper, read_log_super};
+use machine::{Reply, Shape};
 use page_entry::{PAGE, Refusal};
 use scripts::Script;
 use std::alloc::{AllocError, Allocator};
@@ -17,7 +19,8 @@ use std::io;
 use std::rt::Files;
 use volume_codec::{Super, read_super};
 use volume_files::{
-    Access, SyncNote, first_block, not_opened, open_disk, place, refused_to_open, unreadable,
+    Access, Refused, SyncNote, first_block, has_log, not_opened, open_disk, place, refused_to_open,
+    refused_to_read, unreadable,
 };
 
 /// Makes the run of a script on copies of the volume in a file, in memory: once for each state that a crash within one
@@ -35,20 +38,49 @@ pub fn crashes<'a, R: Files<File = File> + AllocGlobal, A: Allocator + Copy, W: 
     let steps = read_script(rt, alloc, asked.script)?;
     let place = place(rt, path)?;
     let mut disk = open_disk(rt, path, &place, Access::Read, asked.trust, note)?;
-    let places = match read_table(alloc, &mut disk) {
-        Ok(table) => Places { table },
-        Err(refusal) => {
-            let cause = refused_to_open(alloc, refusal, &mut disk);
-            return Err(Failure::File(not_opened(path, cause)));
-        }
+    let places = match read_places(alloc, &mut disk) {
+        Ok(places) => places,
+        Err(cause) => return Err(Failure::File(not_opened(path, cause))),
     };
     let Some(image) = read_image(alloc, &mut disk)? else {
         return Err(Failure::File(unreadable(path, Refusal::Device)));
     };
     match print_crashes(alloc, asked.script, &steps, &image, &places, form, out)? {
         Ok(()) => Ok(()),
-        Err(refusal) => Err(refused_to_run(alloc, refusal, &mut disk, steps.shape).of_file(path)),
+        Err(refusal) => {
+            let cause = match &places {
+                VolumePlaces::Journals(_) => {
+                    refused_to_run(alloc, refusal, &mut disk, steps.shape)
+                }
+                VolumePlaces::Log(_) => refused_by_log(alloc, refusal, &image, steps.shape),
+            };
+            Err(cause.of_file(path))
+        }
     }
+}
+
+// Why there is no machine of this shape over a volume with a log of these bytes.
+fn refused_by_log<'a, A: Allocator + Copy>(
+    alloc: A,
+    refusal: Refusal,
+    image: &[u8],
+    shape: Shape,
+) -> NotBooted<'a> {
+    let Ok(copy) = copy_of(alloc, image) else {
+        return NotBooted::Disk(Refused {
+            refusal: Refusal::OutOfMemory,
+            cause: None,
+        });
+    };
+    match show_log(alloc, copy) {
+        Ok(mut shown) => refused_to_run(alloc, refusal, &mut shown, shape),
+        Err((cause, _)) => cause,
+    }
+}
+
+// A disk in memory with these bytes.
+fn copy_of<A: Allocator + Copy>(alloc: A, image: &[u8]) -> Result<MemDisk<A>, AllocError> {
+    MemDisk::from_bytes(alloc, Vec::from_slice(alloc, image)?)
 }
 
 // Prints what the crashes of a run of these steps leave of a volume of these bytes. Where the run doesn't begin, it
@@ -58,21 +90,71 @@ fn print_crashes<'a, A: Allocator + Copy, W: io::Write>(
     script: &'a str,
     steps: &Script<A>,
     image: &[u8],
-    places: &Places<A>,
+    places: &VolumePlaces<A>,
     form: Form,
     out: &mut W,
 ) -> Result<Result<(), Refusal>, Failure<'a>> {
-    let trial = match Trial::new(alloc, image, steps.shape, &steps.steps) {
-        Ok(trial) => trial,
-        Err(CrashFault::Refused(refusal)) => return Ok(Err(refusal)),
-        Err(fault) => return Err(failure_of(script, fault)),
+    if let VolumePlaces::Log(_) = places {
+        return print_by_log(alloc, script, steps, image, places, form, out);
+    }
+    match Trial::new(alloc, image, steps.shape, &steps.steps) {
+        Ok(trial) => ended(script, print_trial(alloc, &trial, places, form, out)),
+        Err(fault) => not_begun(script, fault),
+    }
+}
+
+// The same of a volume with a log.
+fn print_by_log<'a, A: Allocator + Copy, W: io::Write>(
+    alloc: A,
+    script: &'a str,
+    steps: &Script<A>,
+    image: &[u8],
+    places: &VolumePlaces<A>,
+    form: Form,
+    out: &mut W,
+) -> Result<Result<(), Refusal>, Failure<'a>> {
+    let twin = match Twin::new(alloc, image) {
+        Ok(twin) => twin,
+        Err(fault) => return not_begun(script, fault),
     };
-    let mut rows = match Rows::new(alloc, &trial) {
-        Ok(rows) => rows,
-        Err(fault) => return Err(failure_of(script, fault)),
-    };
-    print_rows(alloc, script, &trial, places, &mut rows, form, out)?;
-    Ok(Ok(()))
+    match LogTrial::new(alloc, &twin, steps.shape, &steps.steps) {
+        Ok(trial) => ended(script, print_trial(alloc, &trial, places, form, out)),
+        Err(fault) => not_begun(script, fault),
+    }
+}
+
+// Why a run doesn't begin.
+fn not_begun(script: &str, fault: CrashFault) -> Result<Result<(), Refusal>, Failure<'_>> {
+    match fault {
+        CrashFault::Refused(refusal) => Ok(Err(refusal)),
+        fault => Err(failure_of(script, fault)),
+    }
+}
+
+// How the printing of a run ended.
+fn ended(
+    script: &str,
+    printed: io::Result<Result<(), CrashFault>>,
+) -> Result<Result<(), Refusal>, Failure<'_>> {
+    match printed {
+        Ok(Ok(())) => Ok(Ok(())),
+        Ok(Err(fault)) => Err(failure_of(script, fault)),
+        Err(fault) => Err(Failure::Output(fault)),
+    }
+}
+
+// Prints what the crashes of a run leave.
+fn print_trial<T: CrashedRun<A>, A: Allocator + Copy, W: io::Write>(
+    alloc: A,
+    trial: &T,
+    places: &VolumePlaces<A>,
+    form: Form,
+    out: &mut W,
+) -> io::Result<Result<(), CrashFault>> {
+    match Rows::new(alloc, trial) {
+        Ok(mut rows) => print_rows(alloc, trial, places, &mut rows, form, out),
+        Err(fault) => Ok(Err(fault)),
+    }
 }
 
 fn failure_of(script: &str, fault: CrashFault) -> Failure<'_> {
@@ -119,6 +201,24 @@ fn read_part<D: Device>(disk: &mut D, at: u64, part: &mut [u8]) -> bool {
     }
 }
 
+// Where the parts of the volume of a device are.
+fn read_places<'a, D: Device, A: Allocator + Copy>(
+    alloc: A,
+    disk: &mut D,
+) -> Result<VolumePlaces<A>, Refused<'a>> {
+    match has_log(disk) {
+        Ok(true) => match read_log_table(alloc, disk) {
+            Ok(table) => Ok(VolumePlaces::Log(LogPlaces { table })),
+            Err(refusal) => Err(refused_to_read(alloc, refusal, disk)),
+        },
+        Ok(false) => match read_table(alloc, disk) {
+            Ok(table) => Ok(VolumePlaces::Journals(Places { table })),
+            Err(refusal) => Err(refused_to_open(alloc, refusal, disk)),
+        },
+        Err(refusal) => Err(refused_to_open(alloc, refusal, disk)),
+    }
+}
+
 // The table of the super block of a device.
 fn read_table<D: Device, A: Allocator + Copy>(alloc: A, disk: &mut D) -> Result<Super<A>, Refusal> {
     match first_block(disk) {
@@ -128,16 +228,26 @@ fn read_table<D: Device, A: Allocator + Copy>(alloc: A, disk: &mut D) -> Result<
     }
 }
 
-// Prints the rows, each after the replies that came before its call.
-fn print_rows<'a, A: Allocator + Copy, W: io::Write>(
+// The table of the super block of a device that has a log.
+fn read_log_table<D: Device, A: Allocator + Copy>(
     alloc: A,
-    script: &'a str,
-    trial: &Trial<'_, A>,
-    places: &Places<A>,
-    rows: &mut Rows<'_, A>,
+    disk: &mut D,
+) -> Result<LogSuper<A>, Refusal> {
+    match first_block(disk) {
+        Some(block) => read_log_super(alloc, &block),
+        None => Err(Refusal::Device),
+    }
+}
+
+// Prints the rows, each after the replies that came before its call.
+fn print_rows<T: CrashedRun<A>, A: Allocator + Copy, W: io::Write>(
+    alloc: A,
+    trial: &T,
+    places: &VolumePlaces<A>,
+    rows: &mut Rows<'_, T, A>,
     form: Form,
     out: &mut W,
-) -> Result<(), Failure<'a>> {
+) -> io::Result<Result<(), CrashFault>> {
     if form == Form::Html {
         begin_page(out)?;
     }
@@ -150,7 +260,7 @@ fn print_rows<'a, A: Allocator + Copy, W: io::Write>(
         let row = match rows.next() {
             Ok(Some(row)) => row,
             Ok(None) => break,
-            Err(fault) => return Err(failure_of(script, fault)),
+            Err(fault) => return Ok(Err(fault)),
         };
         let before = trial.replies_before(row.number);
         let replies = between(trial.replies(), shown, before);
@@ -164,7 +274,7 @@ fn print_rows<'a, A: Allocator + Copy, W: io::Write>(
         Form::Json => json_end(printed, out)?,
         Form::Html => end_page(printed, out)?,
     }
-    Ok(())
+    Ok(Ok(()))
 }
 
 // The replies from one to another.
@@ -179,7 +289,7 @@ fn call_of<A: Allocator + Copy>(calls: &[Call<A>], number: u64) -> Option<&Call<
 
 fn print_row<A: Allocator + Copy, W: io::Write>(
     alloc: A,
-    places: &Places<A>,
+    places: &VolumePlaces<A>,
     call: Option<&Call<A>>,
     replies: &[Reply],
     row: &Row<A>,

@@ -154,7 +154,7 @@ NOT_SERVED = 'disk "log.img": notavolume: the volume is in layout 5 or 6, which 
 NO_STEPS = '{{"cpus":1,"tlb":8,"frames":{},"copies":0,"steps":[]}}'
 
 # Commands that don't serve these layouts.
-OTHERS = ["crashes|log.img|log.json", "migrate|log.img|new.img|4"]
+OTHERS = ["migrate|log.img|new.img|4"]
 
 # An opening of the volume writes start 1, in epoch 2, and the selector.
 OPENED = ((12_288, bytes([0, 0, 0, 0, 0, 0, 0, 1, 0, 0, 0, 0, 0, 0, 0, 2])), (4096, bytes([0xA7])))
@@ -479,6 +479,8 @@ def a_machine_fits_the_log():
     write("log.json", NO_STEPS.format(7))
     for fresh, after in both_after(OPENED, ()):
         write_bytes("log.img", fresh)
+        yield from complains("crashes|log.img|log.json", 3, TOO_MANY_FRAMES)
+        yield from holds("log.img", fresh)
         yield from complains("run|log.img|log.json", 3, TOO_MANY_FRAMES)
         yield from holds("log.img", after)
         line = "serve|log.img"
@@ -495,7 +497,7 @@ def runs_on_a_spoilt_log_are_refused():
     for changes, cause in SPOILT_IMAGES:
         image = image_of_five((), changes)
         write_bytes("spoilt.img", image)
-        for line in ("run|spoilt.img|log.json", "replay|spoilt.img|log.trace"):
+        for line in ("run|spoilt.img|log.json", "crashes|spoilt.img|log.json", "replay|spoilt.img|log.trace"):
             yield from complains(line, 3, f'disk "spoilt.img": {cause}\n')
         ran = served("serve|spoilt.img", '{"cpus":1,"tlb":8,"frames":4,"copies":0}\n')
         yield from complained("serve|spoilt.img", ran, 3, f'disk "spoilt.img": {cause}\n')
