@@ -474,17 +474,20 @@ def a_trace_is_replayed_on_a_log():
 
 
 def a_machine_fits_the_log():
-    """A machine over a log of 9 blocks has up to 6 frames. One that has more is refused once the volume is opened."""
+    """A machine over a log of 9 blocks has up to 6 frames. One that has more is refused once the volume is opened.
+    A run opens it again, to say why."""
     write("fits.json", NO_STEPS.format(6))
     write("log.json", NO_STEPS.format(7))
+    line = "serve|log.img"
     for fresh, after in both_after(OPENED, ()):
         write_bytes("log.img", fresh)
         yield from complains("crashes|log.img|log.json", 3, TOO_MANY_FRAMES)
         yield from holds("log.img", fresh)
-        yield from complains("run|log.img|log.json", 3, TOO_MANY_FRAMES)
-        yield from holds("log.img", after)
-        line = "serve|log.img"
         yield from complained(line, served(line, '{"cpus":1,"tlb":8,"frames":7,"copies":0}\n'), 3, TOO_MANY_FRAMES)
+        yield from holds("log.img", after)
+        yield from shows("info|log.img", "log: 0 commits in 0 blocks, epoch 2\n")
+        yield from complains("run|log.img|log.json", 3, TOO_MANY_FRAMES)
+        yield from shows("info|log.img", "log: 0 commits in 0 blocks, epoch 4\n")
         yield from prints("run|log.img|fits.json", 0)
         yield from prints("dump|log.img", 0, NO_BYTES)
     yield from leaves("log.img", "log.json", "fits.json")
