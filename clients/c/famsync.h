@@ -240,9 +240,9 @@ int famsync_msync(famsync *handle, uint64_t *mark);
    library first writes earlier commits to their places. If a write or a length waits for a commit, it also opens the
    volume again, which takes the memory of a second session during the call.
 
-   If the call is refused, all changes still wait for a commit. FAMSYNC_DEVICE: a read, a write or a sync failed, as
-   with famsync_msync. FAMSYNC_SYSTEM: the system refused the rollback. If a part was undone by then, no commit is
-   possible until a rollback succeeds (FAMSYNC_TORN). */
+   A refused call undoes nothing, except with FAMSYNC_SYSTEM. FAMSYNC_DEVICE: a read, a write or a sync failed, as with
+   famsync_msync. FAMSYNC_SYSTEM: the system refused the rollback. If a part was undone by then, no commit is possible
+   until a rollback succeeds (FAMSYNC_TORN). */
 int famsync_rollback(famsync *handle);
 
 /* The number of the last acknowledged commit; 0 if there is none. */
@@ -328,7 +328,7 @@ int famsync_backup(famsync *handle, int descriptor);
 int famsync_memory_open(famsync *handle, const char *file, famsync_memory **memory);
 
 /* Does the same at a given address, so that the file can contain pointers into itself. A null pointer means any
-   address. It needs room for the file's capacity, and one page before and behind it.
+   address. The memory takes the file's capacity, and one page before and after.
    FAMSYNC_ADDRESS: the address isn't a multiple of the page size. Or these pages begin below address 65,536, end above
    the highest address, or contain other memory. */
 int famsync_memory_open_at(famsync *handle, const char *file, void *address, famsync_memory **memory);
