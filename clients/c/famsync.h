@@ -11,11 +11,11 @@
  *   plain memory     famsync_memory_open, famsync_memory_at, famsync_msync: a pointer to store through
  *
  * Even if this process is killed or the system crashes, the next session finds the files as they were at one msync,
- * with all of its stores and no later ones. It is the last acknowledged msync or a later one.
+ * with all stores before it and no later ones. This msync is the last acknowledged one or a later one.
  *
  * Each call that returns an int returns FAMSYNC_OK or one of the negative codes below. famsync_strerror describes them.
  * Any number of threads may call with one handle; the calls take turns. No call is a cancellation point: a thread that
- * is cancelled within a call ends after it.
+ * is cancelled within a call first completes it.
  *
  * A forked process has a copy of the handle. Each call with this copy returns FAMSYNC_FORKED, except famsync_close,
  * which does nothing: the session belongs to the process that began it. The copy takes memory until the forked process
@@ -90,7 +90,7 @@ typedef struct famsync_memory famsync_memory;
 
    Set `size` to the size of this structure. A later version of the library adds fields at the end, and uses `size` to
    know which fields a program has. A size of 0 means the fields up to `readonly`. If `size` is larger than the
-   library's, the bytes after the fields below must be 0 (FAMSYNC_ARGUMENT). */
+   library's, the bytes after the fields below must be 0 (otherwise FAMSYNC_ARGUMENT). */
 struct famsync_options {
     size_t size;
     int trust;           /* not 0: open a volume that is flagged as suspect, and remove the flag */
@@ -113,7 +113,7 @@ enum famsync_tracking { FAMSYNC_TRACK_SIGNALS = 0, FAMSYNC_TRACK_KERNEL = 1 };
 const char *famsync_version(void);
 
 /* A file of a new volume: its name, 1 to 32 characters from '!' to '~'; its length in bytes; and its capacity, the
-   greatest length that it may get. A capacity of 0 means the length. In layouts 1 and 2 they are the same. */
+   greatest length that it may have. A capacity of 0 means the length. In layouts 1 and 2 both are the same. */
 struct famsync_new_file {
     const char *name;
     uint64_t length;
@@ -128,7 +128,7 @@ struct famsync_plan {
                         Layouts 5 and 6 have no journals: 0 */
     unsigned files;  /* the number of files, 1 to 64 */
     const struct famsync_new_file *file; /* the files */
-    int preallocate;                     /* not 0: takes the disk's blocks now; 0: when they are written */
+    int preallocate;                     /* not 0: allocates the disk's blocks now; 0: when they are written */
     char *message;                       /* receives a line with the reason if the volume isn't made */
     size_t message_size;                 /* its size in bytes; a longer line is cut off */
     unsigned log; /* layouts 5 and 6: the number of blocks of the log, 4 to 2^24; 0 means 16,384, which is 64 MB */
@@ -140,30 +140,30 @@ struct famsync_plan {
    volume, or doesn't exist. On a file system without unnamed files (O_TMPFILE) the library makes the volume in a file
    with a name that ends in `.new`. A crash may leave that file.
 
-   In layouts 1 to 4 a commit has at most as many pages as there are slots, or one less in layouts 3 and 4. In layouts 5
-   and 6 a commit and its descriptor have to fit into the log, which keeps one block free. A log of 16,384 blocks takes
-   16,366 pages. Without `preallocate` a full disk ends a session that writes to a block for the first time
+   In layouts 1 and 2 a commit has at most `slots` pages; in layouts 3 and 4 at most one page less. In layouts 5 and 6 a
+   commit and its descriptor have to fit into the log, which keeps one block free. A log of 16,384 blocks has room for
+   16,366 pages. Without `preallocate`, if the disk is full, the first write to a block ends the session
    (FAMSYNC_DEVICE).
 
-   In layouts 5 and 6 a commit writes its pages to the log, and many commits are written to their places together. A
-   commit makes two syncs in layout 5, and one in layout 6. Layout 6 has a premise of its own: what a crash leaves of a
-   commit doesn't have the digest of the whole commit by chance.
+   In layouts 5 and 6 a commit writes its pages to the log, and the pages of many commits are written to their places
+   together. A commit makes two syncs in layout 5, and one in layout 6. Layout 6 has one more assumption: a crash never
+   leaves a part of a commit with the digest of the whole one.
 
-   FAMSYNC_ARGUMENT: a volume can't be made by this plan; `message` has the reason. FAMSYNC_SYSTEM: errno has the cause.
-   It is EEXIST if a file with this name, or with `.new` after it, already exists. */
+   FAMSYNC_ARGUMENT: the plan is invalid; `message` has the reason. FAMSYNC_SYSTEM: errno has the cause. It is EEXIST if
+   a file with this name, or with `.new` after it, already exists. */
 int famsync_format(const char *volume, const struct famsync_plan *plan);
 
 /* Begins a session with a volume: a regular file with one name. If the path is a symbolic link, the library opens its
-   target. The file is locked until the session ends. The session takes memory for the pages of its commits. On failure
+   target. The file is locked until the session ends. The session uses memory for the pages of its commits. On failure
    `*handle` is a null pointer.
 
-   FAMSYNC_INUSE: another session has the volume, and `wait_ms` has passed. FAMSYNC_SYSTEM with ENAMETOOLONG: the name
-   of the volume's file has more than 247 bytes, so the name of its suspect flag would be too long. FAMSYNC_UNMARKED: a
-   sync failed and the suspect flag couldn't be made; `message` has the reason.
+   FAMSYNC_INUSE: another session has the volume open, and `wait_ms` has passed. FAMSYNC_SYSTEM with ENAMETOOLONG: the
+   name of the volume's file has more than 247 bytes, so the name of its suspect flag would be too long.
+   FAMSYNC_UNMARKED: a sync failed and the suspect flag couldn't be made; `message` has the reason.
 
    With `readonly` any number of sessions share a volume. The library opens the file for reading only, and writes
    nothing. While such sessions last, no session that writes can begin. FAMSYNC_NEEDSOPENING: a crash left a commit that
-   isn't yet written to its place, or the volume is flagged as suspect. Here `trust` has no effect. Open the volume for
+   isn't yet written to its place, or the volume is flagged as suspect. `trust` has no effect. Open the volume for
    writing once, and close it. In a session with `readonly`, famsync_write, famsync_setlength, famsync_msync and
    famsync_memory_touch return FAMSYNC_READONLY. A store to plain memory raises SIGSEGV in the program. */
 int famsync_open(const char *volume, const struct famsync_options *options, famsync **handle);
@@ -174,8 +174,8 @@ int famsync_open(const char *volume, const struct famsync_options *options, fams
    call or earlier. What was acknowledged is durable. */
 int famsync_close(famsync *handle);
 
-/* The number of files of the volume. The name of each, numbered from 0, and its length as this session has set it; a
-   null pointer or 0 if there is no such file. */
+/* The number of files of the volume, numbered from 0; the name of a file; and its length as this session has set it.
+   Without such a file the last two return a null pointer and 0. */
 unsigned famsync_files(const famsync *handle);
 const char *famsync_file_name(const famsync *handle, unsigned file);
 uint64_t famsync_file_length(const famsync *handle, unsigned file);
@@ -221,9 +221,9 @@ int famsync_write(famsync *handle, unsigned file, uint64_t offset, const void *b
    Nothing is committed, and no later call can commit these changes. After you close the plain memory, what
    famsync_write wrote to other files can be committed.
 
-   FAMSYNC_DEVICE: a read, a write or a sync failed, and nothing is acknowledged. errno has the cause: ENOMEM means
-   that memory was refused, and the disk isn't to blame. After a failed read the session continues, and you may call
-   again. After a failed write or sync the session is over: each later call returns FAMSYNC_BROKEN.
+   FAMSYNC_DEVICE: a read, a write or a sync failed, and nothing is acknowledged. errno has the cause: ENOMEM means that
+   memory was refused, and the disk isn't to blame. After a failed read the session continues, and you may call again.
+   After a failed write or sync the session is over: each later call returns FAMSYNC_BROKEN.
 
    After a failed sync the library flags the volume as suspect, as the program does: it makes the file VOLUME.suspect
    beside the volume's file. FAMSYNC_UNMARKED: a sync failed, and the library couldn't make a lasting suspect flag. So
@@ -238,7 +238,7 @@ int famsync_msync(famsync *handle, uint64_t *mark);
    threads may store during the call: there is one moment within it, and exactly the stores before that moment are
    undone. If a length is undone, the memory of its file grows or shrinks in place, as with famsync_setlength. The
    library first writes earlier commits to their places. If a write or a length waits for a commit, it also opens the
-   volume again, which takes the memory of a second session during the call.
+   volume again, which needs the memory of a second session during the call.
 
    A refused call undoes nothing, except with FAMSYNC_SYSTEM. FAMSYNC_DEVICE: a read, a write or a sync failed, as with
    famsync_msync. FAMSYNC_SYSTEM: the system refused the rollback. If a part was undone by then, no commit is possible
@@ -259,25 +259,25 @@ struct famsync_stat {
     uint64_t commits;       /* the number of the last acknowledged commit */
     uint64_t frames;        /* the most pages of one commit */
     uint64_t staged;        /* pages that wait for a commit, including those of plain memory */
-    uint64_t unwritten;     /* pages of commits that wait to be written to their places; layouts 5 and 6: blocks of
+    uint64_t unwritten;     /* committed pages that wait to be written to their places; layouts 5 and 6: blocks of
                                the log that are in use */
     uint64_t reads;         /* reads of the volume's file */
     uint64_t writes;        /* writes to the volume's file */
     uint64_t syncs;         /* syncs of the volume's file */
     uint64_t bytes_written; /* bytes written to the volume's file */
-    uint64_t memory;        /* bytes of memory that all sessions of this process take for pages and commits */
+    uint64_t memory;        /* bytes of memory that all sessions of this process use for pages and commits */
 };
 
 int famsync_stat(famsync *handle, struct famsync_stat *stat);
 
-/* Writes to a file a clean volume with the files of the last acknowledged commit. This backup can be opened as it is.
-   `descriptor` is a regular file, other than the volume's, open for reading and writing, and without O_APPEND
-   (otherwise FAMSYNC_ARGUMENT). The library empties it first. Blocks of zeros become holes. The backup is synced when
-   the call succeeds. If the file's name is new, sync its folder, too.
+/* Makes a backup: writes a clean volume with the files of the last acknowledged commit to `descriptor`. The backup can
+   be opened as it is. `descriptor` is a regular file, other than the volume's, open for reading and writing, and
+   without O_APPEND (otherwise FAMSYNC_ARGUMENT). The library empties it first. Blocks of zeros become holes. The backup
+   is synced when the call succeeds. If the file's name is new, sync its folder, too.
 
    Other threads may call with the handle during the backup, including famsync_msync. A handle makes one backup at a
    time (FAMSYNC_BUSY). The library locks the file like a volume until the call returns. FAMSYNC_INUSE: somebody else
-   has it locked.
+   has locked it.
 
    FAMSYNC_SYSTEM: the file couldn't be written; errno has the cause. FAMSYNC_DEVICE: the volume couldn't be read (the
    session continues), or couldn't be written (the session is over). In both cases the file is no volume. Commits during
@@ -293,15 +293,15 @@ int famsync_backup(famsync *handle, int descriptor);
  * return it to the system. It does so if such pages, with a copy of each, exceed `budget` bytes. In layouts 5 and 6
  * pages in the log aren't yet in their places. So the memory can exceed the budget by twice the log's length.
  *
- * A load raises SIGBUS if the volume's file can't be read or was truncated, as with each mapped file. In a forked
+ * A load raises SIGBUS if the volume's file can't be read or was truncated, as with any mapped file. In a forked
  * process, a page that wasn't stored to before the fork may show later commits. With `resident` the call reads the
- * whole file, and none of this holds. The same happens if the system's pages are larger than 4,096 bytes, or if the
- * system can't map the volume's file.
+ * whole file, and none of this holds. The call does the same if the system's pages are larger than 4,096 bytes, or if
+ * the system can't map the volume's file.
  *
- * Other threads may store during a commit. There is one moment within famsync_msync, and the commit has exactly the
- * stores before it, by all threads, to all plain memory of the handle. At that moment the library closes all pages,
- * until it has copied those that were stored to. A store during that time waits for the copying, never for the disk. If
- * several threads store what belongs together, they have to finish before one of them commits.
+ * Other threads may store during a commit. A commit has exactly the stores by all threads, to all plain memory of the
+ * handle, before one moment within famsync_msync. At that moment the library closes all pages. It then copies those
+ * that were stored to. A store during that time waits for the copying, never for the disk. If several threads store
+ * what belongs together, they have to finish before one of them commits.
  *
  * The handler doesn't serve every store:
  *
@@ -314,23 +314,24 @@ int famsync_backup(famsync *handle, int descriptor);
  * For all three, famsync_memory_touch opens pages ahead. famsync_memory_open installs the library's handler again if
  * another one took its place. Faults that aren't the library's are passed on to that other handler.
  *
- * With FAMSYNC_TRACK_KERNEL there is no handler: the kernel notes stores, including those of read(2) and the like. Each
- * commit asks it which pages were stored to. Other threads must not store during famsync_msync, famsync_rollback and
- * famsync_setlength. If a commit finds such a store while it copies pages, it copies them again, up to four times.
- * After that it returns FAMSYNC_BUSY, and nothing is committed. The end of a commit gives committed pages back to the
- * system. A store to them by another thread at that time may be lost. FAMSYNC_TRACKING, of famsync_open or
- * famsync_memory_open: the system can't do this (Linux can from 6.7 on). FAMSYNC_ARGUMENT: `resident` is set.
+ * With FAMSYNC_TRACK_KERNEL there is no handler: the kernel tracks stores, including those of read(2) and the like.
+ * Each commit asks the kernel which pages were stored to. Other threads must not store during famsync_msync,
+ * famsync_rollback and famsync_setlength. If a commit finds such a store while it copies pages, it copies them again,
+ * up to four times in all. After that it returns FAMSYNC_BUSY, and nothing is committed. At its end a commit returns
+ * committed pages to the system. A store to them by another thread at that time may be lost. FAMSYNC_TRACKING, from
+ * famsync_open or famsync_memory_open: the system can't do this (Linux can from 6.7 on). FAMSYNC_ARGUMENT: `resident`
+ * is set.
  *
- * Bytes past the file's end, in its last page, are memory that isn't kept. The addresses after this page, up to the
- * file's capacity, are reserved and must not be used. While memory of a file is open, famsync_read and famsync_write
- * use it. An empty file has no memory (FAMSYNC_ARGUMENT).
+ * Bytes past the file's end, in its last page, are memory that no commit keeps. The addresses after this page, up to
+ * the file's capacity, are reserved and must not be used. While memory of a file is open, famsync_read and
+ * famsync_write use it. An empty file has no memory (FAMSYNC_ARGUMENT).
  */
 int famsync_memory_open(famsync *handle, const char *file, famsync_memory **memory);
 
 /* Does the same at a given address, so that the file can contain pointers into itself. A null pointer means any
-   address. The memory takes the file's capacity, and one page before and after.
-   FAMSYNC_ADDRESS: the address isn't a multiple of the page size. Or these pages begin below address 65,536, end above
-   the highest address, or contain other memory. */
+   address. The memory occupies the file's capacity, and one page before and after. FAMSYNC_ADDRESS: the address isn't a
+   multiple of the page size. Or these pages begin below address 65,536, end above the highest address, or contain other
+   memory. */
 int famsync_memory_open_at(famsync *handle, const char *file, void *address, famsync_memory **memory);
 
 /* The address of the memory, which never changes, and the length of the file in bytes. */
@@ -341,7 +342,7 @@ size_t famsync_memory_length(const famsync_memory *memory);
    count or not. One commit can have at most famsync_frames of them. */
 size_t famsync_memory_dirty(const famsync_memory *memory);
 
-/* Opens the pages of `count` bytes from `offset` on, as a store to each of them would. Until any thread calls
+/* Opens the pages of `count` bytes from `offset` on, as a store to each page would. Until any thread calls
    famsync_msync, stores to them raise no SIGSEGV, and the kernel can store to them. All of them count as stored to.
    FAMSYNC_ARGUMENT: the range isn't within the file. FAMSYNC_NOFRAME: it has more pages than one commit can have. In
    both cases no page is opened. */
