@@ -164,8 +164,9 @@ int famsync_format(const char *volume, const struct famsync_plan *plan);
    With `readonly` any number of sessions share a volume. The library opens the file for reading only, and writes
    nothing. While such sessions last, no session that writes can begin. FAMSYNC_NEEDSOPENING: a crash left a commit that
    isn't yet written to its place, or the volume is flagged as suspect. `trust` has no effect. Open the volume for
-   writing once, and close it. In a session with `readonly`, famsync_write, famsync_setlength, famsync_msync and
-   famsync_memory_touch return FAMSYNC_READONLY. A store to plain memory raises SIGSEGV in the program. */
+   writing once, and close it. In a session with `readonly`, famsync_write, famsync_setlength, famsync_msync,
+   famsync_rollback and famsync_memory_touch return FAMSYNC_READONLY. A store to plain memory raises SIGSEGV in the
+   program. */
 int famsync_open(const char *volume, const struct famsync_options *options, famsync **handle);
 
 /* Ends a session and frees the handle. Changes since the last msync are lost. Close all plain memory of the handle
@@ -191,7 +192,7 @@ unsigned famsync_frames(const famsync *handle);
    and those that wait for a commit are more than one commit can have. In that case grow the file in steps, with an
    msync after each. A refused call changes nothing.
 
-   Open plain memory of the file grows or shrinks in place. The program must not use bytes past the new end any more.
+   Open plain memory of the file grows or shrinks in place. The program must no longer use bytes past the new end.
    FAMSYNC_SYSTEM: the system refused to change the memory. */
 int famsync_setlength(famsync *handle, const char *file, uint64_t length);
 
@@ -286,8 +287,9 @@ int famsync_backup(famsync *handle, int descriptor);
 
 /*
  * Opens plain memory: a whole file of the volume as memory of this process. It is a private mapping of the volume's
- * file, so the call reads nothing. Its pages are read-only. The first store to a page raises SIGSEGV. The library's
- * handler notes the page and opens it for writing. It passes other faults to the handler that was installed before.
+ * file, so the call reads almost nothing. Its pages are read-only. The first store to a page raises SIGSEGV. The
+ * library's handler notes the page and opens it for writing. It passes other faults to the handler that was installed
+ * before.
  *
  * A page that was stored to is memory of this process. Once it is committed and written to its place, the library may
  * return it to the system. It does so if such pages, with a copy of each, exceed `budget` bytes. In layouts 5 and 6
@@ -348,8 +350,8 @@ size_t famsync_memory_dirty(const famsync_memory *memory);
    both cases no page is opened. */
 int famsync_memory_touch(famsync_memory *memory, size_t offset, size_t count);
 
-/* Closes the memory. Stores since the last msync are lost, and no thread may use the memory any more. If a refused
-   msync had already taken a part of the stores, commits are refused until a rollback (FAMSYNC_TORN). */
+/* Closes the memory. Stores since the last msync are lost, and no thread may use the memory. If a refused msync had
+   already taken a part of the stores, commits are refused until a rollback (FAMSYNC_TORN). */
 int famsync_memory_close(famsync_memory *memory);
 
 #ifdef __cplusplus
