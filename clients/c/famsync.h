@@ -124,8 +124,8 @@ struct famsync_new_file {
 struct famsync_plan {
     size_t size;
     unsigned layout; /* 1 to 6; 0 means 4 */
-    unsigned slots;  /* of each journal: 1 to 1,020; layout 3: 2 to 1,020; layout 4: 2 to 65,535; 0 means 1,024.
-                        Layouts 5 and 6 have no journals: 0 */
+    unsigned slots;  /* of each journal: 1 to 1,020; layout 3: 2 to 1,020; layout 4: 2 to 65,535; 0 means 1,020, or
+                        1,024 in layout 4. Layouts 5 and 6 have no journals: 0 */
     unsigned files;  /* the number of files, 1 to 64 */
     const struct famsync_new_file *file; /* the files */
     int preallocate;                     /* not 0: allocates the disk's blocks now; 0: when they are written */

@@ -15,6 +15,7 @@
 
 #define DEFAULT_LAYOUT 4u
 #define DEFAULT_SLOTS 1024u
+#define MOST_SLOTS_IN_ONE_BLOCK 1020u
 #define DEFAULT_LOG 16384u
 
 /* The first layouts with lengths, with commits that share syncs, and with a log; and the last one, which has a key. */
@@ -102,14 +103,20 @@ static uint32_t most_records(uint64_t log)
     return records;
 }
 
+/* The most slots of a journal. A descriptor is one block, until commits share syncs. */
+static unsigned most_slots(unsigned layout)
+{
+    return layout < FIRST_THAT_SHARES ? MOST_SLOTS_IN_ONE_BLOCK : MOST_RECORDS;
+}
+
 /* Finds the most records of a commit, and the blocks before the lengths block and the files. */
 static const char *judge_journals(struct made *made)
 {
-    static const uint32_t JOURNALS[] = {1, 2, 2, 4}, MOST_SLOTS[] = {1020, 1020, 1020, 65535};
+    static const uint32_t JOURNALS[] = {1, 2, 2, 4};
     const struct famsync_plan *plan = &made->plan;
     if (plan->log != 0 || plan->key != 0)
         return "only layouts 5 and 6 have a log, and only layout 6 has a key";
-    if (plan->slots <= made->lengths || plan->slots > MOST_SLOTS[plan->layout - 1])
+    if (plan->slots <= made->lengths || plan->slots > most_slots(plan->layout))
         return "this layout hasn't so many slots";
     made->records = plan->slots;
     made->head = 1 + JOURNALS[plan->layout - 1] * (1 + pages_of(16 + 4 * (uint64_t)plan->slots) + plan->slots);
@@ -372,7 +379,7 @@ static bool take_plan(const struct famsync_plan *given, struct famsync_plan *pla
     if (plan->layout == 0)
         plan->layout = DEFAULT_LAYOUT;
     if (plan->slots == 0 && !has_log(plan))
-        plan->slots = DEFAULT_SLOTS;
+        plan->slots = most_slots(plan->layout) < DEFAULT_SLOTS ? most_slots(plan->layout) : DEFAULT_SLOTS;
     if (plan->log == 0 && has_log(plan))
         plan->log = DEFAULT_LOG;
     return true;

@@ -173,6 +173,18 @@ static void bad_files(unsigned layout, struct famsync_new_file file, const char 
     is_refused(&plan, why);
 }
 
+/* Layouts 1 to 3 have fewer slots by default than layout 4. */
+static void has_default_slots(unsigned layout)
+{
+    struct famsync_plan plan = plan_of(layout, 0, 1);
+    files[0] = (struct famsync_new_file){"a", 5000, 0};
+    remove_volume();
+    WANT_CODE(famsync_format(volume, &plan), FAMSYNC_OK);
+    famsync *handle = opened();
+    WANT(famsync_frames(handle) == (layout == 4 ? 1023 : layout == 3 ? 1019 : 1020));
+    WANT_CODE(famsync_close(handle), FAMSYNC_OK);
+}
+
 /* A log that is too short or too long, or in a layout without one, and a key in a layout without one. */
 static void bad_logs(unsigned layout)
 {
@@ -390,6 +402,8 @@ int main(void)
         all_are_named = way == 1;
         each_layout();
         is_used();
+        for (unsigned layout = 1; layout <= JOURNAL_LAYOUTS; layout++)
+            has_default_slots(layout);
         for (unsigned layout = JOURNAL_LAYOUTS + 1; layout <= LAYOUTS; layout++)
             has_default_log(layout);
         refusals();

@@ -33,9 +33,9 @@ def create(
 
         famsync.create("bank.vol", {"bank": 8192, "log": (0, 1 << 40)})
 
-    In layouts 1 to 4 a commit has at most as many pages as there are `slots`, or one less in layouts 3 and 4; without
-    `slots` there are 1,024. In layouts 5 and 6 it has to fit into the log of `log` blocks; without `log` there are
-    16,384. `key` is the key of the digests in layout 6; 0 means a random one.
+    In layouts 1 to 4 a commit has at most as many pages as there are `slots`, or one less in layouts 3 and 4. Without
+    `slots` there are 1,020, or 1,024 in layout 4. In layouts 5 and 6 a commit has to fit into the log of `log` blocks.
+    Without `log` there are 16,384. `key` is the key of the digests in layout 6; 0 means a random one.
 
     With `preallocate` the disk's blocks are taken now; else as they are written. Argument if no volume is like that."""
     made = [_new_file(name, length) for name, length in files.items()]

@@ -46,8 +46,8 @@ impl Plan {
         self
     }
 
-    /// The slots of each journal, in layouts 1 to 4; 1,024 by default. A commit has at most as many pages, or one less
-    /// in layouts 3 and 4.
+    /// The slots of each journal, in layouts 1 to 4; by default 1,020, or 1,024 in layout 4. A commit has at most as
+    /// many pages, or one less in layouts 3 and 4.
     pub fn slots(&mut self, slots: u32) -> &mut Plan {
         self.slots = Some(slots);
         self
