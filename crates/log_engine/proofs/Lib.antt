@@ -1,3 +1,4 @@
+pub mod Booting
 pub mod Reopened
 pub mod Standing
 pub mod Surviving

@@ -1,8 +1,13 @@
 -- What openings find on a volume with a log after a crash that left files, and after other openings and crashes.
-use Rattle.std.proofs.Common.{◌≡◌, ◌⊎◌, inl, inr, ℕ, zero, suc, ◌+◌, ◌≤◌, ◌<◌, List, length, refl, sym, ap, subst}
+use Rattle.std.proofs.Common.{◌≡◌, ◌⊎◌, inl, inr, ℕ, zero, suc, ◌+◌, ◌≤◌, ◌<◌, List, length, take, refl, sym, ap, subst}
 use Rattle.std.proofs.Common.{◌∙◌, arith}
 use Rattle.device.specs.Device.{Only}
 use Rattle.device.specs.declared.device.Device.{Ghosts}
+use Rattle.page_entry.specs.declared.refusal.Refusal.{Refusal}
+use Rattle.page_entry.specs.declared.refusal.Refusal.TheVariants.{Broken, Busy, BadShape, BusAdrErr, Damaged, Device}
+use Rattle.page_entry.specs.declared.refusal.Refusal.TheVariants.{Eacces, Einval, Enomem, Fault, Held, Locked, NoFile}
+use Rattle.page_entry.specs.declared.refusal.Refusal.TheVariants.{NoFrame, NotAVolume, NotResident, NotYet, OutOfMemory}
+use Rattle.page_entry.specs.declared.refusal.Refusal.TheVariants.{Overlap, SegvAccErr, SegvMapErr, Stalled, TraceFull}
 use Rattle.volume_codec.specs.Files.{File}
 use Rattle.volume_codec.specs.Layout.{block_at}
 use Rattle.volume_codec.specs.Recovery.{files_from}
@@ -13,10 +18,10 @@ use Rattle.history.specs.History.{Event, files_after, IsDurablePrefix}
 use Rattle.log_codec.specs.declared.start.LogStart.{LogStart}
 use Rattle.log_codec.specs.Log.{LogValue, IsLog, first_log_home, first_log_file_home}
 use Rattle.log_codec.specs.Chain.{LogRecovers, IsLogHome}
-use Rattle.log_volume.specs.Super.{LogSuperValue, IsLogSuper, log_of}
+use Rattle.log_volume.specs.Super.{LogSuperValue, IsLogSuper, log_magic, log_of}
 use Rattle.log_volume.specs.Files.{RecoversToLog, log_files_in, log_lengths_in}
 use Rattle.log_opening.specs.Opening.{RecoversAlike}
-use Rattle.log_opening.specs.Volume.{HasOpenedVolume, LeftByOpeningVolume}
+use Rattle.log_opening.specs.Volume.{HasOpenedVolume, LeftByOpeningVolume, RefusesVolume}
 use Rattle.log_engine.specs.Openings.{FindsAfterLogCrash, FindsOnLog, IsReopened, KeepsOnLog}
 
 -- ---- one reading
@@ -59,6 +64,7 @@ pub record ReadsBackOnLog (files : List File) (histories : List Event → Type 0
   pub recovers : RecoversToLog c (files_after files prefix)
 
 module _ {D : Type 0} (disk : Ghosts D)
+    (magic : (v : LogSuperValue) (block : List ℕ) → IsLogSuper v block → take 8 block ≡ log_magic v.sealing)
     (unique : (bytes : List ℕ) (files others : List File) → RecoversToLog bytes files → RecoversToLog bytes others
     → files ≡ others)
     (opens : (old new : D) (table : LogSuperValue) (lengths : List ℕ) (next : LogStart)
@@ -91,11 +97,45 @@ module _ {D : Type 0} (disk : Ghosts D)
         opened_left files before all earlier.1 (disk.seen later) (leaves.each (disk.seen later) restarted.left),
       )
 
+  -- a refused opening of bytes that recover isn't one of damaged bytes
+  may_refuse : (files : List File) (bytes : List ℕ) (refusal : Refusal) → RecoversToLog bytes files
+      → RefusesVolume bytes refusal → (refusal ≡ Device) ⊎ (refusal ≡ OutOfMemory) ⊎ (refusal ≡ Busy)
+  may_refuse files bytes Device recovers refuses = inl refl
+  may_refuse files bytes OutOfMemory recovers refuses = inr (inl refl)
+  may_refuse files bytes Busy recovers refuses = inr (inr refl)
+  may_refuse files bytes Damaged recovers refuses = absurd (refuses.2 files recovers)
+  may_refuse files bytes NotAVolume recovers (inl short) =
+      let some = recovers.super_block.fits.log.some_homes in
+      let long = recovers.recovers.log.long in
+      absurd (omega (arith, short, some, long))
+  may_refuse files bytes NotAVolume recovers (inr none) =
+      let table = recovers.table in
+      absurd (none table.sealing (magic table (block_at bytes 0) recovers.super_block))
+  may_refuse files bytes Stalled recovers refuses = absurd refuses
+  may_refuse files bytes Locked recovers refuses = absurd refuses
+  may_refuse files bytes (NotYet n) recovers refuses = absurd refuses
+  may_refuse files bytes (Fault code) recovers refuses = absurd refuses
+  may_refuse files bytes SegvMapErr recovers refuses = absurd refuses
+  may_refuse files bytes SegvAccErr recovers refuses = absurd refuses
+  may_refuse files bytes BusAdrErr recovers refuses = absurd refuses
+  may_refuse files bytes Held recovers refuses = absurd refuses
+  may_refuse files bytes NoFrame recovers refuses = absurd refuses
+  may_refuse files bytes Broken recovers refuses = absurd refuses
+  may_refuse files bytes Einval recovers refuses = absurd refuses
+  may_refuse files bytes Enomem recovers refuses = absurd refuses
+  may_refuse files bytes Eacces recovers refuses = absurd refuses
+  may_refuse files bytes Overlap recovers refuses = absurd refuses
+  may_refuse files bytes NoFile recovers refuses = absurd refuses
+  may_refuse files bytes NotResident recovers refuses = absurd refuses
+  may_refuse files bytes TraceFull recovers refuses = absurd refuses
+  may_refuse files bytes BadShape recovers refuses = absurd refuses
+
   pub finds : (files : List File) (device : D) → RecoversToLog (disk.seen device) files → FindsOnLog disk files device
   finds files device recovers = record {
     recovers = recovers;
     opened = λ table lengths next after opened. unique (disk.seen device) files
         (log_files_in table (block_at (disk.seen after))) recovers (opens device after table lengths next opened).1;
+    refused = λ refusal refuses. may_refuse files (disk.seen device) refusal recovers refuses;
   }
 
   pub keeps : (files : List File) (lists : List ℕ → Type 0) → ((c : List ℕ) → lists c → RecoversToLog c files)

@@ -1,14 +1,10 @@
 -- What survives of a run on a volume with a log, by the laws of runs on the disk that shows it.
-use Rattle.std.proofs.Common.{◌≡◌, ◌⊎◌, inl, inr, ℕ, zero, suc, ◌≤◌, List, [], ◌∷◌, ◌++◌, take, Result, Ok, Err}
+use Rattle.std.proofs.Common.{◌≡◌, ◌⊎◌, inl, inr, ℕ, zero, suc, ◌≤◌, List, [], ◌∷◌, ◌++◌, take, Ok}
 use Rattle.std.proofs.Common.{refl, sym, ap, subst, arith}
 use Rattle.device.specs.Device.{LeavesOnly, Only}
 use Rattle.device.specs.declared.device.Device.{Ghosts}
-use Rattle.page_entry.specs.declared.refusal.Refusal.{Refusal}
 use Rattle.volume_codec.specs.Files.{File}
 use Rattle.volume_codec.specs.Recovery.{RecoversTo}
-use Rattle.volume_codec.specs.Super.{SuperValue}
-use Rattle.recovery.specs.Opening.{Opens}
-use Rattle.recovery.specs.Openings.{RecoversAs}
 use Rattle.history.specs.History.{Event, files_after, IsDurablePrefix}
 use Rattle.machine.specs.declared.act.Reply.{Reply}
 use Rattle.machine.specs.declared.act.Shape.{Shape}
@@ -25,10 +21,11 @@ use Rattle.engine.specs.Survival.{history_of}
 use Rattle.engine.proofs.Public.{begins, taken_kept}
 use Rattle.log_volume.specs.Files.{RecoversToLog}
 use Rattle.log_opening.specs.Volume.{LeftByOpeningVolume}
-use Rattle.log_disk.specs.Disk.{LogDiskValue, IsHonestLog, left_at, moment_in, shown_by}
+use Rattle.log_disk.specs.Disk.{LogDiskValue, IsHonestLog, shown_by}
 use Rattle.log_engine.specs.Openings.{FindsAfterLogCrash, FindsOnLog, KeepsOnLog}
 use Rattle.log_engine.specs.Survival.{BeforeOrWith, StepSurvivesOnLog, SurvivesOnLog}
 use Rattle.log_engine.specs.inside.Standing.{Stands, StepsStand, StepStands}
+use Rattle.log_engine.proofs.Booting.{LeavesAlike, left_in_boot}
 use Rattle.log_engine.proofs.Reopened.{ReadsBackOnLog}
 use Rattle.log_engine.proofs.Standing.{last_stands, stand_more, taken_of}
 
@@ -127,26 +124,13 @@ module _ {D : Type 0} (disk : Ghosts D) (files : List File) (start : Whole (LogD
   while_booting : (shown : Shown) (shape : Shape) → HasStarted (shown_by disk) shown shape start
       → IsHonestLog disk.is_honest shown → RecoversTo ((shown_by disk).seen shown) files
       → Only ((shown_by disk).may_leave shown) ((shown_by disk).seen shown) → Stands disk start.device
-      → ((before after : Shown) (result : Result SuperValue Refusal) (c : List ℕ)
-      → IsHonestLog disk.is_honest before → Opens (shown_by disk) before result after
-      → left_at disk.moment after (moment_in disk.moment before) c
-      → RecoversAs ((shown_by disk).may_leave before) c)
+      → LeavesAlike disk
       → (c : List ℕ) → disk.left_since start.device.device (disk.moment shown.device) c → RecoversToLog c files
   while_booting shown shape started honest recovers only stand left_as c left =
-      let stands = stand.since begun.honest shown c left in
       let device : start.device ≡ started.volume.device = ap (λ (w : Whole Shown). w.device) started.booted in
-      let L : Shown → Type 0 = λ d. left_at disk.moment d (moment_in disk.moment shown) stands.0 in
-      let alike = left_as shown started.volume.device (Ok started.volume.table) stands.0 honest started.opened
-      (subst L device stands.1) in
-      let R : List ℕ → Type 0 = λ l. RecoversTo l files in
-      let before : RecoversTo alike.0 files = subst R (sym (only alike.0 alike.1)) recovers in
-      stands.2 files (record {
-        table = before.table;
-        contents = before.contents;
-        recovers = alike.2 before.table before.contents before.recovers;
-        lengths = before.lengths;
-        files_are = before.files_are;
-      })
+      let Left : Shown → Type 0 = λ d. disk.left_since d.device (disk.moment shown.device) c in
+      left_in_boot disk left_as files shown started.volume.device (Ok started.volume.table) started.opened honest
+      recovers only (subst (Stands disk) device stand) c (subst Left device left)
 
   module _ (found_after : (files : List File) (histories : List Event → Type 0) (lists : List ℕ → Type 0)
       → ((c : List ℕ) → lists c → ReadsBackOnLog files histories c)
@@ -177,10 +161,7 @@ module _ {D : Type 0} (disk : Ghosts D) (files : List File) (start : Whole (LogD
         (last : Whole Shown) → HasStarted (shown_by disk) shown shape start
         → IsHonestLog disk.is_honest shown → RecoversTo ((shown_by disk).seen shown) files
         → Only ((shown_by disk).may_leave shown) ((shown_by disk).seen shown) → Stands disk start.device
-        → ((before after : Shown) (result : Result SuperValue Refusal) (c : List ℕ)
-        → IsHonestLog disk.is_honest before → Opens (shown_by disk) before result after
-        → left_at disk.moment after (moment_in disk.moment before) c
-        → RecoversAs ((shown_by disk).may_leave before) c)
+        → LeavesAlike disk
         → ((d : D) → disk.is_honest d → disk.may_leave d (disk.seen d))
         → ((files : List File) (lists : List ℕ → Type 0) → ((c : List ℕ) → lists c → RecoversToLog c files)
         → KeepsOnLog disk files lists)

@@ -1,7 +1,9 @@
 -- What openings of a volume with a log find after a crash, and after other openings and crashes between.
-use Rattle.std.specs.Prelude.{ℕ, zero, suc, ◌≡◌, List}
+use Rattle.std.specs.Prelude.{ℕ, zero, suc, ◌≡◌, ◌⊎◌, List}
 use Rattle.device.specs.declared.device.Device.{Ghosts}
 use Rattle.device.specs.Device.{LeavesOnly}
+use Rattle.page_entry.specs.declared.refusal.Refusal.{Refusal}
+use Rattle.page_entry.specs.declared.refusal.Refusal.TheVariants.{Busy, Device, OutOfMemory}
 use Rattle.volume_codec.specs.Files.{File}
 use Rattle.volume_codec.specs.Layout.{block_at}
 use Rattle.recovery.specs.Openings.{IsRestarted}
@@ -10,7 +12,7 @@ use Rattle.history.specs.Later.{AreDurable}
 use Rattle.log_codec.specs.declared.start.LogStart.{LogStart}
 use Rattle.log_volume.specs.Super.{LogSuperValue}
 use Rattle.log_volume.specs.Files.{RecoversToLog, log_files_in}
-use Rattle.log_opening.specs.Volume.{HasOpenedVolume, LeftByOpeningVolume}
+use Rattle.log_opening.specs.Volume.{HasOpenedVolume, LeftByOpeningVolume, RefusesVolume}
 
 -- the first device, opened so many times, with a crash within or after each opening
 abbrev pub IsReopened : {D : Type 0} → Ghosts D → ℕ → D → D → Type 0
@@ -20,10 +22,13 @@ IsReopened {D} disk (suc n) first device = (before : D) × (after : D) × IsReop
     × IsRestarted disk (disk.left_since after (disk.moment before)) device
 
 -- These files are found on the device: its bytes recover to them by its log, and an opening that succeeds gives them.
+-- One that is refused met a device call that failed or no memory, or the log has no epoch left.
 pub record FindsOnLog {D : Type 0} (disk : Ghosts D) (files : List File) (device : D) : Type 0 where
   pub recovers : RecoversToLog (disk.seen device) files
   pub opened : (table : LogSuperValue) (lengths : List ℕ) (next : LogStart) (after : D)
       → HasOpenedVolume disk device table lengths next after → files ≡ log_files_in table (block_at (disk.seen after))
+  pub refused : (refusal : Refusal) → RefusesVolume (disk.seen device) refusal
+      → (refusal ≡ Device) ⊎ (refusal ≡ OutOfMemory) ⊎ (refusal ≡ Busy)
 
 -- A crash left one of these lists: whichever one, these files are found, and so they are after any number of openings,
 -- each with a crash within or after it.

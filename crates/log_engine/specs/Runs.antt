@@ -1,7 +1,8 @@
 -- A run on a volume with a log: it is opened as a disk, a machine is booted over that, and steps are made.
-use Rattle.std.specs.Prelude.{◌≡◌, ◌⊎◌, List}
+use Rattle.std.specs.Prelude.{◌≡◌, ◌≢◌, ◌⊎◌, ℕ, List, Err}
 use Rattle.device.specs.declared.device.Device.{Ghosts}
 use Rattle.page_entry.specs.declared.refusal.Refusal.{Refusal}
+use Rattle.page_entry.specs.declared.refusal.Refusal.TheVariants.{BadShape, Device, OutOfMemory}
 use Rattle.volume_codec.specs.Files.{File}
 use Rattle.machine.specs.declared.act.Reply.{Reply}
 use Rattle.machine.specs.declared.act.Shape.{Shape}
@@ -11,9 +12,11 @@ use Rattle.machine.specs.State.{Whole}
 use Rattle.engine.specs.Engine.{HasStarted, HasNotStarted}
 use Rattle.log_codec.specs.declared.sealing.Sealing.TheVariants.{ByByte}
 use Rattle.log_volume.specs.Files.{RecoversToLog}
+use Rattle.log_opening.specs.Opening.{HasWrittenNothing}
 use Rattle.log_disk.specs.Disk.{LogDiskValue, shown_by}
-use Rattle.log_disk.specs.Opening.{HasShown, RefusesDisk}
-use Rattle.log_engine.specs.Survival.{SurvivesOnLog}
+use Rattle.log_disk.specs.Opening.{HasShown, IsCountedDisk, RefusesDisk}
+use Rattle.log_engine.specs.Openings.{FindsOnLog, KeepsOnLog}
+use Rattle.log_engine.specs.Survival.{StaysOnLog, SurvivesOnLog}
 
 -- A run over the device of a volume with a log: a machine was started over the disk that shows it, and these steps were
 -- made and answered so.
@@ -32,9 +35,32 @@ pub record HasRunOnLog {D : Type 0} (disk : Ghosts D) (before : D) (shape : Shap
       → (files : List File) × RecoversToLog (disk.seen before) files
       × SurvivesOnLog disk files before shown start steps replies last
 
--- Nothing was run: the volume wasn't opened as a disk, or it serves no machine of this shape, or memory was refused.
+-- Nothing was run, since the volume wasn't opened as a disk.
+pub record HasNotShown {D : Type 0} (disk : Ghosts D) (before : D) (refusal : Refusal) (after : D) : Type 0 where
+  pub reason : disk.is_honest before → RefusesDisk (disk.seen before) refusal
+  -- Nothing is written, unless a device call or memory failed, or the disk would have too many blocks.
+  pub unwritten : refusal ≢ Device → refusal ≢ BadShape → refusal ≢ OutOfMemory → HasWrittenNothing disk before after
+  pub counted : IsCountedDisk {X = LogDiskValue D} disk before (Err refusal) after
+  -- Files to which all recovers that a crash might have left before are found after it, and after a crash within it.
+  pub kept : disk.is_honest before → (files : List File)
+      → ((c : List ℕ) → disk.may_leave before c → RecoversToLog c files)
+      → KeepsOnLog disk files (disk.left_since after (disk.moment before)) × FindsOnLog disk files after
+
+-- Nothing was run, since no machine of this shape was booted over the disk: the disk serves none, or a device call or
+-- memory failed.
+pub record HasNotBooted {D : Type 0} (disk : Ghosts D) (before : D) (shape : Shape) (refusal : Refusal) (after : D)
+    : Type 0 where
+  pub shown : LogDiskValue D
+  pub is_shown : HasShown disk before shown
+  pub left : LogDiskValue D
+  pub refused : HasNotStarted (shown_by disk) shown shape left refusal
+  pub ended : after ≡ left.device
+  -- Over an honest device and in layout 5, the files to which it recovered before are found after it.
+  pub kept : disk.is_honest before → shown.volume.sealing ≡ ByByte
+      → (files : List File) × RecoversToLog (disk.seen before) files
+      × StaysOnLog disk files before shown.device after
+
+-- Nothing was run.
 abbrev pub HasNotRunOnLog : {D : Type 0} → Ghosts D → D → Shape → D → Refusal → Type 0
-HasNotRunOnLog {D} disk before shape after refusal =
-    (disk.is_honest before → RefusesDisk (disk.seen before) refusal)
-    ⊎ ((shown : LogDiskValue D) × HasShown disk before shown × (left : LogDiskValue D)
-    × HasNotStarted (shown_by disk) shown shape left refusal × (after ≡ left.device))
+HasNotRunOnLog disk before shape after refusal =
+    HasNotShown disk before refusal after ⊎ HasNotBooted disk before shape refusal after

@@ -39,6 +39,18 @@ pub record FindsDurableOnLog {D : Type 0} (disk : Ghosts D) (files : List File) 
   pub durable : AreDurable files history found
   pub finds : FindsOnLog disk found device
 
+-- No machine was booted over the disk that shows a volume with these files; this is the volume's device when it was
+-- opened, and after the boot failed.
+pub record StaysOnLog {D : Type 0} (disk : Ghosts D) (files : List File) (before opened after : D) : Type 0 where
+  -- a crash within the opening, where all that one might have left before it recovers to these files
+  pub opening : ((c : List ℕ) → disk.may_leave before c → RecoversToLog c files)
+      → KeepsOnLog disk files (disk.left_since opened (disk.moment before))
+  -- a crash since
+  pub booting : KeepsOnLog disk files (disk.left_since after (disk.moment opened))
+  -- no crash
+  pub found : FindsOnLog disk files after
+  pub honest : disk.is_honest after
+
 -- These steps of a machine that was booted over the disk that shows a volume with these files, and their replies.
 pub record SurvivesOnLog {D : Type 0} (disk : Ghosts D) (files : List File) (before : D) (shown : LogDiskValue D)
     (start : Whole (LogDiskValue D)) (steps : List Step) (replies : List Reply) (last : Whole (LogDiskValue D))

@@ -57,14 +57,18 @@ fn boot<D: Device, A: Allocator + Copy>(
     ensures started { IfOk result (λ machine. HasStarted (shown_by D.Device) disk shape machine) }
     ensures stands { IfOk result (λ machine. Stands D.Device machine.device) }
     ensures refused { IfErr result (λ refused. (left : LogDiskValue D)
-        × HasNotStarted (shown_by D.Device) disk shape left refused.0 × (refused.1 ≡ left.device)) }
+        × HasNotStarted (shown_by D.Device) disk shape left refused.0 × Stands D.Device left
+        × (refused.1 ≡ left.device)) }
 {
     match start(alloc, disk, shape) {
         Ok(machine) => {
             machine.device().crashes_alike();
             Ok(machine)
         }
-        Err((refusal, disk)) => Err((refusal, disk.into_device())),
+        Err((refusal, disk)) => {
+            disk.crashes_alike();
+            Err((refusal, disk.into_device()))
+        }
     }
 }
 
@@ -79,7 +83,8 @@ fn boot<D: Device, A: Allocator + Copy>(
 /// without a crash, it is such a prefix of all of them. So it is after further openings, each with a crash within or
 /// after it. In layout 6 the steps are made in the same way, and nothing is promised of content.
 ///
-/// A refusal as of `LogDisk::open` and of `engine::start`; nothing was told then.
+/// A refusal as of `LogDisk::open` and of `engine::start`; nothing was told then. On an honest device the files of the
+/// volume are found after it, with or without a crash, as `HasNotRunOnLog` says.
 pub fn run<D: Device, A: Allocator + Copy, L: Listener>(
     alloc: A,
     device: D,

@@ -1,4 +1,4 @@
-use Rattle.std.proofs.Common.{◌≡◌, inr, ℕ, List, length, take, refl, ◌∙◌, ap, subst}
+use Rattle.std.proofs.Common.{◌≡◌, inl, inr, ℕ, List, length, take, refl, sym, ◌∙◌, ap, subst}
 use Rattle.volume_codec.specs.Files.{File}
 use Rattle.volume_codec.specs.Layout.{block_at}
 use Rattle.volume_codec.specs.Recovery.{RecoversTo}
@@ -7,8 +7,8 @@ use Rattle.machine.specs.Crashes.{Begins}
 use Rattle.log_codec.specs.declared.sealing.Sealing.TheVariants.{ByByte}
 use Rattle.log_volume.specs.Files.{RecoversToLog, log_files_in}
 use Rattle.log_disk.specs.Disk.{LogDiskValue, IsHonestLog, shown_by}
-use Rattle.log_disk.specs.Opening.{HasShown}
-use Rattle.log_engine.specs.Survival.{SurvivesOnLog}
+use Rattle.log_engine.specs.Survival.{StaysOnLog, SurvivesOnLog}
+use Rattle.log_engine.proofs.Booting.{honest_after, left_after_boot, left_in_boot, opens_of}
 use Rattle.log_engine.proofs.Reopened.{finds, found_after, keeps, one_files, opened_left}
 use Rattle.log_engine.proofs.Standing.{taken_of}
 use Rattle.log_engine.proofs.Surviving.{survive}
@@ -26,6 +26,7 @@ returns-in-Ok-boot-clause-ran g c =
     let stand = c.make_steps.ensures.2 in
     let started = c.in-Ok-boot.ensures.started in
     let taken = taken_of disk start steps replies last stand in
+    let magic = c.one_log_super.ensures.magic in
     let unique = one_files c.one_log_super.ensures.one c.one_log.ensures.contents in
     let opens = c.files_of_openings.ensures.opened in
     let crashed = c.files_of_openings.ensures.crashed in
@@ -45,10 +46,11 @@ returns-in-Ok-boot-clause-ran g c =
       files,
       here,
       survive disk files start begun g.met.D.Device.now_is_since c.runs_keep_the_laws.ensures.since
-          (found_after disk unique opens crashed) device shown c.args.shape steps replies last started shown_honest
+          (found_after disk magic unique opens crashed) device shown c.args.shape steps replies last started
+          shown_honest
           on_disk c.in-Ok.ensures.synced c.in-Ok-boot.ensures.stands c.crashed_since_opening.ensures.left
-          g.met.D.Device.seen_is_left (keeps disk unique opens crashed) (finds disk unique opens crashed)
-          (λ all list left. opened_left disk unique opens crashed files device all here list
+          g.met.D.Device.seen_is_left (keeps disk magic unique opens crashed) (finds disk magic unique opens crashed)
+          (λ all list left. opened_left disk magic unique opens crashed files device all here list
           ((c.in-Ok.ensures.crash honest).each list left))
           (c.runs_keep_the_laws.ensures.lawful files start last steps replies
           (record { begins = begun; taken = taken }))
@@ -75,10 +77,88 @@ returns-in-Ok-boot-clause-ran g c =
 
 pub returns-in-Err-boot-clause-refused : goal.returns-in-Err-boot-clause-refused
 returns-in-Err-boot-clause-refused g c =
-    let refused = c.in-Err-boot.ensures.refused in
-    let shown : HasShown g.D.Device c.args.device c.in-Ok.disk = record {
-      fresh = c.in-Ok.ensures.fresh;
-      table = c.in-Ok.ensures.shown;
-      opened = c.in-Ok.ensures.opened;
-    } in
-    (inr (c.in-Ok.disk, shown, refused.0, refused.1, refused.2), refl)
+    let disk = g.D.Device in
+    let device = c.args.device in
+    let shown = c.in-Ok.disk in
+    let failed = c.in-Err-boot.ensures.refused in
+    let after = failed.0 in
+    let opens = opens_of disk shown c.args.shape after _ failed.1 in
+    let magic = c.one_log_super.ensures.magic in
+    let unique = one_files c.one_log_super.ensures.one c.one_log.ensures.contents in
+    let opened_by = c.files_of_openings.ensures.opened in
+    let crashed = c.files_of_openings.ensures.crashed in
+    let kept : disk.is_honest device → shown.volume.sealing ≡ ByByte
+    → (files : List File) × RecoversToLog (disk.seen device) files
+    × StaysOnLog disk files device shown.device after.device =
+    λ honest by_byte.
+    let opened = c.in-Ok.ensures.opened honest in
+    let files = log_files_in shown.volume (block_at (disk.seen shown.device)) in
+    let here = (opened_by device shown.device shown.volume opened.lengths opened.next opened.opened).1 in
+    let on_disk = c.in-Ok.ensures.files honest files here in
+    let synced = c.in-Ok.ensures.synced in
+    let left_as = c.crashed_since_opening.ensures.left in
+    let shown_honest : IsHonestLog disk.is_honest shown = (c.in-Ok.ensures.counted.honest.1 honest, by_byte) in
+    let after_honest = honest_after disk left_as files shown after opens.0 opens.1 shown_honest on_disk synced
+    failed.2 in (
+      files,
+      here,
+      record {
+        opening = λ all. keeps disk magic unique opened_by crashed files
+            (disk.left_since shown.device (disk.moment device))
+            (λ list left. opened_left disk magic unique opened_by crashed files device all here list
+            ((c.in-Ok.ensures.crash honest).each list left));
+        booting = keeps disk magic unique opened_by crashed files
+            (disk.left_since after.device (disk.moment shown.device))
+            (left_in_boot disk left_as files shown after opens.0 opens.1 shown_honest on_disk synced failed.2);
+        found = finds disk magic unique opened_by crashed files after.device
+            (left_after_boot disk left_as files shown after opens.0 opens.1 shown_honest on_disk synced failed.2
+            (disk.seen after.device) (g.met.D.Device.seen_is_left after.device after_honest.0));
+        honest = after_honest.0;
+      },
+    ) in
+    let same : c.in-Err-boot.refused.1 ≡ after.device = failed.3 in (
+      inr (record {
+        shown = shown;
+        is_shown = record {
+          fresh = c.in-Ok.ensures.fresh;
+          table = c.in-Ok.ensures.shown;
+          opened = c.in-Ok.ensures.opened;
+        };
+        left = after;
+        refused = failed.1;
+        ended = same;
+        kept = λ honest by_byte.
+            let there = kept honest by_byte in
+            (there.0, there.1, subst (StaysOnLog disk there.0 device shown.device) (sym same) there.2);
+      }),
+      refl,
+    )
+
+pub returns-in-Err-clause-refused : goal.returns-in-Err-clause-refused
+returns-in-Err-clause-refused g c =
+    let disk = g.D.Device in
+    let device = c.args.device in
+    let after = c.in-Err.refused.1 in
+    let magic = c.one_log_super.ensures.magic in
+    let unique = one_files c.one_log_super.ensures.one c.one_log.ensures.contents in
+    let opened_by = c.files_of_openings.ensures.opened in
+    let crashed = c.files_of_openings.ensures.crashed in (
+      inl (record {
+        reason = c.in-Err.ensures.refused;
+        unwritten = c.in-Err.ensures.unwritten;
+        counted = c.in-Err.ensures.counted;
+        kept = λ honest files all.
+            let leaves = c.in-Err.ensures.crash honest in
+            let here = all (disk.seen device) (g.met.D.Device.seen_is_left device honest) in
+            let each : (list : List ℕ) → disk.left_since after (disk.moment device) list → RecoversToLog list files =
+            λ list left. opened_left disk magic unique opened_by crashed files device all here list
+            (leaves.each list left) in
+            let still = c.in-Err.ensures.counted.honest.1 honest in (
+              keeps disk magic unique opened_by crashed files (disk.left_since after (disk.moment device)) each,
+              finds disk magic unique opened_by crashed files after
+                  (each (disk.seen after) (g.met.D.Device.now_is_since after (disk.moment device) (disk.seen after)
+                  leaves.later (g.met.D.Device.seen_is_left after still))),
+            );
+      }),
+      refl,
+    )

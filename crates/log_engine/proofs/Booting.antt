@@ -1,0 +1,61 @@
+-- What a crash leaves while a machine is booted over the disk that shows a volume, and what a failed boot leaves.
+use Rattle.std.proofs.Common.{List, ℕ, Result, Ok, Err, inl, inr, sym, subst}
+use Rattle.device.specs.Device.{Only}
+use Rattle.device.specs.declared.device.Device.{Ghosts}
+use Rattle.page_entry.specs.declared.refusal.Refusal.{Refusal}
+use Rattle.volume_codec.specs.Files.{File}
+use Rattle.volume_codec.specs.Recovery.{RecoversTo}
+use Rattle.volume_codec.specs.Super.{SuperValue}
+use Rattle.recovery.specs.Opening.{Opens}
+use Rattle.recovery.specs.Openings.{RecoversAs}
+use Rattle.machine.specs.declared.act.Shape.{Shape}
+use Rattle.engine.specs.Engine.{HasNotStarted}
+use Rattle.log_volume.specs.Files.{RecoversToLog}
+use Rattle.log_disk.specs.Disk.{LogDiskValue, IsHonestLog, left_at, moment_in, shown_by}
+use Rattle.log_disk.specs.Serving.{StandsFor}
+use Rattle.log_disk.specs.inside.Times.{now_is_since}
+use Rattle.log_engine.specs.inside.Standing.{Stands}
+
+-- since a disk was opened, a crash leaves what recovers as something that one might have left before
+abbrev pub LeavesAlike : {D : Type 0} → Ghosts D → Type 0
+LeavesAlike {D} disk = (before after : LogDiskValue D) (result : Result SuperValue Refusal) (w : List ℕ)
+    → IsHonestLog disk.is_honest before → Opens (shown_by disk) before result after
+    → left_at disk.moment after (moment_in disk.moment before) w
+    → RecoversAs ((shown_by disk).may_leave before) w
+
+-- the opening of the disk in a boot that failed
+pub opens_of : {D : Type 0} (disk : Ghosts D) (shown : LogDiskValue D) (shape : Shape) (after : LogDiskValue D)
+    (refusal : Refusal) → HasNotStarted (shown_by disk) shown shape after refusal
+    → (result : Result SuperValue Refusal) × Opens (shown_by disk) shown result after
+opens_of disk shown shape after refusal (inl opens) = (Err refusal, opens)
+opens_of disk shown shape after refusal (inr (table, opens, refuses)) = (Ok table, opens)
+
+module _ {D : Type 0} (disk : Ghosts D) (left_as : LeavesAlike disk) (files : List File)
+    (shown after : LogDiskValue D) (result : Result SuperValue Refusal)
+    (opens : Opens (shown_by disk) shown result after) (honest : IsHonestLog disk.is_honest shown)
+    (recovers : RecoversTo ((shown_by disk).seen shown) files)
+    (only : Only ((shown_by disk).may_leave shown) ((shown_by disk).seen shown)) (stands : Stands disk after) where
+  pub honest_after : IsHonestLog disk.is_honest after
+  honest_after = opens.kept.honest.1 honest
+
+  stood_for : (c w : List ℕ) → left_at disk.moment after (moment_in disk.moment shown) w → StandsFor c w
+      → RecoversToLog c files
+  stood_for c w left stood =
+      let alike = left_as shown after result w honest opens left in
+      let R : List ℕ → Type 0 = λ l. RecoversTo l files in
+      let before : RecoversTo alike.0 files = subst R (sym (only alike.0 alike.1)) recovers in
+      stood files (record {
+        table = before.table;
+        contents = before.contents;
+        recovers = alike.2 before.table before.contents before.recovers;
+        lengths = before.lengths;
+        files_are = before.files_are;
+      })
+
+  pub left_in_boot : (c : List ℕ) → disk.left_since after.device (disk.moment shown.device) c → RecoversToLog c files
+  left_in_boot c left = let s = stands.since honest_after shown c left in stood_for c s.0 s.1 s.2
+
+  pub left_after_boot : (c : List ℕ) → disk.may_leave after.device c → RecoversToLog c files
+  left_after_boot c may =
+      let s = stands.now honest_after c may in
+      stood_for c s.0 (now_is_since disk.moment after (moment_in disk.moment shown) s.0 s.1) s.2
