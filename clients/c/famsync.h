@@ -136,9 +136,9 @@ struct famsync_plan {
 };
 
 /* Makes a volume in a new file. Its files contain zeros. When the call returns, the volume is durable. Its bytes are
-   those that `famsync format` writes. If the call fails or the process is killed, the file of this name is the whole
-   volume, or doesn't exist. On a file system without unnamed files (O_TMPFILE) the library makes the volume in a file
-   with a name that ends in `.new`. A crash may leave that file.
+   those that `famsync format` writes. If the call fails or the process is killed, a new file of this name is the
+   whole volume, or doesn't exist. On a file system without unnamed files (O_TMPFILE) the library makes the volume in a
+   file with a name that ends in `.new`. A crash may leave that file.
 
    In layouts 1 and 2 a commit has at most `slots` pages; in layouts 3 and 4 at most one page less. In layouts 5 and 6 a
    commit and its descriptor have to fit into the log, which keeps one block free. A log of 16,384 blocks has room for
@@ -171,8 +171,8 @@ int famsync_open(const char *volume, const struct famsync_options *options, fams
 
 /* Ends a session and frees the handle. Changes since the last msync are lost. Close all plain memory of the handle
    first (otherwise FAMSYNC_ARGUMENT). No other call with the handle may be in progress. The library first writes
-   committed pages to their places in the volume. FAMSYNC_DEVICE, FAMSYNC_UNMARKED: a write or a sync failed, in this
-   call or earlier. What was acknowledged is durable. */
+   committed pages to their places in the volume. FAMSYNC_DEVICE, FAMSYNC_UNMARKED: a read, a write or a sync failed, in
+   this call or earlier. FAMSYNC_NOMEMORY: memory was refused. What was acknowledged is durable in each case. */
 int famsync_close(famsync *handle);
 
 /* The number of files of the volume, numbered from 0; the name of a file; and its length as this session has set it.
@@ -224,7 +224,8 @@ int famsync_write(famsync *handle, unsigned file, uint64_t offset, const void *b
 
    FAMSYNC_DEVICE: a read, a write or a sync failed, and nothing is acknowledged. errno has the cause: ENOMEM means that
    memory was refused, and the disk isn't to blame. After a failed read the session continues, and you may call again.
-   After a failed write or sync the session is over: each later call returns FAMSYNC_BROKEN.
+   After a failed write or sync, or if the core had no memory to record one, the session is over: each later call
+   returns FAMSYNC_BROKEN.
 
    After a failed sync the library flags the volume as suspect, as the program does: it makes the file VOLUME.suspect
    beside the volume's file. FAMSYNC_UNMARKED: a sync failed, and the library couldn't make a lasting suspect flag. So
@@ -241,9 +242,10 @@ int famsync_msync(famsync *handle, uint64_t *mark);
    library first writes earlier commits to their places. If a write or a length waits for a commit, it also opens the
    volume again, which needs the memory of a second session during the call.
 
-   A refused call undoes nothing, except with FAMSYNC_SYSTEM. FAMSYNC_DEVICE: a read, a write or a sync failed, as with
-   famsync_msync. FAMSYNC_SYSTEM: the system refused the rollback. If a part was undone by then, no commit is possible
-   until a rollback succeeds (FAMSYNC_TORN). */
+   A refused call undoes nothing, with two exceptions. FAMSYNC_DEVICE: a read, a write or a sync failed, as with
+   famsync_msync. If this happened after the undoing, everything is undone, and the session is over. FAMSYNC_SYSTEM: the
+   system refused the rollback. If a part was undone by then, no commit is possible until a rollback succeeds
+   (FAMSYNC_TORN). */
 int famsync_rollback(famsync *handle);
 
 /* The number of the last acknowledged commit; 0 if there is none. */
@@ -281,8 +283,8 @@ int famsync_stat(famsync *handle, struct famsync_stat *stat);
    has locked it.
 
    FAMSYNC_SYSTEM: the file couldn't be written; errno has the cause. FAMSYNC_DEVICE: the volume couldn't be read (the
-   session continues), or couldn't be written (the session is over). In both cases the file is no volume. Commits during
-   the backup don't fail because of it. */
+   session continues), or couldn't be written (the session is over). After a failure the file is as before, or no
+   volume, or a backup that may not be durable. Commits during the backup don't fail because of it. */
 int famsync_backup(famsync *handle, int descriptor);
 
 /*
