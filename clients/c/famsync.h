@@ -5,7 +5,7 @@
  * opens and locks the volume's file itself. A volume has one session that writes, or any number of sessions that only
  * read. Sessions of the program `famsync` count, too.
  *
- * A program can access the bytes of a file in two ways. It may use both in one session, even for the same file:
+ * A program can access the bytes of a file in two ways, and may use both in one session, even for the same file:
  *
  *   read and write   famsync_read, famsync_write, famsync_msync: any offset, any count, as with pread and pwrite
  *   plain memory     famsync_memory_open, famsync_memory_at, famsync_msync: a pointer to store through
@@ -17,10 +17,10 @@
  * Any number of threads may call with one handle; the calls take turns. No call is a cancellation point: a thread that
  * is cancelled within a call first completes it.
  *
- * A forked process has a copy of the handle. Each call with this copy returns FAMSYNC_FORKED, except famsync_close,
- * which does nothing: the session belongs to the process that began it. The copy takes memory until the forked process
- * ends or starts another program. It doesn't keep the volume in use. A child of vfork shares the memory of its parent.
- * Its stores to plain memory are stores of the parent. The child must not call the library.
+ * A forked process has a copy of the handle. Each call of type int with this copy returns FAMSYNC_FORKED, except
+ * famsync_close, which does nothing: the session belongs to the process that began it. The copy takes memory until the
+ * forked process ends or starts another program. It doesn't keep the volume in use. A child of vfork shares the memory
+ * of its parent. Its stores to plain memory are stores of the parent. The child must not call the library.
  *
  * A file can't grow past its capacity, which is set when the volume is made. In a volume of layout 1 or 2 a file keeps
  * its length.
@@ -56,8 +56,8 @@ enum famsync_code {
     FAMSYNC_NOTREGULAR = -13, /* the path names no regular file, but a folder, a device, a pipe or a socket */
     FAMSYNC_NAMES = -14,      /* the file has several names, so others could use it by another name */
     FAMSYNC_REPLACED = -15,   /* each time the library had locked the file, the path named another one */
-    FAMSYNC_NOTAVOLUME = -16, /* the file doesn't begin as a volume */
-    FAMSYNC_DAMAGED = -17,    /* the file begins as a volume, but its bytes or its length break the format */
+    FAMSYNC_NOTAVOLUME = -16, /* the file doesn't begin like a volume */
+    FAMSYNC_DAMAGED = -17,    /* the file begins like a volume, but its bytes or its length break the format */
     FAMSYNC_SHAPE = -18,      /* `frames` is more than a commit of this volume can have */
 
     /* why an access or a commit is refused */
@@ -83,7 +83,7 @@ enum famsync_code {
 typedef struct famsync famsync;
 typedef struct famsync_memory famsync_memory;
 
-/* The room for the longest message of famsync_open. That message contains two paths. */
+/* Room for the longest message of famsync_open, which contains two paths. */
 #define FAMSYNC_MESSAGE_SIZE 9000
 
 /* The options of famsync_open. A null pointer means the defaults, which are all zero.
@@ -125,7 +125,7 @@ struct famsync_plan {
     size_t size;
     unsigned layout; /* 1 to 6; 0 means 4 */
     unsigned slots;  /* of each journal: 1 to 1,020; layout 3: 2 to 1,020; layout 4: 2 to 65,535; 0 means 1,020, or
-                        1,024 in layout 4. Layouts 5 and 6 have no journals: 0 */
+                        1,024 in layout 4. Only 0 in layouts 5 and 6, which have no journals */
     unsigned files;  /* the number of files, 1 to 64 */
     const struct famsync_new_file *file; /* the files */
     int preallocate;                     /* not 0: allocates the disk's blocks now; 0: when they are written */
@@ -136,9 +136,9 @@ struct famsync_plan {
 };
 
 /* Makes a volume in a new file. Its files contain zeros. When the call returns, the volume is durable. Its bytes are
-   those that `famsync format` writes. If the call fails or the process is killed, a new file of this name is the
-   whole volume, or doesn't exist. On a file system without unnamed files (O_TMPFILE) the library makes the volume in a
-   file with a name that ends in `.new`. A crash may leave that file.
+   those that `famsync format` writes. If the call fails or the process is killed, there is either the whole volume or
+   no new file with this name. On a file system without unnamed files (O_TMPFILE) the library makes the volume in a file
+   with a name that ends in `.new`. A crash may leave that file.
 
    In layouts 1 and 2 a commit has at most `slots` pages; in layouts 3 and 4 at most one page less. In layouts 5 and 6 a
    commit and its descriptor have to fit into the log, which keeps one block free. A log of 16,384 blocks has room for
@@ -150,7 +150,7 @@ struct famsync_plan {
    leaves a part of a commit with the digest of the whole one.
 
    FAMSYNC_ARGUMENT: the plan is invalid; `message` has the reason. FAMSYNC_SYSTEM: errno has the cause. It is EEXIST if
-   a file with this name, or with `.new` after it, already exists. */
+   the file, or the one that ends in `.new`, already exists. */
 int famsync_format(const char *volume, const struct famsync_plan *plan);
 
 /* Begins a session with a volume: a regular file with one name. If the path is a symbolic link, the library opens its
@@ -189,8 +189,8 @@ unsigned famsync_frames(const famsync *handle);
    length becomes durable with the next famsync_msync, and is lost if the session ends before that.
 
    The pages that a file grows by count as written, and so does the page in which it ended. FAMSYNC_NOFRAME: these pages
-   and those that wait for a commit are more than one commit can have. In that case grow the file in steps, with an
-   msync after each. A refused call changes nothing.
+   and those that wait for a commit are more than one commit can have. Then grow the file in steps, with an msync after
+   each. A refused call changes nothing.
 
    Open plain memory of the file grows or shrinks in place. The program must no longer use bytes past the new end.
    FAMSYNC_SYSTEM: the system refused to change the memory. */
@@ -204,10 +204,10 @@ int famsync_read(famsync *handle, unsigned file, uint64_t offset, void *bytes, s
 /* Writes `count` bytes to a file from `offset` on. `*done` is the number of bytes written; `done` may be a null
    pointer. Writes wait in memory for famsync_msync. Without it they are lost when the session ends.
 
-   FAMSYNC_EINVAL: a byte lies past the file's end. famsync_setlength makes a file longer. FAMSYNC_NOFRAME: these pages
-   and those that wait for a commit are more than one commit can have. In both cases nothing is written. FAMSYNC_DEVICE:
-   the call writes only a part of a page, and the library failed to read the rest. After FAMSYNC_DEVICE and
-   FAMSYNC_NOMEMORY, `*done` bytes were written before the failure.
+   FAMSYNC_EINVAL: a byte lies past the file's end. famsync_setlength makes a file longer. FAMSYNC_NOFRAME: the write's
+   pages and those that wait for a commit are more than one commit can have. In both cases nothing is written.
+   FAMSYNC_DEVICE: the call writes only a part of a page, and the library failed to read the rest. After FAMSYNC_DEVICE
+   and FAMSYNC_NOMEMORY, `*done` bytes were written before the failure.
 
    If plain memory of the file is open, famsync_read and famsync_write use it. A write is then a store to this memory,
    and opens the stored pages as famsync_memory_touch does. */
@@ -215,8 +215,8 @@ int famsync_write(famsync *handle, unsigned file, uint64_t offset, const void *b
 
 /* Makes all changes of this session durable, all of them or none: writes, stores to plain memory, and lengths. The call
    returns when they are durable. `*mark` is the commit's number, counted from 1 in each session; `mark` may be a null
-   pointer. Threads that call during a commit share the next one. If the call is refused, all changes still wait, and
-   the next call commits them.
+   pointer. Threads that call during a commit share the next one. If the call is refused, all changes wait for the
+   next call.
 
    FAMSYNC_NOFRAME: the pages changed by famsync_write and in plain memory, together, are more than one commit can have.
    Nothing is committed, and no later call can commit these changes. After you close the plain memory, what
@@ -293,8 +293,8 @@ int famsync_backup(famsync *handle, int descriptor);
  * library's handler notes the page and opens it for writing. It passes other faults to the handler that was installed
  * before.
  *
- * A page that was stored to is memory of this process. Once it is committed and written to its place, the library may
- * return it to the system. It does so if such pages, with a copy of each, exceed `budget` bytes. In layouts 5 and 6
+ * A page that was stored to takes memory of this process. Once it is committed and written to its place, the library
+ * may return it to the system. It does so if such pages, with a copy of each, exceed `budget` bytes. In layouts 5 and 6
  * pages in the log aren't yet in their places. So the memory can exceed the budget by twice the log's length.
  *
  * A load raises SIGBUS if the volume's file can't be read or was truncated, as with any mapped file. In a forked
@@ -343,13 +343,13 @@ void *famsync_memory_at(const famsync_memory *memory);
 size_t famsync_memory_length(const famsync_memory *memory);
 
 /* The number of pages of 4,096 bytes that were stored to since the last msync. A page whose bytes didn't change may
-   count or not. One commit can have at most famsync_frames of them. */
+   count. One commit can have at most famsync_frames of them. */
 size_t famsync_memory_dirty(const famsync_memory *memory);
 
 /* Opens the pages of `count` bytes from `offset` on, as a store to each page would. Until any thread calls
-   famsync_msync, stores to them raise no SIGSEGV, and the kernel can store to them. All of them count as stored to.
-   FAMSYNC_ARGUMENT: the range isn't within the file. FAMSYNC_NOFRAME: it has more pages than one commit can have. In
-   both cases no page is opened. */
+   famsync_msync or famsync_rollback, stores to them raise no SIGSEGV, and the kernel can store to them. All of them
+   count as stored to. FAMSYNC_ARGUMENT: the range isn't within the file. FAMSYNC_NOFRAME: it has more pages than one
+   commit can have. In both cases no page is opened. */
 int famsync_memory_touch(famsync_memory *memory, size_t offset, size_t count);
 
 /* Closes the memory. Stores since the last msync are lost, and no thread may use the memory. If a refused msync had
