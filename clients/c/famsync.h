@@ -347,9 +347,9 @@ size_t famsync_memory_length(const famsync_memory *memory);
 size_t famsync_memory_dirty(const famsync_memory *memory);
 
 /* Opens the pages of `count` bytes from `offset` on, as a store to each page would. Until any thread calls
-   famsync_msync or famsync_rollback, stores to them raise no SIGSEGV, and the kernel can store to them. All of them
-   count as stored to. FAMSYNC_ARGUMENT: the range isn't within the file. FAMSYNC_NOFRAME: it has more pages than one
-   commit can have. In both cases no page is opened. */
+   famsync_msync or famsync_rollback, stores to them raise no SIGSEGV, and the kernel can store to them. With
+   FAMSYNC_TRACK_SIGNALS they count as stored to. FAMSYNC_ARGUMENT: the range isn't within the file. FAMSYNC_NOFRAME: it
+   has more pages than one commit can have. In both cases no page is opened. */
 int famsync_memory_touch(famsync_memory *memory, size_t offset, size_t count);
 
 /* Closes the memory. Stores since the last msync are lost, and no thread may use the memory. If a refused msync had
