@@ -39,7 +39,14 @@ pub fn serve<'a, R: Files<File = File> + Input + AllocGlobal, A: Allocator + Cop
     let shape = first_line(rt, alloc, &mut input)?;
     let place = place(rt, path)?;
     let disk = open_to_write(rt, path, &place, trust, note)?;
-    let (served, disk) = serve_any(rt.alloc(), alloc, disk, shape, &mut input, out);
+    let requests = Requests {
+        global: rt.alloc(),
+        alloc,
+        shape,
+        input: &mut input,
+        out,
+    };
+    let (served, disk) = requests.serve(disk);
     *note = disk.into_file().into_note();
     match served {
         Ok(served) => outcome(path, served),
@@ -55,79 +62,59 @@ struct Served {
     has_failed: bool,
 }
 
-// Answers the requests on the volume of a device, with journals or with a log, and hands the device back.
-fn serve_any<'a, D, A, I, W>(
+/// What a session is made with, besides the device of its volume.
+#[derive(Drop)]
+struct Requests<'i, A, I, W> {
     global: Global,
     alloc: A,
-    mut device: D,
     shape: Shape,
-    input: &mut I,
-    out: &mut W,
-) -> (Result<Served, NotBooted<'a>>, D)
-where
-    D: Device,
-    A: Allocator + Copy,
-    I: BufRead,
-    W: io::Write,
-{
-    match has_log(&mut device) {
-        Ok(false) => serve_disk(global, alloc, device, shape, input, out),
-        Ok(true) => serve_log(global, alloc, device, shape, input, out),
-        Err(refusal) => {
-            let cause = refused_to_run(alloc, refusal, &mut device, shape);
-            (Err(cause), device)
-        }
-    }
+    input: &'i mut I,
+    out: &'i mut W,
 }
 
-// Answers the requests on the volume with a log of a device, and hands the device back.
-fn serve_log<'a, D, A, I, W>(
-    global: Global,
-    alloc: A,
-    device: D,
-    shape: Shape,
-    input: &mut I,
-    out: &mut W,
-) -> (Result<Served, NotBooted<'a>>, D)
-where
-    D: Device,
-    A: Allocator + Copy,
-    I: BufRead,
-    W: io::Write,
-{
-    match show_log(alloc, device) {
-        Ok(disk) => {
-            let (served, disk) = serve_disk(global, alloc, disk, shape, input, out);
-            (served, disk.into_device())
+impl<A: Allocator + Copy, I: BufRead, W: io::Write> Requests<'_, A, I, W> {
+    // Answers the requests on the volume of a device, with journals or with a log, and hands the device back.
+    fn serve<'a, D: Device>(self, mut device: D) -> (Result<Served, NotBooted<'a>>, D) {
+        match has_log(&mut device) {
+            Ok(false) => self.serve_disk(device),
+            Ok(true) => self.serve_log(device),
+            Err(refusal) => {
+                let cause = refused_to_run(self.alloc, refusal, &mut device, self.shape);
+                (Err(cause), device)
+            }
         }
-        Err((cause, device)) => (Err(cause), device),
     }
-}
 
-// Answers the requests on the volume with journals of a device, and hands the device back.
-fn serve_disk<'a, D, A, I, W>(
-    global: Global,
-    alloc: A,
-    device: D,
-    shape: Shape,
-    input: &mut I,
-    out: &mut W,
-) -> (Result<Served, NotBooted<'a>>, D)
-where
-    D: Device,
-    A: Allocator + Copy,
-    I: BufRead,
-    W: io::Write,
-{
-    match start(alloc, device, shape) {
-        Ok(mut session) => {
-            let ended = serve_session(global, alloc, &mut session, input, out);
-            let has_failed = session.notes().has_failed;
-            (Ok(Served { ended, has_failed }), session.into_device())
+    // Answers the requests on the volume with a log of a device, and hands the device back.
+    fn serve_log<'a, D: Device>(self, device: D) -> (Result<Served, NotBooted<'a>>, D) {
+        match show_log(self.alloc, device) {
+            Ok(disk) => {
+                let (served, disk) = self.serve_disk(disk);
+                (served, disk.into_device())
+            }
+            Err((cause, device)) => (Err(cause), device),
         }
-        Err((refusal, mut device)) => {
-            let cause = refused_to_run(alloc, refusal, &mut device, shape);
-            (Err(cause), device)
+    }
+
+    // Answers the requests on the volume with journals of a device, and hands the device back.
+    fn serve_disk<'a, D: Device>(self, device: D) -> (Result<Served, NotBooted<'a>>, D) {
+        let Requests {
+            global,
+            alloc,
+            shape,
+            input,
+            out,
+        } = self;
+        match start(alloc, device, shape) {
+            Ok(mut session) => {
+                let ended = serve_session(global, alloc, &mut session, input, out);
+                let has_failed = session.notes().has_failed;
+                (Ok(Served { ended, has_failed }), session.into_device())
+            }
+            Err((refusal, mut device)) => {
+                let cause = refused_to_run(alloc, refusal, &mut device, shape);
+                (Err(cause), device)
+            }
         }
     }
 }
