@@ -208,30 +208,17 @@ fn replay_on_any<'a, D: Device, A: Allocator + Copy>(
 {
     match has_log(&mut device) {
         Ok(false) => replayed_on(global, alloc, device, trace, steps),
-        Ok(true) => replay_on_log(global, alloc, device, trace, steps),
+        Ok(true) => match show_log(alloc, device) {
+            Ok(disk) => {
+                let (ended, disk) = replayed_on(global, alloc, disk, trace, steps);
+                (ended, disk.into_device())
+            }
+            Err((cause, device)) => (Err(cause), device),
+        },
         Err(refusal) => {
             let cause = refused_to_run(alloc, refusal, &mut device, trace.shape);
             (Err(cause), device)
         }
-    }
-}
-
-// Runs a trace again on the volume with a log of a device, and hands the device back.
-fn replay_on_log<'a, D: Device, A: Allocator + Copy>(
-    global: Global,
-    alloc: A,
-    device: D,
-    trace: &Trace<A>,
-    steps: &[Step],
-) -> (Result<Replayed, NotBooted<'a>>, D)
-    requires { steps.now ≡ map (λ line. line.step) trace.now.entries.items }
-{
-    match show_log(alloc, device) {
-        Ok(disk) => {
-            let (ended, disk) = replayed_on(global, alloc, disk, trace, steps);
-            (ended, disk.into_device())
-        }
-        Err((cause, device)) => (Err(cause), device),
     }
 }
 
