@@ -8,7 +8,7 @@ use Rattle.machine.specs.declared.act.Step.{Step}
 use Rattle.engine.specs.Listening.{HasHeard, HasListened}
 use Rattle.command_parts.proofs.Public.{appends_none, appends_both}
 use Rattle.run_commands.specs.declared.printer.Printer.{Printer}
-use Rattle.run_commands.specs.Replies.{line_of, failure_after, Prints, ArePrinted, ArePrintedOf}
+use Rattle.run_commands.specs.Replies.{line_of, failure_after, Prints, ArePrinted, ArePrintedOf, IsPrintedRun}
 
 -- a failure that was found stays
 found_stays : (n first : ℕ) (replies : List Reply) → failure_after n (Some first) replies ≡ Some first
@@ -60,16 +60,13 @@ module _ {W : Type 0} (contents : W → Option (List ℕ)) where
 
 -- the replies of a run that a printer was told are printed
 pub printed_run : {W D E : Type 0} (contents : W → Option (List ℕ)) (old new : Printer W) (slice steps : List Step)
-    (result : Result D E) (Ran : List Step → List Reply → D → Type 0) → slice ≡ steps
+    (result : Result D E) (ran : List Step → List Reply → D → Type 0) → slice ≡ steps
     → IfOk result (λ after. (replies : List Reply) × HasListened (Prints contents) (length slice) old replies new
-    × Ran (take (length replies) slice) replies after)
-    → IfOk result (λ after. (replies : List Reply) × ArePrintedOf contents (length steps) old replies new
-    × Ran (take (length replies) steps) replies after)
-printed_run {D = D} contents old new slice steps result Ran same ran =
-    let Told : List Step → D → Type 0 = λ made after. (replies : List Reply)
-    × HasListened (Prints contents) (length made) old replies new × Ran (take (length replies) made) replies after in
-    let Printed : D → Type 0 = λ after. (replies : List Reply) × ArePrintedOf contents (length steps) old replies new
-    × Ran (take (length replies) steps) replies after in
-    IfOk-weaker result (Told steps) Printed
+    × ran (take (length replies) slice) replies after)
+    → IfOk result (IsPrintedRun contents ran steps old new)
+printed_run {D = D} contents old new slice steps result ran same made =
+    let Told : List Step → D → Type 0 = λ told after. (replies : List Reply)
+    × HasListened (Prints contents) (length told) old replies new × ran (take (length replies) told) replies after in
+    IfOk-weaker result (Told steps) (IsPrintedRun contents ran steps old new)
     (λ after told. (told.0, printed_of_run contents (length steps) old told.0 new told.1, told.2))
-    (subst (λ (made : List Step). IfOk result (Told made)) same ran)
+    (subst (λ (all : List Step). IfOk result (Told all)) same made)

@@ -1,9 +1,10 @@
 -- What is printed of a run: a line for each reply; and the first of them that says that the device failed.
 use Rattle.std.specs.Prelude.{ℕ, ◌≡◌, ◌⊎◌, ◌+◌, ◌<◌, ◌^◌, Bool, true, false, if◌then◌else◌}
-use Rattle.std.specs.Prelude.{List, [], ◌∷◌, ◌++◌, length, Option, Some, None, IsSome}
+use Rattle.std.specs.Prelude.{List, [], ◌∷◌, ◌++◌, length, take, Option, Some, None, IsSome}
 use Rattle.std.specs.List.{flat_map}
 use Rattle.std.specs.Io.KnownBytes.{Appends}
 use Rattle.machine.specs.declared.act.Reply.{Reply}
+use Rattle.machine.specs.declared.act.Step.{Step}
 use Rattle.machine.specs.Words.{reply_text}
 use Rattle.command_parts.specs.Replies.{reports_failure}
 use Rattle.run_commands.specs.declared.printer.Printer.{Printer}
@@ -53,3 +54,9 @@ pub record HasFailedAtLast {W : Type 0} (contents : W → Option (List ℕ)) (ol
 abbrev pub ArePrintedOf : {W : Type 0} → (W → Option (List ℕ)) → ℕ → Printer W → List Reply → Printer W → Type 0
 ArePrintedOf contents n old replies new =
     (ArePrinted contents old replies new × (length replies ≡ n)) ⊎ HasFailedAtLast contents old replies new
+
+-- a run of these steps is printed: it made as many of them as it has replies, and left this device
+abbrev pub IsPrintedRun : {W D : Type 0} → (W → Option (List ℕ)) → (List Step → List Reply → D → Type 0) → List Step
+    → Printer W → Printer W → D → Type 0
+IsPrintedRun contents ran steps old new after = (replies : List Reply)
+    × ArePrintedOf contents (length steps) old replies new × ran (take (length replies) steps) replies after

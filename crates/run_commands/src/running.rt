@@ -1,9 +1,8 @@
 // Running a script on the volume in a file.
-ghost use Rattle.std.specs.Prelude.{◌≡◌, ◌↔◌, List, length, take, IsOk, IsErr, IfErr, IsNone, IfSome};
-ghost use Rattle.machine.specs.declared.act.Reply.{Reply};
+ghost use Rattle.std.specs.Prelude.{◌≡◌, ◌↔◌, IsOk, IsErr, IfErr, IsNone, IfSome};
 ghost use Rattle.engine.specs.Engine.{HasRun};
 ghost use Rattle.log_engine.specs.Runs.{HasRunOnLog};
-ghost use Rattle.run_commands.specs.Replies.{ArePrintedOf};
+ghost use Rattle.run_commands.specs.Replies.{IsPrintedRun};
 ghost use Rattle.run_commands.specs.inside.Failure.{IsFailedStep};
 
 use crate::printer::Printer;
@@ -65,9 +64,8 @@ fn run_on_log<'a, D: Device, A: Allocator + Copy, W: io::Write + Drop>(
     script: &Script<A>,
     printer: &mut Printer<W>,
 ) -> (Result<(), NotBooted<'a>>, D)
-    ensures ran { IsOk result.0 → (replies : List Reply)
-        × ArePrintedOf W.contents (length script.now.steps.items) printer.old replies printer.new
-        × HasRunOnLog D.Device device script.now.shape (take (length replies) script.now.steps.items) replies result.1 }
+    ensures ran { IsOk result.0 → IsPrintedRun W.contents (HasRunOnLog D.Device device script.now.shape)
+        script.now.steps.items printer.old printer.new result.1 }
     ensures refused { IsErr result.0 → printer.new ≡ printer.old }
 {
     match run_script_on_log(alloc, device, script, printer) {
@@ -106,9 +104,8 @@ fn run_on<'a, D: Device, A: Allocator + Copy, W: io::Write + Drop>(
     script: &Script<A>,
     printer: &mut Printer<W>,
 ) -> (Result<(), NotBooted<'a>>, D)
-    ensures ran { IsOk result.0 → (replies : List Reply)
-        × ArePrintedOf W.contents (length script.now.steps.items) printer.old replies printer.new
-        × HasRun D.Device device script.now.shape (take (length replies) script.now.steps.items) replies result.1 }
+    ensures ran { IsOk result.0 → IsPrintedRun W.contents (HasRun D.Device device script.now.shape)
+        script.now.steps.items printer.old printer.new result.1 }
     ensures refused { IsErr result.0 → printer.new ≡ printer.old }
 {
     match run_script(alloc, device, script, printer) {

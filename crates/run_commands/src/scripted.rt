@@ -1,9 +1,8 @@
 // A script is run on a device, and its replies are printed as they come.
-ghost use Rattle.std.specs.Prelude.{◌≡◌, List, length, take, IfOk, IfErr};
-ghost use Rattle.machine.specs.declared.act.Reply.{Reply};
+ghost use Rattle.std.specs.Prelude.{◌≡◌, IfOk, IfErr};
 ghost use Rattle.engine.specs.Engine.{HasNotStarted, HasRun, KeepsDevice, handed_back};
 ghost use Rattle.log_engine.specs.Runs.{HasNotRunOnLog, HasRunOnLog};
-ghost use Rattle.run_commands.specs.Replies.{ArePrintedOf};
+ghost use Rattle.run_commands.specs.Replies.{IsPrintedRun};
 
 use crate::printer::Printer;
 use device::Device;
@@ -20,9 +19,8 @@ pub fn run_script<D: Device, A: Allocator + Copy, W: Write + Drop>(
     script: &Script<A>,
     printer: &mut Printer<W>,
 ) -> Result<D, (Refusal, D)>
-    ensures ran { IfOk result (λ after. (replies : List Reply)
-        × ArePrintedOf W.contents (length script.now.steps.items) printer.old replies printer.new
-        × HasRun D.Device device script.now.shape (take (length replies) script.now.steps.items) replies after) }
+    ensures ran { IfOk result (IsPrintedRun W.contents (HasRun D.Device device script.now.shape)
+        script.now.steps.items printer.old printer.new) }
     ensures refused { IfErr result (λ refused. HasNotStarted D.Device device script.now.shape refused.1 refused.0
         × (printer.new ≡ printer.old)) }
     ensures kept { KeepsDevice D.Device device (handed_back result) }
@@ -37,9 +35,8 @@ pub fn run_script_on_log<D: Device, A: Allocator + Copy, W: Write + Drop>(
     script: &Script<A>,
     printer: &mut Printer<W>,
 ) -> Result<D, (Refusal, D)>
-    ensures ran { IfOk result (λ after. (replies : List Reply)
-        × ArePrintedOf W.contents (length script.now.steps.items) printer.old replies printer.new
-        × HasRunOnLog D.Device device script.now.shape (take (length replies) script.now.steps.items) replies after) }
+    ensures ran { IfOk result (IsPrintedRun W.contents (HasRunOnLog D.Device device script.now.shape)
+        script.now.steps.items printer.old printer.new) }
     ensures refused { IfErr result (λ refused. HasNotRunOnLog D.Device device script.now.shape refused.1 refused.0
         × (printer.new ≡ printer.old)) }
 {

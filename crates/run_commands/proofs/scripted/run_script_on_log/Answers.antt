@@ -5,5 +5,4 @@ use Rattle.run_commands.proofs.scripted.run_script_on_log.Goals as goal
 pub returns-clause-ran : goal.returns-clause-ran
 returns-clause-ran g c =
     printed_run g.W.Write.contents c.args.printer.now c.run.new.listener _ c.args.script.now.steps.items c.run.result
-    (λ steps replies after. HasRunOnLog g.D.Device c.args.device c.args.script.now.shape steps replies after)
-    c.deref.ensures.value c.run.ensures.ran
+    (HasRunOnLog g.D.Device c.args.device c.args.script.now.shape) c.deref.ensures.value c.run.ensures.ran
