@@ -70,7 +70,7 @@ where
     }
 }
 
-// Prints what the bytes of the volume of a device say.
+// Prints what the bytes of the volume of a device say, with journals or with a log.
 fn print_bytes<'a, D: Device, A: Allocator + Copy, W: io::Write>(
     global: Global,
     alloc: A,
@@ -80,21 +80,10 @@ fn print_bytes<'a, D: Device, A: Allocator + Copy, W: io::Write>(
 ) -> Result<(), FileFailure<'a>> {
     match inspect(alloc, disk) {
         Ok(found) => print_found(global, look.json, &found, out),
-        Err(Refusal::NotAVolume) => print_log_bytes(global, alloc, look, disk, out),
-        Err(refusal) => Err(not_read(alloc, look.disk, refusal, disk)),
-    }
-}
-
-// Prints what the bytes of the volume with a log of a device say.
-fn print_log_bytes<'a, D: Device, A: Allocator + Copy, W: io::Write>(
-    global: Global,
-    alloc: A,
-    look: Look<'a>,
-    disk: &mut D,
-    out: &mut W,
-) -> Result<(), FileFailure<'a>> {
-    match read_log_volume(alloc, disk) {
-        Ok(found) => print_log_found(global, look.json, &found, out),
+        Err(Refusal::NotAVolume) => match read_log_volume(alloc, disk) {
+            Ok(found) => print_log_found(global, look.json, &found, out),
+            Err(refusal) => Err(not_read(alloc, look.disk, refusal, disk)),
+        },
         Err(refusal) => Err(not_read(alloc, look.disk, refusal, disk)),
     }
 }

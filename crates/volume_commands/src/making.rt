@@ -3,7 +3,7 @@ ghost use Rattle.std.specs.Prelude.{◌≡◌, ℕ, Some, IsOkAnd};
 
 use crate::print::print_count;
 use crate::progress::Progress;
-use command_line::{Export, Logged, Make, Migration, NewLayout, Seal};
+use command_line::{Logged, Make, Migration, NewLayout, Seal};
 use log_codec::Sealing;
 use std::alloc::Allocator;
 use std::fs::File;
@@ -55,12 +55,22 @@ where
             print_count(global, asked.json, "formatted", blocks, "blocks", out)
         }
         Make::Migration(asked) => {
-            let blocks = migrated(rt, alloc, &asked, err, note)?;
-            print_count(global, asked.json, "migrated", blocks, "blocks", out)
+            let plan = migration(&asked, new_volume(rt, asked.layout)?);
+            let mut progress = Progress::new(err, "migrating");
+            let made = volume_files::migrate(rt, alloc, plan, asked.trust, note, &mut progress);
+            progress.clear();
+            print_count(global, asked.json, "migrated", made?, "blocks", out)
         }
         Make::Copy(asked) => {
-            let bytes = exported(rt, alloc, asked, err, note)?;
-            print_count(global, asked.json, "exported", bytes, "bytes", out)
+            let plan = ExportPlan {
+                disk: asked.disk,
+                file: asked.file,
+                out: asked.out,
+            };
+            let mut progress = Progress::new(err, "exporting");
+            let made = volume_files::export(rt, alloc, plan, asked.trust, note, &mut progress);
+            progress.clear();
+            print_count(global, asked.json, "exported", made?, "bytes", out)
         }
     }
 }
@@ -94,50 +104,6 @@ fn sealing<'a, R: Files<File = File>>(rt: &R, seal: Seal) -> Result<Sealing, Fil
             Ok(Sealing::ByDigest(key))
         }
     }
-}
-
-// Migrates a volume, and counts the blocks of the new one.
-fn migrated<'a, R, A, E>(
-    rt: &R,
-    alloc: A,
-    asked: &Migration<'a>,
-    err: &mut E,
-    note: &mut SyncNote,
-) -> Result<u64, FileFailure<'a>>
-where
-    R: Files<File = File> + AllocGlobal,
-    A: Allocator + Copy,
-    E: io::Write + IsTerminal,
-{
-    let plan = migration(asked, new_volume(rt, asked.layout)?);
-    let mut progress = Progress::new(err, "migrating");
-    let made = volume_files::migrate(rt, alloc, plan, asked.trust, note, &mut progress);
-    progress.clear();
-    made
-}
-
-// Copies a file out of a volume, and counts its bytes.
-fn exported<'a, R, A, E>(
-    rt: &R,
-    alloc: A,
-    asked: Export<'a>,
-    err: &mut E,
-    note: &mut SyncNote,
-) -> Result<u64, FileFailure<'a>>
-where
-    R: Files<File = File> + AllocGlobal,
-    A: Allocator + Copy,
-    E: io::Write + IsTerminal,
-{
-    let plan = ExportPlan {
-        disk: asked.disk,
-        file: asked.file,
-        out: asked.out,
-    };
-    let mut progress = Progress::new(err, "exporting");
-    let made = volume_files::export(rt, alloc, plan, asked.trust, note, &mut progress);
-    progress.clear();
-    made
 }
 
 // What a new volume has besides its files. A key that isn't given is drawn.
