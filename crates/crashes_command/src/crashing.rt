@@ -94,32 +94,21 @@ fn print_crashes<'a, A: Allocator + Copy, W: io::Write>(
     form: Form,
     out: &mut W,
 ) -> Result<Result<(), Refusal>, Failure<'a>> {
-    if let VolumePlaces::Log(_) = places {
-        return print_by_log(alloc, script, steps, image, places, form, out);
-    }
-    match Trial::new(alloc, image, steps.shape, &steps.steps) {
-        Ok(trial) => ended(script, print_trial(alloc, &trial, places, form, out)),
-        Err(fault) => not_begun(script, fault),
-    }
-}
-
-// The same of a volume with a log.
-fn print_by_log<'a, A: Allocator + Copy, W: io::Write>(
-    alloc: A,
-    script: &'a str,
-    steps: &Script<A>,
-    image: &[u8],
-    places: &VolumePlaces<A>,
-    form: Form,
-    out: &mut W,
-) -> Result<Result<(), Refusal>, Failure<'a>> {
-    let twin = match Twin::new(alloc, image) {
-        Ok(twin) => twin,
-        Err(fault) => return not_begun(script, fault),
-    };
-    match LogTrial::new(alloc, &twin, steps.shape, &steps.steps) {
-        Ok(trial) => ended(script, print_trial(alloc, &trial, places, form, out)),
-        Err(fault) => not_begun(script, fault),
+    match places {
+        VolumePlaces::Journals(_) => match Trial::new(alloc, image, steps.shape, &steps.steps) {
+            Ok(trial) => ended(script, print_trial(alloc, &trial, places, form, out)),
+            Err(fault) => not_begun(script, fault),
+        },
+        VolumePlaces::Log(_) => {
+            let twin = match Twin::new(alloc, image) {
+                Ok(twin) => twin,
+                Err(fault) => return not_begun(script, fault),
+            };
+            match LogTrial::new(alloc, &twin, steps.shape, &steps.steps) {
+                Ok(trial) => ended(script, print_trial(alloc, &trial, places, form, out)),
+                Err(fault) => not_begun(script, fault),
+            }
+        }
     }
 }
 
