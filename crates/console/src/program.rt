@@ -2,7 +2,7 @@
 ghost use Rattle.std.specs.Prelude.{◌≤◌, IfOk};
 
 use crate::reporting::{asks_for_json, report_failure};
-use command_line::{Job, read_words};
+use command_line::{Job, WordFault, read_words};
 use command_parts::Failure;
 use crashes_command::crashes;
 use run_commands::{replay, run};
@@ -40,7 +40,8 @@ where
     ensures { result ≤ 3 }
 {
     let mut note = SyncNote::Nothing;
-    let done = obey(rt, alloc, words, out, err, &mut note);
+    let asked = read_words(rt.alloc(), alloc, words);
+    let done = obey(rt, alloc, asked, out, err, &mut note);
     match once_flushed(done, out.flush()) {
         Ok(status) => status,
         Err(failure) => {
@@ -65,10 +66,11 @@ fn once_flushed<'a>(
     Ok(status)
 }
 
-fn obey<'a, R, A, S, O, E>(
+// Does what was asked for, where the words are of a form that the help shows.
+fn obey<'a, R, A, O, E>(
     rt: &R,
     alloc: A,
-    words: &'a [S],
+    asked: Result<Job<'a, A>, WordFault<'a>>,
     out: &mut O,
     err: &mut E,
     note: &mut SyncNote,
@@ -76,12 +78,11 @@ fn obey<'a, R, A, S, O, E>(
 where
     R: Files<File = File> + Input + AllocGlobal + Threads + Wait + Sync,
     A: Allocator + Copy,
-    S: AsStr,
     O: io::Write,
     E: io::Write + IsTerminal,
     ensures { IfOk result (λ status. status ≤ 3) }
 {
-    match read_words(rt.alloc(), alloc, words)? {
+    match asked? {
         Job::Look(asked) => {
             let status = look(rt, alloc, asked, out, note)?;
             return Ok(status);
