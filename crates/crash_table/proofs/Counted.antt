@@ -3,7 +3,7 @@ use Rattle.std.proofs.Common.{◌≡◌, ℕ, zero, suc, ◌+◌, ◌<◌, ◌�
 use Rattle.std.proofs.Common.{add-one, get_or, refl, sym, ap, subst, ◌∙◌, arith}
 use Rattle.std.specs.Prelude.{Result, Ok, Err, IfOk}
 use Rattle.std.proofs.lemmas.Bool.Decides.{nat_tests}
-use Rattle.std.proofs.lemmas.List.{take_more}
+use Rattle.std.proofs.lemmas.List.{take_all, take_more}
 use Rattle.device.specs.declared.device.Device.{Ghosts}
 use Rattle.machine.specs.declared.act.Reply.{Reply}
 use Rattle.machine.specs.declared.act.Step.{Step}
@@ -29,18 +29,31 @@ module _ {D : Type 0} (disk : Ghosts D) (calls : D → ℕ) where
   counted_more old mid new (x ∷ steps) [] (n ∷ counts) step reply count made this is = absurd made
   counted_more old mid new (x ∷ steps) (r ∷ replies) [] step reply count made this is = absurd made
 
-  -- the step at index i was made after those before it
+  -- the step at index i was made after those before it, and its reply and the number of calls were added to the lists
   pub counted_next : (old mid new : Whole D) (steps : List Step) (i : ℕ) (step : Step) (replies : List Reply)
-      (counts : List ℕ) (reply : Reply) (count : ℕ) → i < length steps → step ≡ get_or steps i step
+      (counts : List ℕ) (reply : Reply) (count : ℕ) (more : List Reply) (higher : List ℕ) → i < length steps
+      → step ≡ get_or steps i step
       → StepsCountedBy disk calls old (take i steps) replies counts mid → StepTaken disk mid step reply new
-      → calls new.device ≡ count
-      → StepsCountedBy disk calls old (take (i + 1) steps) (replies ++ reply ∷ []) (counts ++ count ∷ []) new
-  counted_next old mid new steps i step replies counts reply count below at made this is =
+      → calls new.device ≡ count → more ≡ replies ++ reply ∷ [] → higher ≡ counts ++ count ∷ []
+      → StepsCountedBy disk calls old (take (i + 1) steps) more higher new
+  counted_next old mid new steps i step replies counts reply count more higher below at made this is more_is higher_is =
       let P : List Step → Type 0 =
       λ s. StepsCountedBy disk calls old s (replies ++ reply ∷ []) (counts ++ count ∷ []) new in
+      let Q : List Reply → Type 0 = λ l.
+      StepsCountedBy disk calls old (take (i + 1) steps) l (counts ++ count ∷ []) new in
+      let R : List ℕ → Type 0 = λ l. StepsCountedBy disk calls old (take (i + 1) steps) more l new in
       let first : take (i + 1) steps ≡ take i steps ++ step ∷ [] =
       take_more steps i step below ∙ ap (λ s. take i steps ++ s ∷ []) (sym at) in
-      subst P (sym first) (counted_more old mid new (take i steps) replies counts step reply count made this is)
+      subst R (sym higher_is) (subst Q (sym more_is) (subst P (sym first)
+      (counted_more old mid new (take i steps) replies counts step reply count made this is)))
+
+  -- the steps before an index past the last one are all of them
+  pub counted_all : (old new : Whole D) (steps : List Step) (i : ℕ) (replies : List Reply) (counts : List ℕ)
+      → length steps ≤ i → StepsCountedBy disk calls old (take i steps) replies counts new
+      → StepsCountedBy disk calls old steps replies counts new
+  counted_all old new steps i replies counts past made =
+      let P : List Step → Type 0 = λ l. StepsCountedBy disk calls old l replies counts new in
+      subst P (take_all i steps past) made
 
   -- they are steps that were made
   pub counted_taken : (old new : Whole D) (steps : List Step) (replies : List Reply) (counts : List ℕ)

@@ -1,9 +1,7 @@
-use Rattle.std.proofs.Common.{rules, ℕ, ◌+◌, ◌<◌, ◌≤◌, List, [], ◌∷◌, ◌++◌, length, take, refl, sym, ap, subst, ◌∙◌}
-use Rattle.std.proofs.lemmas.List.{take_all}
+use Rattle.std.proofs.Common.{rules, ℕ, ◌<◌, ◌≤◌, List, [], length, refl, sym, ap, subst, ◌∙◌}
 use Rattle.machine.specs.declared.act.Reply.{Reply}
-use Rattle.machine.specs.declared.act.Step.{Step}
 use Rattle.crash_table.specs.Calls.{StepsCounted}
-use Rattle.crash_table.proofs.Counted.{counted_next}
+use Rattle.crash_table.proofs.Counted.{counted_all, counted_next}
 use Rattle.crash_table.proofs.trial.note_steps.Goals as goal
 
 pub loop-step-init : goal.loop-step-init
@@ -16,26 +14,15 @@ loop-step-init g c =
 pub loop-step-preserved : goal.loop-step-preserved
 loop-step-preserved g c =
     let disk = g.D.Device in
-    let index = c.loop-step.step-index in
-    let steps = c.args.steps.now in
-    let below : index < length steps = search rules in
-    let new = c.enter.new.self in
-    let P : List Reply → Type 0 = λ l.
-    StepsCounted disk c.args.machine.now (take (index + 1) steps) l c.push-in-loop-step.new.self.items new in
-    let Q : List ℕ → Type 0 = λ l. StepsCounted disk c.args.machine.now (take (index + 1) steps)
-    (c.loop-step.replies.items ++ c.enter.result ∷ []) l new in
+    let below : c.loop-step.step-index < length c.args.steps.now = search rules in
     let count = c.calls.ensures ∙ ap (λ d. disk.calls_made d) c.device.ensures in
-    subst P (sym c.in_ok-push.ensures.items)
-    (subst Q (sym c.in_ok-push-2.ensures.items)
-    (counted_next disk disk.calls_made c.args.machine.now c.loop-step.machine new steps index c.step-item.result
-    c.loop-step.replies.items c.loop-step.counts.items c.enter.result c.calls.result below c.step-item.is
-    c.loop-step.invariant c.enter.ensures.taken (sym count)))
+    counted_next disk disk.calls_made c.args.machine.now c.loop-step.machine c.enter.new.self c.args.steps.now
+    c.loop-step.step-index c.step-item.result c.loop-step.replies.items c.loop-step.counts.items c.enter.result
+    c.calls.result _ _ below c.step-item.is c.loop-step.invariant c.enter.ensures.taken (sym count)
+    c.in_ok-push.ensures.items c.in_ok-push-2.ensures.items
 
 pub returns : goal.returns
 returns g c =
-    let steps = c.args.steps.now in
-    let past : length steps ≤ c.loop-step.step-index = search rules in
-    let P : List Step → Type 0 = λ l.
-    StepsCounted g.D.Device c.args.machine.now l c.loop-step.replies.items c.loop-step.counts.items
-    c.loop-step.machine in
-    subst P (take_all c.loop-step.step-index steps past) c.loop-step.invariant
+    let past : length c.args.steps.now ≤ c.loop-step.step-index = search rules in
+    counted_all g.D.Device g.D.Device.calls_made c.args.machine.now c.loop-step.machine c.args.steps.now
+    c.loop-step.step-index c.loop-step.replies.items c.loop-step.counts.items past c.loop-step.invariant
