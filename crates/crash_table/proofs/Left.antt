@@ -5,8 +5,8 @@ use Rattle.std.proofs.lemmas.List.{length-take}
 use Rattle.std.proofs.lemmas.Result.{IfOk-weaker}
 use Rattle.device.specs.declared.device.Device.{Ghosts}
 use Rattle.device.specs.Device.{Only, LeavesOnly}
-use Rattle.device.specs.Memory.{Recorded, new_disk, seen_of, may_leave_of, after_stop}
-use Rattle.crash_states.specs.Calls.{DeviceCall, ListedDisk, ListsItsCalls, listing}
+use Rattle.device.specs.Memory.{Recorded, new_disk, seen_of, may_leave_of}
+use Rattle.crash_states.specs.Calls.{DeviceCall, ListedDisk, listing}
 use Rattle.std.proofs.lemmas.List.{ext_get_or}
 use Rattle.volume_codec.specs.Files.{File}
 use Rattle.volume_codec.specs.Recovery.{RecoversTo}
@@ -20,7 +20,7 @@ use Rattle.machine.specs.State.{Whole}
 use Rattle.machine.specs.Observed.{Observed, observe_all}
 use Rattle.engine.specs.Engine.{HasStarted}
 use Rattle.crash_table.specs.Calls.{listing_memory}
-use Rattle.crash_table.specs.Crashes.{history_of, HasEnded, IsUpTo, LeavesMark}
+use Rattle.crash_table.specs.Crashes.{history_of, HasEnded, IsStopped, LeavesMark}
 use Rattle.crash_table.specs.declared.found.MarkFiles.{MarkFiles}
 use Rattle.crash_table.specs.Marks.{contents_of, IsNewest}
 use Rattle.crash_table.specs.inside.Kept.{AreKept, HasKept}
@@ -87,9 +87,7 @@ module _ {A : Type 0} (one : IsOneReading) (image : List ℕ) (shape : Shape) (s
     (ended : HasEnded listing_memory (listing (new_disk image) fails) shape steps replies after)
     (back : (files : List File) → RecoversTo image files → (c : List ℕ) → may_leave_of after.inner c
     → ReadsBack files (history_of files shape (take (length replies) steps) replies) c)
-    (complete : after.refused ≡ false) (are_its : ListsItsCalls after)
-    (up : IsUpTo calls fails steps replies after) (stopped : Recorded)
-    (is : stopped ≡ after_stop after.inner choice) (left : may_leave_of after.inner (seen_of stopped))
+    (stopped : Recorded) (is : IsStopped calls fails steps replies choice after stopped)
     (read : List (List ℕ))
     (opened : (found : List File) × RecoversTo (seen_of stopped) found × (read ≡ contents_of found)) where
   leaves_mark : (number : ℕ) → IsNewest kept.files shape steps replies read number
@@ -103,16 +101,16 @@ module _ {A : Type 0} (one : IsOneReading) (image : List ℕ) (shape : Shape) (s
         replies = replies;
         after = after;
         ended = ended;
-        complete = complete;
-        are_its = are_its;
-        up_to_call = up;
-        left = subst P is left;
+        complete = is.complete;
+        are_its = is.are_its;
+        up_to_call = is.up_to_call;
+        left = subst P is.stopped is.left;
         files = kept.files;
         before = kept.before;
         found = opened.0;
-        recovers = subst Q is opened.1;
+        recovers = subst Q is.stopped opened.1;
         at_mark = at_mark one kept.files shape steps replies long (seen_of stopped)
-            (back kept.files kept.before (seen_of stopped) left) opened.0 opened.1 number (subst N opened.2 newest);
+            (back kept.files kept.before (seen_of stopped) is.left) opened.0 opened.1 number (subst N opened.2 newest);
       }
 
   -- so it is of the newest mark that was looked for among the marks that were kept

@@ -1,7 +1,7 @@
 -- What a crash within a run leaves: the files at one of its marks.
 use Rattle.std.specs.Prelude.{ℕ, ◌≡◌, ◌⊎◌, ◌≤◌, ◌<◌, false, List, [], ◌∷◌, ◌++◌, length, take}
 use Rattle.device.specs.declared.device.Device.{Ghosts}
-use Rattle.device.specs.Memory.{new_disk, seen_of, may_leave_of, after_stop}
+use Rattle.device.specs.Memory.{Recorded, new_disk, seen_of, may_leave_of, after_stop}
 use Rattle.page_entry.specs.declared.refusal.Refusal.TheVariants.{Device}
 use Rattle.volume_codec.specs.Files.{File}
 use Rattle.volume_codec.specs.Recovery.{RecoversTo}
@@ -49,6 +49,17 @@ pub record IsUpTo (calls : List DeviceCall) (fails : ℕ) (steps : List Step) (r
   pub made : after.calls ≡ calls_until calls fails
   pub failed : 0 < fails → fails ≤ length calls → (after.made ≡ fails) × (after.faults ≡ 1)
   pub whole : (fails ≡ 0) ⊎ (length calls < fails) → (after.faults ≡ 0) × (length replies ≡ length steps)
+
+-- A run was made up to the device call of one number, or to its end where there is none, and each of its calls is
+-- listed. Then a crash left this choice in the places that were written and not synced: what the disk holds is one of
+-- the contents that it may leave.
+pub record IsStopped (calls : List DeviceCall) (fails : ℕ) (steps : List Step) (replies : List Reply) (choice : List ℕ)
+    (after : ListedDisk) (disk : Recorded) : Type 0 where
+  pub complete : after.refused ≡ false
+  pub are_its : ListsItsCalls after
+  pub up_to_call : IsUpTo calls fails steps replies after
+  pub stopped : disk ≡ after_stop after.inner choice
+  pub left : may_leave_of after.inner (seen_of disk)
 
 -- A run with these device calls was made on a disk in memory with these bytes, up to the call of one number, which
 -- failed, or to its end where there is none of that number. Then a crash left this choice in the places that were

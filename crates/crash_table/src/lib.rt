@@ -4,6 +4,7 @@
 
 mod crashed_run;
 mod files;
+mod first_run;
 mod found;
 mod make;
 mod row;
@@ -12,7 +13,7 @@ mod trial;
 
 pub use crashed_run::CrashedRun;
 pub use files::{Files, are_same, fault_of};
-pub use make::run_on;
+pub use first_run::{FirstRun, steps_before};
+pub use make::{not_opened, run_on};
 pub use row::Rows;
-pub use same::are_same_replies;
-pub use trial::{Trial, calls_of, steps_before};
+pub use trial::{Trial, calls_of};

@@ -77,8 +77,8 @@ pub fn run_on<D: Device + Drop, A: Allocator + Copy>(
     }
 }
 
-// The device, without replies, where it failed as it was opened.
-fn not_opened<D: Device + Drop, A: Allocator + Copy>(
+/// The device, without replies, where it failed as it was opened.
+pub fn not_opened<D: Device + Drop, A: Allocator + Copy>(
     alloc: A,
     refused: (Refusal, D),
 ) -> Result<(D, Vec<Reply, A>), CrashFault>

@@ -1,5 +1,5 @@
 // A run, made once to learn its calls, its replies and the files at its marks, and again for each crash.
-ghost use Rattle.std.specs.Prelude.{◌≡◌, ◌≢◌, ◌↔◌, ◌<◌, ◌≤◌, false, IsTrue, List, length, map, slice_get, Some};
+ghost use Rattle.std.specs.Prelude.{◌≡◌, ◌≢◌, ◌<◌, false, List, length, map, slice_get, Some};
 ghost use Rattle.std.specs.Prelude.{Ok, Err};
 ghost use Rattle.std.specs.Prelude.{IfOk, IfErr, OnOk, alloc_error};
 ghost use Rattle.device.specs.Memory.{new_disk, seen_of};
@@ -8,7 +8,7 @@ ghost use Rattle.volume_codec.specs.Recovery.{RecoversTo};
 ghost use Rattle.machine.specs.declared.act.Reply.TheVariants.{Marked};
 ghost use Rattle.engine.specs.Engine.{HasStarted};
 ghost use Rattle.machine.specs.declared.act.Shape.{Shape};
-ghost use Rattle.crash_states.specs.Calls.{ListedDisk, ListsItsCalls, device_calls_of, calls_until};
+ghost use Rattle.crash_states.specs.Calls.{ListedDisk, ListsItsCalls, device_calls_of};
 ghost use Rattle.crash_table.specs.Calls.{AreMade, AreCallsOf, StepsCounted, listing_memory, steps_before};
 ghost use Rattle.crash_table.specs.Marks.{IsMarkOf};
 ghost use Rattle.crash_table.specs.Trials.{HasItsCalls, HasNoTrial, IsNotListed, cause_of, Leaves};
@@ -16,10 +16,10 @@ ghost use Rattle.crash_table.specs.inside.Kept.{IsKept, AreKept};
 
 use crate::crashed_run::CrashedRun;
 use crate::files::{fault_of, open_files};
+use crate::first_run::{FirstRun, steps_before};
 use crate::found::{MarkFiles, Plan, files_at, newest};
 use crate::make::run_on;
-use crate::same::are_same_replies;
-use crash_states::{Call, CrashFault, Listing, are_until};
+use crash_states::{Call, CrashFault, Listing};
 use device::{Device, MemDisk};
 use engine::ran_since_start;
 use machine::{Machine, Reply, Shape, Step};
@@ -35,15 +35,6 @@ pub struct Trial<'a, A: Allocator + Copy> {
     plan: Plan<'a>,
     listed: FirstRun<A>,
     marks: Vec<MarkFiles<A>, A>,
-}
-
-// A run that was made once: its replies, and its device calls.
-#[derive(Drop)]
-struct FirstRun<A: Allocator + Copy> {
-    replies: Vec<Reply, A>,
-    // The number of device calls after each step.
-    counts: Vec<u64, A>,
-    calls: Vec<Call<A>, A>,
 }
 
 impl<'a, A: Allocator + Copy> Model for Trial<'a, A> {
@@ -115,46 +106,12 @@ impl<'a, A: Allocator + Copy> Trial<'a, A> {
     {
         let copy = Listing::new(self.alloc, self.plan.image, fails)?;
         let (after, replies) = run_on(self.alloc, copy, self.plan.shape, self.plan.steps)?;
-        let is_up_to_call = self.is_up_to(fails, after.calls(), after.faults(), replies.len());
-        let (inner, calls) = after.into_parts()?;
-        let are_its_calls = are_until(&calls, &self.listed.calls, fails);
-        if choice.len() != inner.bytes().len()
-            || !is_up_to_call
-            || !are_its_calls
-            || !self.is_same(fails, &replies)
-        {
-            return Err(CrashFault::Otherwise);
-        }
-        let mut disk = inner;
-        disk.stop(choice);
+        let disk = self
+            .listed
+            .stopped(fails, self.plan.steps, after, &replies, choice)?;
         one_reading();
         let found = open_files(self.alloc, disk)?;
         newest(&self.marks, &self.listed.replies, &replies, &found)
-    }
-
-    // Whether a run of so many calls, so many of which failed, with so many replies, was made up to the device call of
-    // this number, which failed, where there is one, and else up to its end.
-    fn is_up_to(&self, fails: u64, calls: u64, faults: u64, replies: usize) -> bool
-        ensures failed { 0 < fails → fails ≤ length self.now.calls
-            → (IsTrue result ↔ ((calls ≡ fails) × (faults ≡ 1))) }
-        ensures none { fails ≡ 0 → (IsTrue result ↔ ((faults ≡ 0) × (replies ≡ length self.now.steps))) }
-        ensures past { length self.now.calls < fails
-            → (IsTrue result ↔ ((faults ≡ 0) × (replies ≡ length self.now.steps))) }
-    {
-        if fails > 0 && fails <= self.call_count() as u64 {
-            calls == fails && faults == 1
-        } else {
-            faults == 0 && replies == self.plan.steps.len()
-        }
-    }
-
-    // Whether these replies are those of the first run, up to the device call of this number.
-    fn is_same(&self, fails: u64, replies: &[Reply]) -> bool {
-        let before = self.replies_before(fails);
-        match (self.listed.replies.get(0..before), replies.get(0..before)) {
-            (Some(first), Some(again)) => are_same_replies(first, again),
-            _ => false,
-        }
     }
 }
 
@@ -229,18 +186,6 @@ impl<'a, A: Allocator + Copy> CrashedRun<A> for Trial<'a, A> {
     fn cause(&self, _fault: CrashFault) -> CrashFault {
         CrashFault::Memory(AllocError)
     }
-}
-
-/// How many steps were answered before the device call of this number, by the numbers of calls after each step.
-pub fn steps_before(counts: &[u64], call: u64) -> usize
-    ensures { result ≡ steps_before counts.now call }
-{
-    for i in 0..counts.len() {
-        if counts[i] >= call {
-            return i;
-        }
-    }
-    counts.len()
 }
 
 // A run that was made once, with the files at its marks.
@@ -366,11 +311,10 @@ fn list_steps<A: Allocator + Copy>(
     ran_since_start(&machine);
     let calls = calls_of(machine.into_device());
     let (replies, counts) = noted?;
-    let calls = calls?;
     Ok(FirstRun {
         replies,
         counts,
-        calls,
+        calls: calls?,
     })
 }
 

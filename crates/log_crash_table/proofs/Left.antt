@@ -1,21 +1,15 @@
--- What a crash leaves of a run over a volume with a log: the files at a mark.
-use Rattle.std.proofs.Common.{◌≡◌, ℕ, ◌≤◌, false, List, map, Some, sym, ap, subst, ◌∙◌}
+-- The files that a crash leaves of a run over a volume with a log: those at a mark.
+use Rattle.std.proofs.Common.{◌≡◌, ℕ, ◌≤◌, List, Some, sym, subst, ◌∙◌}
 use Rattle.std.specs.Prelude.{slice_get}
-use Rattle.device.specs.Memory.{Recorded, new_disk, seen_of, may_leave_of, after_stop}
 use Rattle.volume_codec.specs.Files.{File}
 use Rattle.volume_codec.specs.Recovery.{RecoversTo}
 use Rattle.machine.specs.declared.act.Reply.{Reply}
 use Rattle.machine.specs.declared.act.Reply.TheVariants.{Committed}
 use Rattle.machine.specs.declared.act.Shape.{Shape}
 use Rattle.machine.specs.declared.act.Step.{Step}
-use Rattle.log_volume.specs.Files.{RecoversToLog}
-use Rattle.crash_states.specs.Calls.{DeviceCall, ListedDisk, ListsItsCalls, listing}
-use Rattle.crash_table.specs.Calls.{listing_memory}
-use Rattle.crash_table.specs.Crashes.{IsUpTo}
 use Rattle.crash_table.specs.Marks.{contents_of, IsNewest, IsMarkOf}
 use Rattle.crash_table.specs.Trials.{TrialValue}
-use Rattle.log_crash_table.specs.Runs.{HasEndedByLog}
-use Rattle.log_crash_table.specs.Trials.{IsAtMarkByLog, LeavesMarkByLog}
+use Rattle.log_crash_table.specs.Trials.{IsAtMarkByLog}
 use Rattle.log_crash_table.specs.Twins.{TwinValue, IsTwin}
 
 -- the mark that was looked for among those of the volume in layout 4 with the same files
@@ -36,31 +30,3 @@ at_mark_by_log twin is other shape steps replies read found number image shape_i
       first = λ none. sym read_is ∙ sym (first none) ∙ is.bytes_are;
       durable = durable;
     }
-
--- what was left by a stop, and what was found then
-module _ (image : List ℕ) (shape : Shape) (steps : List Step) (calls : List DeviceCall) (fails : ℕ)
-    (choice : List ℕ) (replies : List Reply) (after : ListedDisk)
-    (ended : HasEndedByLog listing_memory (listing (new_disk image) fails) shape steps replies after)
-    (complete : after.refused ≡ false) (are_its : ListsItsCalls after)
-    (up : IsUpTo calls fails steps replies after) (stopped : Recorded)
-    (is : stopped ≡ after_stop after.inner choice) (left : may_leave_of after.inner (seen_of stopped)) where
-  pub leaves_mark_by_log : (number : ℕ)
-      → ((files : List File) × RecoversToLog image files × (found : List File)
-      × RecoversToLog (seen_of stopped) found × IsAtMarkByLog files shape steps replies found number)
-      → LeavesMarkByLog image shape steps calls fails choice number
-  leaves_mark_by_log number (files, before, found, recovers, at) =
-      let P : Recorded → Type 0 = λ s. may_leave_of after.inner (seen_of s) in
-      let Q : Recorded → Type 0 = λ s. RecoversToLog (seen_of s) found in record {
-        replies = replies;
-        after = after;
-        ended = ended;
-        complete = complete;
-        are_its = are_its;
-        up_to_call = up;
-        left = subst P is left;
-        files = files;
-        before = before;
-        found = found;
-        recovers = subst Q is recovers;
-        at_mark = at;
-      }

@@ -1,5 +1,5 @@
 // Runs over the disk that shows the volume with a log of a device.
-ghost use Rattle.std.specs.Prelude.{◌≡◌, [], Ok, IfOk, IfErr, alloc_error};
+ghost use Rattle.std.specs.Prelude.{◌≡◌, Ok, IfOk, IfErr, alloc_error};
 ghost use Rattle.device.specs.Memory.{new_disk};
 ghost use Rattle.machine.specs.declared.act.Shape.{Shape};
 ghost use Rattle.engine.specs.Engine.{HasStarted};
@@ -12,23 +12,14 @@ ghost use Rattle.log_disk.specs.Opening.{HasShown};
 ghost use Rattle.log_crash_table.specs.Runs.{HasEndedByLog, AreMadeByLog, AreCallsByLog, calls_below};
 ghost use Rattle.log_crash_table.specs.Trials.{IsNotListedByLog};
 
-use crash_states::{Call, CrashFault, Listing};
-use crash_table::{calls_of, fault_of, run_on};
+use crash_states::{CrashFault, Listing};
+use crash_table::{FirstRun, calls_of, fault_of, not_opened, run_on};
 use device::Device;
 use engine::ran_since_start;
 use log_disk::LogDisk;
 use machine::{Machine, Reply, Shape, Step};
 use page_entry::Refusal;
 use std::alloc::{AllocError, Allocator};
-
-/// A run that was made once: its replies, and the calls of the device under the disk.
-#[derive(Drop)]
-pub(crate) struct FirstRun<A: Allocator + Copy> {
-    pub(crate) replies: Vec<Reply, A>,
-    // The number of device calls after each step.
-    pub(crate) counts: Vec<u64, A>,
-    pub(crate) calls: Vec<Call<A>, A>,
-}
 
 /// Makes a run over the volume with a log of a device, up to a step that is answered that the device failed. The
 /// device, and the replies; there are none where the device failed as it was opened.
@@ -46,20 +37,6 @@ pub(crate) fn run_by_log<D: Device + Drop, A: Allocator + Copy>(
             Ok((last.into_device(), replies))
         }
         Err(refused) => not_opened(alloc, refused),
-    }
-}
-
-// The device, without replies, where it failed as it was opened.
-fn not_opened<D: Device + Drop, A: Allocator + Copy>(
-    alloc: A,
-    refused: (Refusal, D),
-) -> Result<(D, Vec<Reply, A>), CrashFault>
-    ensures { IfOk result (λ left. (refused.0 ≡ Refusal.Device) × (left.0 ≡ refused.1) × (left.1.items ≡ [])) }
-{
-    let (refusal, device) = refused;
-    match refusal {
-        Refusal::Device => Ok((device, Vec::new(alloc))),
-        _ => Err(fault_of(refusal)),
     }
 }
 
@@ -152,11 +129,10 @@ fn list_steps<A: Allocator + Copy>(
     let below = shown.into_device();
     let calls = calls_of(below);
     let (replies, counts) = noted?;
-    let calls = calls?;
     Ok(FirstRun {
         replies,
         counts,
-        calls,
+        calls: calls?,
     })
 }
 

@@ -9,11 +9,11 @@ ghost use Rattle.crash_states.specs.Calls.{device_calls_of};
 ghost use Rattle.log_crash_table.specs.Trials.{HasItsCallsByLog, HasNoTrialByLog, IsAtMarkByLog, LeavesByLog, MayFail};
 
 use crate::reading::read_files;
-use crate::running::{FirstRun, list, run_by_log};
+use crate::running::{list, run_by_log};
 use crate::twin::Twin;
-use crash_states::{Call, CrashFault, Listing, are_until};
-use crash_table::{CrashedRun, Trial, are_same, are_same_replies, steps_before};
-use device::{Device, MemDisk};
+use crash_states::{Call, CrashFault, Listing};
+use crash_table::{CrashedRun, FirstRun, Trial, are_same, steps_before};
+use device::MemDisk;
 use machine::{Reply, Shape, Step};
 use std::alloc::Allocator;
 use std::marker::Model;
@@ -90,18 +90,9 @@ impl<'a, A: Allocator + Copy> LogTrial<'a, A> {
     {
         let copy = Listing::new(self.alloc, self.twin.image(), fails)?;
         let (after, replies) = run_by_log(self.alloc, copy, self.shape, self.steps)?;
-        let is_up_to_call = self.is_up_to(fails, after.calls(), after.faults(), replies.len());
-        let (inner, calls) = after.into_parts()?;
-        let are_its_calls = are_until(&calls, &self.listed.calls, fails);
-        if choice.len() != inner.bytes().len()
-            || !is_up_to_call
-            || !are_its_calls
-            || !self.is_same(fails, &replies)
-        {
-            return Err(CrashFault::Otherwise);
-        }
-        let mut disk = inner;
-        disk.stop(choice);
+        let mut disk = self
+            .listed
+            .stopped(fails, self.steps, after, &replies, choice)?;
         self.mark_in(&replies, &mut disk)
     }
 
@@ -121,31 +112,6 @@ impl<'a, A: Allocator + Copy> LogTrial<'a, A> {
             return Err(CrashFault::Otherwise);
         }
         Ok(number)
-    }
-
-    // Whether a run of so many calls, so many of which failed, with so many replies, was made up to the device call of
-    // this number, which failed, where there is one, and else up to its end.
-    fn is_up_to(&self, fails: u64, calls: u64, faults: u64, replies: usize) -> bool
-        ensures failed { 0 < fails → fails ≤ length self.now.calls
-            → (IsTrue result ↔ ((calls ≡ fails) × (faults ≡ 1))) }
-        ensures none { fails ≡ 0 → (IsTrue result ↔ ((faults ≡ 0) × (replies ≡ length self.now.steps))) }
-        ensures past { length self.now.calls < fails
-            → (IsTrue result ↔ ((faults ≡ 0) × (replies ≡ length self.now.steps))) }
-    {
-        if fails > 0 && fails <= self.call_count() as u64 {
-            calls == fails && faults == 1
-        } else {
-            faults == 0 && replies == self.steps.len()
-        }
-    }
-
-    // Whether these replies are those of the first run, up to the device call of this number.
-    fn is_same(&self, fails: u64, replies: &[Reply]) -> bool {
-        let before = self.replies_before(fails);
-        match (self.listed.replies.get(0..before), replies.get(0..before)) {
-            (Some(first), Some(again)) => are_same_replies(first, again),
-            _ => false,
-        }
     }
 }
 

@@ -1,6 +1,6 @@
 use Rattle.std.proofs.Common.{arith}
 use Rattle.crash_table.proofs.Counted.{one_before}
-use Rattle.crash_table.proofs.trial.steps_before.Goals as goal
+use Rattle.crash_table.proofs.first_run.steps_before.Goals as goal
 
 pub loop-i-preserved : goal.loop-i-preserved
 loop-i-preserved c =
