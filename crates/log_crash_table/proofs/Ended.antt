@@ -1,5 +1,5 @@
 -- How a run over a volume with a log ends that a failing call keeps from beginning.
-use Rattle.std.proofs.Common.{◌≡◌, inr, ℕ, List, [], Err, sym, subst}
+use Rattle.std.proofs.Common.{◌≡◌, inr, List, [], Err, sym, subst}
 use Rattle.device.specs.declared.device.Device.{Ghosts}
 use Rattle.page_entry.specs.declared.refusal.Refusal.{Refusal}
 use Rattle.page_entry.specs.declared.refusal.Refusal.TheVariants.{Device}

@@ -1,8 +1,7 @@
-use Rattle.std.proofs.Common.{rules, ◌≡◌, ◌<◌, ◌≤◌, ◌*◌, ℕ, List, [], ◌∷◌, ◌++◌, length, map, take, ap, sym, subst}
+use Rattle.std.proofs.Common.{◌≡◌, ◌<◌, ℕ, List, [], ◌∷◌, ◌++◌, length, map, take, ap, sym, subst}
 use Rattle.std.proofs.Common.{◌∙◌, arith}
 use Rattle.std.proofs.lemmas.List.{map-append}
 use Rattle.device.specs.Memory.{seen_of}
-use Rattle.volume_codec.specs.Files.{File}
 use Rattle.recovery.specs.Volume.{bytes_of}
 use Rattle.crash_table.specs.Marks.{contents_of}
 use Rattle.crash_table.proofs.Public.{bytes_more, all_bytes}

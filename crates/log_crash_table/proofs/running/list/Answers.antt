@@ -1,4 +1,4 @@
-use Rattle.std.proofs.Common.{List, IfOk, IfErr, subst}
+use Rattle.std.proofs.Common.{IfOk, IfErr, subst}
 use Rattle.crash_states.specs.Calls.{ListedDisk, device_calls_of}
 use Rattle.log_crash_table.specs.Runs.{AreMadeByLog}
 use Rattle.log_crash_table.specs.Trials.{IsNotListedByLog}

@@ -1,4 +1,4 @@
-use Rattle.std.proofs.Common.{inl, inr, sym, ap, subst, refl}
+use Rattle.std.proofs.Common.{inl}
 use Rattle.std.proofs.lemmas.Result.{IfOk-weaker}
 use Rattle.log_crash_table.proofs.Ended.{ended_at_opening}
 use Rattle.log_crash_table.proofs.running.run_by_log.Goals as goal

@@ -1,4 +1,4 @@
-use Rattle.std.proofs.Common.{◌≡◌, ◌*◌, ◌-◌, ◌++◌, ℕ, List, length, drop, ap, ◌∙◌}
+use Rattle.std.proofs.Common.{◌*◌, ◌-◌, ◌++◌, ℕ, List, ap, ◌∙◌}
 use Rattle.volume_codec.specs.Layout.{GeometryValue, first_home}
 use Rattle.log_codec.specs.Log.{LogValue, first_log_home}
 use Rattle.log_disk.specs.Opening.{fitted}

@@ -1,4 +1,4 @@
-use Rattle.std.proofs.Common.{◌≡◌, ℕ, List, map, sym, ap, subst, ◌∙◌}
+use Rattle.std.proofs.Common.{◌≡◌, List, map, sym, ap, subst, ◌∙◌}
 use Rattle.device.specs.Memory.{seen_of}
 use Rattle.volume_codec.specs.Files.{File}
 use Rattle.log_volume.specs.Files.{RecoversToLog}

@@ -1,5 +1,5 @@
-use Rattle.std.proofs.Common.{◌≡◌, ℕ, List, sym, ap, subst, ◌∙◌}
-use Rattle.device.specs.Memory.{Recorded, new_disk, seen_of}
+use Rattle.std.proofs.Common.{◌≡◌, ℕ, List, ap, subst, ◌∙◌}
+use Rattle.device.specs.Memory.{Recorded, seen_of}
 use Rattle.log_volume.specs.Files.{RecoversToLog}
 use Rattle.log_crash_table.proofs.Shown.{shown_recovers}
 use Rattle.log_crash_table.proofs.twin.Twin.shown_by.Goals as goal
