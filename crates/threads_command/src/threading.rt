@@ -1,8 +1,16 @@
 // Running the programs of a script in threads, on the volume in a file.
+ghost use Rattle.std.specs.Prelude.{◌≡◌, IfOk, length, map};
+ghost use Rattle.engine.specs.Engine.{HasRun};
+ghost use Rattle.service.specs.Trace.{steps_of, replies_of};
+ghost use Rattle.driver.specs.Driver.{IsEnd};
+ghost use Rattle.driver.specs.Programs.{HaveRunPrograms};
+ghost use Rattle.threads_command.specs.inside.Tracing.{HasRunOnShown};
 
 use command_line::Scripted;
 use command_parts::{Failure, NotBooted, ShapeCause, is_failure, refused_to_run};
+use device::Device;
 use driver::{Ended, NotRun, Ran, run_programs};
+use log_disk::LogDisk;
 use page_entry::Refusal;
 use scripts::{ScriptFault, ThreadScript};
 use service::Entry;
@@ -15,7 +23,8 @@ use std::sync::Wait;
 use std::thread::Threads;
 use traces::{write_entry, write_shape};
 use volume_files::{
-    SuspectFlag, SyncNote, ThreadDisk, for_threads, open_to_write, place, read_file,
+    SuspectFlag, SyncNote, ThreadDisk, for_threads, has_log, open_to_write, place, read_file,
+    refused_to_read,
 };
 
 /// How often a thread that waits looks whether another got on, before it gives up.
@@ -38,7 +47,7 @@ where
     let place = place(rt, asked.disk)?;
     let disk = open_to_write(rt, asked.disk, &place, asked.trust, note)?;
     let (disk, mark) = for_threads(disk, asked.disk, note)?;
-    match run_programs(rt, rt.alloc(), disk, &programs, TURNS) {
+    match trace_any(rt, disk, &programs) {
         Ok(ran) => {
             let Ran {
                 device,
@@ -49,7 +58,131 @@ where
             print_trace(rt.alloc(), &programs, &trace, out)?;
             outcome(asked.script, &trace, ended)
         }
-        Err(refused) => Err(refused_to_thread(rt.alloc(), asked, &programs, refused, mark, note)),
+        Err((cause, disk)) => {
+            note_syncs(disk, mark, note);
+            Err(cause.of_files(asked))
+        }
+    }
+}
+
+/// Why programs weren't run on the volume of a device, or their run left no trace.
+#[derive(Clone, Copy)]
+enum NotTraced<'a> {
+    /// No machine was booted, or it has no trace of so many entries.
+    NotBooted(NotBooted<'a>),
+    /// Memory was refused for the trace.
+    Memory,
+    /// The trace isn't what the threads were answered.
+    Gather(Refusal),
+}
+
+impl<'a> NotTraced<'a> {
+    // Says so of the script and of the volume in a file.
+    fn of_files(self, asked: Scripted<'a>) -> Failure<'a> {
+        match self {
+            NotTraced::NotBooted(cause) => cause.of_file(asked.disk),
+            NotTraced::Memory => Failure::Memory(AllocError),
+            NotTraced::Gather(cause) => Failure::Gather {
+                path: asked.script,
+                cause,
+            },
+        }
+    }
+}
+
+// Runs programs on the volume of a device, with journals or with a log. A refusal hands the device back, if it is still
+// there.
+fn trace_any<'a, D, R>(
+    rt: &R,
+    mut device: D,
+    programs: &ThreadScript<Global>,
+) -> Result<Ran<D>, (NotTraced<'a>, Option<D>)>
+where
+    D: Device + Send + Drop,
+    R: AllocGlobal + Threads + Wait + Sync,
+{
+    match has_log(&mut device) {
+        Ok(false) => trace_disk(rt, device, programs),
+        Ok(true) => trace_log(rt, device, programs),
+        Err(refusal) => {
+            let cause = refused_to_run(rt.alloc(), refusal, &mut device, programs.shape);
+            Err((NotTraced::NotBooted(cause), Some(device)))
+        }
+    }
+}
+
+// Runs programs on the volume with a log of a device: on the disk that shows it.
+fn trace_log<'a, D, R>(
+    rt: &R,
+    device: D,
+    programs: &ThreadScript<Global>,
+) -> Result<Ran<D>, (NotTraced<'a>, Option<D>)>
+where
+    D: Device + Send + Drop,
+    R: AllocGlobal + Threads + Wait + Sync,
+    ensures ran { IfOk result (λ ran. HasRunOnShown D.Device device programs.now.shape (steps_of ran.trace.items)
+        (replies_of ran.trace.items) ran.device) }
+    ensures programs { IfOk result (λ ran. HaveRunPrograms programs.now.shape.cpus programs.now.steps.items
+        (map (λ program. program.items) programs.now.programs.items) programs.now.trace ran.trace.items) }
+    ensures ended { IfOk result (λ ran. IsEnd programs.now.trace (length ran.trace.items) ran.ended) }
+{
+    match LogDisk::open(rt.alloc(), device) {
+        Ok(disk) => match trace_disk(rt, disk, programs) {
+            Ok(ran) => {
+                ran.device.crashes_alike();
+                Ok(ran_on_device(ran))
+            }
+            Err((cause, disk)) => Err((cause, device_of(disk))),
+        },
+        Err((refusal, mut device)) => {
+            let cause = NotBooted::Disk(refused_to_read(rt.alloc(), refusal, &mut device));
+            Err((NotTraced::NotBooted(cause), Some(device)))
+        }
+    }
+}
+
+// A run over the disk that shows a volume, as one over the device of the volume.
+fn ran_on_device<D: Device>(ran: Ran<LogDisk<D, Global>>) -> Ran<D>
+    ensures { result ≡ record { device = ran.device.device; trace = ran.trace; ended = ran.ended } }
+{
+    let Ran {
+        device: disk,
+        trace,
+        ended,
+    } = ran;
+    Ran {
+        device: disk.into_device(),
+        trace,
+        ended,
+    }
+}
+
+// The device of the volume that a disk shows, if the disk came back.
+fn device_of<D: Device>(disk: Option<LogDisk<D, Global>>) -> Option<D> {
+    match disk {
+        Some(disk) => Some(disk.into_device()),
+        None => None,
+    }
+}
+
+// Runs programs on the volume with journals of a device.
+fn trace_disk<'a, D, R>(
+    rt: &R,
+    device: D,
+    programs: &ThreadScript<Global>,
+) -> Result<Ran<D>, (NotTraced<'a>, Option<D>)>
+where
+    D: Device + Send + Drop,
+    R: AllocGlobal + Threads + Wait + Sync,
+    ensures ran { IfOk result (λ ran. HasRun D.Device device programs.now.shape (steps_of ran.trace.items)
+        (replies_of ran.trace.items) ran.device) }
+    ensures programs { IfOk result (λ ran. HaveRunPrograms programs.now.shape.cpus programs.now.steps.items
+        (map (λ program. program.items) programs.now.programs.items) programs.now.trace ran.trace.items) }
+    ensures ended { IfOk result (λ ran. IsEnd programs.now.trace (length ran.trace.items) ran.ended) }
+{
+    match run_programs(rt, rt.alloc(), device, programs, TURNS) {
+        Ok(ran) => Ok(ran),
+        Err(refused) => Err(not_traced(rt.alloc(), programs, refused)),
     }
 }
 
@@ -95,41 +228,36 @@ fn outcome<'a>(path: &'a str, trace: &[Entry], ended: Ended) -> Result<(), Failu
     }
 }
 
-// Why programs weren't run on the volume that was asked for, or their run left no trace.
-fn refused_to_thread<'a, R>(
+// Why programs weren't run, or left no trace; and the device, if it came back.
+fn not_traced<'a, D: Device>(
     global: Global,
-    asked: Scripted<'a>,
     programs: &ThreadScript<Global>,
-    refused: NotRun<ThreadDisk>,
-    mark: SuspectFlag<'_, R>,
-    note: &mut SyncNote,
-) -> Failure<'a>
+    refused: NotRun<D>,
+) -> (NotTraced<'a>, Option<D>) {
+    match refused {
+        NotRun::Start(refusal, mut device) => {
+            let cause = refused_to_run(global, refusal, &mut device, programs.shape);
+            (NotTraced::NotBooted(cause), Some(device))
+        }
+        NotRun::Share(refusal, device) => (not_shared(refusal, programs.trace), Some(device)),
+        NotRun::Gather(cause, device) => (NotTraced::Gather(cause), device),
+    }
+}
+
+// Why no machine was shared with a trace of so many entries.
+fn not_shared<'a>(refusal: Refusal, entries: u64) -> NotTraced<'a> {
+    match refusal {
+        Refusal::BadShape => NotTraced::NotBooted(NotBooted::Shape(ShapeCause::Trace(entries))),
+        _ => NotTraced::Memory,
+    }
+}
+
+// Marks the volume of a disk that came back as suspect where a sync of it failed, and notes what is to be said of that.
+fn note_syncs<R>(disk: Option<ThreadDisk>, mark: SuspectFlag<'_, R>, note: &mut SyncNote)
 where
     R: Files<File = File> + AllocGlobal,
 {
-    match refused {
-        NotRun::Start(refusal, mut disk) => {
-            let cause = refused_to_run(global, refusal, &mut disk, programs.shape);
-            *note = disk.into_file().into_note(mark);
-            cause.of_file(asked.disk)
-        }
-        NotRun::Share(refusal, disk) => {
-            *note = disk.into_file().into_note(mark);
-            match refusal {
-                Refusal::BadShape => {
-                    NotBooted::Shape(ShapeCause::Trace(programs.trace)).of_file(asked.disk)
-                }
-                _ => Failure::Memory(AllocError),
-            }
-        }
-        NotRun::Gather(cause, disk) => {
-            if let Some(disk) = disk {
-                *note = disk.into_file().into_note(mark);
-            }
-            Failure::Gather {
-                path: asked.script,
-                cause,
-            }
-        }
+    if let Some(disk) = disk {
+        *note = disk.into_file().into_note(mark);
     }
 }

@@ -458,19 +458,20 @@ def a_session_is_served_on_a_log():
     yield from leaves("log.img")
 
 
-def a_trace_is_replayed_on_a_log():
-    """The trace of threads on a volume in layout 4 is that of one with a log, too, which is left as it is."""
+def programs_run_on_a_log():
+    """Programs commit in threads, and their trace is the same on the volume from before, which it leaves as it is."""
     write("threads.json", PROGRAMS)
-    yield from prints("format|--layout|4|four.img|7|a=5000/12288|b=4096", 0, "formatted 42 blocks\n")
-    ran = run("threads|four.img|threads.json")
-    yield from agree("threads", (0, ""), (ran.status, ran.err))
-    write("log.trace", ran.out)
-    for image in (image_of_five(), image_of_six()):
-        write_bytes("log.img", image)
+    for fresh, after in both_after(RUN, ((4, 2, 2),)):
+        write_bytes("log.img", fresh)
+        ran = run("threads|log.img|threads.json")
+        yield from agree("threads", (0, ""), (ran.status, ran.err))
+        yield from holds("log.img", after)
+        yield from prints("dump|log.img", 0, RUN_DUMP)
+        write("log.trace", ran.out)
+        write_bytes("log.img", fresh)
         yield from prints("replay|log.img|log.trace", 0, f"same {len(ran.out.splitlines()) - 1}\n")
-        yield from complains("threads|log.img|threads.json", 3, NOT_SERVED)
-        yield from holds("log.img", image)
-    yield from leaves("four.img", "log.img", "threads.json", "log.trace")
+        yield from holds("log.img", fresh)
+    yield from leaves("log.img", "threads.json", "log.trace")
 
 
 def a_machine_fits_the_log():
@@ -478,6 +479,7 @@ def a_machine_fits_the_log():
     A run opens it again, to say why."""
     write("fits.json", NO_STEPS.format(6))
     write("log.json", NO_STEPS.format(7))
+    write("threads.json", PROGRAMS.replace('"frames":4', '"frames":7'))
     line = "serve|log.img"
     for fresh, after in both_after(OPENED, ()):
         write_bytes("log.img", fresh)
@@ -486,26 +488,32 @@ def a_machine_fits_the_log():
         yield from complained(line, served(line, '{"cpus":1,"tlb":8,"frames":7,"copies":0}\n'), 3, TOO_MANY_FRAMES)
         yield from holds("log.img", after)
         yield from shows("info|log.img", "log: 0 commits in 0 blocks, epoch 2\n")
+        yield from complains("threads|log.img|threads.json", 3, TOO_MANY_FRAMES)
+        yield from shows("info|log.img", "log: 0 commits in 0 blocks, epoch 3\n")
         yield from complains("run|log.img|log.json", 3, TOO_MANY_FRAMES)
-        yield from shows("info|log.img", "log: 0 commits in 0 blocks, epoch 4\n")
+        yield from shows("info|log.img", "log: 0 commits in 0 blocks, epoch 5\n")
         yield from prints("run|log.img|fits.json", 0)
         yield from prints("dump|log.img", 0, NO_BYTES)
-    yield from leaves("log.img", "log.json", "fits.json")
+    yield from leaves("log.img", "log.json", "fits.json", "threads.json")
 
 
 def runs_on_a_spoilt_log_are_refused():
     """Nothing is written to an image that no volume with a log has."""
     write("log.json", NO_STEPS.format(4))
     write("log.trace", '{"copies":0,"cpus":1,"frames":4,"tlb":8,"trace":9}\n')
+    write("threads.json", PROGRAMS)
     for changes, cause in SPOILT_IMAGES:
         image = image_of_five((), changes)
         write_bytes("spoilt.img", image)
-        for line in ("run|spoilt.img|log.json", "crashes|spoilt.img|log.json", "replay|spoilt.img|log.trace"):
+        for line in (
+            "run|spoilt.img|log.json", "crashes|spoilt.img|log.json", "replay|spoilt.img|log.trace",
+            "threads|spoilt.img|threads.json",
+        ):
             yield from complains(line, 3, f'disk "spoilt.img": {cause}\n')
         ran = served("serve|spoilt.img", '{"cpus":1,"tlb":8,"frames":4,"copies":0}\n')
         yield from complained("serve|spoilt.img", ran, 3, f'disk "spoilt.img": {cause}\n')
         yield from holds("spoilt.img", image)
-    yield from leaves("spoilt.img", "log.json", "log.trace")
+    yield from leaves("spoilt.img", "log.json", "log.trace", "threads.json")
 
 
 def other_commands_refuse_a_log():
@@ -539,7 +547,7 @@ GROUPS = [
     a_file_of_a_log_grows,
     commits_make_room_in_a_log,
     a_session_is_served_on_a_log,
-    a_trace_is_replayed_on_a_log,
+    programs_run_on_a_log,
     a_machine_fits_the_log,
     runs_on_a_spoilt_log_are_refused,
     other_commands_refuse_a_log,

@@ -1,0 +1,2 @@
+-- What ties private code to the definitions that its clauses name.
+pub mod Tracing

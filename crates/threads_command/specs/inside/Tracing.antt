@@ -1,0 +1,26 @@
+-- A run of programs on a volume with a log.
+use Rattle.std.specs.Prelude.{◌≡◌, ℕ, List}
+use Rattle.device.specs.declared.device.Device.{Ghosts}
+use Rattle.device.specs.Memory.{may_leave_of}
+use Rattle.machine.specs.declared.act.Reply.{Reply}
+use Rattle.machine.specs.declared.act.Shape.{Shape}
+use Rattle.machine.specs.declared.act.Step.{Step}
+use Rattle.engine.specs.Engine.{HasRun}
+use Rattle.log_disk.specs.Disk.{LogDiskValue, IsHonestLog, shown_by}
+use Rattle.log_disk.specs.Laws.{StandsForOne, StandsSince}
+use Rattle.log_disk.specs.Opening.{HasShown}
+
+-- A run over the disk that shows the volume with a log of a device: these steps were made and answered so. Then the
+-- device is handed back.
+pub record HasRunOnShown {D : Type 0} (disk : Ghosts D) (before : D) (shape : Shape) (steps : List Step)
+    (replies : List Reply) (after : D) : Type 0 where
+  pub shown : LogDiskValue D
+  pub last : LogDiskValue D
+  pub is_shown : HasShown disk before shown
+  pub ran : HasRun (shown_by disk) shown shape steps replies last
+  pub ended : after ≡ last.device
+  -- Where a byte seals commits, a crash of the device leaves what one of the disk might have left: within the run, and
+  -- after it.
+  pub within : IsHonestLog disk.is_honest last → StandsSince disk shown last
+  pub later : IsHonestLog disk.is_honest last → (c : List ℕ) → disk.may_leave after c
+      → StandsForOne (may_leave_of last.memory) c
