@@ -1,5 +1,5 @@
 -- What openings find on a volume with a log after a crash that left files, and after other openings and crashes.
-use Rattle.std.proofs.Common.{◌≡◌, ◌⊎◌, inl, inr, ℕ, zero, suc, ◌+◌, ◌≤◌, ◌<◌, List, length, take, refl, sym, ap, subst}
+use Rattle.std.proofs.Common.{◌≡◌, ◌⊎◌, inl, inr, ℕ, zero, suc, ◌<◌, List, length, take, refl, sym, ap, subst}
 use Rattle.std.proofs.Common.{◌∙◌, arith}
 use Rattle.device.specs.Device.{Only}
 use Rattle.device.specs.declared.device.Device.{Ghosts}
@@ -13,7 +13,6 @@ use Rattle.volume_codec.specs.Layout.{block_at}
 use Rattle.volume_codec.specs.Recovery.{files_from}
 use Rattle.volume_codec.specs.Text.{numbers_in}
 use Rattle.volume_codec.proofs.Recovered.{files_from-same}
-use Rattle.recovery.specs.Openings.{IsRestarted}
 use Rattle.history.specs.History.{Event, files_after, IsDurablePrefix}
 use Rattle.log_codec.specs.declared.start.LogStart.{LogStart}
 use Rattle.log_codec.specs.Log.{LogValue, IsLog, first_log_home, first_log_file_home}

@@ -1,7 +1,7 @@
 -- What survives of a run on a volume with a log, by the laws of runs on the disk that shows it.
-use Rattle.std.proofs.Common.{◌≡◌, ◌⊎◌, inl, inr, ℕ, zero, suc, ◌≤◌, List, [], ◌∷◌, ◌++◌, take, Ok}
-use Rattle.std.proofs.Common.{refl, sym, ap, subst, arith}
-use Rattle.device.specs.Device.{LeavesOnly, Only}
+use Rattle.std.proofs.Common.{◌≡◌, inl, inr, ℕ, zero, suc, ◌≤◌, List, [], ◌∷◌, ◌++◌, take, Ok}
+use Rattle.std.proofs.Common.{refl, ap, subst, arith}
+use Rattle.device.specs.Device.{Only}
 use Rattle.device.specs.declared.device.Device.{Ghosts}
 use Rattle.volume_codec.specs.Files.{File}
 use Rattle.volume_codec.specs.Recovery.{RecoversTo}
@@ -18,9 +18,8 @@ use Rattle.machine.specs.State.{Whole}
 use Rattle.machine.specs.Steps.{observed_first}
 use Rattle.engine.specs.Engine.{HasStarted}
 use Rattle.engine.specs.Survival.{history_of}
-use Rattle.engine.proofs.Public.{begins, taken_kept}
+use Rattle.engine.proofs.Public.{taken_kept}
 use Rattle.log_volume.specs.Files.{RecoversToLog}
-use Rattle.log_opening.specs.Volume.{LeftByOpeningVolume}
 use Rattle.log_disk.specs.Disk.{LogDiskValue, IsHonestLog, shown_by}
 use Rattle.log_engine.specs.Openings.{FindsAfterLogCrash, FindsOnLog, KeepsOnLog}
 use Rattle.log_engine.specs.Survival.{BeforeOrWith, StepSurvivesOnLog, SurvivesOnLog}

@@ -1,7 +1,6 @@
 use Rattle.std.proofs.Common.{◌≡◌, inl, inr, ℕ, List, length, take, refl, sym, ◌∙◌, ap, subst}
 use Rattle.volume_codec.specs.Files.{File}
 use Rattle.volume_codec.specs.Layout.{block_at}
-use Rattle.volume_codec.specs.Recovery.{RecoversTo}
 use Rattle.engine.proofs.Public.{begins}
 use Rattle.machine.specs.Crashes.{Begins}
 use Rattle.log_codec.specs.declared.sealing.Sealing.TheVariants.{ByByte}
