@@ -1,29 +1,42 @@
 /*
- * libfamsync: files in a volume whose changes become durable together. It runs in the caller's process.
+ * libfamsync: a library for the files of a volume. Changes to these files become durable together.
+ * The library runs in the caller's process.
  *
- * A handle is a session with one volume. famsync_format or the command `famsync format` makes volumes. The library
- * opens and locks the volume's file itself. A volume has one session that writes, or any number of sessions that only
- * read. Sessions of the program `famsync` count, too.
+ * A handle is a session with one volume. famsync_format and the command `famsync format` make
+ * volumes. The library opens the volume's file and locks it. At any time a volume has at most one
+ * session that writes, or any number of sessions that only read. Sessions of the program `famsync`
+ * count, too.
  *
- * A program can access the bytes of a file in two ways, and may use both in one session, even for the same file:
+ * A program can access the bytes of a file in two ways. Both may be used in one session, even for
+ * the same file:
  *
- *   read and write   famsync_read, famsync_write, famsync_msync: any offset, any count, as with pread and pwrite
- *   plain memory     famsync_memory_open, famsync_memory_at, famsync_msync: a pointer to store through
+ *   read and write   famsync_read, famsync_write, famsync_msync: any offset and any count, as with
+ *                    pread and pwrite
+ *   plain memory     famsync_memory_open, famsync_memory_at, famsync_msync: loads and stores
+ *                    through a pointer
  *
- * Even if this process is killed or the system crashes, the next session finds the files as they were at one msync,
- * with all stores before it and no later ones. This msync is the last acknowledged one or a later one.
+ * famsync_msync commits all changes of a session. The commit is acknowledged when the call returns
+ * FAMSYNC_OK. If this process is killed or the system crashes, the next session finds the files as
+ * one commit left them: with all earlier stores, and with no later ones. This commit is the last
+ * acknowledged one, or a later one.
  *
- * Each call that returns an int returns FAMSYNC_OK or one of the negative codes below. famsync_strerror describes them.
- * Any number of threads may call with one handle; the calls take turns. No call is a cancellation point: a thread that
- * is cancelled within a call first completes it.
+ * A page is 4,096 bytes of a file. The place of a page is a block of the volume's file. A commit
+ * first writes its pages to a journal or a log of the volume. Later the library writes them to
+ * their places.
  *
- * A forked process has a copy of the handle. Each call of type int with this copy returns FAMSYNC_FORKED, except
- * famsync_close, which does nothing: the session belongs to the process that began it. The copy takes memory until the
- * forked process ends or starts another program. It doesn't keep the volume in use. A child of vfork shares the memory
- * of its parent. Its stores to plain memory are stores of the parent. The child must not call the library.
+ * Each call of type int returns FAMSYNC_OK or one of the negative codes below. famsync_strerror
+ * describes a code. Any number of threads may use one handle at the same time: their calls take
+ * turns. No call is a cancellation point: if a thread is cancelled within a call, the call still
+ * completes.
  *
- * A file can't grow past its capacity, which is set when the volume is made. In a volume of layout 1 or 2 a file keeps
- * its length.
+ * A forked process has a copy of the handle, but the session belongs to the process that began it.
+ * With this copy, each call of type int returns FAMSYNC_FORKED, except famsync_close, which does
+ * nothing. The copy uses memory until the forked process ends or starts another program. The forked
+ * process doesn't keep the volume locked. A child of vfork shares the memory of its parent. Stores
+ * of the child to plain memory count as stores of the parent. The child must not call the library.
+ *
+ * A file can't grow past its capacity, which is set when the volume is made. In layouts 1 and 2 the
+ * length of a file never changes.
  */
 #ifndef FAMSYNC_H
 #define FAMSYNC_H
@@ -31,7 +44,7 @@
 #include <stddef.h>
 #include <stdint.h>
 
-/* The version of the library that this header came with. */
+/* The version of the library to which this header belongs. */
 #define FAMSYNC_VERSION "0.3.0"
 #define FAMSYNC_VERSION_MAJOR 0
 #define FAMSYNC_VERSION_MINOR 3
@@ -45,65 +58,76 @@ enum famsync_code {
     FAMSYNC_OK = 0,
 
     FAMSYNC_ARGUMENT = -1, /* an argument is invalid */
-    FAMSYNC_NOMEMORY = -2, /* memory was refused */
-    FAMSYNC_SYSTEM = -3,   /* a system call failed; errno has the cause: EPROTO is a fault of the library */
-    FAMSYNC_INUSE = -6,    /* the volume is open already, in another process or in this one */
-    FAMSYNC_SUSPECT = -7,  /* an earlier sync of the volume failed; it opens only with `trust` */
+    FAMSYNC_NOMEMORY = -2, /* the system refused memory */
+    FAMSYNC_SYSTEM = -3,   /* a system call failed, and errno has the cause; EPROTO means a fault of
+                              the library */
+    FAMSYNC_INUSE = -6,    /* the volume is already open, in another process or in this one */
+    FAMSYNC_SUSPECT = -7,  /* an earlier sync of the volume failed; see the option `trust` */
     FAMSYNC_FORKED = -11,  /* the handle belongs to the process from which this one was forked */
-    FAMSYNC_TORN = -12,    /* only a part of the changes was taken or undone: call famsync_rollback first */
+    FAMSYNC_TORN = -12,    /* plain memory was closed after a failed msync, or a rollback failed
+                              halfway: call famsync_rollback first */
 
     /* why a volume isn't opened */
-    FAMSYNC_NOTREGULAR = -13, /* the path names no regular file, but a folder, a device, a pipe or a socket */
-    FAMSYNC_NAMES = -14,      /* the file has several names, so others could use it by another name */
-    FAMSYNC_REPLACED = -15,   /* each time the library had locked the file, the path named another one */
+    FAMSYNC_NOTREGULAR = -13, /* the path names a folder, a device, a pipe or a socket */
+    FAMSYNC_NAMES = -14,      /* the file has several names, so others could open it by another
+                                 name */
+    FAMSYNC_REPLACED = -15,   /* each time the library had locked a file, the path named another
+                                 file */
     FAMSYNC_NOTAVOLUME = -16, /* the file doesn't begin like a volume */
-    FAMSYNC_DAMAGED = -17,    /* the file begins like a volume, but its bytes or its length break the format */
-    FAMSYNC_SHAPE = -18,      /* `frames` is more than a commit of this volume can have */
+    FAMSYNC_DAMAGED = -17,    /* the file begins like a volume, but its bytes or its length break
+                                 the format */
+    FAMSYNC_SHAPE = -18,      /* the option `frames` is above the limit of the volume */
 
     /* why an access or a commit is refused */
-    FAMSYNC_NOFRAME = -27, /* more pages were written, or added to a file, than one commit can have */
+    FAMSYNC_NOFRAME = -27, /* more pages were written, or added to a file, than one commit can
+                              have */
     FAMSYNC_DEVICE = -28,  /* a read, a write or a sync of the volume failed; errno has the cause */
     FAMSYNC_BROKEN = -29,  /* a write or a sync failed earlier, so the session is over */
-    FAMSYNC_EINVAL = -30,  /* the bytes or the length are outside the file's range */
-    FAMSYNC_OVERLAP = -33, /* plain memory of the file is open already */
+    FAMSYNC_EINVAL = -30,  /* bytes past the file's end, or a length that the file can't have */
+    FAMSYNC_OVERLAP = -33, /* plain memory of the file is already open */
     FAMSYNC_NOFILE = -34,  /* the volume has no such file */
-    FAMSYNC_BUSY = -35,    /* a backup is being made; or a thread stored during a commit; or the session has made
-                              2^32 - 1 commits */
+    FAMSYNC_BUSY = -35,    /* another backup is being made; or a thread stored during a commit; or
+                              the session has made 2^32 - 1 commits */
 
     /* suspect flags that can't be made, and sessions that only read */
-    FAMSYNC_UNMARKED = -39,     /* a sync failed, and the volume's suspect flag couldn't be made */
-    FAMSYNC_NEEDSOPENING = -40, /* a crash or a failed sync left work for a writer: open the volume for writing once */
+    FAMSYNC_UNMARKED = -39,     /* a sync failed, and the library couldn't make the suspect flag */
+    FAMSYNC_NEEDSOPENING = -40, /* a crash or a failed sync left work that only a writer can do:
+                                   open the volume for writing once */
     FAMSYNC_READONLY = -41,     /* the session only reads */
 
     /* plain memory */
-    FAMSYNC_ADDRESS = -42, /* there can't be memory at this address */
+    FAMSYNC_ADDRESS = -42, /* plain memory can't be at this address */
     FAMSYNC_TRACKING = -44 /* the system can't track stores in the requested way */
 };
 
 typedef struct famsync famsync;
 typedef struct famsync_memory famsync_memory;
 
-/* Room for the longest message of famsync_open, which contains two paths. */
+/* The size of the longest message of famsync_open. This message contains two paths. */
 #define FAMSYNC_MESSAGE_SIZE 9000
 
 /* The options of famsync_open. A null pointer means the defaults, which are all zero.
 
-   Set `size` to the size of this structure. A later version of the library adds fields at the end, and uses `size` to
-   know which fields a program has. A size of 0 means the fields up to `readonly`. If `size` is larger than the
-   library's, the bytes after the fields below must be 0 (otherwise FAMSYNC_ARGUMENT). */
+   Set `size` to the size of this structure. Later versions of the library add fields at the end,
+   and know from `size` which fields a program has. If `size` is 0, the structure ends with
+   `readonly`. If `size` is larger than this structure, all bytes after the fields below must be 0
+   (otherwise FAMSYNC_ARGUMENT). */
 struct famsync_options {
     size_t size;
     int trust;           /* not 0: open a volume that is flagged as suspect, and remove the flag */
-    unsigned frames;     /* the most pages of one commit; 0 means as many as the volume allows */
-    unsigned copies;     /* ignored; it keeps the offsets of the fields after it */
-    int foreground;      /* not 0: no thread of the library's own (see famsync_msync) */
-    char *message;       /* room for a line about why the volume wasn't opened */
-    size_t message_size; /* the size of this room; a longer message is cut off */
+    unsigned frames;     /* the most pages of one commit; 0 means the limit of the volume */
+    unsigned copies;     /* ignored; it only keeps the offsets of later fields */
+    int foreground;      /* not 0: the library starts no thread (see famsync_msync) */
+    char *message;       /* a buffer for one line that explains why the volume wasn't opened */
+    size_t message_size; /* the buffer's size in bytes; a longer message is cut off */
     unsigned wait_ms;    /* how long to wait for a volume that is in use, in milliseconds */
-    int readonly;        /* not 0: a session that only reads */
-    int resident;        /* not 0: read a whole file to open its plain memory, instead of mapping the volume's file */
-    size_t budget;       /* the most bytes of committed pages that plain memory keeps; 0 means 64 MB */
-    int tracking;        /* FAMSYNC_TRACK_SIGNALS or FAMSYNC_TRACK_KERNEL; see famsync_memory_open */
+    int readonly;        /* not 0: the session only reads */
+    int resident;        /* not 0: famsync_memory_open reads the whole file, instead of mapping the
+                            volume's file */
+    size_t budget;       /* the most bytes that plain memory keeps for committed pages and their
+                            copies; 0 means 64 MB */
+    int tracking;        /* FAMSYNC_TRACK_SIGNALS or FAMSYNC_TRACK_KERNEL; see
+                            famsync_memory_open */
 };
 
 /* How the library notices stores to plain memory. */
@@ -112,71 +136,86 @@ enum famsync_tracking { FAMSYNC_TRACK_SIGNALS = 0, FAMSYNC_TRACK_KERNEL = 1 };
 /* The version of the library that this program runs with. */
 const char *famsync_version(void);
 
-/* A file of a new volume: its name, 1 to 32 characters from '!' to '~'; its length in bytes; and its capacity, the
-   greatest length that it may have. A capacity of 0 means the length. In layouts 1 and 2 both are the same. */
+/* A file of a new volume. `name` has 1 to 32 characters from '!' to '~'. `length` is in bytes.
+   `capacity` is the greatest length that the file may have; 0 means `length`. In layouts 1 and 2
+   the capacity is the length. */
 struct famsync_new_file {
     const char *name;
     uint64_t length;
     uint64_t capacity;
 };
 
-/* A new volume. Set `size` to the size of this structure: a later version of the library adds fields at the end. */
+/* A new volume. Set `size` to the size of this structure. Later versions of the library add fields
+   at the end. */
 struct famsync_plan {
     size_t size;
     unsigned layout; /* 1 to 6; 0 means 4 */
-    unsigned slots;  /* of each journal: 1 to 1,020; layout 3: 2 to 1,020; layout 4: 2 to 65,535; 0 means 1,020, or
-                        1,024 in layout 4. Only 0 in layouts 5 and 6, which have no journals */
-    unsigned files;  /* the number of files, 1 to 64 */
+    /* The number of record slots of each journal: 1 to 1,020 in layouts 1 and 2, 2 to 1,020 in
+       layout 3, 2 to 65,535 in layout 4. 0 means 1,020, or 1,024 in layout 4. Layouts 5 and 6 have
+       no journals, so `slots` has to be 0. */
+    unsigned slots;
+    unsigned files;                      /* the number of files, 1 to 64 */
     const struct famsync_new_file *file; /* the files */
-    int preallocate;                     /* not 0: allocates the disk's blocks now; 0: when they are written */
-    char *message;                       /* receives a line with the reason if the volume isn't made */
-    size_t message_size;                 /* its size in bytes; a longer line is cut off */
-    unsigned log; /* layouts 5 and 6: the number of blocks of the log, 4 to 2^24; 0 means 16,384, which is 64 MB */
-    uint64_t key; /* layout 6: the key of its digests; 0 means a random one */
+    int preallocate;                     /* not 0: allocate all disk blocks now; 0: allocate a block
+                                            when it is first written */
+    char *message;                       /* a buffer for one line: why the volume wasn't made */
+    size_t message_size;                 /* the buffer's size in bytes; a longer line is cut off */
+    unsigned log;                        /* layouts 5 and 6: the number of blocks of the log, 4 to
+                                            2^24; 0 means 16,384 (64 MB) */
+    uint64_t key;                        /* layout 6: the key of the digests; 0 means random */
 };
 
-/* Makes a volume in a new file. Its files contain zeros. When the call returns, the volume is durable. Its bytes are
-   those that `famsync format` writes. If the call fails or the process is killed, there is either the whole volume or
-   no new file with this name. On a file system without unnamed files (O_TMPFILE) the library makes the volume in a file
-   with a name that ends in `.new`. A crash may leave that file.
+/* Makes a volume in a new file. The volume's files contain zeros. When the call succeeds, the
+   volume is durable. The volume has the same bytes as one that `famsync format` makes. If the call
+   fails or the process is killed, there is either the whole volume or no new file with this name.
+   If the file system has no unnamed files (O_TMPFILE), the library first makes the volume in a file
+   whose name ends in `.new`. A crash may leave that file.
 
-   In layouts 1 and 2 a commit has at most `slots` pages; in layouts 3 and 4 at most one page less. In layouts 5 and 6 a
-   commit and its descriptor have to fit into the log, which keeps one block free. A log of 16,384 blocks has room for
-   16,366 pages. Without `preallocate`, if the disk is full, the first write to a block ends the session
-   (FAMSYNC_DEVICE).
+   A commit has at most `slots` pages in layouts 1 and 2, and at most `slots` - 1 pages in layouts 3
+   and 4. In layouts 5 and 6 a commit and its descriptor have to fit into the log, with one block
+   left free. A log of 16,384 blocks has room for a commit of 16,366 pages. Without `preallocate`,
+   the first write to a block fails if the disk is full. Then the session is over (FAMSYNC_DEVICE).
 
-   In layouts 5 and 6 a commit writes its pages to the log, and the pages of many commits are written to their places
-   together. A commit makes two syncs in layout 5, and one in layout 6. Layout 6 has one more assumption: a crash never
-   leaves a part of a commit with the digest of the whole one.
+   In layouts 5 and 6 a commit writes its pages only to the log. Later the library writes the pages
+   of many commits to their places together. A commit makes two syncs in layout 5, and one in layout
+   6. Layout 6 needs one more assumption: a commit that a crash has torn never has the digest of the
+   whole commit.
 
-   FAMSYNC_ARGUMENT: the plan is invalid; `message` has the reason. FAMSYNC_SYSTEM: errno has the cause. It is EEXIST if
-   the file, or the one that ends in `.new`, already exists. */
+   FAMSYNC_ARGUMENT: the plan is invalid; `message` has the reason. FAMSYNC_SYSTEM: errno has the
+   cause. EEXIST means that this file, or the one whose name ends in `.new`, already exists. */
 int famsync_format(const char *volume, const struct famsync_plan *plan);
 
-/* Begins a session with a volume: a regular file with one name. If the path is a symbolic link, the library opens its
-   target. The file is locked until the session ends. The session uses memory for the pages of its commits. On failure
-   `*handle` is a null pointer.
+/* Begins a session with a volume. The volume's file must be a regular file with only one name. If
+   the path is a symbolic link, the library opens the link's target. The file is locked until the
+   session ends. The session uses memory for the pages of its commits. On failure `*handle` is set
+   to a null pointer.
 
-   FAMSYNC_INUSE: another session has the volume open, and `wait_ms` has passed. FAMSYNC_SYSTEM with ENAMETOOLONG: the
-   name of the volume's file has more than 247 bytes, so the name of its suspect flag would be too long.
-   FAMSYNC_UNMARKED: a sync failed and the suspect flag couldn't be made; `message` has the reason.
+   FAMSYNC_INUSE: another session still has the volume open after `wait_ms` milliseconds.
+   FAMSYNC_SYSTEM with ENAMETOOLONG: the name of the volume's file has more than 247 bytes, so the
+   name of the suspect flag would be too long. FAMSYNC_UNMARKED: a sync failed, and the library
+   couldn't make the suspect flag; `message` has the reason.
 
-   With `readonly` any number of sessions share a volume. The library opens the file for reading only, and writes
-   nothing. While such sessions last, no session that writes can begin. FAMSYNC_NEEDSOPENING: a crash left a commit that
-   isn't yet written to its place, or the volume is flagged as suspect. `trust` has no effect. Open the volume for
-   writing once, and close it. In a session with `readonly`, famsync_write, famsync_setlength, famsync_msync,
-   famsync_rollback and famsync_memory_touch return FAMSYNC_READONLY. A store to plain memory raises SIGSEGV in the
-   program. */
+   With `readonly` any number of sessions can share a volume. The library opens the file only for
+   reading, and writes nothing. While such sessions last, no session that writes can begin. `trust`
+   has no effect. FAMSYNC_NEEDSOPENING: a crash left a commit whose pages aren't yet in their
+   places, or the volume is flagged as suspect. Open the volume for writing once, and close it. In a
+   session with `readonly`, famsync_write, famsync_setlength, famsync_msync, famsync_rollback and
+   famsync_memory_touch return FAMSYNC_READONLY. A store to plain memory raises SIGSEGV, which the
+   library doesn't handle. */
 int famsync_open(const char *volume, const struct famsync_options *options, famsync **handle);
 
-/* Ends a session and frees the handle. Changes since the last msync are lost. Close all plain memory of the handle
-   first (otherwise FAMSYNC_ARGUMENT). No other call with the handle may be in progress. The library first writes
-   committed pages to their places in the volume. FAMSYNC_DEVICE, FAMSYNC_UNMARKED: a read, a write or a sync failed, in
-   this call or earlier. FAMSYNC_NOMEMORY: memory was refused. What was acknowledged is durable in each case. */
+/* Ends a session and frees the handle. Changes since the last commit are lost. Before the call,
+   close all plain memory of the handle (otherwise FAMSYNC_ARGUMENT). No other call with the handle
+   may be in progress. The call writes committed pages to their places before the session ends.
+   FAMSYNC_DEVICE, FAMSYNC_UNMARKED: a read, a write or a sync failed, in this call or earlier.
+   FAMSYNC_NOMEMORY: the system refused memory. In each case all acknowledged commits are
+   durable. */
 int famsync_close(famsync *handle);
 
-/* The number of files of the volume, numbered from 0; the name of a file; and its length as this session has set it.
-   Without such a file the last two return a null pointer and 0. */
+/* famsync_files returns the number of files of the volume. Files are numbered from 0.
+   famsync_file_name returns the name of a file, or a null pointer if there is no such file.
+   famsync_file_length returns the length of a file, even if this length isn't committed yet. It
+   returns 0 if there is no such file. */
 unsigned famsync_files(const famsync *handle);
 const char *famsync_file_name(const famsync *handle, unsigned file);
 uint64_t famsync_file_length(const famsync *handle, unsigned file);
@@ -184,176 +223,204 @@ uint64_t famsync_file_length(const famsync *handle, unsigned file);
 /* The most pages that a commit of this session can have. */
 unsigned famsync_frames(const famsync *handle);
 
-/* Sets the length of a file, as ftruncate does. FAMSYNC_EINVAL: the length is more than the file's capacity, or the
-   volume has layout 1 or 2. Bytes past a new end are lost. The bytes that a file grows by are zeros. Like a write, the
-   length becomes durable with the next famsync_msync, and is lost if the session ends before that.
+/* Sets the length of a file, as ftruncate does. FAMSYNC_EINVAL: the length is more than the file's
+   capacity, or the volume has layout 1 or 2. Bytes past a new end are lost. If the file grows, the
+   added bytes are zeros. Like a write, the new length becomes durable with the next famsync_msync.
+   It is lost if the session ends before that.
 
-   The pages that a file grows by count as written, and so does the page in which it ended. FAMSYNC_NOFRAME: these pages
-   and those that wait for a commit are more than one commit can have. Then grow the file in steps, with an msync after
-   each. A refused call changes nothing.
+   All pages that are added to a file count as written. If the file ended within a page, this page
+   counts, too. FAMSYNC_NOFRAME: together with the pages that already wait for a commit, these pages
+   are more than one commit can have. Then grow the file in steps, with an msync after each step. A
+   call that fails changes nothing.
 
-   Open plain memory of the file grows or shrinks in place. The program must no longer use bytes past the new end.
-   FAMSYNC_SYSTEM: the system refused to change the memory. */
+   If plain memory of the file is open, it grows or shrinks in place. The program must no longer use
+   bytes past the new end. FAMSYNC_SYSTEM: the system refused to change the memory. */
 int famsync_setlength(famsync *handle, const char *file, uint64_t length);
 
-/* Reads `count` bytes of a file from `offset` on, including what this session has written and not committed. `*done` is
-   the number of bytes read; `done` may be a null pointer. At the file's end the call reads fewer bytes, or none, and
-   returns FAMSYNC_OK. If a read of the volume fails, `*done` bytes were read before the failure. */
+/* Reads `count` bytes of a file from `offset` on, including changes of this session that aren't
+   committed. `*done` is set to the number of bytes read; `done` may be a null pointer. If the file
+   ends earlier, the call reads fewer bytes, or none, and returns FAMSYNC_OK. If a read of the
+   volume fails, `*done` is the number of bytes read before the failure. */
 int famsync_read(famsync *handle, unsigned file, uint64_t offset, void *bytes, size_t count, size_t *done);
 
-/* Writes `count` bytes to a file from `offset` on. `*done` is the number of bytes written; `done` may be a null
-   pointer. Writes wait in memory for famsync_msync. Without it they are lost when the session ends.
+/* Writes `count` bytes to a file from `offset` on. `*done` is set to the number of bytes written;
+   `done` may be a null pointer. The written bytes wait in memory for the next famsync_msync. They
+   are lost if the session ends before that.
 
-   FAMSYNC_EINVAL: a byte lies past the file's end. famsync_setlength makes a file longer. FAMSYNC_NOFRAME: the write's
-   pages and those that wait for a commit are more than one commit can have. In both cases nothing is written.
-   FAMSYNC_DEVICE: the call writes only a part of a page, and the library failed to read the rest. After FAMSYNC_DEVICE
-   and FAMSYNC_NOMEMORY, `*done` bytes were written before the failure.
+   FAMSYNC_EINVAL: a byte would be past the file's end; famsync_setlength makes a file longer.
+   FAMSYNC_NOFRAME: together with the pages that already wait for a commit, the pages of this write
+   are more than one commit can have. In both cases nothing is written. FAMSYNC_DEVICE: the call
+   writes only a part of some page, and the library failed to read the rest of the page. After
+   FAMSYNC_DEVICE and FAMSYNC_NOMEMORY, `*done` is the number of bytes written before the failure.
 
-   If plain memory of the file is open, famsync_read and famsync_write use it. A write is then a store to this memory,
-   and opens the stored pages as famsync_memory_touch does. */
+   If plain memory of the file is open, famsync_read and famsync_write use this memory. A write is
+   then a store to it, and opens the stored pages as famsync_memory_touch does. */
 int famsync_write(famsync *handle, unsigned file, uint64_t offset, const void *bytes, size_t count, size_t *done);
 
-/* Makes all changes of this session durable, all of them or none: writes, stores to plain memory, and lengths. The call
-   returns when they are durable. `*mark` is the commit's number, counted from 1 in each session; `mark` may be a null
-   pointer. Threads that call during a commit share the next one. If the call is refused, all changes wait for the
-   next call.
+/* Commits all changes of this session: writes, stores to plain memory, and lengths. A commit makes
+   all of these changes durable, or none. The call returns when they are durable. `*mark` is set to
+   the commit's number, counted from 1 in each session; `mark` may be a null pointer. Threads that
+   call famsync_msync during a commit share the next commit. If the call fails and the session
+   continues, all changes wait for the next call.
 
-   FAMSYNC_NOFRAME: the pages changed by famsync_write and in plain memory, together, are more than one commit can have.
-   Nothing is committed, and no later call can commit these changes. After you close the plain memory, what
-   famsync_write wrote to other files can be committed.
+   FAMSYNC_NOFRAME: the pages changed by famsync_write and in plain memory, together, are more than
+   one commit can have. Nothing is committed, and no later call can commit all these changes. After
+   you close the plain memory, the next call can commit the writes of famsync_write to other files.
 
-   FAMSYNC_DEVICE: a read, a write or a sync failed, and nothing is acknowledged. errno has the cause: ENOMEM means that
-   memory was refused, and the disk isn't to blame. After a failed read the session continues, and you may call again.
-   After a failed write or sync, or if the core had no memory to record one, the session is over: each later call
-   returns FAMSYNC_BROKEN.
+   FAMSYNC_DEVICE: a read, a write or a sync failed, and nothing is acknowledged. errno has the
+   cause. ENOMEM means that the system refused memory; the disk didn't fail. After a failed read the
+   session continues, and you may call again. The session is over after a failed write or sync, or
+   if there was no memory to record one. Then later calls with the handle, except famsync_close,
+   return FAMSYNC_BROKEN.
 
-   After a failed sync the library flags the volume as suspect, as the program does: it makes the file VOLUME.suspect
-   beside the volume's file. FAMSYNC_UNMARKED: a sync failed, and the library couldn't make a lasting suspect flag. So
-   the next session doesn't know of the failed sync.
+   After a failed sync the library flags the volume as suspect: like the program `famsync`, it makes
+   the file VOLUME.suspect beside the volume's file. FAMSYNC_UNMARKED: a sync failed, and the
+   library couldn't make a durable suspect flag. So the next session may not know of the failed
+   sync.
 
-   A part of a commit's writes comes after its acknowledgement. A thread of the library makes these writes while no call
-   is in progress, or the next commit makes them. In layouts 4 to 6 the thread waits until no commit has come for 10 ms.
-   In layouts 5 and 6 it doesn't wait once half of the log is in use. With `foreground` there is no thread. */
+   A commit makes some of its writes after its acknowledgement. A thread of the library makes these
+   writes while no call is in progress, or the next commit makes them. In layouts 4 to 6 the thread
+   first waits until no commit has come for 10 ms. In layouts 5 and 6 it doesn't wait once half of
+   the log is in use. With `foreground` there is no such thread. */
 int famsync_msync(famsync *handle, uint64_t *mark);
 
-/* Undoes all changes of this session since the last famsync_msync: writes, lengths and stores to plain memory. Other
-   threads may store during the call: there is one moment within it, and exactly the stores before that moment are
-   undone. If a length is undone, the memory of its file grows or shrinks in place, as with famsync_setlength. The
-   library first writes earlier commits to their places. If a write or a length waits for a commit, it also opens the
-   volume again, which needs the memory of a second session during the call.
+/* Undoes all changes of this session since the last commit: writes, lengths and stores to plain
+   memory. Other threads may store during the call. The call undoes exactly the stores before one
+   moment within it. If a length is undone, plain memory of this file grows or shrinks in place, as
+   with famsync_setlength.
 
-   A refused call undoes nothing, with two exceptions. FAMSYNC_DEVICE: a read, a write or a sync failed, as with
-   famsync_msync. If this happened after the undoing, everything is undone, and the session is over. FAMSYNC_SYSTEM: the
-   system refused the rollback. If a part was undone by then, no commit is possible until a rollback succeeds
-   (FAMSYNC_TORN). */
+   The call first writes the pages of earlier commits to their places. If a write or a length waits
+   for a commit, the library also opens the volume a second time. During the call this needs as much
+   memory as another session.
+
+   A call that fails undoes nothing, with two exceptions. FAMSYNC_DEVICE: a read, a write or a sync
+   failed, as with famsync_msync. If it failed after the undoing, all changes are undone, and the
+   session is over. FAMSYNC_SYSTEM: the system refused to change memory. If a part of the changes
+   was already undone, commits fail with FAMSYNC_TORN until a rollback succeeds. */
 int famsync_rollback(famsync *handle);
 
-/* The number of the last acknowledged commit; 0 if there is none. */
+/* The number of the last acknowledged commit of this session; 0 if there is none. */
 uint64_t famsync_acknowledged(famsync *handle);
 
 /* A description of a code. */
 const char *famsync_strerror(int code);
 
-/* Numbers of a session. Set `size` to the size of this structure; a smaller size is FAMSYNC_ARGUMENT. A later version
-   of the library adds fields at the end. Fields that this library doesn't know become 0. System calls are counted since
-   the session was opened, including those that failed or were interrupted. */
+/* Statistics of a session. Set `size` to the size of this structure; with a smaller size
+   famsync_stat returns FAMSYNC_ARGUMENT. Later versions of the library add fields at the end.
+   famsync_stat sets fields that it doesn't know to 0. System calls are counted from the beginning
+   of the session, including calls that failed or were interrupted. */
 struct famsync_stat {
     size_t size;
     uint64_t commits;       /* the number of the last acknowledged commit */
     uint64_t frames;        /* the most pages of one commit */
     uint64_t staged;        /* pages that wait for a commit, including those of plain memory */
-    uint64_t unwritten;     /* committed pages that wait to be written to their places; layouts 5 and 6: blocks of
-                               the log that are in use */
+    uint64_t unwritten;     /* committed pages that aren't yet written to their places; in layouts
+                               5 and 6, blocks of the log that are in use */
     uint64_t reads;         /* reads of the volume's file */
     uint64_t writes;        /* writes to the volume's file */
     uint64_t syncs;         /* syncs of the volume's file */
     uint64_t bytes_written; /* bytes written to the volume's file */
-    uint64_t memory;        /* bytes of memory that all sessions of this process use for pages and commits */
+    uint64_t memory;        /* bytes that all sessions of this process use for pages and commits */
 };
 
 int famsync_stat(famsync *handle, struct famsync_stat *stat);
 
-/* Makes a backup: writes a clean volume with the files of the last acknowledged commit to `descriptor`. The backup can
-   be opened as it is. `descriptor` is a regular file, other than the volume's, open for reading and writing, and
-   without O_APPEND (otherwise FAMSYNC_ARGUMENT). The library empties it first. Blocks of zeros become holes. The backup
-   is synced when the call succeeds. If the file's name is new, sync its folder, too.
+/* Makes a backup: writes a clean volume, with the files of the last acknowledged commit, to the
+   file `descriptor`. Opening the backup needs no recovery. `descriptor` is a regular file, other
+   than the volume's, open for reading and writing, and without O_APPEND (otherwise
+   FAMSYNC_ARGUMENT). The call first empties this file. Blocks of zeros become holes. When the call
+   succeeds, the backup is synced. If you created the file for the backup, sync its folder, too.
 
-   Other threads may call with the handle during the backup, including famsync_msync. A handle makes one backup at a
-   time (FAMSYNC_BUSY). The library locks the file like a volume until the call returns. FAMSYNC_INUSE: somebody else
-   has locked it.
+   Other threads may use the handle during the backup, even for famsync_msync. A handle makes only
+   one backup at a time (otherwise FAMSYNC_BUSY). The library locks the backup's file like a volume
+   until the call returns. FAMSYNC_INUSE: somebody else has locked this file.
 
-   FAMSYNC_SYSTEM: the file couldn't be written; errno has the cause. FAMSYNC_DEVICE: the volume couldn't be read (the
-   session continues), or couldn't be written (the session is over). After a failure the file is as before, or no
-   volume, or a backup that may not be durable. Commits during the backup don't fail because of it. */
+   FAMSYNC_SYSTEM: the library couldn't write the backup's file; errno has the cause.
+   FAMSYNC_DEVICE: the library couldn't read the volume (the session continues), or couldn't write
+   to it (the session is over). After a failure the backup's file is unchanged, or it isn't a
+   volume, or it is a backup that may not be durable. A failed backup doesn't make any commit
+   fail. */
 int famsync_backup(famsync *handle, int descriptor);
 
 /*
- * Opens plain memory: a whole file of the volume as memory of this process. It is a private mapping of the volume's
- * file, so the call reads almost nothing. Its pages are read-only. The first store to a page raises SIGSEGV. The
- * library's handler notes the page and opens it for writing. It passes other faults to the handler that was installed
- * before.
+ * Opens plain memory: a whole file of the volume as memory of this process. The memory is a private
+ * mapping of the volume's file, so the call reads almost nothing. At first all its pages are
+ * read-only. The first store to a page raises SIGSEGV. Then the library's handler opens the page:
+ * it notes the store, and makes the page writable. The handler passes other faults to the handler
+ * that was installed before it.
  *
- * A page that was stored to takes memory of this process. Once it is committed and written to its place, the library
- * may return it to the system. It does so if such pages, with a copy of each, exceed `budget` bytes. In layouts 5 and 6
- * pages in the log aren't yet in their places. So the memory can exceed the budget by twice the log's length.
+ * A page that was stored to uses memory of this process. Once the page is committed and written to
+ * its place, the library can return its memory to the system. It does so when the committed pages
+ * in memory, with a copy of each, use more than `budget` bytes. In layouts 5 and 6 the pages in the
+ * log aren't yet in their places. So the memory can exceed the budget by up to twice the log's
+ * length.
  *
- * A load raises SIGBUS if the volume's file can't be read or was truncated, as with any mapped file. In a forked
- * process, a page that wasn't stored to before the fork may show later commits. With `resident` the call reads the
- * whole file, and none of this holds. The call does the same if the system's pages are larger than 4,096 bytes, or if
- * the system can't map the volume's file.
+ * As with any mapped file, a load raises SIGBUS if the volume's file can't be read or was
+ * truncated. In a forked process, a page that wasn't stored to before the fork may show later
+ * commits. With `resident` the call reads the whole file instead of mapping it. Then there is no
+ * SIGBUS, `budget` has no effect, and a forked process sees no later commit. The call also reads
+ * the whole file if the system's pages are larger than 4,096 bytes, or if the system can't map the
+ * volume's file.
  *
- * Other threads may store during a commit. A commit has exactly the stores by all threads, to all plain memory of the
- * handle, before one moment within famsync_msync. At that moment the library closes all pages. It then copies those
- * that were stored to. A store during that time waits for the copying, never for the disk. If several threads store
- * what belongs together, they have to finish before one of them commits.
+ * Other threads may store during a commit. A commit contains exactly the stores by all threads, to
+ * all plain memory of the handle, before one moment within famsync_msync. At that moment the
+ * library closes all pages: it makes them read-only again. Then it copies the pages that were
+ * stored to. A store during the copying waits for the copying, never for the disk. If stores of
+ * several threads belong together, make them all before a commit begins.
  *
  * The handler doesn't serve every store:
  *
- * - The kernel doesn't use the handler: read(2) and the like fail with EFAULT if they read into a page that wasn't
- *   stored to.
- * - A thread that blocks SIGSEGV can't store.
- * - A handler of SIGSEGV that the program installs later gets the library's faults. It should pass them to the previous
- *   handler.
+ * - The kernel doesn't use the handler: read(2) and similar calls fail with EFAULT if they store to
+ *   a page that isn't open.
+ * - A thread that blocks SIGSEGV can't store to a page that isn't open.
+ * - If the program later installs another handler of SIGSEGV, that handler gets the library's
+ *   faults. It should pass them to the previous handler.
  *
- * For all three, famsync_memory_touch opens pages ahead. famsync_memory_open installs the library's handler again if
- * another one took its place. Faults that aren't the library's are passed on to that other handler.
+ * In all three cases the program can open pages in advance by famsync_memory_touch. If another
+ * handler has replaced the library's, the next famsync_memory_open installs the library's handler
+ * again. The library's handler then passes faults that aren't its own to that other handler.
  *
- * With FAMSYNC_TRACK_KERNEL there is no handler: the kernel tracks stores, including those of read(2) and the like.
- * Each commit asks the kernel which pages were stored to. Other threads must not store during famsync_msync,
- * famsync_rollback and famsync_setlength. If a commit finds such a store while it copies pages, it copies them again,
- * up to four times in all. After that it returns FAMSYNC_BUSY, and nothing is committed. At its end a commit returns
- * committed pages to the system. A store to them by another thread at that time may be lost. FAMSYNC_TRACKING, from
- * famsync_open or famsync_memory_open: the system can't do this (Linux can from 6.7 on). FAMSYNC_ARGUMENT: `resident`
- * is set.
+ * With FAMSYNC_TRACK_KERNEL there is no handler: the kernel tracks stores, including those of
+ * read(2) and similar calls. Each commit asks the kernel which pages were stored to. Other threads
+ * must not store during famsync_msync, famsync_rollback and famsync_setlength. If a commit finds
+ * such a store while it copies pages, it copies all stored pages again. After four such attempts it
+ * returns FAMSYNC_BUSY, and nothing is committed. At its end a commit may return committed pages to
+ * the system (`budget`). If another thread stores to them at that time, the store may be lost.
+ * FAMSYNC_TRACKING, from famsync_open or famsync_memory_open: the system can't track stores (Linux
+ * can from 6.7 on). FAMSYNC_ARGUMENT, from famsync_open: `resident` is set, too.
  *
- * Bytes past the file's end, in its last page, are memory that no commit keeps. The addresses after this page, up to
- * the file's capacity, are reserved and must not be used. While memory of a file is open, famsync_read and
- * famsync_write use it. An empty file has no memory (FAMSYNC_ARGUMENT).
+ * If the file ends within its last page, stores to the rest of this page are never committed. The
+ * addresses after the last page, up to the file's capacity, are reserved: the program must not use
+ * them. While memory of a file is open, famsync_read and famsync_write use that memory.
+ * FAMSYNC_ARGUMENT, from famsync_memory_open: the file is empty.
  */
 int famsync_memory_open(famsync *handle, const char *file, famsync_memory **memory);
 
-/* Does the same at a given address, so that the file can contain pointers into itself. A null pointer means any
-   address. The memory occupies the file's capacity, and one page before and after. FAMSYNC_ADDRESS: the address isn't a
-   multiple of the page size. Or these pages begin below address 65,536, end above the highest address, or contain other
-   memory. */
+/* Opens plain memory at a given address, so that the file can contain pointers into itself. A null
+   pointer means any address. The memory occupies addresses for the file's capacity, and for one
+   page before and one page after it. FAMSYNC_ADDRESS: the address isn't a multiple of the page
+   size. Or the occupied addresses begin below 65,536, end above the highest address, or contain
+   other memory. */
 int famsync_memory_open_at(famsync *handle, const char *file, void *address, famsync_memory **memory);
 
-/* The address of the memory, which never changes, and the length of the file in bytes. */
+/* The address of the memory, which never changes; and the length of the file in bytes. */
 void *famsync_memory_at(const famsync_memory *memory);
 size_t famsync_memory_length(const famsync_memory *memory);
 
-/* The number of pages of 4,096 bytes that were stored to since the last msync. A page whose bytes didn't change may
-   count. One commit can have at most famsync_frames of them. */
+/* The number of pages of 4,096 bytes that were stored to since the last commit. A page may count
+   even if its bytes didn't change. One commit can have at most famsync_frames of these pages. */
 size_t famsync_memory_dirty(const famsync_memory *memory);
 
-/* Opens the pages of `count` bytes from `offset` on, as a store to each page would. Until any thread calls
-   famsync_msync or famsync_rollback, stores to them raise no SIGSEGV, and the kernel can store to them. With
-   FAMSYNC_TRACK_SIGNALS they count as stored to. FAMSYNC_ARGUMENT: the range isn't within the file. FAMSYNC_NOFRAME: it
-   has more pages than one commit can have. In both cases no page is opened. */
+/* Opens the pages of `count` bytes from `offset` on, as a store to each page would. Until any
+   thread calls famsync_msync or famsync_rollback, stores to these pages raise no SIGSEGV, and the
+   kernel can store to them. With FAMSYNC_TRACK_SIGNALS the pages count as stored to.
+   FAMSYNC_ARGUMENT: the range isn't within the file. FAMSYNC_NOFRAME: the range has more pages than
+   one commit can have. In both cases no page is opened. */
 int famsync_memory_touch(famsync_memory *memory, size_t offset, size_t count);
 
-/* Closes the memory. Stores since the last msync are lost, and no thread may use the memory. If a refused msync had
-   already taken a part of the stores, commits are refused until a rollback (FAMSYNC_TORN). */
+/* Closes the memory. Stores since the last commit are lost. After the call begins, no thread may
+   use the memory. If an earlier famsync_msync failed after it had taken some of these stores,
+   commits fail with FAMSYNC_TORN until a rollback succeeds. */
 int famsync_memory_close(famsync_memory *memory);
 
 #ifdef __cplusplus
