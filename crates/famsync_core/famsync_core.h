@@ -1,12 +1,15 @@
 /*
- * famsync_core: a session with one volume, as a library that makes no system call.
+ * famsync_core: a library for sessions with volumes. It makes no system call.
  *
- * The core keeps the pages that wait for a commit, and records the writes and syncs that make the commit durable. Its
- * host is a program, for instance in C. The host reads blocks of the volume and supplies them. It makes the recorded
- * calls on the volume's file, in order, and reports them to the core. The host decides how to make a call. The core
- * decides which bytes are written where. The core is proved.
+ * The core keeps the pages that wait for a commit, and records the writes and syncs that make the
+ * commit durable. The program that uses the core is its host. The host reads blocks of the volume,
+ * and supplies them to the core. A recorded call is a write or a sync of the volume's file. The
+ * host makes these calls in order, and reports to the core that they are made. Until then a
+ * recorded call waits. The host decides how to make a call. The core decides which bytes are
+ * written, and where. The core is proved.
  *
- * This program writes the first page of the first file, and commits. `tests/lint/core_header` compiles and runs it.
+ * This program writes the first page of the first file, and commits. `tests/lint/core_header`
+ * compiles and runs it.
  *
  *   static void supply(famsync_core *core, int file, uint32_t block)
  *   {
@@ -59,15 +62,21 @@
  *       return close(file);
  *   }
  *
- * A call takes the handle by value, and returns it through the last argument: pass `&core.at` of the same handle.
- * Nothing checks a handle. Pass the handle that the last call returned, never null and never closed. One call at a time
- * may use it. Each pointer has to point to as many bytes as its count says. With a count of 0 it may be any pointer
- * except null. The pointers of famsync_core_call are valid until a call of another function with the same handle.
+ * A call takes the handle by value, and returns it through the last argument: pass `&core.at` of
+ * the same handle. No call checks its handle. Pass the handle that the last call returned. It must
+ * not be null or closed. Only one call at a time may use a handle. A pointer with a count has to
+ * point to this number of bytes. If the count is 0, the pointer may be any pointer except null. The
+ * bytes that famsync_core_call returns are valid until another function is called with the same
+ * handle.
  *
- * The program defines the three functions by which the core requests memory: rattle_alloc and the next two, below.
+ * The core requests memory by three functions that the host defines: rattle_alloc, rattle_realloc
+ * and rattle_dealloc (below).
  *
- * A call of type int64_t returns a number from 0 on, or one of the negative codes. The comment of each call lists the
- * codes that it may return, without FAMSYNC_CORE_.
+ * A block is known if the core has its bytes. A page is home once it is written to its home block,
+ * its place in the volume's file. A commit is home once all its pages are.
+ *
+ * A call of type int64_t returns a number that isn't negative, or one of the negative codes. The
+ * comment of each call lists the codes that the call can return, without the prefix FAMSYNC_CORE_.
  */
 #ifndef FAMSYNC_CORE_H
 #define FAMSYNC_CORE_H
@@ -80,7 +89,7 @@
 extern "C" {
 #endif
 
-/* A session, before and after its volume is opened. */
+/* The handle of a session, before and after its volume is opened. */
 typedef struct {
     uint8_t *at;
 } famsync_core;
@@ -88,143 +97,179 @@ typedef struct {
 enum famsync_core_code {
     FAMSYNC_CORE_OK = 0,
     FAMSYNC_CORE_WANTED = 1, /* supply the block `*wanted`, and make the same call again */
-    FAMSYNC_CORE_NONE = 2,   /* no such call waits, or there is nothing to do */
+    FAMSYNC_CORE_NONE = 2,   /* there is no such recorded call, no log, or nothing to do */
 
     FAMSYNC_CORE_ARGUMENT = -1, /* an argument is invalid */
     FAMSYNC_CORE_NOMEMORY = -2, /* memory was refused */
-    FAMSYNC_CORE_ORDER = -3,    /* the volume isn't open yet, or it is open already */
+    FAMSYNC_CORE_ORDER = -3,    /* the volume isn't open yet, or is already open */
 
     /* why a volume isn't opened */
-    FAMSYNC_CORE_NOTAVOLUME = -11, /* the blocks don't begin as a volume of any layout */
-    FAMSYNC_CORE_DAMAGED = -12,    /* the blocks begin as a volume, but break the format */
+    FAMSYNC_CORE_NOTAVOLUME = -11, /* the blocks don't begin like a volume of any layout */
+    FAMSYNC_CORE_DAMAGED = -12,    /* the blocks begin like a volume, but break the format */
 
     /* why a request is refused; the same numbers as in famsync.h */
-    FAMSYNC_CORE_NOFRAME = -27, /* more pages were written, or added to a file, than one commit can have */
-    FAMSYNC_CORE_DEVICE = -28,  /* a call couldn't be recorded, because memory was refused */
-    FAMSYNC_CORE_BROKEN = -29,  /* DEVICE was returned earlier: close the session, and open the volume again */
-    FAMSYNC_CORE_EINVAL = -30,  /* the page begins past the file's end, or the length is more than the capacity */
+    FAMSYNC_CORE_NOFRAME = -27, /* more pages were written, or added to a file, than one commit can
+                                   have */
+    FAMSYNC_CORE_DEVICE = -28,  /* memory was refused, so a call couldn't be recorded */
+    FAMSYNC_CORE_BROKEN = -29,  /* DEVICE was returned earlier: close the session, and open the
+                                   volume again */
+    FAMSYNC_CORE_EINVAL = -30,  /* the page begins past the file's end, or the length is more than
+                                   the capacity */
     FAMSYNC_CORE_NOFILE = -34,  /* the volume has no such file */
-    FAMSYNC_CORE_BUSY = -35,    /* the session has made 2^32 - 1 commits, or a log's numbers are used up */
+    FAMSYNC_CORE_BUSY = -35,    /* the session has made 2^32 - 1 commits, or the numbers of the log
+                                   are used up */
     FAMSYNC_CORE_OTHER = -38    /* any other refusal; these calls never return it */
 };
 
 /* The kinds of recorded calls. */
 enum famsync_core_kind { FAMSYNC_CORE_CALL_WRITE = 1, FAMSYNC_CORE_CALL_SYNC = 2 };
 
-/* Begins with a volume of `blocks` blocks: the length of its file divided by 4,096, rounded down. OK, ARGUMENT
-   (0 blocks), NOMEMORY. If the answer isn't OK, `*at` is unchanged. */
+/* Begins a session with a volume of `blocks` blocks. This number is the length of the volume's file
+   divided by 4,096, rounded down. If the call fails, `*at` is unchanged.
+
+   Codes: OK, ARGUMENT (0 blocks), NOMEMORY. */
 int32_t famsync_core_begin(uint32_t blocks, uint8_t **at);
 
-/* Supplies a block that the host has read. `bytes` are its 4,096 bytes in the volume's file, after the calls that were
-   carried out. A known block stays unchanged. OK, ARGUMENT (no such block, or `count` isn't 4,096), NOMEMORY. You may
-   call it at any time. */
+/* Supplies a block that the host has read. `bytes` are the 4,096 bytes of the block in the volume's
+   file, as they are after all calls that the host has made. If the block is already known, nothing
+   changes. You may call it at any time.
+
+   Codes: OK, ARGUMENT (no such block, or `count` isn't 4,096), NOMEMORY. */
 int32_t famsync_core_supply(famsync_core core, uint32_t block, const uint8_t *bytes, size_t count, uint8_t **at);
 
-/* Whether a block is known: 1 or 0. You may call it at any time. */
+/* Returns 1 if a block is known, and 0 otherwise. You may call it at any time. */
 int32_t famsync_core_is_known(famsync_core core, uint32_t block, uint8_t **at);
 
-/* Opens the volume, of any layout. A commit has at most `pages` pages. If `pages` is 0, or more than the volume's
-   journals or log allow, the limit is what these allow. If a crash left a commit that isn't written home, opening
-   records calls. Opening a volume with a log always records calls. OK, WANTED, NOTAVOLUME, DAMAGED, NOMEMORY (close the
-   handle, and begin again), BUSY (a volume with a log: its epochs are used up), ORDER.
+/* Opens the volume, of any layout. A commit then has at most `pages` pages. If `pages` is 0, or
+   above the limit of the volume's journals or log, that limit holds. Opening always records calls.
+   If a crash left commits that aren't home, some of these calls write them home.
 
-   WANTED: a block is missing, nothing is open, and no call was recorded. Opening wants blocks one after the other:
-   block 0, then the lengths, and the gates and open journals, or the start of the log and the commits behind it. */
+   Codes: OK, WANTED, NOTAVOLUME, DAMAGED, NOMEMORY and DEVICE (close the handle, and begin again),
+   BUSY (the epochs of the log are used up), ORDER.
+
+   WANTED: a block isn't known. Nothing is open, and no call was recorded. Opening wants one block
+   after the other: first block 0, later the block of the lengths, and either the gates and open
+   journals, or the start of the log and the commits behind it. */
 int32_t famsync_core_open(famsync_core core, uint32_t pages, uint32_t *wanted, uint8_t **at);
 
-/* The number of files of the volume, which are numbered from 0. The most pages of one commit. The number of blocks
-   before the first file: those of the journals, or of the log, are among them. ORDER. */
+/* famsync_core_files returns the number of files of the volume; files are numbered from 0.
+   famsync_core_frames returns the most pages of one commit. famsync_core_head returns the number of
+   blocks before the first file, including those of the journals or the log. Codes: ORDER. */
 int64_t famsync_core_files(famsync_core core, uint8_t **at);
 int64_t famsync_core_frames(famsync_core core, uint8_t **at);
 int64_t famsync_core_head(famsync_core core, uint8_t **at);
 
-/* Whether commits share their syncs, as in a volume of layout 4 or with a log: 1 or 0. ORDER. */
+/* Returns 1 if commits share their syncs, and 0 otherwise. They do in layout 4, and in volumes with
+   a log. Codes: ORDER. */
 int32_t famsync_core_shares_syncs(famsync_core core, uint8_t **at);
 
-/* The length of a file in bytes, as it was last set, and the most pages that it can have. OK, ARGUMENT (no such file),
+/* `*length` is set to the length of a file in bytes, even if this length isn't committed yet.
+   `*pages` is set to the most pages that the file can have. Codes: OK, ARGUMENT (no such file),
    ORDER. */
 int32_t famsync_core_file(famsync_core core, uint32_t file, uint64_t *length, uint64_t *pages, uint8_t **at);
 
-/* Copies the name of a file to `name`, which has room for `count` bytes. A name has at most 32 bytes from '!' to '~',
-   and no null byte at its end. Returns its length; ARGUMENT (no such file, or not enough room), ORDER. */
+/* Copies the name of a file to `name`, which has room for `count` bytes. A name has 1 to 32 bytes
+   from '!' to '~'. No null byte is added. Returns the length of the name. Codes: ARGUMENT (no such
+   file, or not enough room), ORDER. */
 int64_t famsync_core_file_name(famsync_core core, uint32_t file, uint8_t *name, size_t count, uint8_t **at);
 
-/* Reads a page of a file, numbered from 0: 4,096 bytes, with zeros past the file's end. OK, WANTED (supply the block,
-   and call again), ARGUMENT (`count` isn't 4,096, or a page of 2^32 or more), NOFILE, EINVAL, ORDER. */
+/* Reads a page of a file: 4,096 bytes, with zeros past the file's end. Pages are numbered from 0.
+
+   Codes: OK, WANTED, ARGUMENT (`count` isn't 4,096), NOFILE, EINVAL, ORDER. */
 int32_t famsync_core_read(famsync_core core, uint32_t file, uint64_t page, uint8_t *bytes, size_t count,
                           uint32_t *wanted, uint8_t **at);
 
-/* Writes a whole page of a file. The page waits in memory for the next commit. Bytes past the file's end become zeros.
-   OK, ARGUMENT (`count` isn't 4,096, or a page of 2^32 or more), NOFILE, EINVAL, BROKEN, NOFRAME, NOMEMORY, ORDER. A
-   refusal changes nothing. */
+/* Writes a whole page of a file. The page waits in memory for the next commit. Bytes past the
+   file's end become zeros. A call that fails changes nothing.
+
+   Codes: OK, ARGUMENT (`count` isn't 4,096), NOFILE, EINVAL, BROKEN, NOFRAME, NOMEMORY, ORDER. */
 int32_t famsync_core_write(famsync_core core, uint32_t file, uint64_t page, const uint8_t *bytes, size_t count,
                            uint8_t **at);
 
-/* The number of pages that the next commit takes, and whether this page is among them: 1 or 0. ORDER. */
+/* famsync_core_staged returns the number of pages that wait for the next commit.
+   famsync_core_is_staged returns 1 if the given page is one of them, and 0 otherwise. Codes:
+   ORDER. */
 int64_t famsync_core_staged(famsync_core core, uint8_t **at);
 int32_t famsync_core_is_staged(famsync_core core, uint32_t file, uint64_t page, uint8_t **at);
 
-/* Makes a commit of all waiting pages and lengths, and records the calls that its acknowledgement needs. If nothing
-   waits, it records none. `*mark` is the commit's number, counted from 1 in each session. The commit is durable once
-   famsync_core_acknowledged returns this number. OK, WANTED, NOMEMORY (make the same call again), BROKEN, DEVICE, BUSY,
-   ORDER.
+/* Makes a commit of all waiting pages and lengths. Records the calls that make this commit durable,
+   and may also record calls of earlier commits. If nothing waits, the commit needs no calls of its
+   own. `*mark` is set to the commit's number, counted from 1 in each session. The commit is durable
+   once famsync_core_acknowledged returns this number or a higher one.
 
-   WANTED and NOMEMORY: only in a volume with a log. If the log has no room for the commit, the call first makes steps,
-   which write older commits home. A step or the commit may need a block that isn't known. The steps that were made
-   stay. Nothing is lost: the pages still wait for the commit. */
+   Codes: OK, WANTED, NOMEMORY (make the same call again), BROKEN, DEVICE, BUSY, ORDER.
+
+   Only volumes with a log return WANTED and NOMEMORY. If the log has no room for the commit, the
+   call first makes steps, which write older commits home. A step or the commit may need a block
+   that isn't known. If the call fails, the steps already made are kept, and the pages still wait
+   for the commit. */
 int32_t famsync_core_commit(famsync_core core, uint32_t *mark, uint32_t *wanted, uint8_t **at);
 
-/* The number of the last durable commit; 0 if there is none. A commit is durable when the host has carried out all
-   calls that waited when famsync_core_commit returned. Calls recorded later may still wait. If a second commit is made
-   before that, the first one is acknowledged only with the second. ORDER. */
+/* Returns the number of the last acknowledged commit, or 0 if there is none. A commit is
+   acknowledged, and durable, once the host has reported all calls that waited when
+   famsync_core_commit returned. Calls that were recorded later may still wait. If a second commit
+   is made before the first one is acknowledged, both are acknowledged together. Codes: ORDER. */
 int64_t famsync_core_acknowledged(famsync_core core, uint8_t **at);
 
-/* Makes up to `most` further steps of earlier commits, which write their pages home, and records their calls. OK (steps
-   remain), NONE (no step remains), WANTED, NOMEMORY (make the same call again), BROKEN, DEVICE, ORDER.
+/* Makes at most `most` further steps, which write the pages of earlier commits home. Records the
+   calls of these steps.
 
-   WANTED and NOMEMORY: only in a volume with a log, as in famsync_core_commit. The steps that were made stay. */
+   Codes: OK (steps remain), NONE (no step remains), WANTED, NOMEMORY (make the same call again),
+   BROKEN, DEVICE, ORDER.
+
+   Only volumes with a log return WANTED and NOMEMORY. Then the steps already made are kept. */
 int32_t famsync_core_write_out(famsync_core core, uint32_t most, uint32_t *wanted, uint8_t **at);
 
-/* The number of pages that commits still have to write home. In a volume with a log: the number of blocks of the log
-   that are in use, which is `*used` of famsync_core_log. ORDER. */
+/* Returns the number of committed pages that aren't home. For a volume with a log, it returns the
+   number of blocks of the log that are in use: `*used` of famsync_core_log. Codes: ORDER. */
 int64_t famsync_core_unwritten(famsync_core core, uint8_t **at);
 
-/* Of a volume with a log: the number of blocks of its log, how many of them are in use, and the number of commits in
-   these. A block is in use until the start of the log moves past it. OK, NONE (a volume with journals; nothing is
-   changed), ORDER. */
+/* For a volume with a log: `*blocks` is set to the number of blocks of the log, `*used` to the
+   number of those in use, and `*commits` to the number of commits in the blocks in use. A block is
+   in use until the start of the log moves past it. Codes: OK, NONE (the volume has journals, and
+   nothing is set), ORDER. */
 int32_t famsync_core_log(famsync_core core, uint64_t *blocks, uint64_t *used, uint64_t *commits, uint8_t **at);
 
-/* Sets the length of a file, up to its capacity. The length is durable with the next commit. The pages that the file
-   grows by count as written, and so does its old last page. OK, WANTED (the last page isn't in memory: supply the
-   block, and call again), NOFILE, EINVAL (or a volume without lengths), BROKEN, NOFRAME, NOMEMORY, ORDER. A refusal
-   changes nothing. */
+/* Sets the length of a file, up to its capacity. The length becomes durable with the next commit.
+   The pages that are added to the file count as written. If the file ended within a page, this page
+   counts, too. A call that fails changes nothing.
+
+   Codes: OK, WANTED (the page in which the file ended isn't known), NOFILE, EINVAL (also if the
+   volume has layout 1 or 2), BROKEN, NOFRAME, NOMEMORY, ORDER. */
 int32_t famsync_core_set_length(famsync_core core, uint32_t file, uint64_t length, uint32_t *wanted, uint8_t **at);
 
-/* The number of recorded calls that wait for the host. You may call it at any time. */
+/* Returns the number of waiting calls: recorded calls that the host hasn't reported as made. You
+   may call it at any time. */
 int64_t famsync_core_waiting(famsync_core core, uint8_t **at);
 
-/* A recorded call. Index 0 is the oldest waiting call. The host makes the calls in the order of their index. `*kind` is
-   FAMSYNC_CORE_CALL_WRITE for a write of the `*length` bytes at `*bytes` to `*offset` of the volume's file, or
-   FAMSYNC_CORE_CALL_SYNC for a sync of that file. OK, NONE (no call of this index waits). You may call it at any
-   time. */
+/* Returns a waiting call. Index 0 is the oldest one. The host makes the calls in the order of their
+   index. `*kind` is set to one of two values:
+
+   - FAMSYNC_CORE_CALL_WRITE: write the `*length` bytes at `*bytes` to `*offset` of the volume's
+     file.
+   - FAMSYNC_CORE_CALL_SYNC: sync the volume's file.
+
+   Codes: OK, NONE (no call with this index waits). You may call it at any time. */
 int32_t famsync_core_call(famsync_core core, uint32_t index, uint32_t *kind, uint64_t *offset, const uint8_t **bytes,
                           uint64_t *length, uint8_t **at);
 
-/* Reports that the host has successfully made the `count` oldest calls, in order. OK, ARGUMENT (fewer calls wait;
-   nothing is changed). You may call it at any time. */
+/* Reports that the host has made the `count` oldest waiting calls, in order and with success.
+   Codes: OK, ARGUMENT (fewer calls wait, and nothing changes). You may call it at any time. */
 int32_t famsync_core_carried_out(famsync_core core, uint32_t count, uint8_t **at);
 
-/* Forgets a block. The next read of it wants it again. A block isn't forgotten if a waiting call writes to it. Once the
-   volume is open, blocks before the files aren't forgotten either, except those of a log. OK, NONE (it isn't
-   forgotten), ARGUMENT (no such block). You may call it at any time. */
+/* Forgets a block, so that it isn't known any more. A call that needs it later returns WANTED. A
+   block is kept if a waiting call writes to it. Once the volume is open, the blocks before the
+   files are kept, too, except the blocks of a log. Codes: OK, NONE (the block is kept), ARGUMENT
+   (no such block). You may call it at any time. */
 int32_t famsync_core_forget(famsync_core core, uint32_t block, uint8_t **at);
 
 /* Frees the session, and drops its waiting calls. You may call it at any time, but only once. */
 void famsync_core_close(famsync_core core);
 
-/* The program defines these three functions over malloc, realloc and free of one allocator. `ok` is true if there is
-   memory. If there is none, `p` points to any byte of the program, because it may never be null. An alignment is at
-   most 16. For a `size` of 0, request at least one byte. A block that can't be made larger stays unchanged. */
+/* The host defines these three functions with malloc, realloc and free of one allocator. `ok` is
+   true if the allocator had memory. Otherwise `p` points to any byte of the program, because `p`
+   may never be null. `align` is at most 16. If `size` is 0, request at least one byte from the
+   allocator. If rattle_realloc fails, the old block stays unchanged. */
 struct rattle_tried {
     bool ok;
     uint8_t *p;
