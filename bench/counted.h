@@ -1,4 +1,4 @@
-/* What counted.c counts, for a program that asks it. */
+/* The counts of counted.c, for a program that requests them. */
 #ifndef COUNTED_H
 #define COUNTED_H
 

@@ -1,4 +1,5 @@
-/* Commits to the log of a volume of layout 5 or 6, by hand: with the writes and syncs that the library makes. */
+/* Commits to the log of a volume of layout 5 or 6 without the library. The functions make the same
+   writes and syncs as the library. */
 #ifndef LOG_BY_HAND_H
 #define LOG_BY_HAND_H
 
@@ -7,18 +8,19 @@
 /* Whether the volumes have a log. */
 bool has_log_by_hand(void);
 
-/* The log of a new volume of one file. */
+/* Open and close the log of a new volume that has one file. */
 void open_log(const char *path);
 void close_log(void);
 
-/* Before a commit copies pages to `kept`, which has the file as of the last commit: if half of the log is in use,
-   writes all pages of commits to their home blocks, and the start behind these commits. The next commit selects it. */
+/* Call this before a commit copies its pages to `kept`, which has the file of the last commit. If
+   half of the log is in use, the call writes all committed pages home, and a start behind these
+   commits. The next commit selects this start. */
 void write_commits_home(const unsigned char *kept);
 
-/* Writes all commits home, and begins a log without commits. */
+/* Writes all commits home, so that the log has no commits. */
 void empty_log(const unsigned char *kept);
 
-/* Commits `count` pages, whose numbers are rising. `kept` has their bytes. */
+/* Commits `count` pages. Their numbers are in increasing order. `kept` has their bytes. */
 void append_to_log(const int *page, int count, const unsigned char *kept);
 
 #endif

@@ -1,4 +1,5 @@
-/* What bench/opening.c and bench/opening_lmdb.c share: the time, and the memory of this process. */
+/* Functions that bench/opening.c and bench/opening_lmdb.c share: the time, and the memory that this
+   process uses. */
 #ifndef OPENING_H
 #define OPENING_H
 
@@ -7,7 +8,7 @@
 #include <string.h>
 #include <time.h>
 
-/* In microseconds. */
+/* The time in microseconds. */
 static inline double now(void)
 {
     struct timespec time;
@@ -15,7 +16,8 @@ static inline double now(void)
     return (double)time.tv_sec * 1e6 + (double)time.tv_nsec / 1e3;
 }
 
-/* A line of /proc/self/status: VmRSS, the memory that the process has, or VmHWM, the most that it had. */
+/* The value of a line of /proc/self/status. VmRSS is the memory that the process uses. VmHWM is the
+   most memory that it has used. */
 static inline long kilobytes(const char *name)
 {
     char line[200];

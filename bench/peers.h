@@ -1,4 +1,5 @@
-/* What the files of bench/peers share: ways to store to some pages and make that durable at once. */
+/* Declarations that the files of bench/peers share. A way stores to some pages, and makes all these
+   stores durable together. */
 #ifndef PEERS_H
 #define PEERS_H
 
@@ -10,15 +11,17 @@
 
 struct way {
     const char *name;
-    const char *volume;             /* the volume that is its store; or a null pointer */
-    void (*begin)(void);            /* makes its store, and opens it */
-    void (*commit)(int number);     /* stores the number in each page, and commits that */
-    void (*finish_write_out)(void); /* waits for what comes after the acknowledgement, or makes it; or a null pointer */
+    const char *volume;             /* the volume to which the way stores; null if it has none */
+    void (*begin)(void);            /* makes the files of the way, and opens them */
+    void (*commit)(int number);     /* stores the number in each page, and commits these stores */
+    void (*finish_write_out)(void); /* makes the writes after the acknowledgement, or waits for
+                                       them; may be null */
     void (*end)(void);
 };
 
-/* The pages of a commit: `count` of them. If `apart` isn't 0, they are the same for each commit, neighbours where it is
-   1; else those of commits in a row are others, of a file of 64 MB: side by side, or anywhere. */
+/* The `count` pages of a commit. If `apart` isn't 0, all commits have the same pages: every
+   `apart`-th page of the file. If `apart` is 0, each commit has other pages of a file of 64 MB:
+   pages side by side, or pages `anywhere`. */
 struct pages {
     int count, apart;
     bool anywhere;
@@ -26,10 +29,10 @@ struct pages {
 
 extern struct pages pages;
 
-/* Page `index` of the commit of this number. */
+/* The number of the page that is page `index` of commit `number`. */
 size_t page_of(int index, int number);
 
-/* The volumes: of this layout, with so many slots in a journal. */
+/* The volumes have this layout, and this number of slots in each journal. */
 struct volumes {
     unsigned layout, slots;
 };
@@ -38,16 +41,17 @@ extern struct volumes volumes;
 
 void must(bool holds, const char *what);
 
-/* Makes a volume of one file, `a`, with all pages. */
+/* Makes a volume with one file, `a`, which contains the pages of all commits. */
 void make_volume_file(const char *path);
 size_t bytes_of_file(void);
-/* The same as a hole: nothing of it is written but what makes it a volume. */
+/* Makes the same volume, but as a hole: it writes only the blocks that aren't zeros. */
 void make_hole(const char *path);
 
-/* Waits until all commits of a volume are written home: its gates are closed then. By calls that nobody counts. */
+/* Waits until all commits of a volume are written home. Then its gates are closed. counted.c
+   doesn't count the calls of this function. */
 void wait_until_home(const char *path);
 
-/* ways.c, by_hand.c, tracked.c: the ways that there are, up to one without a name. */
+/* The ways of ways.c, by_hand.c and tracked.c. Each list ends with a way without a name. */
 extern const struct way ways[], ways_by_hand[], ways_tracked[];
 
 #endif

@@ -1,4 +1,4 @@
-/* What the files of the library share. */
+/* Declarations that the files of the library share. */
 #ifndef FAMSYNC_INSIDE_H
 #define FAMSYNC_INSIDE_H
 
@@ -16,16 +16,19 @@
 #define PAGE 4096u
 #define MOST_FILES 64u
 #define MOST_NAME 32u
-/* The most blocks of the volume that are read at once. */
+/* The most blocks that the library reads from the volume at once. */
 #define MOST_READ 64u
-/* The number of such reads whose blocks stay in the core. A further read makes it forget those of the oldest. */
+/* The blocks of the last READS_KEPT reads stay in the core. A further read makes the core forget
+   the blocks of the oldest one. */
 #define READS_KEPT 4u
-/* The number of waiting calls at which those of a volume with a log are made, though no sync ends them. */
+/* In a volume with a log, the library makes the waiting calls once there are MOST_WAITING, even if
+   the newest one isn't a sync. */
 #define MOST_WAITING 1024u
-/* The first block of a log. The blocks before it are the super block and the starts of the log. */
+/* The first block of a log. The blocks before it are the super block, the selector, and the two
+   starts of the log. */
 #define FIRST_OF_LOG 4u
 
-/* Room for a line about a fault; `text` may be a null pointer. */
+/* A buffer for a line about a fault; `text` may be a null pointer. */
 struct message {
     char *text;
     size_t room;
@@ -36,21 +39,22 @@ __attribute__((format(printf, 2, 3))) void say(struct message *message, const ch
 /* The file of a volume, open and locked. */
 struct volume {
     int file;         /* the file's descriptor; -1 if it isn't open */
-    int unlocked;     /* another descriptor of the file, for mappings, which would keep the lock of `file` */
-    int folder;       /* the descriptor of its folder; -1 if that isn't open */
+    int unlocked;     /* another descriptor of the file, for mappings: a mapping of `file` would
+                         keep its lock */
+    int folder;       /* the descriptor of the folder; -1 if the folder isn't open */
     const char *name; /* the file's name in the folder: the end of `place` */
     char *flag;       /* the suspect flag's name in the folder */
-    char *place;      /* the file's path, for messages; of a link, the path of its target */
-    bool readonly;    /* the file is open for reading, and others may read it, too */
+    char *place;      /* the file's path, for messages; if it is a link, the path of its target */
+    bool readonly;    /* the file is open only for reading, and other sessions may read it, too */
     uint64_t bytes;   /* the file's length */
 };
 
-/* The pages from `begin` to before `end`. */
+/* The pages from `begin` on, up to but not including `end`. */
 struct span {
     size_t begin, end;
 };
 
-/* Makes a span contain these pages, too. */
+/* Widens a span, so that it contains these pages, too. */
 static inline void widen(struct span *span, size_t begin, size_t end)
 {
     if (span->begin == span->end)
@@ -59,21 +63,22 @@ static inline void widen(struct span *span, size_t begin, size_t end)
     span->end = end > span->end ? end : span->end;
 }
 
-/* The descriptors with which the kernel tracks stores: a userfaultfd, and this process's page map. */
+/* The descriptors for tracking by the kernel: a userfaultfd, and the page map of this process. */
 struct tracker {
     int faults, pages;
 };
 
 struct file {
     char name[MOST_NAME + 1];
-    _Atomic uint64_t length; /* in bytes; set under `turn`, read by any thread */
-    uint64_t pages;          /* the most pages that it can have */
-    uint64_t home;           /* the block of its first page */
+    _Atomic uint64_t length; /* in bytes; set with `turn` held, read by any thread */
+    uint64_t pages;          /* the most pages that the file can have */
+    uint64_t home;           /* the home block of the file's first page */
     struct span staged;      /* contains each page that waits in the core for a commit */
 };
 
-/* A write, one of several that are made together, ordered by their offsets. None overlaps another. The bytes belong to
-   the core. They are valid until its next call other than famsync_core_call. */
+/* One of several writes that are made together. They are ordered by offset, and don't overlap. The
+   bytes belong to the core. They are valid until a function of the core other than
+   famsync_core_call is called. */
 struct piece {
     uint64_t offset; /* in the volume's file */
     size_t length;
@@ -83,16 +88,17 @@ struct piece {
 struct gathered {
     struct piece *piece;
     unsigned pieces, most;
-    struct iovec *range; /* room for what one system call writes */
+    struct iovec *range; /* room for the ranges that one system call writes */
 };
 
-/* Blocks that were supplied at once. */
+/* Blocks that were supplied together. */
 struct reading {
     uint32_t first, count;
 };
 
-/* The blocks that were supplied to open a volume: the last ones, and the end of all of them; and how often in a row a
-   block was wanted that lies a little behind the last ones. */
+/* The blocks that were supplied to open a volume. `last` are the blocks of the last read. `end` is
+   the end of all supplied blocks. `hops` counts how often in a row the core wanted a block a little
+   behind `last`. */
 struct opening {
     struct reading last;
     uint32_t end;
@@ -104,44 +110,50 @@ struct counts {
     uint64_t reads, writes, syncs, bytes_written;
 };
 
-/* The log of a volume of layout 5 or 6. A commit in it that isn't home is read from there, and its blocks aren't free.
- */
+/* The log of a volume of layout 5 or 6. If a commit isn't home, its pages are read from the log,
+   and its blocks of the log are in use. */
 struct log {
     uint64_t blocks;    /* the number of its blocks; 0 if the volume has journals */
-    uint64_t used;      /* the number of those in use */
-    uint32_t home;      /* the newest numbered commit such that it and all earlier ones are home */
-    bool start_written; /* a start behind commits that are home is written, but doesn't count yet */
+    uint64_t used;      /* the number of blocks in use */
+    uint32_t home;      /* the newest commit that is home together with all earlier ones, counted
+                           like `numbered` */
+    bool start_written; /* a start behind commits that are home is written, but not selected yet */
 };
 
-/* A backup that is being made: backup.c. */
+/* A backup that is being made (backup.c). */
 struct backup;
 
-/* A thread that waits for a commit. It lies on that thread's stack. */
+/* A thread that waits for a commit. The structure is on the stack of this thread. */
 struct waiter {
     struct waiter *next;
     bool done;
-    int code, error; /* the code that its call returns, and errno */
+    int code, error; /* the code and errno of the thread's call */
     uint64_t mark;
 };
 
 struct famsync {
-    pthread_mutex_t turn; /* its holder may call the core. It guards each field that names no other lock */
-    uint64_t process;     /* the library's number of the process that began the session; `pid` is the system's */
+    pthread_mutex_t turn; /* its holder may call the core. `turn` guards each field that names no
+                             other lock */
+    uint64_t process;     /* the library's number for the process that began the session; `pid` is
+                             the system's number */
     pid_t pid;
-    int cancel;          /* whether the thread that has the turn could be cancelled before */
+    int cancel;          /* the earlier cancel state of the thread that has the turn */
     _Atomic int callers; /* the number of calls that have the turn or wait for it */
     famsync_core core;   /* the core's handle; it never leaves the library */
     struct volume volume;
     int ended;     /* FAMSYNC_DEVICE or FAMSYNC_UNMARKED once a write or a sync has failed */
     int error;     /* errno of that failure */
     bool reported; /* a call has returned that failure */
-    bool torn;     /* only a part of the changes was taken or undone: a rollback has to come first */
+    bool torn;     /* plain memory was closed after a failed msync, or a rollback failed halfway: a
+                      rollback has to come first */
     unsigned files;
     struct file file[MOST_FILES];
     unsigned frames;
     uint32_t blocks;   /* the number of blocks of the volume */
-    uint32_t head;     /* the first block of a file; 0 until the core has opened the volume */
-    bool shares_syncs; /* the syncs of a commit serve earlier commits, too: the volume has four journals, or a log */
+    uint32_t head;     /* the first block of the first file; 0 until the core has opened the
+                          volume */
+    bool shares_syncs; /* the syncs of a commit also serve earlier commits: the volume has four
+                          journals, or a log */
     struct log log;
     struct gathered gathered;
     struct counts counts;
@@ -150,22 +162,28 @@ struct famsync {
     struct reading reading[READS_KEPT];
     unsigned readings; /* the number of readings so far */
     _Atomic uint64_t acknowledged;
-    uint64_t earlier;  /* the number of those commits that were made before the core began; a rollback begins another */
+    uint64_t earlier;  /* the number of commits acknowledged before this core began; a rollback
+                          begins another core */
     bool resized;      /* a new length waits for a commit */
-    uint32_t numbered; /* the number of commits that had pages; with a log, of those that recorded calls */
-    bool is_tracked;   /* the kernel notes stores to plain memory, instead of the handler of SIGSEGV */
+    uint32_t numbered; /* the number of commits that had pages; with a log, the number of commits
+                          that recorded calls */
+    bool is_tracked;   /* the kernel tracks stores to plain memory, not the handler of SIGSEGV */
     struct tracker tracker;
-    bool resident;            /* plain memory is read whole, instead of mapping the volume's file */
-    uint64_t budget;          /* the most bytes of committed pages that plain memory keeps */
-    uint32_t given_up_to;     /* with a log: what `newest_home` was when pages were last given back */
-    famsync_memory *memories; /* open memories, linked by `next_one` */
-    atomic_uint closing;      /* a lock to open and close pages of plain memory; the handler of SIGSEGV takes it, too */
-    /* commits: the waiting threads, and whether a commit is being made; under `queue` */
+    bool resident;            /* whole files are read into plain memory, instead of mapping the
+                                 volume's file */
+    uint64_t budget;          /* the most bytes that plain memory keeps for committed pages and
+                                 their copies */
+    uint32_t given_up_to;     /* with a log: the value of `newest_home` when pages were last
+                                 returned to the system */
+    famsync_memory *memories; /* the open plain memories, linked by `next_one` */
+    atomic_uint closing;      /* the lock to open and close pages of plain memory; the handler of
+                                 SIGSEGV takes it, too */
+    /* commits: the waiting threads, and whether a commit is being made; guarded by `queue` */
     pthread_mutex_t queue;
     pthread_cond_t answered;
     struct waiter *waiters;
     bool committing;
-    /* the thread in the background */
+    /* the background thread */
     pthread_t thread;
     pthread_cond_t work;
     bool threaded, stopping;
@@ -180,12 +198,13 @@ static inline uint32_t first_forgettable(const famsync *handle)
     return handle->log.blocks > 0 ? FIRST_OF_LOG : handle->head;
 }
 
-/* codes.c: the library's code for a code of the core. `answer_of` is for the answer to a request of the session. If the
-   core had no memory to record a call, now or earlier, it ends the session with errno ENOMEM. */
+/* codes.c: the library's code for a code of the core. `answer_of` is for the core's answers in a
+   session. If the core had no memory to record a call, now or earlier, `answer_of` ends the session
+   with errno ENOMEM. */
 int code_of(int64_t core_code);
 int answer_of(famsync *handle, int64_t core_code);
 
-/* No thread is cancelled within a call: it would leave locks taken. */
+/* No thread is cancelled within a call, since a cancelled thread would leave locks held. */
 static inline int hold_off_cancel(void)
 {
     int before;
@@ -199,138 +218,153 @@ static inline void allow_cancel(int before)
     pthread_setcancelstate(before, &now);
 }
 
-/* api.c: turns. If `enter` returns FAMSYNC_OK, the caller has the turn until `leave`. In a forked process it returns
-   FAMSYNC_FORKED, even if the call lacks arguments. Otherwise a call that lacks arguments gets FAMSYNC_ARGUMENT. */
+/* api.c: turns. If `enter` returns FAMSYNC_OK, the caller has the turn until `leave`. In a forked
+   process `enter` returns FAMSYNC_FORKED, even if `has_arguments` is false. Otherwise it returns
+   FAMSYNC_ARGUMENT if `has_arguments` is false. */
 int enter(famsync *handle, bool has_arguments);
 int leave(famsync *handle, int code);
 /* The number of the file with this name; the number of files if there is none. */
 unsigned number_of(const famsync *handle, const char *name);
-/* Begins a core, and opens the volume of a handle in it. The first time the handle gets what the core says of it. */
+/* Begins a core, and opens the volume of a handle in this core. The first time, it also copies the
+   volume's files and limits from the core to the handle. */
 int begin_core(famsync *handle, unsigned frames);
-/* Opens the volume in another core, which has the last commit; all commits are written out. The handle keeps its own
-   core. What the opening has recorded is made once the other core takes its place: from then on a log's start is the
-   one of that core, and its own core can't go on. */
+/* Opens the volume in another core. Before the call all commits have to be home, so that this core
+   has the last commit. The handle keeps its own core. The calls that the opening has recorded are
+   made only when the other core has replaced the handle's core: they move the start of a log, and
+   then the old core can't continue. */
 int open_other_core(famsync *handle, famsync_core *other);
 
-/* volume_file.c: moves a file to a descriptor above 2, and opens one there. The descriptor is close-on-exec. If a
-   program closed a standard stream, the next opened file gets its number. Then output to the stream would go into the
-   file. */
+/* volume_file.c: `above_streams` moves an open file to a descriptor above 2. `open_above_streams`
+   opens a file with such a descriptor. The descriptor is close-on-exec. If a program has closed a
+   standard stream, the next opened file gets the stream's descriptor. Then output to the stream
+   would go into this file. */
 int above_streams(int file);
 int open_above_streams(int folder, const char *name, int flags);
-/* Closes a descriptor that is open, and keeps errno. */
+/* Closes a descriptor if it is open, and sets it to -1. errno stays unchanged. */
 void close_descriptor(int *descriptor);
-/* Finds the folder of a volume, which it opens, and the name of the suspect flag. */
+/* Finds and opens the folder of a volume, and finds the name of the suspect flag. */
 int find_places(const char *path, struct volume *volume);
 int sync_file(int file);
-/* Makes the names in the volume's folder durable. It can't sync a folder that this process may not read. */
+/* Makes the names in the volume's folder durable. This fails if the process may not read the
+   folder. */
 int sync_folder(const struct volume *volume);
 /* Removes the suspect flag, if there is one. */
 int remove_flag(const struct volume *volume);
-/* Opens and locks the file of a volume, checks its kind and its suspect flag, and syncs it. If the file is refused,
-   nothing stays open. */
+/* Opens and locks the file of a volume, and checks its kind and its suspect flag. Syncs the file,
+   unless the session only reads. If the call fails, nothing stays open. */
 int open_volume_file(const char *path, const struct famsync_options *options, struct volume *volume,
                      struct message *message);
 void close_volume_file(struct volume *volume);
-/* Closes the descriptors in a forked process. It doesn't unlock the file. */
+/* Closes the descriptors in a forked process. The file stays locked. */
 void let_volume_go(struct volume *volume);
-/* Unlocks the file and closes it. Closing isn't enough: a forked process may still have it open before it starts
-   another program. */
+/* Unlocks the file and closes it. Closing isn't enough: a forked process may still have the file
+   open until it starts another program. */
 void unlock_volume(struct volume *volume);
-/* Flags a volume as suspect, and makes the flag durable; FAMSYNC_SYSTEM if that can't be done. */
+/* Flags a volume as suspect, and makes the flag durable. FAMSYNC_SYSTEM: one of the two failed. */
 int flag_suspect(const struct volume *volume);
 
-/* drain.c: makes the calls that the core has recorded. It makes none if the newest of them is a write: such writes wait
-   for their sync. An error ends the session. */
+/* drain.c: makes the calls that the core has recorded. If the newest call is a write, `drain` makes
+   none of them: writes wait for their sync. An error ends the session. */
 int drain(famsync *handle);
-/* Makes all calls that wait; with `drain_many` only if they are MOST_WAITING or more. Once the session is over, no call
-   is made any more. */
+/* `drain_all` makes all waiting calls. `drain_many` does so only if there are MOST_WAITING or more.
+   Once the session is over, no calls are made. */
 int drain_all(famsync *handle);
 int drain_many(famsync *handle);
-/* Whether the newest waiting call is a sync; whether it writes a start of the log. */
+/* `ends_with_sync`: whether the newest waiting call is a sync. `ends_with_start`: whether it writes
+   a start of the log. */
 bool ends_with_sync(famsync *handle);
 bool ends_with_start(famsync *handle);
-/* Whether the opening of a volume has recorded that commits are carried out. The opening of a volume with a log always
-   writes a start. */
+/* Whether the opening of a volume has recorded writes of commits to their home blocks. With a log
+   every opening also writes a start, which doesn't count here. */
 bool carries_out_commits(famsync *handle);
 int begin_gathering(struct gathered *gathered, unsigned pieces);
 void end_gathering(struct gathered *gathered);
 
-/* supply.c: reads blocks of the volume, and supplies them to the core. `supply_to_open` supplies a block that the core
-   wants to open the volume. If that is the block after the last supplied ones, it supplies the next blocks as well.
-   `*opening` begins as zeros. `forget_supplied` makes the core forget the files' blocks among them, once the volume is
-   open. */
+/* supply.c: reads blocks of the volume, and supplies them to the core. `supply_to_open` supplies
+   the block that the core wants for the opening of the volume. If this block follows the last
+   supplied blocks, the call also supplies blocks after this block. Before the first call `*opening`
+   is all zeros. Once the volume is open, `forget_supplied` makes the core forget the supplied
+   blocks of the files and of a log. */
 int supply_to_open(famsync *handle, uint32_t block, struct opening *opening);
 void forget_supplied(famsync *handle, const struct opening *opening);
 /* Reads whole blocks of the volume into `bytes`. */
 int read_blocks(famsync *handle, uint32_t block, uint32_t count, unsigned char *bytes);
-/* Supplies the block that the core wants, and those after it: `pages` in all, but at most MOST_READ. */
+/* Supplies the block that the core wants, and the blocks after it: `pages` blocks in all, but at
+   most MOST_READ. */
 int supply(famsync *handle, uint32_t block, uint64_t pages);
 
-/* ranges.c: reads and writes a range of a file, in the core's pages. The caller has the turn, and the range is within
-   the file. `*done` is the number of bytes that were read or written, also after a failure. */
+/* ranges.c: read and write a range of a file through the core's pages. The caller has the turn, and
+   the range is within the file. `*done` is the number of bytes that were read or written, even
+   after a failure. */
 int read_range(famsync *handle, unsigned file, uint64_t offset, unsigned char *bytes, size_t count, size_t *done);
 int write_range(famsync *handle, unsigned file, uint64_t offset, const unsigned char *bytes, size_t count,
                 size_t *done);
 /* Sets a file's length, up to its capacity. */
 int set_length(famsync *handle, unsigned file, uint64_t length);
-/* The number of pages of this range of a file that the next commit has already. */
+/* The number of these pages that already wait in the core for the next commit. */
 uint64_t staged_among(famsync *handle, unsigned file, uint64_t first, uint64_t count);
 
-/* stores.c: the stores to plain memory, for a commit. The caller has the turn. */
+/* stores.c: takes the stores to plain memory for a commit, puts them back if the commit fails, and
+   notes that they are committed. The caller has the turn. */
 int take_stores(famsync *handle);
 void put_stores_back(famsync *handle);
 void stores_are_committed(famsync *handle);
-/* Gives committed pages back to the system if plain memory keeps more of them than its budget allows. It may be called
-   at any time. Memory that the kernel tracks gives them back only in a commit, when no thread stores. */
+/* Returns committed pages to the system if plain memory keeps more of them than its budget allows.
+   This may be called at any time. If the kernel tracks stores, the call does nothing: pages are
+   then returned only within a commit, when no thread stores. */
 void keep_to_budget(famsync *handle);
-/* memory.c: the number of pages of plain memory that were stored to and that the core doesn't yet have. */
+/* The number of pages of plain memory that were stored to and don't wait in the core yet. */
 uint64_t stored_pages(famsync *handle);
-/* The open plain memory of a file; a null pointer if there is none. */
+/* memory.c: the open plain memory of a file; a null pointer if there is none. */
 famsync_memory *memory_of_file(const famsync *handle, unsigned file);
-/* Sets the length of a file by its plain memory. */
+/* mapping.c: sets the length of a file whose plain memory is open. */
 int resize_memory(famsync_memory *memory, uint64_t length);
-/* Read and write a range of a file by its plain memory. */
+/* memory.c: read and write a range of a file whose plain memory is open. */
 void read_memory(const famsync_memory *memory, uint64_t offset, unsigned char *bytes, size_t count);
 int write_memory(famsync_memory *memory, uint64_t offset, const unsigned char *bytes, size_t count);
 
-/* tracking.c: FAMSYNC_TRACKING if the system can't track stores. */
+/* tracking.c: begins and ends tracking by the kernel. FAMSYNC_TRACKING: the system can't track
+   stores. */
 int begin_tracking(struct tracker *tracker);
 void end_tracking(struct tracker *tracker);
 
-/* format.c: writes the start of a log without commits to the file of a new volume. */
+/* format.c: writes the first start of a log to the file of a new volume. This log has no
+   commits. */
 int write_first_start(int file);
 
-/* backup.c: writes all the bytes to a file. */
+/* backup.c: writes all `count` bytes to a file. */
 int write_whole(int file, const unsigned char *bytes, size_t count, uint64_t offset);
-/* Copies blocks that the next calls overwrite to the backup that is being made, if there is one. */
+/* If a backup is being made, copies the blocks to it that the gathered writes will overwrite. */
 void save_for_backup(famsync *handle);
 
-/* heap.c: the bytes of memory that the cores of all sessions of this process have. */
+/* heap.c: the number of bytes of memory that the cores of all sessions of this process use. */
 uint64_t memory_in_use(void);
 
-/* commit.c: nothing in the core waits for a commit any more. */
+/* commit.c: notes that nothing in the core waits for a commit any more. */
 void forget_staged(famsync *handle);
 
-/* background.c: the thread that writes the remaining part of a commit. */
+/* background.c: begins and ends the thread that makes the remaining writes of commits. */
 void begin_background(famsync *handle);
 void end_background(famsync *handle);
-/* Writes the remaining part of a commit, up to its next sync. With a log it ends behind the write of a start, too. With
-   `gives_way` it ends early if another call comes. The caller has the turn. */
+/* Makes the remaining writes of a commit, up to the next sync. With a log it also ends after the
+   write of a start. With `gives_way` it ends early if another call comes. The caller has the
+   turn. */
 int write_out(famsync *handle, bool gives_way);
-/* With a log: writes a part of earlier commits home before a commit of so many pages, if it is time for that. Only a
-   failure that ends the session is returned. */
+/* With a log: writes a part of earlier commits home before a commit of `pages` pages, if half of
+   the log is in use. Returns only failures that end the session. */
 int write_some_out(famsync *handle, uint64_t pages);
-/* With a log: finds out what is home. Call it after the waiting calls are made. */
+/* With a log: finds out which commits are home. Call this when the waiting calls are made. */
 void note_log(famsync *handle);
-/* Writes the remaining parts of all commits. */
+/* Makes all remaining writes of all commits. */
 int write_all_out(famsync *handle);
-/* The newest numbered commit such that its pages and those of all earlier commits are in their home blocks. */
+/* The newest commit that is home together with all earlier ones, counted like `numbered`. */
 uint32_t newest_home(famsync *handle);
 
-/* forks.c: the list of this process's handles, so that a forked process closes their volumes. */
+/* forks.c: the list of this process's handles. A forked process closes their volumes. */
 int enter_handle(famsync *handle);
 void leave_handle(famsync *handle);
-/* Whether this process is a copy of the one that began the session. A process that shares its memory isn't a copy. */
+/* Whether this process is a copy of the process that began the session. A process that shares the
+   memory of that process isn't a copy. */
 bool is_forked(const famsync *handle);
 
 /* faults.c: the lock of the table by which the handler of SIGSEGV finds plain memory. */
