@@ -17,8 +17,8 @@
  *
  * famsync_msync commits all changes of a session. The commit is acknowledged when the call returns
  * FAMSYNC_OK. If this process is killed or the system crashes, the next session finds the files as
- * one commit left them: with all earlier stores, and with no later ones. This commit is the last
- * acknowledged one, or a later one.
+ * one commit left them. Then the files have all stores before this commit, and no later ones. This
+ * commit is the last acknowledged one, or a later one.
  *
  * A page is 4,096 bytes of a file. The place of a page is a block of the volume's file. A commit
  * first writes its pages to a journal or a log of the volume. Later the library writes them to
@@ -196,12 +196,12 @@ int famsync_format(const char *volume, const struct famsync_plan *plan);
    couldn't make the suspect flag; `message` has the reason.
 
    With `readonly` any number of sessions can share a volume. The library opens the file only for
-   reading, and writes nothing. While such sessions last, no session that writes can begin. `trust`
-   has no effect. FAMSYNC_NEEDSOPENING: a crash left a commit whose pages aren't yet in their
-   places, or the volume is flagged as suspect. Open the volume for writing once, and close it. In a
-   session with `readonly`, famsync_write, famsync_setlength, famsync_msync, famsync_rollback and
-   famsync_memory_touch return FAMSYNC_READONLY. A store to plain memory raises SIGSEGV, which the
-   library doesn't handle. */
+   reading, and writes nothing. While such sessions last, no session that writes can begin. In such
+   a session `trust` has no effect. FAMSYNC_NEEDSOPENING: a crash left a commit whose pages aren't
+   yet in their places, or the volume is flagged as suspect. In both cases open the volume for
+   writing once, and close it. In a session with `readonly`, famsync_write, famsync_setlength,
+   famsync_msync, famsync_rollback and famsync_memory_touch return FAMSYNC_READONLY. A store to
+   plain memory raises SIGSEGV, which the library doesn't handle. */
 int famsync_open(const char *volume, const struct famsync_options *options, famsync **handle);
 
 /* Ends a session and frees the handle. Changes since the last commit are lost. Before the call,
@@ -214,8 +214,8 @@ int famsync_close(famsync *handle);
 
 /* famsync_files returns the number of files of the volume. Files are numbered from 0.
    famsync_file_name returns the name of a file, or a null pointer if there is no such file.
-   famsync_file_length returns the length of a file, even if this length isn't committed yet. It
-   returns 0 if there is no such file. */
+   famsync_file_length returns the length of a file in this session, committed or not. It returns 0
+   if there is no such file. */
 unsigned famsync_files(const famsync *handle);
 const char *famsync_file_name(const famsync *handle, unsigned file);
 uint64_t famsync_file_length(const famsync *handle, unsigned file);
@@ -254,7 +254,7 @@ int famsync_read(famsync *handle, unsigned file, uint64_t offset, void *bytes, s
    FAMSYNC_DEVICE and FAMSYNC_NOMEMORY, `*done` is the number of bytes written before the failure.
 
    If plain memory of the file is open, famsync_read and famsync_write use this memory. A write is
-   then a store to it, and opens the stored pages as famsync_memory_touch does. */
+   then a store to this memory. It makes the stored pages writable, as famsync_memory_touch does. */
 int famsync_write(famsync *handle, unsigned file, uint64_t offset, const void *bytes, size_t count, size_t *done);
 
 /* Commits all changes of this session: writes, stores to plain memory, and lengths. A commit makes
@@ -280,23 +280,23 @@ int famsync_write(famsync *handle, unsigned file, uint64_t offset, const void *b
 
    A commit makes some of its writes after its acknowledgement. A thread of the library makes these
    writes while no call is in progress, or the next commit makes them. In layouts 4 to 6 the thread
-   first waits until no commit has come for 10 ms. In layouts 5 and 6 it doesn't wait once half of
-   the log is in use. With `foreground` there is no such thread. */
+   first waits until no commit has come for 10 ms. In layouts 5 and 6 the thread doesn't wait once
+   half of the log is in use. With `foreground` there is no such thread. */
 int famsync_msync(famsync *handle, uint64_t *mark);
 
 /* Undoes all changes of this session since the last commit: writes, lengths and stores to plain
    memory. Other threads may store during the call. The call undoes exactly the stores before one
-   moment within it. If a length is undone, plain memory of this file grows or shrinks in place, as
-   with famsync_setlength.
+   moment within the call. If a length is undone, plain memory of this file grows or shrinks in
+   place, as with famsync_setlength.
 
    The call first writes the pages of earlier commits to their places. If a write or a length waits
    for a commit, the library also opens the volume a second time. During the call this needs as much
    memory as another session.
 
    A call that fails undoes nothing, with two exceptions. FAMSYNC_DEVICE: a read, a write or a sync
-   failed, as with famsync_msync. If it failed after the undoing, all changes are undone, and the
-   session is over. FAMSYNC_SYSTEM: the system refused to change memory. If a part of the changes
-   was already undone, commits fail with FAMSYNC_TORN until a rollback succeeds. */
+   failed, as with famsync_msync. If this failure came after the undoing, all changes are undone,
+   and the session is over. FAMSYNC_SYSTEM: the system refused to change memory. If a part of the
+   changes was already undone, commits fail with FAMSYNC_TORN until a rollback succeeds. */
 int famsync_rollback(famsync *handle);
 
 /* The number of the last acknowledged commit of this session; 0 if there is none. */
@@ -345,15 +345,15 @@ int famsync_backup(famsync *handle, int descriptor);
 /*
  * Opens plain memory: a whole file of the volume as memory of this process. The memory is a private
  * mapping of the volume's file, so the call reads almost nothing. At first all its pages are
- * read-only. The first store to a page raises SIGSEGV. Then the library's handler opens the page:
- * it notes the store, and makes the page writable. The handler passes other faults to the handler
- * that was installed before it.
+ * read-only. The first store to a page raises SIGSEGV. Then the library's handler notes the store,
+ * and makes the page writable. The handler passes other faults to the handler that was installed
+ * before it.
  *
  * A page that was stored to uses memory of this process. Once the page is committed and written to
- * its place, the library can return its memory to the system. It does so when the committed pages
- * in memory, with a copy of each, use more than `budget` bytes. In layouts 5 and 6 the pages in the
- * log aren't yet in their places. So the memory can exceed the budget by up to twice the log's
- * length.
+ * its place, the library can return the page's memory to the system. It does so when the committed
+ * pages in memory, with a copy of each, use more than `budget` bytes. In layouts 5 and 6 the pages
+ * in the log aren't yet in their places. So the memory can exceed the budget by up to twice the
+ * log's length.
  *
  * As with any mapped file, a load raises SIGBUS if the volume's file can't be read or was
  * truncated. In a forked process, a page that wasn't stored to before the fork may show later
@@ -364,30 +364,32 @@ int famsync_backup(famsync *handle, int descriptor);
  *
  * Other threads may store during a commit. A commit contains exactly the stores by all threads, to
  * all plain memory of the handle, before one moment within famsync_msync. At that moment the
- * library closes all pages: it makes them read-only again. Then it copies the pages that were
- * stored to. A store during the copying waits for the copying, never for the disk. If stores of
- * several threads belong together, make them all before a commit begins.
+ * library makes all pages read-only again. Then it copies the pages that were stored to. A store
+ * during the copying waits for the copying, never for the disk. If stores of several threads belong
+ * together, make them all before a commit begins.
  *
  * The handler doesn't serve every store:
  *
  * - The kernel doesn't use the handler: read(2) and similar calls fail with EFAULT if they store to
- *   a page that isn't open.
- * - A thread that blocks SIGSEGV can't store to a page that isn't open.
+ *   a page that isn't writable yet.
+ * - A thread that blocks SIGSEGV can't store to such a page, either.
  * - If the program later installs another handler of SIGSEGV, that handler gets the library's
  *   faults. It should pass them to the previous handler.
  *
- * In all three cases the program can open pages in advance by famsync_memory_touch. If another
- * handler has replaced the library's, the next famsync_memory_open installs the library's handler
- * again. The library's handler then passes faults that aren't its own to that other handler.
+ * In all three cases the program can make pages writable in advance by famsync_memory_touch. If
+ * another handler has replaced the library's, the next famsync_memory_open installs the library's
+ * handler again. The library's handler then passes faults that aren't its own to that other
+ * handler.
  *
  * With FAMSYNC_TRACK_KERNEL there is no handler: the kernel tracks stores, including those of
  * read(2) and similar calls. Each commit asks the kernel which pages were stored to. Other threads
  * must not store during famsync_msync, famsync_rollback and famsync_setlength. If a commit finds
- * such a store while it copies pages, it copies all stored pages again. After four such attempts it
- * returns FAMSYNC_BUSY, and nothing is committed. At its end a commit may return committed pages to
- * the system (`budget`). If another thread stores to them at that time, the store may be lost.
- * FAMSYNC_TRACKING, from famsync_open or famsync_memory_open: the system can't track stores (Linux
- * can from 6.7 on). FAMSYNC_ARGUMENT, from famsync_open: `resident` is set, too.
+ * such a store while it copies pages, it copies all stored pages again. After four such attempts
+ * famsync_msync returns FAMSYNC_BUSY, and nothing is committed. At its end a commit may return
+ * committed pages to the system (`budget`). If another thread stores to them at that time, the
+ * store may be lost. FAMSYNC_TRACKING, from famsync_open or famsync_memory_open: the system can't
+ * track stores (Linux can from 6.7 on). FAMSYNC_ARGUMENT, from famsync_open: `resident` is set,
+ * too.
  *
  * If the file ends within its last page, stores to the rest of this page are never committed. The
  * addresses after the last page, up to the file's capacity, are reserved: the program must not use
@@ -397,10 +399,10 @@ int famsync_backup(famsync *handle, int descriptor);
 int famsync_memory_open(famsync *handle, const char *file, famsync_memory **memory);
 
 /* Opens plain memory at a given address, so that the file can contain pointers into itself. A null
-   pointer means any address. The memory occupies addresses for the file's capacity, and for one
-   page before and one page after it. FAMSYNC_ADDRESS: the address isn't a multiple of the page
-   size. Or the occupied addresses begin below 65,536, end above the highest address, or contain
-   other memory. */
+   pointer means any address. The memory occupies addresses for the file's capacity, for one page
+   before, and for one page after. FAMSYNC_ADDRESS: the address isn't a multiple of the page size.
+   Or the occupied addresses begin below 65,536, end above the highest address, or contain other
+   memory. */
 int famsync_memory_open_at(famsync *handle, const char *file, void *address, famsync_memory **memory);
 
 /* The address of the memory, which never changes; and the length of the file in bytes. */
@@ -411,11 +413,11 @@ size_t famsync_memory_length(const famsync_memory *memory);
    even if its bytes didn't change. One commit can have at most famsync_frames of these pages. */
 size_t famsync_memory_dirty(const famsync_memory *memory);
 
-/* Opens the pages of `count` bytes from `offset` on, as a store to each page would. Until any
-   thread calls famsync_msync or famsync_rollback, stores to these pages raise no SIGSEGV, and the
-   kernel can store to them. With FAMSYNC_TRACK_SIGNALS the pages count as stored to.
+/* Makes the pages of `count` bytes from `offset` on writable, as a store to each page would. Until
+   any thread calls famsync_msync or famsync_rollback, stores to these pages raise no SIGSEGV, and
+   the kernel can store to them. With FAMSYNC_TRACK_SIGNALS the pages count as stored to.
    FAMSYNC_ARGUMENT: the range isn't within the file. FAMSYNC_NOFRAME: the range has more pages than
-   one commit can have. In both cases no page is opened. */
+   one commit can have. In both cases nothing changes. */
 int famsync_memory_touch(famsync_memory *memory, size_t offset, size_t count);
 
 /* Closes the memory. Stores since the last commit are lost. After the call begins, no thread may

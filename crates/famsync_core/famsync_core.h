@@ -148,8 +148,8 @@ int32_t famsync_core_is_known(famsync_core core, uint32_t block, uint8_t **at);
    BUSY (the epochs of the log are used up), ORDER.
 
    WANTED: a block isn't known. Nothing is open, and no call was recorded. Opening wants one block
-   after the other: first block 0, later the block of the lengths, and either the gates and open
-   journals, or the start of the log and the commits behind it. */
+   after the other, beginning with block 0. It wants the block of the lengths. It also wants the
+   gates and open journals, or the start of the log and the commits behind it. */
 int32_t famsync_core_open(famsync_core core, uint32_t pages, uint32_t *wanted, uint8_t **at);
 
 /* famsync_core_files returns the number of files of the volume; files are numbered from 0.
@@ -224,9 +224,9 @@ int32_t famsync_core_write_out(famsync_core core, uint32_t most, uint32_t *wante
    number of blocks of the log that are in use: `*used` of famsync_core_log. Codes: ORDER. */
 int64_t famsync_core_unwritten(famsync_core core, uint8_t **at);
 
-/* For a volume with a log: `*blocks` is set to the number of blocks of the log, `*used` to the
-   number of those in use, and `*commits` to the number of commits in the blocks in use. A block is
-   in use until the start of the log moves past it. Codes: OK, NONE (the volume has journals, and
+/* For a volume with a log: `*blocks` is set to the number of blocks of the log, and `*used` to the
+   number of those in use. `*commits` is set to the number of commits in the blocks in use. A block
+   is in use until the start of the log moves past it. Codes: OK, NONE (the volume has journals, and
    nothing is set), ORDER. */
 int32_t famsync_core_log(famsync_core core, uint64_t *blocks, uint64_t *used, uint64_t *commits, uint8_t **at);
 

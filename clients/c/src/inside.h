@@ -230,8 +230,8 @@ unsigned number_of(const famsync *handle, const char *name);
 int begin_core(famsync *handle, unsigned frames);
 /* Opens the volume in another core. Before the call all commits have to be home, so that this core
    has the last commit. The handle keeps its own core. The calls that the opening has recorded are
-   made only when the other core has replaced the handle's core: they move the start of a log, and
-   then the old core can't continue. */
+   made only when the other core has replaced the handle's core. These calls move the start of a
+   log, and then the old core can't continue. */
 int open_other_core(famsync *handle, famsync_core *other);
 
 /* volume_file.c: `above_streams` moves an open file to a descriptor above 2. `open_above_streams`
