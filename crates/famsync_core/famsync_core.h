@@ -163,9 +163,8 @@ int64_t famsync_core_head(famsync_core core, uint8_t **at);
    a log. Codes: ORDER. */
 int32_t famsync_core_shares_syncs(famsync_core core, uint8_t **at);
 
-/* `*length` is set to the length of a file in bytes, even if this length isn't committed yet.
-   `*pages` is set to the most pages that the file can have. Codes: OK, ARGUMENT (no such file),
-   ORDER. */
+/* `*length` is set to the length of a file in bytes, committed or not. `*pages` is set to the most
+   pages that the file can have. Codes: OK, ARGUMENT (no such file), ORDER. */
 int32_t famsync_core_file(famsync_core core, uint32_t file, uint64_t *length, uint64_t *pages, uint8_t **at);
 
 /* Copies the name of a file to `name`, which has room for `count` bytes. A name has 1 to 32 bytes
@@ -199,10 +198,10 @@ int32_t famsync_core_is_staged(famsync_core core, uint32_t file, uint64_t page, 
 
    Codes: OK, WANTED, NOMEMORY (make the same call again), BROKEN, DEVICE, BUSY, ORDER.
 
-   Only volumes with a log return WANTED and NOMEMORY. If the log has no room for the commit, the
-   call first makes steps, which write older commits home. A step or the commit may need a block
-   that isn't known. If the call fails, the steps already made are kept, and the pages still wait
-   for the commit. */
+   WANTED and NOMEMORY are returned only for volumes with a log. If the log has no room for the
+   commit, the call first makes steps, which write older commits home. A step or the commit may need
+   a block that isn't known. After these two codes the steps already made are kept, and the pages
+   still wait for the commit. */
 int32_t famsync_core_commit(famsync_core core, uint32_t *mark, uint32_t *wanted, uint8_t **at);
 
 /* Returns the number of the last acknowledged commit, or 0 if there is none. A commit is
@@ -217,7 +216,8 @@ int64_t famsync_core_acknowledged(famsync_core core, uint8_t **at);
    Codes: OK (steps remain), NONE (no step remains), WANTED, NOMEMORY (make the same call again),
    BROKEN, DEVICE, ORDER.
 
-   Only volumes with a log return WANTED and NOMEMORY. Then the steps already made are kept. */
+   WANTED and NOMEMORY are returned only for volumes with a log. After these two codes the steps
+   already made are kept. */
 int32_t famsync_core_write_out(famsync_core core, uint32_t most, uint32_t *wanted, uint8_t **at);
 
 /* Returns the number of committed pages that aren't home. For a volume with a log, it returns the
@@ -257,10 +257,10 @@ int32_t famsync_core_call(famsync_core core, uint32_t index, uint32_t *kind, uin
    Codes: OK, ARGUMENT (fewer calls wait, and nothing changes). You may call it at any time. */
 int32_t famsync_core_carried_out(famsync_core core, uint32_t count, uint8_t **at);
 
-/* Forgets a block, so that it isn't known any more. A call that needs it later returns WANTED. A
-   block is kept if a waiting call writes to it. Once the volume is open, the blocks before the
-   files are kept, too, except the blocks of a log. Codes: OK, NONE (the block is kept), ARGUMENT
-   (no such block). You may call it at any time. */
+/* Forgets a block, so that it isn't known any more. A later call that needs this block returns
+   WANTED. A block is kept if a waiting call writes to it. Once the volume is open, the blocks
+   before the files are kept, too, except the blocks of a log. Codes: OK, NONE (the block is kept),
+   ARGUMENT (no such block). You may call it at any time. */
 int32_t famsync_core_forget(famsync_core core, uint32_t block, uint8_t **at);
 
 /* Frees the session, and drops its waiting calls. You may call it at any time, but only once. */
