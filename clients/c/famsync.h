@@ -1,6 +1,6 @@
 /*
- * libfamsync: a library for the files of a volume. Changes to these files become durable together.
- * The library runs in the caller's process.
+ * libfamsync: a library for the files of a volume. A volume is one disk file that contains up to 64
+ * files. Changes to these files become durable together. The library runs in the caller's process.
  *
  * A handle is a session with one volume. famsync_format and the command `famsync format` make
  * volumes. The library opens the volume's file and locks it. At any time a volume has at most one
@@ -16,9 +16,9 @@
  *                    through a pointer
  *
  * famsync_msync commits all changes of a session. The commit is acknowledged when the call returns
- * FAMSYNC_OK. If this process is killed or the system crashes, the next session finds the files as
- * one commit left them. Then the files have all stores before this commit, and no later ones. This
- * commit is the last acknowledged one, or a later one.
+ * FAMSYNC_OK. If this process is killed or the system crashes, the next session finds the files of
+ * one commit. They have all changes before this commit, and no later changes. This commit is the
+ * last acknowledged commit, or a later commit.
  *
  * A page is 4,096 bytes of a file. The place of a page is a block of the volume's file. A commit
  * first writes its pages to a journal or a log of the volume. Later the library writes them to
@@ -31,9 +31,9 @@
  *
  * A forked process has a copy of the handle, but the session belongs to the process that began it.
  * With this copy, each call of type int returns FAMSYNC_FORKED, except famsync_close, which does
- * nothing. The copy uses memory until the forked process ends or starts another program. The forked
- * process doesn't keep the volume locked. A child of vfork shares the memory of its parent. Stores
- * of the child to plain memory count as stores of the parent. The child must not call the library.
+ * nothing. The copy uses memory until the forked process ends or calls exec. The forked process
+ * doesn't keep the volume locked. A child of vfork shares the memory of its parent. Stores of the
+ * child to plain memory count as stores of the parent. The child must not call the library.
  *
  * A file can't grow past its capacity, which is set when the volume is made. In layouts 1 and 2 the
  * length of a file never changes.
@@ -69,10 +69,10 @@ enum famsync_code {
 
     /* why a volume isn't opened */
     FAMSYNC_NOTREGULAR = -13, /* the path names a folder, a device, a pipe or a socket */
-    FAMSYNC_NAMES = -14,      /* the file has several names, so others could open it by another
-                                 name */
-    FAMSYNC_REPLACED = -15,   /* each time the library had locked a file, the path named another
-                                 file */
+    FAMSYNC_NAMES = -14,      /* the file has several names (hard links), so others could open it by
+                                 another name */
+    FAMSYNC_REPLACED = -15,   /* the path named another file each time that the library had locked
+                                 one */
     FAMSYNC_NOTAVOLUME = -16, /* the file doesn't begin like a volume */
     FAMSYNC_DAMAGED = -17,    /* the file begins like a volume, but its bytes or its length break
                                  the format */
@@ -264,18 +264,19 @@ int famsync_write(famsync *handle, unsigned file, uint64_t offset, const void *b
    continues, all changes wait for the next call.
 
    FAMSYNC_NOFRAME: the pages changed by famsync_write and in plain memory, together, are more than
-   one commit can have. Nothing is committed, and no later call can commit all these changes. After
-   you close the plain memory, the next call can commit the writes of famsync_write to other files.
+   one commit can have. Nothing is committed, and no later call can commit all these changes. If you
+   close the plain memory, its stores are lost. The next call can then commit the writes of
+   famsync_write to other files.
 
    FAMSYNC_DEVICE: a read, a write or a sync failed, and nothing is acknowledged. errno has the
    cause. ENOMEM means that the system refused memory; the disk didn't fail. After a failed read the
    session continues, and you may call again. The session is over after a failed write or sync, or
-   if there was no memory to record one. Then later calls with the handle, except famsync_close,
-   return FAMSYNC_BROKEN.
+   if there was no memory to record a write or a sync. Then later calls with the handle, except
+   famsync_close, return FAMSYNC_BROKEN.
 
    After a failed sync the library flags the volume as suspect: like the program `famsync`, it makes
    the file VOLUME.suspect beside the volume's file. FAMSYNC_UNMARKED: a sync failed, and the
-   library couldn't make a durable suspect flag. So the next session may not know of the failed
+   library couldn't make a durable suspect flag. So the next session might not notice the failed
    sync.
 
    A commit makes some of its writes after its acknowledgement. A thread of the library makes these
@@ -337,9 +338,8 @@ int famsync_stat(famsync *handle, struct famsync_stat *stat);
 
    FAMSYNC_SYSTEM: the library couldn't write the backup's file; errno has the cause.
    FAMSYNC_DEVICE: the library couldn't read the volume (the session continues), or couldn't write
-   to it (the session is over). After a failure the backup's file is unchanged, or it isn't a
-   volume, or it is a backup that may not be durable. A failed backup doesn't make any commit
-   fail. */
+   to it (the session is over). After a failure the backup's file is unchanged, isn't a volume, or
+   is a whole backup that might not be durable. A failed backup doesn't make any commit fail. */
 int famsync_backup(famsync *handle, int descriptor);
 
 /*
@@ -356,25 +356,25 @@ int famsync_backup(famsync *handle, int descriptor);
  * log's length.
  *
  * As with any mapped file, a load raises SIGBUS if the volume's file can't be read or was
- * truncated. In a forked process, a page that wasn't stored to before the fork may show later
- * commits. With `resident` the call reads the whole file instead of mapping it. Then there is no
- * SIGBUS, `budget` has no effect, and a forked process sees no later commit. The call also reads
- * the whole file if the system's pages are larger than 4,096 bytes, or if the system can't map the
- * volume's file.
+ * truncated. In a forked process, a page that wasn't stored to before the fork may have the bytes
+ * of later commits. With `resident` the call reads the whole file instead of mapping it. Then there
+ * is no SIGBUS, `budget` has no effect, and a forked process sees no later commit. The call also
+ * reads the whole file if the system's pages are larger than 4,096 bytes, or if the system can't
+ * map the volume's file.
  *
  * Other threads may store during a commit. A commit contains exactly the stores by all threads, to
  * all plain memory of the handle, before one moment within famsync_msync. At that moment the
  * library makes all pages read-only again. Then it copies the pages that were stored to. A store
- * during the copying waits for the copying, never for the disk. If stores of several threads belong
- * together, make them all before a commit begins.
+ * during the copying waits until the copying ends, but never for the disk. If stores of several
+ * threads belong together, make them all before a commit begins.
  *
  * The handler doesn't serve every store:
  *
  * - The kernel doesn't use the handler: read(2) and similar calls fail with EFAULT if they store to
  *   a page that isn't writable yet.
  * - A thread that blocks SIGSEGV can't store to such a page, either.
- * - If the program later installs another handler of SIGSEGV, that handler gets the library's
- *   faults. It should pass them to the previous handler.
+ * - If the program later installs another handler of SIGSEGV, that handler gets the faults meant
+ *   for the library. It should pass them to the previous handler.
  *
  * In all three cases the program can make pages writable in advance by famsync_memory_touch. If
  * another handler has replaced the library's, the next famsync_memory_open installs the library's
@@ -405,7 +405,8 @@ int famsync_memory_open(famsync *handle, const char *file, famsync_memory **memo
    memory. */
 int famsync_memory_open_at(famsync *handle, const char *file, void *address, famsync_memory **memory);
 
-/* The address of the memory, which never changes; and the length of the file in bytes. */
+/* famsync_memory_at returns the address of the memory, which never changes. famsync_memory_length
+   returns the length of the file in bytes. */
 void *famsync_memory_at(const famsync_memory *memory);
 size_t famsync_memory_length(const famsync_memory *memory);
 
@@ -414,15 +415,15 @@ size_t famsync_memory_length(const famsync_memory *memory);
 size_t famsync_memory_dirty(const famsync_memory *memory);
 
 /* Makes the pages of `count` bytes from `offset` on writable, as a store to each page would. Until
-   any thread calls famsync_msync or famsync_rollback, stores to these pages raise no SIGSEGV, and
-   the kernel can store to them. With FAMSYNC_TRACK_SIGNALS the pages count as stored to.
+   a thread calls famsync_msync or famsync_rollback, stores to these pages raise no SIGSEGV, and the
+   kernel can store to them. With FAMSYNC_TRACK_SIGNALS the pages count as stored to.
    FAMSYNC_ARGUMENT: the range isn't within the file. FAMSYNC_NOFRAME: the range has more pages than
    one commit can have. In both cases nothing changes. */
 int famsync_memory_touch(famsync_memory *memory, size_t offset, size_t count);
 
 /* Closes the memory. Stores since the last commit are lost. After the call begins, no thread may
-   use the memory. If an earlier famsync_msync failed after it had taken some of these stores,
-   commits fail with FAMSYNC_TORN until a rollback succeeds. */
+   use the memory. An earlier famsync_msync may have failed after it had prepared some of these
+   stores for its commit. In this case commits fail with FAMSYNC_TORN until a rollback succeeds. */
 int famsync_memory_close(famsync_memory *memory);
 
 #ifdef __cplusplus

@@ -1,12 +1,12 @@
 /*
  * famsync_core: a library for sessions with volumes. It makes no system call.
  *
- * The core keeps the pages that wait for a commit, and records the writes and syncs that make the
- * commit durable. The program that uses the core is its host. The host reads blocks of the volume,
- * and supplies them to the core. A recorded call is a write or a sync of the volume's file. The
- * host makes these calls in order, and reports to the core that they are made. Until then a
- * recorded call waits. The host decides how to make a call. The core decides which bytes are
- * written, and where. The core is proved.
+ * A volume is a disk file that contains files. The core keeps the pages that wait for a commit, and
+ * records the writes and syncs that make the commit durable. The program that uses the core is its
+ * host. The host reads blocks of the volume, and supplies them to the core. A recorded call is a
+ * write or a sync of the volume's file. The host makes these calls in order, and reports to the
+ * core that they are made. Until then a recorded call waits. The host decides how to make a call.
+ * The core decides which bytes are written, and where. The core is proved.
  *
  * This program writes the first page of the first file, and commits. `tests/lint/core_header`
  * compiles and runs it.
@@ -72,8 +72,8 @@
  * The core requests memory by three functions that the host defines: rattle_alloc, rattle_realloc
  * and rattle_dealloc (below).
  *
- * A block is known if the core has its bytes. A page is home once it is written to its home block,
- * its place in the volume's file. A commit is home once all its pages are.
+ * A block is known if the core has its bytes. The home block of a page is its place in the volume's
+ * file. A page is home once it is written there. A commit is home once all its pages are home.
  *
  * A call of type int64_t returns a number that isn't negative, or one of the negative codes. The
  * comment of each call lists the codes that the call can return, without the prefix FAMSYNC_CORE_.
@@ -149,7 +149,7 @@ int32_t famsync_core_is_known(famsync_core core, uint32_t block, uint8_t **at);
 
    WANTED: a block isn't known. Nothing is open, and no call was recorded. Opening wants one block
    after the other, beginning with block 0. It wants the block of the lengths. It also wants the
-   gates and open journals, or the start of the log and the commits behind it. */
+   gates and open journals, or the start of the log and the commits after the start. */
 int32_t famsync_core_open(famsync_core core, uint32_t pages, uint32_t *wanted, uint8_t **at);
 
 /* famsync_core_files returns the number of files of the volume; files are numbered from 0.
@@ -159,8 +159,8 @@ int64_t famsync_core_files(famsync_core core, uint8_t **at);
 int64_t famsync_core_frames(famsync_core core, uint8_t **at);
 int64_t famsync_core_head(famsync_core core, uint8_t **at);
 
-/* Returns 1 if commits share their syncs, and 0 otherwise. They do in layout 4, and in volumes with
-   a log. Codes: ORDER. */
+/* Returns 1 if commits share their syncs, and 0 otherwise. Commits share syncs in layout 4, and in
+   volumes with a log. Codes: ORDER. */
 int32_t famsync_core_shares_syncs(famsync_core core, uint8_t **at);
 
 /* `*length` is set to the length of a file in bytes, committed or not. `*pages` is set to the most
@@ -199,8 +199,8 @@ int32_t famsync_core_is_staged(famsync_core core, uint32_t file, uint64_t page, 
    Codes: OK, WANTED, NOMEMORY (make the same call again), BROKEN, DEVICE, BUSY, ORDER.
 
    WANTED and NOMEMORY are returned only for volumes with a log. If the log has no room for the
-   commit, the call first makes steps, which write older commits home. A step or the commit may need
-   a block that isn't known. After these two codes the steps already made are kept, and the pages
+   commit, the call first makes steps that write older commits home. A step or the commit may need a
+   block that isn't known. After these two codes the steps already made are kept, and the pages
    still wait for the commit. */
 int32_t famsync_core_commit(famsync_core core, uint32_t *mark, uint32_t *wanted, uint8_t **at);
 
@@ -253,7 +253,7 @@ int64_t famsync_core_waiting(famsync_core core, uint8_t **at);
 int32_t famsync_core_call(famsync_core core, uint32_t index, uint32_t *kind, uint64_t *offset, const uint8_t **bytes,
                           uint64_t *length, uint8_t **at);
 
-/* Reports that the host has made the `count` oldest waiting calls, in order and with success.
+/* Reports that the host has made the `count` oldest waiting calls, in order and successfully.
    Codes: OK, ARGUMENT (fewer calls wait, and nothing changes). You may call it at any time. */
 int32_t famsync_core_carried_out(famsync_core core, uint32_t count, uint8_t **at);
 
@@ -268,8 +268,9 @@ void famsync_core_close(famsync_core core);
 
 /* The host defines these three functions with malloc, realloc and free of one allocator. `ok` is
    true if the allocator had memory. Otherwise `p` points to any byte of the program, because `p`
-   may never be null. `align` is at most 16. If `size` is 0, request at least one byte from the
-   allocator. If rattle_realloc fails, the old block stays unchanged. */
+   must never be null. `align` is at most 16. rattle_realloc keeps the first `kept` bytes of the
+   block. If `size` is 0, request at least one byte from the allocator. If rattle_realloc fails, the
+   old block stays unchanged. */
 struct rattle_tried {
     bool ok;
     uint8_t *p;
