@@ -18,7 +18,8 @@ use Rattle.log_codec.specs.Chain.{LogRecovers, HasLog, spare_blocks}
 use Rattle.log_commits.specs.Calls.{DidAll}
 use Rattle.log_commits.specs.Ring.{ring_works}
 use Rattle.log_commits.specs.Tail.{TailValue, HoldsLog, tail_at}
-use Rattle.log_commits.specs.Commit.{MayCommit, LeftByCommit, TellsTorn, TellsTornBy, TellsTornByDigest}
+use Rattle.log_commits.specs.Commit.{MayCommit, LeftByCommit, EndsBehind, EndsBehindBy, EndsByDigest}
+use Rattle.log_commits.specs.Commit.{TellsTorn, TellsTornBy, TellsTornByDigest}
 use Rattle.log_commits.specs.Commit.{committed_to, next_logged, commit_bytes, works_by, commit_works, tail_after}
 use Rattle.log_commits.specs.Commit.{CommitLeaves}
 use Rattle.log_commits.specs.Behind.{IsSameOutside}
@@ -58,7 +59,7 @@ pub record CommitLeft {D : Type 0} (disk : Ghosts D) (t : TailValue) (contents :
     (homes records : List ℕ) (chain : List LogDescriptor) (done : Bool) (old new : D) : Type 0 where
   pub crash : LeavesOnly disk.moment disk.left_since old new (LeftByCommit t contents homes records)
   pub durable : done ≡ true → Only (disk.may_leave new) (disk.seen new)
-  pub committed : done ≡ true → TellsTorn t homes records (disk.seen new)
+  pub committed : done ≡ true → EndsBehind t homes (disk.seen new)
       → (h : HoldsLog (tail_after t homes) (committed_to contents homes records) (disk.seen new))
       × (h.chain ≡ chain ++ next_logged t homes ∷ [])
 
@@ -126,6 +127,10 @@ module _ {D : Type 0} {disk : Ghosts D} {t : TailValue} {contents : ℕ → List
     tells_by c tells =
         let P : Sealing → Type 0 = λ s. TellsTornBy s t homes records c in subst P digest tells
 
+    ends_by : (c : List ℕ) → EndsBehind t homes c → EndsByDigest t homes c
+    ends_by c ends =
+        let P : Sealing → Type 0 = λ s. EndsBehindBy s t homes c in subst P digest ends
+
     pub keeps : (b c : List ℕ) → HoldsLog t contents b → RingTorn ring t.position 0 (length bytes) b c
         → KeepsLog t b c
     keeps b c is torn =
@@ -162,17 +167,17 @@ module _ {D : Type 0} {disk : Ghosts D} {t : TailValue} {contents : ℕ → List
               record {
                 crash = crash_synced {P = Left} went.has sync left_by;
                 durable = durable_by done is sync;
-                committed = λ made tells.
+                committed = λ made ends.
                     let same : disk.seen new ≡ disk.seen both.0 = done_seen sync is made in
                     let P : List ℕ → Type 0 = λ l. HoldsMore l in
-                    let Q : List ℕ → Type 0 = λ l. TellsTorn t homes records l in
+                    let Q : List ℕ → Type 0 = λ l. EndsBehind t homes l in
                     let c : List ℕ = disk.seen both.0 in
                     let has : RingHas ring t.position 0 (4096 * n) bytes c = λ k least most.
                     went.is refl begun.honest k least (omega (arith, size)) in
                     subst P (sym same) (whole_by_digest t contents (disk.seen old) c homes records room begun.log
                     seen_held begun.may begun.head_size begun.records_size
                     (keeps (disk.seen old) c seen_held (went.has.torn begun.honest)) key digest
-                    (tells_by c (subst Q same tells)) has);
+                    (ends_by c (subst Q same ends)) has);
               }
         ]
 
@@ -331,7 +336,7 @@ module _ {D : Type 0} {disk : Ghosts D} {t : TailValue} {contents : ℕ → List
                 (leaves_weaker did.time left_seal))
                 (leaves_weaker last.time (λ x may. left_seal x (did.left x may)));
             durable = durable_by done is last;
-            committed = λ made tells.
+            committed = λ made ends.
                 let same : disk.seen new ≡ c = done_seen last is made in
                 let P : List ℕ → Type 0 = λ l. HoldsMore l in
                 let room_two : place + 1 ≤ length (disk.seen two) =
@@ -388,11 +393,11 @@ module _ {D : Type 0} {disk : Ghosts D} {t : TailValue} {contents : ℕ → List
       → CommitLeaves disk t contents homes records done old new
   leaves {new} done did =
       let is = left done did in
-      record { crash = is.crash; durable = is.durable; committed = λ made tells. (is.committed made tells).0 }
+      record { crash = is.crash; durable = is.durable; committed = λ made ends. (is.committed made ends).0 }
 
   pub leaves_chain : {new : D} (done : Bool) → DidAll disk old (commit_works t homes records) done new → done ≡ true
-      → TellsTorn t homes records (disk.seen new) → HoldsMore (disk.seen new)
-  leaves_chain {new} done did made tells = (left done did).committed made tells
+      → EndsBehind t homes (disk.seen new) → HoldsMore (disk.seen new)
+  leaves_chain {new} done did made ends = (left done did).committed made ends
 
 -- what is outside the log stays
 pub leaves_outside : {D : Type 0} (disk : Ghosts D) (t : TailValue) (homes records : List ℕ) (room : ℕ) → IsLog t.log

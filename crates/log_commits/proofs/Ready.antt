@@ -14,7 +14,8 @@ use Rattle.log_codec.specs.Commit.{LogDescriptor}
 use Rattle.log_codec.specs.Chain.{IsNextCommit, LogEndsAt, records_position, position_after, chain_end, chain_blocks}
 use Rattle.log_commits.specs.declared.behind.OldCommits.{OldCommits}
 use Rattle.log_commits.specs.Tail.{TailValue, HoldsLog}
-use Rattle.log_commits.specs.Commit.{MayCommit, LeftByCommit, TellsTorn, TellsTornBy, TellsTornByDigest}
+use Rattle.log_commits.specs.Commit.{EndsBehind, EndsBehindBy, MayCommit, LeftByCommit}
+use Rattle.log_commits.specs.Commit.{TellsTorn, TellsTornBy, TellsTornByDigest}
 use Rattle.log_commits.specs.Commit.{committed_to, next_logged, tail_after}
 use Rattle.log_commits.specs.Homes.{StaysLastBy}
 use Rattle.log_commits.specs.Behind.{HoldsCommits, IsReadyToMove, IsSameOutside, MayMove, StaysLast}
@@ -22,6 +23,7 @@ use Rattle.log_commits.specs.Behind.{start_behind, tail_behind}
 use Rattle.log_commits.proofs.Places.{block_low, block_round, same_block, same_ring}
 use Rattle.log_commits.proofs.Ranges.{RingTorn, torn_low}
 use Rattle.log_commits.proofs.Moved.{SameBlocks, ends_of, next_moved}
+use Rattle.log_commits.proofs.UnderWay.{told_ends}
 use Rattle.log_commits.proofs.Kept.{either, moves, start_most}
 use Rattle.log_commits.proofs.Committing.{high_kept, low_kept, ready_kept}
 
@@ -162,6 +164,15 @@ module _ (t : TailValue) (contents : ℕ → List ℕ) (homes records : List ℕ
         by ByByte tells = tt
         by (ByDigest key) tells = tells_digest tells
 
+    ends_old : EndsBehind behind homes c → EndsBehind t homes x
+    ends_old ends = by g.sealing ends
+      where
+        by : (s : Sealing) → EndsBehindBy s behind homes c → EndsBehindBy s t homes x
+        by ByByte ends = tt
+        by (ByDigest key) ends = λ e next.
+            ends e (wider (position_after t.position d) (t.number + 1) (left - n) (left_behind - n) e (omega arith)
+            next)
+
     -- nothing further lies behind the log: without the commit under way, and with it
     last_before : Before x → TellsTorn behind homes records c → StaysLast t oldest c
     last_before ready tells = by g.sealing refl tells
@@ -179,33 +190,34 @@ module _ (t : TailValue) (contents : ℕ → List ℕ) (homes records : List ℕ
               room = omega (arith, may.free);
             })
 
-    last_after : TellsTorn behind homes records c → StaysLast after oldest c
-    last_after tells = by g.sealing tells
+    last_after : EndsBehind behind homes c → StaysLast after oldest c
+    last_after ends = by g.sealing ends
       where
-        by : (s : Sealing) → TellsTornBy s behind homes records c
+        by : (s : Sealing) → EndsBehindBy s behind homes c
             → StaysLastBy s after (g.ring - (t.used + n - oldest.blocks)) c
-        by ByByte tells = tt
-        by (ByDigest key) tells = λ e next.
+        by ByByte ends = tt
+        by (ByDigest key) ends = λ e next.
             let end : ℕ = position_after t.position d in
             let same : SameBlocks g.ring (end % g.ring) end (log_commit_blocks (length e.homes)) c c =
             λ k lt. ap (block_at c) (sym (block_round g.ring end k)) in
             let P : ℕ → Type 0 = λ v. IsNextCommit g t.start.epoch end (t.number + 1) v e c in
             let rest : g.ring - (t.used + n - oldest.blocks) ≡ left_behind - n = omega (arith, can.blocks) in
-            tells.last e (subst P rest (next_moved g t.start.epoch (end % g.ring) end (t.number + 1)
+            ends e (subst P rest (next_moved g t.start.epoch (end % g.ring) end (t.number + 1)
             (g.ring - (t.used + n - oldest.blocks)) e c c same next))
 
     pub left_selecting : Either x → Left c
     left_selecting may_be tells = elim (may_be (tells_old tells)) [
       | inl ready ↦ inl (either t contents oldest log second ds younger x ready c torn (last_before ready tells))
-      | inr ready ↦ inr (either after newer oldest log second ds (younger ++ d ∷ []) x ready c torn (last_after tells))
+      | inr ready ↦ inr (either after newer oldest log second ds (younger ++ d ∷ []) x ready c torn
+          (last_after (told_ends behind homes records c tells)))
     ]
 
-    pub selected_with : (TellsTorn t homes records x → After x) → not second ≡ counts_second (get_or c 4096 0)
-        → TellsTorn behind homes records c
+    pub selected_with : (EndsBehind t homes x → After x) → not second ≡ counts_second (get_or c 4096 0)
+        → EndsBehind behind homes c
         → HoldsCommits (not second) (tail_after behind homes) newer (younger ++ d ∷ []) c
-    selected_with ready selected tells =
-        let moved = moves after newer oldest log second ds (younger ++ d ∷ []) x (ready (tells_old tells)) c torn
-        selected (last_after tells) in
+    selected_with ready selected ends =
+        let moved = moves after newer oldest log second ds (younger ++ d ∷ []) x (ready (ends_old ends)) c torn
+        selected (last_after ends) in
         let P : ℕ → Type 0 = λ u.
         let v : TailValue = record after { start = start_behind t oldest; used = u } in
         HoldsCommits (not second) v newer (younger ++ d ∷ []) c in

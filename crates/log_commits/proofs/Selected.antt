@@ -18,7 +18,8 @@ use Rattle.log_commits.specs.declared.behind.OldCommits.{OldCommits}
 use Rattle.log_commits.specs.Calls.{DidAll}
 use Rattle.log_commits.specs.Ring.{ring_works}
 use Rattle.log_commits.specs.Tail.{TailValue, HoldsLog}
-use Rattle.log_commits.specs.Commit.{CommitLeaves, LeftByCommit, MayCommit, TellsTorn, TellsTornBy, TellsTornByDigest}
+use Rattle.log_commits.specs.Commit.{CommitLeaves, EndsBehind, EndsBehindBy, EndsByDigest, LeftByCommit, MayCommit}
+use Rattle.log_commits.specs.Commit.{TellsTorn, TellsTornBy, TellsTornByDigest}
 use Rattle.log_commits.specs.Commit.{committed_to, next_logged, commit_bytes, works_with, tail_after}
 use Rattle.log_commits.specs.Behind.{HoldsCommits, IsReadyToMove, IsSameOutside, MayMove, select_works, selecting}
 use Rattle.log_commits.specs.Behind.{tail_behind}
@@ -72,7 +73,7 @@ module _ {D : Type 0} (disk : Ghosts D) (t : TailValue) (contents : ℕ → List
   pub record Leaves (new : D) (done : Bool) : Type 0 where
     pub crash : LeavesOnly disk.moment disk.left_since old new Crash
     pub durable : done ≡ true → Only (disk.may_leave new) (disk.seen new)
-    pub committed : done ≡ true → TellsTorn behind homes records (disk.seen new)
+    pub committed : done ≡ true → EndsBehind behind homes (disk.seen new)
         → HoldsCommits (not second) (tail_after behind homes) newer (younger ++ next_logged t homes ∷ [])
         (disk.seen new)
 
@@ -115,7 +116,7 @@ module _ {D : Type 0} (disk : Ghosts D) (t : TailValue) (contents : ℕ → List
 
   module _ (mid : D) (is : disk.is_honest mid) (room_for : 16384 ≤ length (disk.seen mid))
       (lists : (c : List ℕ) → disk.may_leave mid c → Mid c)
-      (whole : TellsTorn t homes records (disk.seen mid) → With (disk.seen mid))
+      (whole : EndsBehind t homes (disk.seen mid) → With (disk.seen mid))
       (before : LeavesOnly disk.moment disk.left_since old mid Crash) where
     by_byte : (c : List ℕ) → TornFrom 4096 1 (disk.may_leave mid) c → Crash c
     by_byte c from =
@@ -143,13 +144,13 @@ module _ {D : Type 0} (disk : Ghosts D) (t : TailValue) (contents : ℕ → List
           crash = leaves_then {P = Crash} (leaves_then {P = Crash} before (leaves_weaker did.time by_byte))
               (leaves_weaker sync.time (λ x may. by_byte x (did.left x may)));
           durable = λ made x may. sync.durable one_is made refl x may ∙ sym (done_seen sync one_is made);
-          committed = λ made tells.
+          committed = λ made ends.
               let same : disk.seen new ≡ c = done_seen sync one_is made in
-              let Q : List ℕ → Type 0 = λ l. TellsTorn behind homes records l in
+              let Q : List ℕ → Type 0 = λ l. EndsBehind behind homes l in
               let R : List ℕ → Type 0 = λ l. HoldsCommits (not second) (tail_after behind homes) newer
               (younger ++ next_logged t homes ∷ []) l in
               subst R (sym same) (selected_with t contents homes records room oldest log may can second ds younger
-              (disk.seen mid) c torn whole (selects (not second) ∙ ap counts_second (sym byte)) (subst Q same tells));
+              (disk.seen mid) c torn whole (selects (not second) ∙ ap counts_second (sym byte)) (subst Q same ends));
         }
 
   -- ---- where a digest seals
@@ -161,6 +162,10 @@ module _ {D : Type 0} (disk : Ghosts D) (t : TailValue) (contents : ℕ → List
     tells_by : (c : List ℕ) → TellsTorn t homes records c → TellsTornByDigest t homes records c
     tells_by c tells =
         let P : Sealing → Type 0 = λ s. TellsTornBy s t homes records c in subst P digest tells
+
+    ends_by : (c : List ℕ) → EndsBehind t homes c → EndsByDigest t homes c
+    ends_by c ends =
+        let P : Sealing → Type 0 = λ s. EndsBehindBy s t homes c in subst P digest ends
 
     kept : (c : List ℕ) (torn : RingTorn ring t.position 0 (length bytes) seen c) → IsSameOutside t.log seen c
     kept c torn = torn_outside t.log t.position 0 (length bytes) seen c (some begun) torn
@@ -200,11 +205,11 @@ module _ {D : Type 0} (disk : Ghosts D) (t : TailValue) (contents : ℕ → List
               λ k least most. went.is refl honest k least (omega (arith, size begun)) in
               select_last mid (went.has.honest.1 honest) (omega (arith, went.has.same_length, low))
               (λ c may. from_either c (went.has.left c may))
-              (λ tells. ready_more t contents homes records room oldest log may can second ds younger seen
+              (λ ends. ready_more t contents homes records room oldest log may can second ds younger seen
               (disk.seen mid) ready (kept (disk.seen mid) torn)
               (whole_by_digest t contents seen (disk.seen mid) homes records room log seen_held may head_size
               records_size (keeps begun key digest seen (disk.seen mid) seen_held torn) key digest
-              (tells_by (disk.seen mid) tells) has))
+              (ends_by (disk.seen mid) ends) has))
               (leaves_weaker went.has.time left_ring) done both.2
         ]
 
@@ -278,7 +283,7 @@ module _ {D : Type 0} (disk : Ghosts D) (t : TailValue) (contents : ℕ → List
           select_last three is
           (omega (arith, low, went.has.same_length, sync.same_length, did.same_length))
           (λ x may. either_seal x (did.left x may))
-          (λ tells. opened_with (disk.seen one) (went.has.torn honest) (went.is refl honest) c
+          (λ ends. opened_with (disk.seen one) (went.has.torn honest) (went.is refl honest) c
           (torn_synced disk one_is sync place 1 c (did.left c (seen_is_left three is)))
           (byte_written disk place 0xA7 did two_is fits)) (crash_sealing did) done rest
 
@@ -322,7 +327,7 @@ module _ {D : Type 0} (disk : Ghosts D) (t : TailValue) (contents : ℕ → List
       let is = selecting_left done sure did in record {
         crash = is.crash;
         durable = is.durable;
-        committed = λ made tells. (is.committed made tells).held;
+        committed = λ made ends. (is.committed made ends).held;
       }
 
 -- no call was made

@@ -14,7 +14,8 @@ use Rattle.log_codec.specs.Chain.{IsNextCommit, LogEndsAt}
 use Rattle.log_codec.specs.Chain.{records_position, position_after, chain_end, chain_blocks}
 use Rattle.log_commits.specs.Tail.{TailValue, HoldsLog}
 use Rattle.log_commits.specs.Commit.{MayCommit, committed_to, next_logged, commit_bytes, tail_after}
-use Rattle.log_commits.specs.Commit.{TellsTornByDigest}
+use Rattle.log_commits.specs.Commit.{EndsBehind, EndsBehindBy, EndsByDigest}
+use Rattle.log_commits.specs.Commit.{TellsTorn, TellsTornBy, TellsTornByDigest}
 use Rattle.log_commits.proofs.Places.{block_round, ring_place, place_round, place_behind}
 use Rattle.log_commits.proofs.Places.{first-block, ring_spelled, same_ring}
 use Rattle.log_commits.proofs.Ranges.{RingHas, has_round}
@@ -185,7 +186,7 @@ module _ (t : TailValue) (contents : ℕ → List ℕ) (old new : List ℕ) (hom
 
   -- ---- where a digest seals
 
-  module _ (key : ℕ) (digest : g.sealing ≡ ByDigest key) (tells : TellsTornByDigest t homes records new) where
+  module _ (key : ℕ) (digest : g.sealing ≡ ByDigest key) (ends : EndsByDigest t homes new) where
     numbers : t.number ≡ behind
     numbers = held.number_is
 
@@ -217,7 +218,7 @@ module _ (t : TailValue) (contents : ℕ → List ℕ) (old new : List ℕ) (hom
         let Q : ℕ → Type 0 = λ x. IsNextCommit g s.epoch (position_after t.position d) (x + 1) (left - n) e new in
         let R : ℕ → Type 0 = λ x.
         IsNextCommit g s.epoch (position_after t.position d) (t.number + 1) (g.ring - x - n) e new in
-        tells.last e
+        ends e
         (subst R (sym held.used_is) (subst Q (sym numbers) (to_tail n e (behind + 1) (left - n) next))))
 
     pub whole_by_digest : RingHas g.ring t.position 0 (4096 * n) (commit_bytes t homes records) new → HoldsMore
@@ -225,6 +226,7 @@ module _ (t : TailValue) (contents : ℕ → List ℕ) (old new : List ℕ) (hom
         let has = at_end 0 (4096 * n) (commit_bytes t homes records) all in
         held_more t contents old new held keeps homes records some long (next_of has) (are_records has) last
 
+  module _ (key : ℕ) (digest : g.sealing ≡ ByDigest key) (tells : TellsTornByDigest t homes records new) where
     abbrev sealed_there : List ℕ
     sealed_there = log_seal g.sealing s.epoch d (ring_bytes g.ring new (records_position end d) count) ++ log_body d
 
@@ -232,7 +234,7 @@ module _ (t : TailValue) (contents : ℕ → List ℕ) (old new : List ℕ) (hom
     torn_by_digest = elim (same_lists (ring_bytes g.ring new end blocks) sealed_there) [
       | inl same ↦
           let next = is_next same in
-          let there = (tells.same d (at_tail d next)).1 in
+          let there = (tells.same d (at_tail key digest tells.last d next)).1 in
           let round : ring_bytes g.ring new (records_position end d) count
           ≡ ring_bytes g.ring new (records_position t.position d) count =
           same_ring g.ring (end + blocks) (t.position + blocks) count new new (λ k lt.
@@ -240,11 +242,21 @@ module _ (t : TailValue) (contents : ℕ → List ℕ) (old new : List ℕ) (hom
           ∙ ap (block_at new) (sym (block_round g.ring end (blocks + k)))
           ∙ ap (λ x. block_at new (ring_block g.ring (x + (blocks + k)))) (sym held.position_is)
           ∙ ap (λ x. block_at new (ring_block g.ring x)) (omega arith)) in
-          inr (held_more t contents old new held keeps homes records some long next (round ∙ there) last)
+          inr (held_more t contents old new held keeps homes records some long next (round ∙ there)
+          (last key digest tells.last))
       | inr other ↦
           let P : Sealing → Type 0 = λ x. LogEndsAt x g s.epoch end behind left new in
           inl (held_still t contents old new held keeps (subst P (sym digest) (λ e next.
-          let is : e ≡ d = (tells.same e (at_tail e next)).0 in
+          let is : e ≡ d = (tells.same e (at_tail key digest tells.last e next)).0 in
           let Q : LogDescriptor → Type 0 = λ x. IsNextCommit g s.epoch end behind left x new in
           other (subst Q is next).sealed.sealed)))
     ]
+
+-- what a digest is trusted with covers the end of the log
+pub told_ends : (t : TailValue) (homes records bytes : List ℕ) → TellsTorn t homes records bytes
+    → EndsBehind t homes bytes
+told_ends t homes records bytes tells = by t.log.sealing tells
+  where
+    by : (s : Sealing) → TellsTornBy s t homes records bytes → EndsBehindBy s t homes bytes
+    by ByByte tells = tt
+    by (ByDigest key) tells = tells.last

@@ -83,6 +83,21 @@ committed_to contents [] records b = contents b
 committed_to contents (home ∷ homes) records b =
     if b == home then take 4096 records else committed_to contents homes (drop 4096 records) b
 
+-- by their digests, these bytes have no further commit behind the one under way
+abbrev pub EndsByDigest : TailValue → List ℕ → List ℕ → Type 0
+EndsByDigest t homes bytes = (d : LogDescriptor)
+    → IsNextCommit t.log t.start.epoch (position_after t.position (next_logged t homes)) (t.number + 1)
+    (t.log.ring - t.used - log_commit_blocks (length homes)) d bytes
+    → ⊥
+
+abbrev pub EndsBehindBy : Sealing → TailValue → List ℕ → List ℕ → Type 0
+EndsBehindBy ByByte t homes bytes = ⊤
+EndsBehindBy (ByDigest key) t homes bytes = EndsByDigest t homes bytes
+
+-- The premise on bytes that a read gives after a commit: the log ends behind it. Where a byte seals, there is none.
+abbrev pub EndsBehind : TailValue → List ℕ → List ℕ → Type 0
+EndsBehind t homes bytes = EndsBehindBy t.log.sealing t homes bytes
+
 -- what the digest is trusted with: a commit that these bytes have at the end of the log, with the number of the commit
 -- under way and with its own digest, is the commit under way, and no further commit lies behind it
 pub record TellsTornByDigest (t : TailValue) (homes records : List ℕ) (bytes : List ℕ) : Type 0 where
@@ -90,10 +105,7 @@ pub record TellsTornByDigest (t : TailValue) (homes records : List ℕ) (bytes :
       → IsNextCommit t.log t.start.epoch t.position t.number (t.log.ring - t.used) d bytes
       → (d ≡ next_logged t homes)
       × (ring_bytes t.log.ring bytes (records_position t.position d) (length d.homes) ≡ records)
-  pub last : (d : LogDescriptor)
-      → IsNextCommit t.log t.start.epoch (position_after t.position (next_logged t homes)) (t.number + 1)
-      (t.log.ring - t.used - log_commit_blocks (length homes)) d bytes
-      → ⊥
+  pub last : EndsByDigest t homes bytes
 
 -- the premise on bytes that a crash leaves: the digest tells a torn commit from a whole one. Where a byte seals, there
 -- is none.
@@ -105,7 +117,6 @@ abbrev pub TellsTorn : TailValue → List ℕ → List ℕ → List ℕ → Type
 TellsTorn t homes records bytes = TellsTornBy t.log.sealing t homes records bytes
 
 -- what a crash within a commit leaves: the contents before it, or with all of its records
-
 abbrev pub LeftByCommit : TailValue → (ℕ → List ℕ) → List ℕ → List ℕ → List ℕ → Type 0
 LeftByCommit t contents homes records bytes =
     TellsTorn t homes records bytes
@@ -117,5 +128,5 @@ pub record CommitLeaves {D : Type 0} (disk : Ghosts D) (t : TailValue) (contents
     (homes records : List ℕ) (done : Bool) (old new : D) : Type 0 where
   pub crash : LeavesOnly disk.moment disk.left_since old new (LeftByCommit t contents homes records)
   pub durable : done ≡ true → Only (disk.may_leave new) (disk.seen new)
-  pub committed : done ≡ true → TellsTorn t homes records (disk.seen new)
+  pub committed : done ≡ true → EndsBehind t homes (disk.seen new)
       → HoldsLog (tail_after t homes) (committed_to contents homes records) (disk.seen new)

@@ -8,7 +8,7 @@ ghost use Rattle.log_codec.specs.Commit.{LogDescriptor};
 ghost use Rattle.log_codec.specs.Chain.{HasLog, LogRecovers};
 ghost use Rattle.log_commits.specs.Tail.{TailValue, HoldsLog, tail_at};
 ghost use Rattle.log_commits.specs.declared.behind.OldCommits.{OldCommits};
-ghost use Rattle.log_commits.specs.Commit.{TellsTorn, committed_to, next_logged, tail_after};
+ghost use Rattle.log_commits.specs.Commit.{EndsBehind, TellsTorn, committed_to, next_logged, tail_after};
 ghost use Rattle.log_commits.specs.Homes.{AreWrittenHome, DiffersInHomes, MayStartBehind, tail_from};
 ghost use Rattle.log_commits.specs.Behind.{HoldsCommits, IsReadyToMove, IsSameOutside};
 
@@ -20,10 +20,12 @@ pub fn held_log()
         → HoldsLog (tail_at g s spent) (block_at bytes) bytes }
 {}
 
-/// Where a byte seals, commits need no premise.
+/// Where a byte seals, commits need no premise. Where a digest does, the premise on a crash covers that on a read.
 pub fn no_premise()
-    ensures { (t : TailValue) (homes records bytes : List ℕ) → t.log.sealing ≡ ByByte
+    ensures byte { (t : TailValue) (homes records bytes : List ℕ) → t.log.sealing ≡ ByByte
         → TellsTorn t homes records bytes }
+    ensures ends { (t : TailValue) (homes records bytes : List ℕ) → TellsTorn t homes records bytes
+        → EndsBehind t homes bytes }
 {}
 
 /// What writing home may do. A home block that a commit of the log has may contain any bytes, so a crash within its
