@@ -16,7 +16,7 @@ use Rattle.log_commits.specs.Selecting.{IsSureBy, selecting_works}
 use Rattle.log_commits.proofs.Filling.{length-head_of, length-records}
 use Rattle.log_commits.proofs.Left.{IsBegun, leaves, leaves_chain, leaves_outside}
 use Rattle.log_commits.proofs.Moving.{is_failed}
-use Rattle.log_commits.proofs.Selected.{Leaves, selecting_left, selecting_leaves}
+use Rattle.log_commits.proofs.Selected.{selecting_left, selecting_leaves}
 
 module _ {D : Type 0} (disk : Ghosts D) (t : TailValue) (homes room : List ℕ) (tail : IsTail t)
     (may : MayCommit t homes (length room)) (old : D) (long : 4096 * t.log.blocks ≤ length (disk.seen old))

@@ -1,5 +1,5 @@
 -- What the calls of a commit leave that selects a start.
-use Rattle.std.proofs.Common.{◌≡◌, ◌⊎◌, ℕ, ◌+◌, ◌*◌, ◌≤◌, Bool, true, false, List, [], ◌∷◌, ◌++◌}
+use Rattle.std.proofs.Common.{◌≡◌, ℕ, ◌+◌, ◌*◌, ◌≤◌, Bool, true, false, List, [], ◌∷◌, ◌++◌}
 use Rattle.std.proofs.Common.{length, get_or, inl, inr, refl, sym, ap, subst, ◌∙◌, arith}
 use Rattle.std.specs.Prelude.{not}
 use Rattle.std.proofs.lemmas.Bool.{cases_eq, false≢true}
@@ -25,7 +25,7 @@ use Rattle.log_commits.specs.Behind.{HoldsCommits, IsReadyToMove, IsSameOutside,
 use Rattle.log_commits.specs.Behind.{tail_behind}
 use Rattle.log_commits.specs.Selecting.{IsSureBy, selecting_works}
 use Rattle.log_commits.proofs.Places.{block_low}
-use Rattle.log_commits.proofs.Ranges.{RingTorn, RingHas, torn_within}
+use Rattle.log_commits.proofs.Ranges.{RingTorn, RingHas}
 use Rattle.log_commits.proofs.Kept.{selects}
 use Rattle.log_commits.proofs.Left.{IsBegun, Went, recovers, some, log_long, size, keeps, unsealed, sealed, closed}
 use Rattle.log_commits.proofs.Left.{seal_torn, image_went}

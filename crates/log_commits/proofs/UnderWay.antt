@@ -12,7 +12,10 @@ use Rattle.log_codec.specs.Log.{LogValue, IsLog, ring_block, ring_bytes, log_des
 use Rattle.log_codec.specs.Commit.{LogDescriptor, log_body, log_seal}
 use Rattle.log_codec.specs.Chain.{IsNextCommit, LogEndsAt}
 use Rattle.log_codec.specs.Chain.{records_position, position_after, chain_end, chain_blocks}
+use Rattle.log_commits.specs.declared.behind.OldCommits.{OldCommits}
 use Rattle.log_commits.specs.Tail.{TailValue, HoldsLog}
+use Rattle.log_commits.specs.Homes.{StaysLastBy}
+use Rattle.log_commits.specs.Behind.{StaysLast, tail_behind}
 use Rattle.log_commits.specs.Commit.{MayCommit, committed_to, next_logged, commit_bytes, tail_after}
 use Rattle.log_commits.specs.Commit.{EndsBehind, EndsBehindBy, EndsByDigest}
 use Rattle.log_commits.specs.Commit.{TellsTorn, TellsTornBy, TellsTornByDigest}
@@ -260,3 +263,32 @@ told_ends t homes records bytes tells = by t.log.sealing tells
     by : (s : Sealing) → TellsTornBy s t homes records bytes → EndsBehindBy s t homes bytes
     by ByByte tells = tt
     by (ByDigest key) tells = tells.last
+
+-- no commit lies behind the last one, whatever room it has, where its position is taken round the ring
+pub ended_behind : (t : TailValue) (homes bytes : List ℕ)
+    → StaysLastBy t.log.sealing (tail_after t homes) t.log.ring bytes → EndsBehind t homes bytes
+ended_behind t homes bytes stays = by t.log.sealing stays
+  where
+    by : (s : Sealing) → StaysLastBy s (tail_after t homes) t.log.ring bytes → EndsBehindBy s t homes bytes
+    by ByByte stays = tt
+    by (ByDigest key) stays = λ d next.
+        let end : ℕ = position_after t.position (next_logged t homes) in
+        let left : ℕ = t.log.ring - t.used - log_commit_blocks (length homes) in
+        let same : SameBlocks t.log.ring end (end % t.log.ring) (log_commit_blocks (length d.homes)) bytes bytes =
+        λ k lt. ap (block_at bytes) (block_round t.log.ring end k) in
+        let there = next_moved t.log t.start.epoch end (end % t.log.ring) (t.number + 1) left d bytes bytes same next in
+        stays d (record { sealed = there.sealed; number_is = there.number_is; room = omega (arith, there.room) })
+
+-- nor where the start moves
+pub ended_moving : (t : TailValue) (oldest : OldCommits) (bytes : List ℕ)
+    → StaysLastBy t.log.sealing (tail_behind t oldest) t.log.ring bytes → StaysLast t oldest bytes
+ended_moving t oldest bytes stays = by t.log.sealing stays
+  where
+    by : (s : Sealing) → StaysLastBy s (tail_behind t oldest) t.log.ring bytes
+        → StaysLastBy s t (t.log.ring - (t.used - oldest.blocks)) bytes
+    by ByByte stays = tt
+    by (ByDigest key) stays = λ d next. stays d (record {
+      sealed = next.sealed;
+      number_is = next.number_is;
+      room = omega (arith, next.room);
+    })

@@ -77,6 +77,13 @@ impl LogTail {
         self.number
     }
 
+    /// The epoch of the session.
+    pub fn epoch(&self) -> u64
+        ensures { result ≡ self.now.start.epoch }
+    {
+        self.start.epoch
+    }
+
     /// The number of commits in the log: those that aren't all written home.
     pub fn commits(&self) -> u64
         ensures { result ≡ self.now.number - self.now.start.number }

@@ -1,2 +1,2 @@
 -- What follows of the definitions, for the crates above, which take no lemma of this crate from anywhere else.
-pub use Rattle.log_pager.proofs.Over.{pager_kept, steps_log}
+pub use Rattle.log_pager.proofs.Over.{none_put, pager_kept, steps_log}

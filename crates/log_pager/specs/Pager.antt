@@ -7,7 +7,7 @@ use Rattle.kept_blocks.specs.Blocks.{Blocks, homes_in, bytes_in, all_bytes}
 use Rattle.log_codec.specs.Log.{IsCommitSize, first_log_home, log_commit_blocks}
 use Rattle.log_codec.specs.Chain.{IsLogHome}
 use Rattle.log_store.specs.declared.fault.StoreFault.TheVariants.{Range, OutOfMemory}
-use Rattle.log_store.specs.Store.{StoreValue, IsStoreOver, RefusesRead, RefusesStoreCommit, RefusesStepBy}
+use Rattle.log_store.specs.Store.{StoreValue, IsStoreOver, RefusesEnd, RefusesRead, RefusesStoreCommit, RefusesStepBy}
 use Rattle.log_store.specs.Store.{store_read_calls}
 use Rattle.log_pager.specs.declared.fault.PagerFault.{PagerFault}
 use Rattle.log_pager.specs.declared.fault.PagerFault.TheVariants.{Full, Short, Store}
@@ -44,7 +44,7 @@ RefusesLogPut s home (Store Range) = IsLogHome s.store.tail.log home → ⊥
 RefusesLogPut s home (Store OutOfMemory) = ⊤
 RefusesLogPut s home other = ⊥
 
--- why a home block isn't read, blocks aren't committed, or a step isn't made: as by the store
+-- why a home block isn't read, blocks aren't committed, a step isn't made, or the end isn't known: as by the store
 abbrev pub RefusesPagerRead : {D : Type 0} → Ghosts D → LogPagerValue D → ℕ → PagerFault → Type 0
 RefusesPagerRead disk s home Full = ⊥
 RefusesPagerRead disk s home Short = IsShort disk s
@@ -66,3 +66,8 @@ abbrev pub RefusesPagerStep : {D : Type 0} → Ghosts D → LogPagerValue D → 
 RefusesPagerStep disk s Full = ⊥
 RefusesPagerStep disk s Short = IsShort disk s
 RefusesPagerStep disk s (Store fault) = RefusesStepBy s.store s.store.stage fault
+
+abbrev pub RefusesPagerEnd : {D : Type 0} → Ghosts D → LogPagerValue D → PagerFault → Type 0
+RefusesPagerEnd disk s Full = ⊥
+RefusesPagerEnd disk s Short = IsShort disk s
+RefusesPagerEnd disk s (Store fault) = RefusesEnd fault

@@ -1,6 +1,7 @@
 //! Blocks of a volume with a log: they are put, committed together, read, and written home in steps.
 #![tactic(auto)]
 
+mod closing;
 mod fault;
 mod held;
 mod needs;

@@ -7,7 +7,7 @@ ghost use Rattle.log_codec.specs.Log.{log_commit_blocks};
 ghost use Rattle.log_codec.specs.Chain.{IsLogHome, LogRecovers};
 ghost use Rattle.log_recovery.specs.Reading.{ReadsAlone};
 ghost use Rattle.log_commits.specs.Calls.{DidAll};
-ghost use Rattle.log_commits.specs.Commit.{MayCommit, TellsTorn};
+ghost use Rattle.log_commits.specs.Commit.{EndsBehind, MayCommit, TellsTorn};
 ghost use Rattle.log_store.specs.Store.{committing_tail, store_commit_works};
 ghost use Rattle.log_store.specs.Store.{HasNoted, KeepsStore, IsStoreOver, MayStepBy, StepsBy, TrustsBy, step_works};
 ghost use Rattle.log_pager.specs.Pager.{IsPagerOver, IsShort, RefusesPagerRead, RefusesPagerCommit, RefusesPagerStep};
@@ -56,7 +56,7 @@ impl<D: Device, A: Allocator + Copy> LogPager<D, A> {
     }
 
     // Whether the device is shorter than the volume.
-    fn is_short(&self) -> bool
+    pub(crate) fn is_short(&self) -> bool
         ensures { IsTrue result ↔ IsShort D.Device self.now }
     {
         self.device.len() < 4096 * u64::from(self.store.log().block_count())
@@ -116,8 +116,8 @@ impl<D: Device, A: Allocator + Copy> LogPager<D, A> {
         ensures honest { D.is_honest self.new.device ↔ D.is_honest self.old.device }
         ensures over { (contents : ℕ → List ℕ) → D.is_honest self.old.device
             → IsPagerOver D.Device self.old contents
-            → OnOk result (TellsTorn (committing_tail self.old.store) (homes_in self.old.staged)
-            (records_put self.old.staged) (D.seen self.new.device)
+            → OnOk result (EndsBehind (committing_tail self.old.store) (homes_in self.old.staged)
+            (D.seen self.new.device)
             → IsPagerOver D.Device self.new (contents_put contents self.old.staged)) }
         ensures stays { (contents : ℕ → List ℕ) → D.is_honest self.old.device
             → IsPagerOver D.Device self.old contents

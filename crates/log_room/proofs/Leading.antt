@@ -1,11 +1,12 @@
 -- Calls of a pager, one after another.
-use Rattle.std.proofs.Common.{◌≡◌, ◌⊎◌, ℕ, List, refl, ap, subst, ◌∙◌, inl, arith}
+use Rattle.std.proofs.Common.{◌≡◌, ◌⊎◌, ℕ, List, refl, ap, subst, ◌∙◌, ◌≢◌, inl, inr, arith}
 use Rattle.std.specs.Prelude.{⊤, Result, Ok, Err}
 use Rattle.std.proofs.lemmas.Result.{IfErr-weaker}
 use Rattle.device.specs.declared.device.Device.{Ghosts}
-use Rattle.device.proofs.Public.{err_map, leaves_at_start, leaves_weaker, leaves_then, ok_map}
+use Rattle.device.proofs.Public.{leaves_at_start, leaves_weaker, leaves_then, ok_map}
 use Rattle.kept_blocks.specs.Blocks.{Blocks}
 use Rattle.log_codec.specs.Chain.{LogRecovers}
+use Rattle.log_codec.specs.declared.sealing.Sealing.TheVariants.{ByByte}
 use Rattle.log_codec.specs.Log.{LogValue}
 use Rattle.log_commits.proofs.Public.{recovers}
 use Rattle.log_commits.specs.declared.fault.CommitFault.TheVariants as commits
@@ -13,7 +14,7 @@ use Rattle.log_store.specs.declared.fault.StoreFault.TheVariants.{Commit}
 use Rattle.log_pager.specs.declared.fault.PagerFault.{PagerFault}
 use Rattle.log_pager.specs.declared.fault.PagerFault.TheVariants.{Store}
 use Rattle.log_pager.specs.Pager.{LogPagerValue, IsPagerOver, contents_put}
-use Rattle.log_room.specs.inside.Leading.{Commits, HasStepped, IsSealedOver, Leads, MakesSteps, PutsContents}
+use Rattle.log_room.specs.inside.Leading.{Commits, HasStepped, IsHonestOver, Leads, MakesSteps, PutsContents}
 use Rattle.log_room.specs.inside.Leading.{StaysOver}
 
 module _ {D : Type 0} (disk : Ghosts D) where
@@ -25,7 +26,7 @@ module _ {D : Type 0} (disk : Ghosts D) where
       len = refl;
       honest = (λ well. well, λ well. well);
       later = omega arith;
-      leaves = λ contents is. leaves_at_start (λ c left. inl (recovers s.store.tail contents c
+      leaves = λ contents is byte. leaves_at_start (λ c left. inl (recovers s.store.tail contents c
           (is.over.store.holds c (since_now s.device c left)).held));
       first = λ text has. record { crash = leaves_at_start (λ c left. has c (since_now s.device c left)); left = has };
     };
@@ -34,10 +35,9 @@ module _ {D : Type 0} (disk : Ghosts D) where
   }
 
   module _ (a b : LogPagerValue D) (stepped : HasStepped disk a b) where
-    over_then : (contents : ℕ → List ℕ) → IsSealedOver disk a contents → IsSealedOver disk b contents
+    over_then : (contents : ℕ → List ℕ) → IsHonestOver disk a contents → IsHonestOver disk b contents
     over_then contents is = record {
       honest = stepped.leads.honest.1 is.honest;
-      byte = ap (λ (g : LogValue). g.sealing) stepped.leads.log ∙ is.byte;
       over = stepped.keeps contents is;
     }
 
@@ -50,11 +50,12 @@ module _ {D : Type 0} (disk : Ghosts D) where
         λ well. next.honest.1 (stepped.leads.honest.1 well),
       );
       later = omega (arith, stepped.leads.later, next.later);
-      leaves = λ contents is.
+      leaves = λ contents is byte.
           let P : LogValue → Blocks → List ℕ → Type 0 = λ g put x.
           LogRecovers g contents x ⊎ LogRecovers g (contents_put contents put) x in
-          leaves_then (stepped.leads.leaves contents is)
-          (leaves_weaker (next.leaves contents (over_then contents is)) (λ x has.
+          leaves_then (stepped.leads.leaves contents is byte)
+          (leaves_weaker (next.leaves contents (over_then contents is)
+          (ap (λ (g : LogValue). g.sealing) stepped.leads.log ∙ byte)) (λ x has.
           subst (λ (g : LogValue). P g a.staged x) stepped.leads.log
           (subst (λ (put : Blocks). P b.store.tail.log put x) stepped.staged has)));
       first = λ text has.
@@ -72,6 +73,10 @@ module _ {D : Type 0} (disk : Ghosts D) where
     stays_then c fault stays not_commit not_move contents is =
         stays not_commit not_move contents (over_then contents is)
 
+    -- what was put is kept
+    abbrev Keeps : LogPagerValue D → PagerFault → Type 0
+    Keeps s fault = (fault ≢ Store (Commit commits.Device)) ⊎ (s.store.tail.log.sealing ≡ ByByte)
+
     pub steps_then : {X : Type 0} (result : Result X PagerFault) (c : LogPagerValue D) → MakesSteps disk b result c
         → MakesSteps disk a result c
     steps_then result c next = record {
@@ -86,7 +91,12 @@ module _ {D : Type 0} (disk : Ghosts D) where
     commits_then result c next = record {
       leads = leads_then c next.leads;
       value = next.value;
-      kept = err_map result (λ kept. kept ∙ stepped.staged) next.kept;
+      kept = IfErr-weaker result (λ fault. Keeps b fault → c.staged ≡ b.staged)
+          (λ fault. Keeps a fault → c.staged ≡ a.staged)
+          (λ fault kept is. kept (elim is [
+            | inl other ↦ inl other
+            | inr byte ↦ inr (ap (λ (g : LogValue). g.sealing) stepped.leads.log ∙ byte)
+          ]) ∙ stepped.staged) next.kept;
       puts = ok_map result (λ puts contents is. puts_then c puts contents is) next.puts;
       stays = IfErr-weaker result (StaysOver disk b c) (StaysOver disk a c) (stays_then c) next.stays;
     }
@@ -103,7 +113,7 @@ pub busy_stepped : {D : Type 0} {disk : Ghosts D} {old new : LogPagerValue D} {r
     → result ≡ Err (Store (Commit commits.Busy)) → Commits disk old result new → HasStepped disk old new
 busy_stepped {disk = disk} {old} {new} is made =
     let busy = subst (λ (r : Result ⊤ PagerFault). Commits disk old r new) is made in
-    record { leads = busy.leads; staged = busy.kept; keeps = busy.stays (λ same. cc) (λ same. cc) }
+    record { leads = busy.leads; staged = busy.kept (inl (λ same. cc)); keeps = busy.stays (λ same. cc) (λ same. cc) }
 
 -- steps that failed
 pub steps_stopped : {D X Y : Type 0} {disk : Ghosts D} {old new : LogPagerValue D} {result : Result X PagerFault}

@@ -1,2 +1,3 @@
+mod Checked
 mod Leading
 mod Made

@@ -1,14 +1,14 @@
 -- What a step or a commit of a pager does, by its clauses.
 use Rattle.std.proofs.Common.{◌≡◌, ◌≢◌, ◌⊎◌, ℕ, Bool, true, false, List, [], ◌∷◌, inl, inr, refl, sym, ap}
 use Rattle.std.proofs.Common.{subst, ◌∙◌, ◌≤◌, arith}
-use Rattle.std.specs.Prelude.{⊤, Result, Ok, Err, IfOk, IfErr, OnOk}
+use Rattle.std.specs.Prelude.{⊤, Result, Ok, Err, IfOk, IfErr, OnErr, OnOk}
 use Rattle.device.specs.declared.device.Device.{Ghosts}
 use Rattle.device.specs.Work.{Work}
 use Rattle.device.proofs.Public.{leaves_at_start}
 use Rattle.kept_blocks.specs.Blocks.{Blocks, homes_in}
 use Rattle.volume_codec.specs.Layout.{block_at}
 use Rattle.log_commits.specs.Calls.{DidAll}
-use Rattle.log_commits.specs.Commit.{TellsTorn}
+use Rattle.log_commits.specs.Commit.{EndsBehind, tail_after}
 use Rattle.log_commits.specs.Tail.{TailValue}
 use Rattle.log_commits.specs.declared.behind.MoveFault.TheVariants as moves
 use Rattle.log_commits.specs.declared.fault.CommitFault.TheVariants as commits
@@ -16,8 +16,8 @@ use Rattle.log_store.specs.declared.fault.Progress.{Progress}
 use Rattle.log_store.specs.declared.fault.StoreFault.TheVariants as stores
 use Rattle.log_store.specs.Store.{HasNoted, KeepsStore, MayStepBy, StepsBy, TrustsBy, committing_tail, step_works}
 use Rattle.log_store.specs.Store.{store_commit_works}
-use Rattle.log_store.proofs.Public.{AreBehind, commit_behind, commit_told, committing_log, failed_step_may}
-use Rattle.log_store.proofs.Public.{first_stays, step_behind, step_trusted}
+use Rattle.log_store.proofs.Public.{AreBehind, commit_behind, committing_log, failed_step_may}
+use Rattle.log_store.proofs.Public.{first_stays, step_behind}
 use Rattle.log_pager.specs.declared.fault.PagerFault.{PagerFault}
 use Rattle.log_pager.specs.declared.fault.PagerFault.TheVariants.{Full, Short, Store}
 use Rattle.log_pager.specs.Pager.{IsPagerOver, LogPagerValue, RefusesPagerStep, contents_put, records_put}
@@ -104,9 +104,8 @@ module _ {D : Type 0} (disk : Ghosts D) (old new : LogPagerValue D) where
   pub step_keeps : (result : Result Progress PagerFault)
       → ((contents : ℕ → List ℕ) → disk.is_honest old.device → IsPagerOver disk old contents
       → OnOk result (TrustsBy old.store old.store.stage (disk.seen new.device) → IsPagerOver disk new contents))
-      → OnOk result (KeepsContents disk old new)
-  step_keeps (Ok progress) over = λ contents is.
-      over contents is.honest is.over (step_trusted old.store is.byte old.store.stage (disk.seen new.device))
+      → OnOk result (TrustsBy old.store old.store.stage (disk.seen new.device) → KeepsContents disk old new)
+  step_keeps (Ok progress) over = λ trusts contents is. over contents is.honest is.over trusts
   step_keeps (Err fault) over = tt
 
   pub step_stays : (result : Result Progress PagerFault)
@@ -117,12 +116,23 @@ module _ {D : Type 0} (disk : Ghosts D) (old new : LogPagerValue D) where
 
   pub commit_puts : (result : Result ⊤ PagerFault)
       → ((contents : ℕ → List ℕ) → disk.is_honest old.device → IsPagerOver disk old contents
-      → OnOk result (TellsTorn (committing_tail old.store) (homes_in old.staged) (records_put old.staged)
-      (disk.seen new.device) → IsPagerOver disk new (contents_put contents old.staged)))
-      → OnOk result (PutsContents disk old new)
-  commit_puts (Ok x) over = λ contents is. over contents is.honest is.over
-      (commit_told old.store is.byte (homes_in old.staged) (records_put old.staged) (disk.seen new.device))
+      → OnOk result (EndsBehind (committing_tail old.store) (homes_in old.staged) (disk.seen new.device)
+      → IsPagerOver disk new (contents_put contents old.staged)))
+      → OnOk result (EndsBehind (committing_tail old.store) (homes_in old.staged) (disk.seen new.device)
+      → PutsContents disk old new)
+  commit_puts (Ok x) over = λ ends contents is. over contents is.honest is.over ends
   commit_puts (Err fault) over = tt
+
+  pub commit_tail : (result : Result ⊤ PagerFault) → old.staged ≢ []
+      → OnOk result (old.staged ≢ [] → HasNoted old.store new.store (homes_in old.staged))
+      → OnOk result (new.store.tail ≡ tail_after (committing_tail old.store) (homes_in old.staged))
+  commit_tail (Ok x) some noted = (noted some).tail
+  commit_tail (Err fault) some noted = tt
+
+  pub commit_kept : (result : Result ⊤ PagerFault) → OnErr result (new.staged ≡ old.staged)
+      → IfErr result (λ fault. new.staged ≡ old.staged)
+  commit_kept (Ok x) kept = tt
+  commit_kept (Err fault) kept = kept
 
   pub commit_stays : (result : Result ⊤ PagerFault)
       → ((contents : ℕ → List ℕ) → disk.is_honest old.device → IsPagerOver disk old contents

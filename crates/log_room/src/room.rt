@@ -1,6 +1,5 @@
 // A commit, with the rounds of steps that it needs.
 ghost use Rattle.std.specs.Prelude.{◌≡◌, ◌≢◌, ◌↔◌, ◌⊎◌, ◌≤◌, ℕ, List, [], Ok, length, Err, IsTrue, IfOk, IfErr, OnOk};
-ghost use Rattle.std.specs.Prelude.{OnErr};
 ghost use Rattle.device.specs.Device.{LeavesOnly};
 ghost use Rattle.volume_codec.specs.Layout.{block_at};
 ghost use Rattle.log_codec.specs.declared.sealing.Sealing.TheVariants.{ByByte};
@@ -8,7 +7,7 @@ ghost use Rattle.log_codec.specs.Chain.{LogRecovers};
 ghost use Rattle.log_store.specs.Store.{StepsBy};
 ghost use Rattle.log_pager.specs.Pager.{IsPagerOver, contents_put};
 ghost use Rattle.log_room.specs.Room.{KeepsFirst};
-ghost use Rattle.log_room.specs.inside.Leading.{Commits, MakesSteps};
+ghost use Rattle.log_room.specs.inside.Leading.{ChecksEnd, Commits, CommitsPut, MakesStep, MakesSteps};
 
 use device::Device;
 use log_commits::{CommitFault, MoveFault};
@@ -18,6 +17,9 @@ use std::alloc::Allocator;
 
 // The log has no room.
 const BUSY: PagerFault = PagerFault::Store(StoreFault::Commit(CommitFault::Busy));
+
+// A device call failed.
+const FAILED: PagerFault = PagerFault::Store(StoreFault::Commit(CommitFault::Device));
 
 // Whether a step moved the start.
 fn has_moved(progress: Progress) -> bool
@@ -43,14 +45,44 @@ fn is_busy(made: &Result<(), PagerFault>) -> bool
     )
 }
 
-// The next step.
+// The next step of the pager.
+fn pager_step<D: Device, A: Allocator + Copy>(
+    pager: &mut LogPager<D, A>,
+) -> Result<Progress, PagerFault>
+    ensures { MakesStep D.Device pager.old result pager.new }
+{
+    pager.step()
+}
+
+// Makes sure that the log ends where the session believes. Where a digest seals, bytes that somebody else left there
+// could be taken for the next commit.
+fn check_end<D: Device, A: Allocator + Copy>(pager: &mut LogPager<D, A>) -> Result<(), PagerFault>
+    ensures { ChecksEnd D.Device pager.old result pager.new }
+{
+    match pager.ends() {
+        Ok(true) => Ok(()),
+        _ => Err(FAILED),
+    }
+}
+
+// The next step. After one that moves the start, the log ends at its tail.
 fn make_step<D: Device, A: Allocator + Copy>(
     pager: &mut LogPager<D, A>,
 ) -> Result<Progress, PagerFault>
     ensures steps { MakesSteps D.Device pager.old result pager.new }
     ensures value { IfOk result (StepsBy pager.old.store pager.old.store.stage pager.new.store) }
 {
-    pager.step()
+    let progress = match pager_step(pager) {
+        Ok(progress) => progress,
+        Err(fault) => return Err(fault),
+    };
+    if !has_moved(progress) {
+        return Ok(progress);
+    }
+    match check_end(pager) {
+        Ok(()) => Ok(progress),
+        Err(fault) => Err(fault),
+    }
 }
 
 // Makes steps up to the one that moves the start.
@@ -72,12 +104,26 @@ fn make_round<D: Device, A: Allocator + Copy>(pager: &mut LogPager<D, A>) -> Res
     }
 }
 
-// Commits what was put, if the log has room for it.
+// Commits what was put, of which there is something, if the log has room for it.
+fn pager_commit<D: Device, A: Allocator + Copy>(pager: &mut LogPager<D, A>) -> Result<(), PagerFault>
+    requires some { pager.old.staged ≢ [] }
+    ensures { CommitsPut D.Device pager.old result pager.new }
+{
+    pager.commit()
+}
+
+// Commits what was put, if the log has room for it. After that the log ends at its tail.
 fn commit_put<D: Device, A: Allocator + Copy>(pager: &mut LogPager<D, A>) -> Result<(), PagerFault>
     ensures commits { Commits D.Device pager.old result pager.new }
     ensures idle { pager.old.staged ≡ [] → (result ≡ Ok tt) × (pager.new ≡ pager.old) }
 {
-    pager.commit()
+    if pager.staged() == 0 {
+        return Ok(());
+    }
+    match pager_commit(pager) {
+        Ok(()) => check_end(pager),
+        Err(fault) => Err(fault),
+    }
 }
 
 // Commits what was put, after a round of steps.
@@ -112,26 +158,29 @@ fn commit_in_rounds<D: Device, A: Allocator + Copy>(
 }
 
 /// Commits what was put. While the log has no room for it, the commits so far are written home and the start moves
-/// behind them. Where nothing was put, no device call is made. An error keeps what was put.
+/// behind them. If nothing was put, no device call is made.
+///
+/// If a digest seals commits, the log is read behind each commit and each move of the start. The call fails with a
+/// commit's `Device` if a read fails there, or if bytes there could be taken for the next commit. Other errors keep what
+/// was put; if a byte seals, each error does.
 pub fn commit_with_room<D: Device, A: Allocator + Copy>(
     pager: &mut LogPager<D, A>,
 ) -> Result<(), PagerFault>
     ensures log { pager.new.store.tail.log ≡ pager.old.store.tail.log }
     ensures value { OnOk result (pager.new.staged ≡ []) }
-    ensures kept { OnErr result (pager.new.staged ≡ pager.old.staged) }
+    ensures kept { IfErr result (λ fault. (fault ≢ PagerFault.Store (StoreFault.Commit CommitFault.Device))
+        ⊎ (pager.old.store.tail.log.sealing ≡ ByByte) → pager.new.staged ≡ pager.old.staged) }
     ensures idle { pager.old.staged ≡ [] → (result ≡ Ok tt) × (pager.new ≡ pager.old) }
     ensures len { length (D.seen pager.new.device) ≡ length (D.seen pager.old.device) }
     ensures honest { D.is_honest pager.new.device ↔ D.is_honest pager.old.device }
     ensures later { D.moment pager.old.device ≤ D.moment pager.new.device }
-
-    // Where a byte seals.
-    ensures over { (contents : ℕ → List ℕ) → D.is_honest pager.old.device
-        → pager.old.store.tail.log.sealing ≡ ByByte → IsPagerOver D.Device pager.old contents
+    ensures over { (contents : ℕ → List ℕ) → D.is_honest pager.old.device → IsPagerOver D.Device pager.old contents
         → OnOk result (IsPagerOver D.Device pager.new (contents_put contents pager.old.staged)) }
-    ensures stays { (contents : ℕ → List ℕ) → D.is_honest pager.old.device
-        → pager.old.store.tail.log.sealing ≡ ByByte → IsPagerOver D.Device pager.old contents
+    ensures stays { (contents : ℕ → List ℕ) → D.is_honest pager.old.device → IsPagerOver D.Device pager.old contents
         → IfErr result (λ fault. fault ≢ PagerFault.Store (StoreFault.Commit CommitFault.Device)
         → fault ≢ PagerFault.Store (StoreFault.Move MoveFault.Device) → IsPagerOver D.Device pager.new contents) }
+
+    // Where a byte seals.
     ensures leaves { (contents : ℕ → List ℕ) → D.is_honest pager.old.device
         → pager.old.store.tail.log.sealing ≡ ByByte → IsPagerOver D.Device pager.old contents
         → LeavesOnly D.moment D.left_since pager.old.device pager.new.device

@@ -1,6 +1,6 @@
 -- What holds of every store.
 use Rattle.std.proofs.Common.{◌≡◌, ℕ, ◌+◌, ◌%◌, ◌<◌, ◌≤◌, List, [], ◌∷◌, length, Option, Some, None, inl, inr, refl}
-use Rattle.std.proofs.Common.{Bool, true, false, cond, sym, subst, ◌∙◌, arith}
+use Rattle.std.proofs.Common.{true, false, cond, sym, subst, ◌∙◌, arith}
 use Rattle.std.specs.Prelude.{IfSome, nat_lt}
 use Rattle.std.proofs.Math.Nat.{mod-lt}
 use Rattle.std.proofs.lemmas.Bool.{cases_eq, eq-eqb, ne_eqb}

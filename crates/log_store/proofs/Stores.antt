@@ -16,7 +16,7 @@ use Rattle.log_codec.specs.Commit.{LogDescriptor}
 use Rattle.log_codec.specs.Chain.{HasLog, IsLogHome, newest_or, chain_end}
 use Rattle.log_commits.specs.declared.behind.OldCommits.{OldCommits}
 use Rattle.log_commits.specs.Tail.{TailValue, tail_at}
-use Rattle.log_commits.specs.Commit.{CommitLeaves, LeftByCommit, TellsTorn, committed_to, next_logged, tail_after}
+use Rattle.log_commits.specs.Commit.{CommitLeaves, EndsBehind, LeftByCommit, committed_to, next_logged, tail_after}
 use Rattle.log_commits.specs.Behind.{HoldsCommits, AreOldest, IsReadyToMove, IsSameOutside}
 use Rattle.log_commits.specs.Behind.{tail_behind}
 use Rattle.log_commits.specs.Selecting.{IsSureBy}
@@ -438,7 +438,7 @@ module _ {D : Type 0} (disk : Ghosts D) where
   abbrev pub Then : Bool → TailValue → Option OldCommits → List ℕ → List ℕ → (ℕ → List ℕ) → List LogDescriptor → D
       → Type 0
   Then second t o homes records contents younger new =
-      TellsTorn (tail_by t o) homes records (disk.seen new)
+      EndsBehind (tail_by t o) homes (disk.seen new)
       → HoldsCommits (second_by second o) (tail_after (tail_by t o) homes) (committed_to contents homes records)
       (younger ++ next_logged t homes ∷ []) (disk.seen new)
 
@@ -476,16 +476,16 @@ module _ {D : Type 0} (disk : Ghosts D) where
       → Commits b.second b.tail o homes records true old new → Holds b.second b.tail o homes records old new
       → (contents : ℕ → List ℕ)
       → disk.is_honest old → IsStoreOver disk s contents old
-      → TellsTorn (committing_tail s) homes records (disk.seen new)
+      → EndsBehind (committing_tail s) homes (disk.seen new)
       → IsStoreOver disk after (committed_to contents homes records) new
   commit_over {b} {s} {after} {noted} {o} {homes} {records} {old} {new} is chosen seen made outside commits holds
-      contents honest over tells =
+      contents honest over ends =
       let Q : StoreValue → Type 0 = λ v. IsStoreOver disk v contents old
-      → TellsTorn (committing_tail v) homes records (disk.seen new)
+      → EndsBehind (committing_tail v) homes (disk.seen new)
       → IsStoreOver disk after (committed_to contents homes records) new in
       let O : Option OldCommits → Type 0 = λ v. v ≡ None
       → IsSameOutside b.tail.log (disk.seen old) (disk.seen new) in
-      subst Q is (λ whole telling.
+      subst Q is (λ whole ending.
       let parts = parts_of b contents old whole in
       let held = both_hold b contents old whole parts in
       let own =
@@ -495,7 +495,7 @@ module _ {D : Type 0} (disk : Ghosts D) where
       ((own contents parts.ds parts.younger honest held parts.may).durable refl) parts
       (subst (λ (v : Option OldCommits). Committed b after noted homes v) chosen made)
       (subst O chosen (λ none. outside none honest))
-      (then contents parts.ds parts.younger honest held parts.may telling)) over tells
+      (then contents parts.ds parts.younger honest held parts.may ending)) over ends
 
   -- the commit is noted
   pub has_noted : {b after : StoreValue} {noted : Entries} {o : Option OldCommits} {homes : List ℕ}

@@ -12,7 +12,7 @@ use Rattle.log_codec.specs.Log.{log_descriptor_blocks}
 use Rattle.log_codec.specs.Commit.{LogDescriptor}
 use Rattle.log_commits.specs.Tail.{TailValue}
 use Rattle.log_commits.specs.Commit.{RefusesTailCommit, commit_works, tail_after}
-use Rattle.log_commits.specs.Homes.{IsLoggedHome}
+use Rattle.log_commits.specs.Homes.{IsLoggedHome, StaysLastBy}
 use Rattle.log_commits.specs.declared.behind.OldCommits.{OldCommits}
 use Rattle.log_commits.specs.Behind.{HoldsCommits, AreOldest, IsReadyToMove, StaysLast, MayMove, RefusesMove}
 use Rattle.log_commits.specs.Behind.{RefusesSure, start_work, select_works, tail_behind}
@@ -163,6 +163,16 @@ block_by home (Some newest) = newest.block
 
 abbrev pub store_block : StoreValue → ℕ → ℕ
 store_block s home = block_by home (find_in s.entries home)
+
+-- The log of these bytes ends at this tail, also in blocks that get free later. Where a byte seals, this is no premise.
+abbrev pub EndsAtTail : TailValue → List ℕ → Type 0
+EndsAtTail t bytes = StaysLastBy t.log.sealing t t.log.ring bytes
+
+-- why nobody knows whether the log ends
+abbrev pub RefusesEnd : StoreFault → Type 0
+RefusesEnd Device = ⊤
+RefusesEnd OutOfMemory = ⊤
+RefusesEnd other = ⊥
 
 -- why a home block isn't read
 abbrev pub RefusesRead : StoreValue → ℕ → StoreFault → Type 0

@@ -1,6 +1,7 @@
 //! The log of a volume in a session: commits, reads of home blocks, and steps by which commits are written home.
 #![tactic(auto)]
 
+mod closing;
 mod fault;
 mod laws;
 mod rounds;

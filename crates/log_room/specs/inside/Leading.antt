@@ -1,22 +1,26 @@
--- What private calls do to a pager over a log where a byte seals.
-use Rattle.std.specs.Prelude.{⊤, ◌≤◌, ◌≡◌, ◌≢◌, ◌↔◌, ◌⊎◌, ℕ, List, [], length, Result, OnOk, OnErr, IfErr}
+-- What private calls do to a pager over a log.
+use Rattle.std.specs.Prelude.{⊤, ◌≤◌, ◌≡◌, ◌≢◌, ◌↔◌, ◌⊎◌, ℕ, List, [], length, Result, Ok, OnOk, IfOk, IfErr}
 use Rattle.device.specs.declared.device.Device.{Ghosts}
 use Rattle.device.specs.Device.{LeavesOnly}
 use Rattle.volume_codec.specs.Layout.{block_at}
 use Rattle.log_codec.specs.declared.sealing.Sealing.TheVariants.{ByByte}
 use Rattle.log_codec.specs.Chain.{LogRecovers}
+use Rattle.kept_blocks.specs.Blocks.{homes_in}
+use Rattle.log_commits.specs.Commit.{EndsBehind, tail_after}
 use Rattle.log_commits.specs.declared.behind.MoveFault.TheVariants as moves
 use Rattle.log_commits.specs.declared.fault.CommitFault.TheVariants as commits
+use Rattle.log_recovery.specs.Reading.{ReadsAlone}
+use Rattle.log_store.specs.declared.fault.Progress.{Progress}
 use Rattle.log_store.specs.declared.fault.StoreFault.TheVariants.{Commit, Move}
+use Rattle.log_store.specs.Store.{EndsAtTail, StepsBy, TrustsBy, committing_tail}
 use Rattle.log_pager.specs.declared.fault.PagerFault.{PagerFault}
 use Rattle.log_pager.specs.declared.fault.PagerFault.TheVariants.{Store}
 use Rattle.log_pager.specs.Pager.{LogPagerValue, IsPagerOver, contents_put}
 use Rattle.log_room.specs.Room.{KeepsFirst}
 
--- a byte seals, and the pager is over its device, which is honest
-pub record IsSealedOver {D : Type 0} (disk : Ghosts D) (s : LogPagerValue D) (contents : ℕ → List ℕ) : Type 0 where
+-- the pager is over its device, which is honest
+pub record IsHonestOver {D : Type 0} (disk : Ghosts D) (s : LogPagerValue D) (contents : ℕ → List ℕ) : Type 0 where
   pub honest : disk.is_honest s.device
-  pub byte : s.store.tail.log.sealing ≡ ByByte
   pub over : IsPagerOver disk s contents
 
 -- calls lead from one state of a pager to another one; the last of them may have failed
@@ -25,7 +29,8 @@ pub record Leads {D : Type 0} (disk : Ghosts D) (old new : LogPagerValue D) : Ty
   pub len : length (disk.seen new.device) ≡ length (disk.seen old.device)
   pub honest : disk.is_honest new.device ↔ disk.is_honest old.device
   pub later : disk.moment old.device ≤ disk.moment new.device
-  pub leaves : (contents : ℕ → List ℕ) → IsSealedOver disk old contents
+  -- where a byte seals
+  pub leaves : (contents : ℕ → List ℕ) → IsHonestOver disk old contents → old.store.tail.log.sealing ≡ ByByte
       → LeavesOnly disk.moment disk.left_since old.device new.device
       (λ c. LogRecovers old.store.tail.log contents c
       ⊎ LogRecovers old.store.tail.log (contents_put contents old.staged) c)
@@ -35,12 +40,12 @@ pub record Leads {D : Type 0} (disk : Ghosts D) (old new : LogPagerValue D) : Ty
 -- the pager is over its device with the same contents
 abbrev pub KeepsContents : {D : Type 0} → Ghosts D → LogPagerValue D → LogPagerValue D → Type 0
 KeepsContents disk old new =
-    (contents : ℕ → List ℕ) → IsSealedOver disk old contents → IsPagerOver disk new contents
+    (contents : ℕ → List ℕ) → IsHonestOver disk old contents → IsPagerOver disk new contents
 
 -- with what was put
 abbrev pub PutsContents : {D : Type 0} → Ghosts D → LogPagerValue D → LogPagerValue D → Type 0
 PutsContents disk old new =
-    (contents : ℕ → List ℕ) → IsSealedOver disk old contents
+    (contents : ℕ → List ℕ) → IsHonestOver disk old contents
     → IsPagerOver disk new (contents_put contents old.staged)
 
 -- with the same contents, unless a device call failed
@@ -62,11 +67,43 @@ pub record MakesSteps {D X : Type 0} (disk : Ghosts D) (old : LogPagerValue D) (
   pub keeps : OnOk result (KeepsContents disk old new)
   pub stays : IfErr result (StaysOver disk old new)
 
+-- a step, where bytes that a read gives after it end at the tail
+pub record MakesStep {D : Type 0} (disk : Ghosts D) (old : LogPagerValue D) (result : Result Progress PagerFault)
+    (new : LogPagerValue D) : Type 0 where
+  pub leads : Leads disk old new
+  pub staged : new.staged ≡ old.staged
+  pub steps : IfOk result (StepsBy old.store old.store.stage new.store)
+  pub keeps : OnOk result (TrustsBy old.store old.store.stage (disk.seen new.device) → KeepsContents disk old new)
+  pub stays : IfErr result (StaysOver disk old new)
+
+-- The pager is only read. Where that succeeds, the log ends at the tail. Where a byte seals, nothing is read.
+pub record ChecksEnd {D : Type 0} (disk : Ghosts D) (old : LogPagerValue D) (result : Result ⊤ PagerFault)
+    (new : LogPagerValue D) : Type 0 where
+  pub state : new ≡ record old { device = new.device }
+  pub byte : old.store.tail.log.sealing ≡ ByByte → (result ≡ Ok tt) × (new ≡ old)
+  pub read : ReadsAlone disk old.device new.device
+  pub len : length (disk.seen new.device) ≡ length (disk.seen old.device)
+  pub ends : disk.is_honest old.device → OnOk result (EndsAtTail old.store.tail (disk.seen old.device))
+  pub failed : IfErr result (λ fault. fault ≡ Store (Commit commits.Device))
+
 -- a call that commits what was put
 pub record Commits {D : Type 0} (disk : Ghosts D) (old : LogPagerValue D) (result : Result ⊤ PagerFault)
     (new : LogPagerValue D) : Type 0 where
   pub leads : Leads disk old new
   pub value : OnOk result (new.staged ≡ [])
-  pub kept : OnErr result (new.staged ≡ old.staged)
+  -- also where a call failed, if a byte seals
+  pub kept : IfErr result (λ fault. (fault ≢ Store (Commit commits.Device)) ⊎ (old.store.tail.log.sealing ≡ ByByte)
+      → new.staged ≡ old.staged)
   pub puts : OnOk result (PutsContents disk old new)
+  pub stays : IfErr result (StaysOver disk old new)
+
+-- a commit of blocks, where bytes that a read gives after it end behind it
+pub record CommitsPut {D : Type 0} (disk : Ghosts D) (old : LogPagerValue D) (result : Result ⊤ PagerFault)
+    (new : LogPagerValue D) : Type 0 where
+  pub leads : Leads disk old new
+  pub value : OnOk result (new.staged ≡ [])
+  pub kept : IfErr result (λ fault. new.staged ≡ old.staged)
+  pub tail : OnOk result (new.store.tail ≡ tail_after (committing_tail old.store) (homes_in old.staged))
+  pub puts : OnOk result (EndsBehind (committing_tail old.store) (homes_in old.staged) (disk.seen new.device)
+      → PutsContents disk old new)
   pub stays : IfErr result (StaysOver disk old new)

@@ -1,31 +1,18 @@
-use Rattle.device.proofs.Public.{leaves_weaker}
-use Rattle.kept_blocks.specs.Blocks.{homes_in}
-use Rattle.log_store.proofs.Public.{commit_told}
-use Rattle.log_pager.specs.Pager.{records_put}
-use Rattle.log_room.proofs.Made.{commit_first, commit_later, commit_log, commit_puts, commit_stays}
+use Rattle.std.proofs.Common.{subst, sym, ◌∙◌}
+use Rattle.std.specs.Prelude.{⊤, Result}
+use Rattle.log_pager.specs.declared.fault.PagerFault.{PagerFault}
+use Rattle.log_room.specs.inside.Leading.{CommitsPut}
+use Rattle.log_room.proofs.Leading.{nothing_stepped}
+use Rattle.log_room.proofs.Checked.{commit_none, commit_read}
 use Rattle.log_room.proofs.room.commit_put.Goals as goal
 
-pub returns-clause-commits : goal.returns-clause-commits
-returns-clause-commits g c =
-    let disk = g.D.Device in
-    let old = c.args.pager.now in
-    let new = c.commit.new.self in
-    let result = c.commit.result in
-    let made = c.commit.ensures in
-    record {
-      leads = record {
-        log = commit_log disk old new result made.idle made.noted made.unchanged made.spent;
-        len = made.len;
-        honest = made.honest;
-        later = commit_later disk old new result made.idle made.did
-            made.failed made.unchanged;
-        leaves = λ contents is. leaves_weaker (made.leaves contents is.honest is.over)
-            (λ x recovers. recovers (commit_told old.store is.byte (homes_in old.staged) (records_put old.staged) x));
-        first = λ text has. commit_first disk old new g.met.D.Device.since_now text has result made.idle made.did
-            made.failed made.unchanged;
-      };
-      value = made.value;
-      kept = made.kept;
-      puts = commit_puts disk old new result made.over;
-      stays = commit_stays disk old new result made.stays;
-    }
+pub returns-then-staged-eq0-clause-commits : goal.returns-then-staged-eq0-clause-commits
+returns-then-staged-eq0-clause-commits g c =
+    commit_none g.D.Device c.args.pager.now (nothing_stepped g.D.Device g.met.D.Device.since_now c.args.pager.now)
+    (sym c.staged.ensures ∙ c.if-staged-eq0.true)
+
+pub returns-in-Ok-clause-commits : goal.returns-in-Ok-clause-commits
+returns-in-Ok-clause-commits g c =
+    commit_read g.D.Device c.check_end.result
+    (subst (λ (r : Result ⊤ PagerFault). CommitsPut g.D.Device c.args.pager.now r c.pager_commit.new.pager) c.in-Ok.is
+    c.pager_commit.ensures) c.check_end.ensures

@@ -1,5 +1,4 @@
-use Rattle.std.proofs.Common.{◌++◌, true, false, refl, subst}
-use Rattle.std.specs.Prelude.{is_ok}
+use Rattle.std.proofs.Common.{◌++◌, true, false, subst}
 use Rattle.log_commits.specs.Tail.{IsTail}
 use Rattle.log_commits.specs.Commit.{records_in}
 use Rattle.log_commits.proofs.InRoom.{by_answer, room_selected, room_selecting}

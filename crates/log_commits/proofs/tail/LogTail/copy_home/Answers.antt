@@ -1,4 +1,4 @@
-use Rattle.std.proofs.Common.{ℕ, List, ◌+◌, ◌*◌, ◌≤◌, sym, ap, subst, refl, arith, length, true, false}
+use Rattle.std.proofs.Common.{ℕ, List, ◌+◌, ◌*◌, ◌≤◌, sym, subst, refl, arith, length, true, false}
 use Rattle.volume_codec.specs.Layout.{block_at}
 use Rattle.device.proofs.Public.{done_seen}
 use Rattle.log_commits.specs.Tail.{IsTail}

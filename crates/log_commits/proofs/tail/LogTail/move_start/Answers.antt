@@ -1,4 +1,4 @@
-use Rattle.std.proofs.Common.{◌≡◌, ◌*◌, ◌∷◌, ap, subst, arith, true, false}
+use Rattle.std.proofs.Common.{◌≡◌, ◌*◌, ◌∷◌, subst, arith, true, false}
 use Rattle.std.specs.Prelude.{is_ok, not}
 use Rattle.device.specs.Work.{WriteAt, Sync}
 use Rattle.log_codec.specs.declared.start.LogStart.{LogStart}

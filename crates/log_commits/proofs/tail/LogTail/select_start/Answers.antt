@@ -1,4 +1,4 @@
-use Rattle.std.proofs.Common.{◌≡◌, ◌++◌, ℕ, List, sym, ap, subst, arith, true, false}
+use Rattle.std.proofs.Common.{◌≡◌, ◌++◌, ℕ, List, sym, subst, arith, true, false}
 use Rattle.std.specs.Prelude.{is_ok}
 use Rattle.log_commits.specs.Tail.{IsTail}
 use Rattle.log_commits.specs.Behind.{HoldsCommits}

@@ -1,4 +1,4 @@
-use Rattle.std.proofs.Common.{ℕ, List, ◌+◌, ◌*◌, ◌≤◌, sym, ap, subst, refl, arith, length, true, false}
+use Rattle.std.proofs.Common.{ℕ, List, ◌+◌, ◌*◌, ◌≤◌, sym, subst, refl, arith, length, true, false}
 use Rattle.device.specs.Did.{Did}
 use Rattle.device.specs.Work.{WriteAt}
 use Rattle.device.proofs.Public.{done_seen}

@@ -1,4 +1,4 @@
-use Rattle.std.proofs.Common.{◌*◌, ap, subst, true, false, arith}
+use Rattle.std.proofs.Common.{◌*◌, subst, true, false, arith}
 use Rattle.std.specs.Prelude.{not}
 use Rattle.device.specs.Did.{Did}
 use Rattle.device.specs.Work.{WriteAt}

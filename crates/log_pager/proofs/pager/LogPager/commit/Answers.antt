@@ -8,7 +8,7 @@ use Rattle.log_codec.specs.Chain.{LogRecovers}
 use Rattle.log_commits.specs.Calls.{DidAll}
 use Rattle.log_commits.specs.declared.fault.CommitFault.TheVariants.{Device}
 use Rattle.log_commits.specs.Tail.{TailValue}
-use Rattle.log_commits.specs.Commit.{LeftByCommit, MayCommit, TellsTorn, committed_to, records_in}
+use Rattle.log_commits.specs.Commit.{EndsBehind, LeftByCommit, MayCommit, TellsTorn, committed_to, records_in}
 use Rattle.log_store.specs.declared.fault.StoreFault.TheVariants.{Commit, OutOfMemory}
 use Rattle.log_store.specs.Store.{IsStoreOver, KeepsStore, RefusesStoreCommit, committing_tail, store_commit_works}
 use Rattle.log_store.proofs.Public.{committing_log}
@@ -95,7 +95,7 @@ returns-in-Ok-commit-clause-honest g c =
     (λ v. g.D.Device.is_honest c.commit.new.device ↔ g.D.Device.is_honest v.device) c.commit.ensures.honest
 
 pub returns-in-Ok-commit-clause-over : goal.returns-in-Ok-commit-clause-over
-returns-in-Ok-commit-clause-over g c = λ contents honest over tells.
+returns-in-Ok-commit-clause-over g c = λ contents honest over ends.
     let disk = g.D.Device in
     let a = (goal.at.returns-in-Ok-commit-clause-over g c).After-commit in
     let old : LogPagerValue g.row.D.Denot = before g a in
@@ -103,18 +103,18 @@ returns-in-Ok-commit-clause-over g c = λ contents honest over tells.
     record { store = c.commit.new.self; staged = c.clear.new.self; device = c.commit.new.device } in
     let newer : ℕ → List ℕ = contents_put contents old.staged in
     of_pager g a (λ v. disk.is_honest v.device → IsPagerOver disk v contents
-    → TellsTorn (committing_tail v.store) (homes_in v.staged) (records_put v.staged) (disk.seen after.device)
+    → EndsBehind (committing_tail v.store) (homes_in v.staged) (disk.seen after.device)
     → IsPagerOver disk after (contents_put contents v.staged))
-    (λ honest over tells.
-    let there = of_blocks g a (λ hs rs n. TellsTorn (committing_tail old.store) hs rs (disk.seen after.device)
+    (λ honest over ends.
+    let there = of_blocks g a (λ hs rs n. EndsBehind (committing_tail old.store) hs (disk.seen after.device)
     → IsStoreOver disk after.store (committed_to contents hs rs) after.device)
-    (c.in-Ok-commit.ensures.store contents honest over.store) tells in
+    (c.in-Ok-commit.ensures.store contents honest over.store) ends in
     let log = ap (λ (t : TailValue). t.log) c.in-Ok-commit.ensures.noted.tail ∙ committing_log old.store in
     pager_emptied disk old after contents log
     c.commit.ensures.len newer c.clear.ensures
     (store_as disk (committed_to contents (homes_in old.staged) (records_put old.staged)) newer
     (λ b. sym (committed_is contents old.staged c.in-Ok.ensures.whole b)) after.store after.device there) over)
-    honest over tells
+    honest over ends
 
 pub returns-in-Ok-commit-clause-leaves : goal.returns-in-Ok-commit-clause-leaves
 returns-in-Ok-commit-clause-leaves g c = λ contents.
@@ -176,7 +176,7 @@ returns-clause-stays g c = λ contents honest over other.
     (c.in-Err-commit.ensures.kept contents honest over.store not_device) over) honest over
 
 pub returns-then-count-eq0-clause-over : goal.returns-then-count-eq0-clause-over
-returns-then-count-eq0-clause-over g c = λ contents honest over tells.
+returns-then-count-eq0-clause-over g c = λ contents honest over ends.
     let P : LogPagerValue g.row.D.Denot → Type 0 = λ v. length v.staged ≡ 0 in
     let none : length c.self.inside.staged ≡ 0 = sym c.len-count.ensures ∙ c.if-count-eq0.true in
     none_put g.D.Device c.args.self.now contents (subst P c.self.view_is none) over
