@@ -175,7 +175,7 @@ module _ {D : Type 0} (disk : Ghosts D) (old : LogPagerValue D) (shown : ShownVa
       → OnOk result (new.staged ≡ [])
       → (disk.is_honest new.device ↔ disk.is_honest mid.device)
       → disk.moment mid.device ≤ disk.moment new.device
-      → ((contents : ℕ → List ℕ) → disk.is_honest mid.device → mid.store.tail.log.sealing ≡ ByByte
+      → ((contents : ℕ → List ℕ) → disk.is_honest mid.device
       → IsPagerOver disk mid contents → OnOk result (IsPagerOver disk new (contents_put contents mid.staged)))
       → ((contents : ℕ → List ℕ) → disk.is_honest mid.device → mid.store.tail.log.sealing ≡ ByByte
       → IsPagerOver disk mid contents → LeavesOnly disk.moment disk.left_since mid.device new.device
@@ -198,10 +198,10 @@ module _ {D : Type 0} (disk : Ghosts D) (old : LogPagerValue D) (shown : ShownVa
         none_put = λ is_done. when_ok result value (told ∙ is_done);
         opens = λ is_done. opens;
         opened_is = λ is_done. opened_is;
-        over = λ is_done contents fair byte was. (
+        over = λ is_done contents fair was. (
           contents_put contents mid.staged,
           has_put shown batch low first mid.staged contents put,
-          when_ok result (after contents (trusted fair) (sealed byte) (over contents was)) (told ∙ is_done),
+          when_ok result (after contents (trusted fair) (over contents was)) (told ∙ is_done),
         );
         leaves = λ contents fair byte was. subst
             (λ d. LeavesOnly disk.moment disk.left_since d new.device (LeftBy contents)) device

@@ -108,12 +108,12 @@ module _ {D : Type 0} (disk : Ghosts D)
         old_left =
             write_old_left disk since_now now_is_since v t first_bytes changes moments pager shown kept at bytes fits;
         later = made.later;
-        honest = λ honest. (made.honest.0 honest.0, honest.1);
+        honest = made.honest.0;
         shows = λ works. shows_new opened (made.opens (is_done works));
         none_put = λ works. made.none_put (is_done works);
         over = λ honest works.
             let was = kept.over honest refl in
-            let new = made.over (is_done works) was.contents honest.0 (sealed honest) was.over in
+            let new = made.over (is_done works) was.contents honest was.over in
             record {
               contents = new.0;
               over = new.2;
@@ -121,7 +121,7 @@ module _ {D : Type 0} (disk : Ghosts D)
               recovers = recovers_new opened (made.opens (is_done works)) was.contents new.0 was.recovers new.1;
             };
         leaves = λ honest.
-            let was = kept.over honest refl in
+            let was = kept.over honest.0 refl in
             leaves_weaker (leaves_both (made.leaves was.contents honest.0 (sealed honest) was.over)
             (made.stays (log_super_text v) was.first).crash) (λ c both. by_case was c both.1 both.0);
       })

@@ -62,7 +62,7 @@ module _ {D : Type 0} (disk : Ghosts D)
   }
 
   pub alike_now : IsHonestBelow disk v pager → (c : List ℕ) → disk.may_leave pager.device c → RecoverAlike v t c seen
-  alike_now honest = alike_by pager shown seen kept.log (kept.over honest refl)
+  alike_now honest = alike_by pager shown seen kept.log (kept.over honest.0 refl)
 
   -- ---- a write or a sync more
 
@@ -79,10 +79,10 @@ module _ {D : Type 0} (disk : Ghosts D)
       pub keeps : LeavesOnly moment_of left_since_of memory memory' (λ w. Unit {0})
       pub old_left : may_leave_of memory' seen
       pub later : disk.moment pager.device ≤ disk.moment after.device
-      pub honest : IsHonestBelow disk v after → IsHonestBelow disk v pager
+      pub honest : disk.is_honest after.device → disk.is_honest pager.device
       pub shows : failed ≡ false → HasShown t opened (seen_of memory')
       pub none_put : failed ≡ false → after.staged ≡ []
-      pub over : IsHonestBelow disk v pager → failed ≡ false → IsOverLog disk v t after opened (seen_of memory')
+      pub over : disk.is_honest pager.device → failed ≡ false → IsOverLog disk v t after opened (seen_of memory')
       pub leaves : IsHonestBelow disk v pager → LeavesOnly disk.moment disk.left_since pager.device after.device
           (λ c. RecoverAlike v t c seen ⊎ RecoverAlike v t c (seen_of memory'))
 
@@ -100,16 +100,17 @@ module _ {D : Type 0} (disk : Ghosts D)
       shows = next.shows;
       none_put = next.none_put;
       over = λ honest works. next.over (next.honest honest) works;
-      backed = λ honest. backed_on disk (as_disk pager changes moments)
+      backed = λ sealed. let honest : IsHonestBelow disk v pager = (next.honest sealed.0, sealed.1) in
+          backed_on disk (as_disk pager changes moments)
           (as_disk after changes' ((moment_of memory', disk.moment after.device) ∷ moments))
-          kept.moments_are refl refl refl next.keeps (next.leaves (next.honest honest))
+          kept.moments_are refl refl refl next.keeps (next.leaves honest)
           (λ c alike. ⊎_elim (λ old. (seen, inl (seen_is_left_of memory), old))
           (λ new. (seen_of memory', inr (seen_is_left_of memory'), new)) alike)
           (λ c left. ⊎_elim (λ old. (seen, next.old_left, old))
           (λ new. (seen_of memory', seen_is_left_of memory', new))
-          ((next.leaves (next.honest honest)).each c
+          ((next.leaves honest).each c
           (now_is_since after.device (disk.moment pager.device) c next.later left)))
-          (since_now after.device) (kept.backed (next.honest honest));
+          (since_now after.device) (kept.backed honest);
     }
 
   -- counts play no part
@@ -178,9 +179,9 @@ module _ {D : Type 0} (disk : Ghosts D)
 
   pub kept_read : (after : LogPagerValue D) → after.store.tail.log ≡ log_of v → after.staged ≡ []
       → disk.moment pager.device ≤ disk.moment after.device
-      → (IsHonestBelow disk v after → IsHonestBelow disk v pager)
+      → (disk.is_honest after.device → disk.is_honest pager.device)
       → ((c : List ℕ) → disk.may_leave after.device c → disk.may_leave pager.device c)
-      → ((contents : ℕ → List ℕ) → IsHonestBelow disk v pager → IsPagerOver disk pager contents
+      → ((contents : ℕ → List ℕ) → disk.is_honest pager.device → IsPagerOver disk pager contents
       → IsPagerOver disk after contents)
       → LeavesOnly disk.moment disk.left_since pager.device after.device (disk.may_leave pager.device)
       → IsKeptDisk disk v t first changes ((moment_of memory, disk.moment after.device) ∷ moments) after shown false
@@ -201,14 +202,15 @@ module _ {D : Type 0} (disk : Ghosts D)
       first = λ c now. was.first c (left c now);
       recovers = was.recovers;
     };
-    backed = λ h. backed_on disk (as_disk pager changes moments)
+    backed = λ sealed. let h : IsHonestBelow disk v pager = (honest sealed.0, sealed.1) in
+        backed_on disk (as_disk pager changes moments)
         (as_disk after changes ((moment_of memory, disk.moment after.device) ∷ moments))
         kept.moments_are refl refl refl
         (leaves_at_start {moment = moment_of} {left_since = left_since_of} {device = memory} {P = λ w. Unit {0}}
         (λ w now. tt))
-        leaves (λ c was. (seen, inl (seen_is_left_of memory), alike_now (honest h) c was))
-        (λ c now. (seen, seen_is_left_of memory, alike_now (honest h) c (left c now)))
-        (since_now after.device) (kept.backed (honest h));
+        leaves (λ c was. (seen, inl (seen_is_left_of memory), alike_now h c was))
+        (λ c now. (seen, seen_is_left_of memory, alike_now h c (left c now)))
+        (since_now after.device) (kept.backed h);
   }
 
 -- what is written ends within what the disk has

@@ -306,8 +306,8 @@ module _ {D : Type 0} (disk : Ghosts D) (v : LogSuperValue) (t : SuperValue) (de
     shows = λ ok. has_shown v t seen_there is whole;
     none_put = λ ok. refl;
     over = λ honest ok.
-        let o = opened honest.0 in
-        over_opened v t seen_there is whole long disk device o.super_block (recovers_itself honest.0) o.synced
+        let o = opened honest in
+        over_opened v t seen_there is whole long disk device o.super_block (recovers_itself honest) o.synced
         (record { store = store; staged = []; device = device }) refl (over o);
     backed = λ honest.
         let o = opened honest.0 in

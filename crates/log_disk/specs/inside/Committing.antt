@@ -52,8 +52,7 @@ pub record CommitsBatch {D : Type 0} (disk : Ghosts D) (old : LogPagerValue D) (
   pub none_put : done ≡ true → new.staged ≡ []
   pub opens : done ≡ true → OpensShown shown batch opened
   pub opened_is : done ≡ true → opened ≡ with_batch shown batch
-  pub over : done ≡ true → (contents : ℕ → List ℕ) → disk.is_honest old.device
-      → old.store.tail.log.sealing ≡ ByByte → IsPagerOver disk old contents
+  pub over : done ≡ true → (contents : ℕ → List ℕ) → disk.is_honest old.device → IsPagerOver disk old contents
       → (after : ℕ → List ℕ) × HasPut shown batch low first contents after × IsPagerOver disk new after
   pub leaves : (contents : ℕ → List ℕ) → disk.is_honest old.device
       → old.store.tail.log.sealing ≡ ByByte → IsPagerOver disk old contents

@@ -68,7 +68,7 @@ pub record IsKeptDisk {D : Type 0} (disk : Ghosts D) (v : LogSuperValue) (t : Su
   pub moments_are : AreMoments (moment_of (changed first changes)) (disk.moment pager.device) moments
   pub shows : failed ≡ false → HasShown t shown (seen_of (changed first changes))
   pub none_put : failed ≡ false → pager.staged ≡ []
-  pub over : IsHonestBelow disk v pager → failed ≡ false
+  pub over : disk.is_honest pager.device → failed ≡ false
       → IsOverLog disk v t pager shown (seen_of (changed first changes))
   pub backed : IsHonestBelow disk v pager → AreBacked disk pager.device v t (changed first changes) moments
 

@@ -38,15 +38,15 @@ invariant_of-self g c =
     d.past.changes d.past.moments d.pager d.shown kept after
     (ap (λ (p : LogPagerValue _). p.store.tail.log) state ∙ kept.log)
     (ap (λ (p : LogPagerValue _). p.staged) state ∙ kept.none_put refl)
-    alone.time.later (λ honest. (alone.honest.0 honest.0, honest.1)) alone.left
-    (λ contents honest over. c.read-outcome.ensures.over contents honest.0 over) alone.time)
+    alone.time.later alone.honest.0 alone.left
+    (λ contents honest over. c.read-outcome.ensures.over contents honest over) alone.time)
 
 pub returns-clause-bytes : goal.returns-clause-bytes
 returns-clause-bytes g c = λ honest.
     let d = c.self.inside in
     let block = c.args.block in
     let seen = seen_of (changed d.past.first d.past.changes) in
-    let below : IsHonestBelow g.D.Device d.volume d.pager =
+    let below : g.D.Device.is_honest d.pager.device =
     subst (IsHonestLog g.D.Device.is_honest) (sym c.self.view_is) honest in
     let over = c.self.invariant.over below c.if-self.false in
     let table = c.self.invariant.table in
@@ -74,7 +74,7 @@ returns-clause-bytes g c = λ honest.
     lacks
     ∙ ap (λ (d : LogDiskValue _). block_at (seen_of d.memory) block) c.self.view_is in
     let read = ok_map c.read-outcome.result (λ e. e ∙ is)
-    (c.read-outcome.ensures.bytes over.contents below.0 over.over there) in
+    (c.read-outcome.ensures.bytes over.contents below over.over there) in
     let same = c.read-outcome.new.buffer ≡ block_at (seen_of c.args.self.now.memory) block in
     elim c.match-outcome.branch [
       | in-Ok w ↦ by_ok same c.read-outcome.result c.match-outcome.result w.in-Ok.field-0 tt w.in-Ok.is w.result-is read
