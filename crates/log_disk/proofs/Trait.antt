@@ -22,6 +22,23 @@ recounted old memory change calls faults {P} is leaves =
     LeavesOnly moment_of left_since_of old (record m { calls = calls; faults = faults }) P) (sym is)
     (record { later = leaves.later; each = leaves.each; before = leaves.before; keeps = leaves.keeps })
 
+-- what calls leave, by the disk before and after
+module _ {D : Type 0} (disk : Ghosts D) (old new : LogDiskValue D) where
+  abbrev pub ReadLeaves : Type 0
+  ReadLeaves = LeavesOnly (moment_in disk.moment) (left_at disk.moment) old new (may_leave_of old.memory)
+
+  abbrev pub WriteLeaves : ℕ → List ℕ → Type 0
+  WriteLeaves at bytes = LeavesOnly (moment_in disk.moment) (left_at disk.moment) old new
+      (TornFrom at (length bytes) (may_leave_of old.memory))
+
+module _ {D : Type 0} (old new : LogDiskValue D) where
+  abbrev pub WriteLeft : ℕ → List ℕ → Type 0
+  WriteLeft at bytes =
+      (w : List ℕ) → may_leave_of new.memory w → TornFrom at (length bytes) (may_leave_of old.memory) w
+
+  abbrev pub WriteKeeps : Type 0
+  WriteKeeps = (w : List ℕ) → may_leave_of old.memory w → may_leave_of new.memory w
+
 module _ {D : Type 0} (disk : Ghosts D) (old mid new : LogDiskValue D) (calls faults : ℕ)
     (is : new ≡ with_counts mid calls faults)
     (old_are : AreMoments (moment_of old.memory) (disk.moment old.device) old.moments)

@@ -4,6 +4,7 @@ use Rattle.std.specs.List.{AllByRecursion}
 use Rattle.device.specs.declared.device.Device.{Ghosts}
 use Rattle.device.specs.Memory.{Recorded, left_since_of, may_leave_of, moment_of, seen_of}
 use Rattle.volume_codec.specs.Super.{SuperValue}
+use Rattle.log_codec.specs.declared.sealing.Sealing.TheVariants.{ByByte}
 use Rattle.log_volume.specs.Super.{LogSuperValue}
 
 -- The device of the volume, what its super block says, and what that of the disk says. To its users the disk is one in
@@ -28,9 +29,14 @@ left_at moment disk t w = AllByRecursion
 abbrev pub moment_in : {D : Type 0} → (D → ℕ) → LogDiskValue D → ℕ
 moment_in moment disk = joint_moment (moment_of disk.memory) (moment disk.device)
 
--- the disk is as honest as the device
+-- The disk is as honest as the device, where a byte seals commits. Then a crash leaves what the disk says.
 abbrev pub IsHonestLog : {D : Type 0} → (D → Type 0) → LogDiskValue D → Type 0
-IsHonestLog is_honest disk = is_honest disk.device
+IsHonestLog is_honest disk = is_honest disk.device × (disk.volume.sealing ≡ ByByte)
+
+-- The disk is as honest as the device, whatever seals commits. Then reads return what was written. Of what a crash
+-- leaves of the device, nothing is said.
+abbrev pub IsReadAlike : {D : Type 0} → (D → Type 0) → LogDiskValue D → Type 0
+IsReadAlike is_honest disk = is_honest disk.device
 
 -- the disk as a device, over a device
 abbrev pub shown_by : {D : Type 0} → Ghosts D → Ghosts (LogDiskValue D)
@@ -44,3 +50,7 @@ shown_by disk = record {
   carried = λ shown. 0;
   is_honest = IsHonestLog disk.is_honest;
 }
+
+-- the same disk as a device whose reads alone are promised
+abbrev pub read_by : {D : Type 0} → Ghosts D → Ghosts (LogDiskValue D)
+read_by disk = record (shown_by disk) { is_honest = IsReadAlike disk.is_honest }

@@ -5,7 +5,6 @@ ghost use Rattle.device.specs.Count.{raised};
 ghost use Rattle.device.specs.Memory.{seen_of, moment_of};
 ghost use Rattle.device.specs.Memory.DiskChange.{write, sync};
 ghost use Rattle.volume_codec.specs.Super.{block_count};
-ghost use Rattle.log_disk.specs.Disk.{IsHonestLog};
 ghost use Rattle.log_disk.specs.inside.Keeping.{AreMoments, ReadsOn, WritesOn, with_counts};
 
 use crate::disk::LogDisk;
@@ -22,7 +21,7 @@ const CLOSED: u8 = 0;
 
 impl<D: Device, A: Allocator + Copy> LogDisk<D, A> {
     // The bytes of the disk end within so many blocks.
-    fn is_long(&self)
+    pub(crate) fn is_long(&self)
         ensures long { length (seen_of self.now.memory) ≡ 4096 * block_count self.now.table }
         ensures small { block_count self.now.table < 2 ^ 32 }
     {
@@ -30,7 +29,7 @@ impl<D: Device, A: Allocator + Copy> LogDisk<D, A> {
     }
 
     // The moments of the disk and of the device are in order.
-    fn is_timed(&self)
+    pub(crate) fn is_timed(&self)
         ensures { AreMoments (moment_of self.now.memory) (D.moment self.now.device) self.now.moments }
     {
         let _ = &self.alloc;
@@ -53,10 +52,10 @@ impl<D: Device, A: Allocator + Copy> LogDisk<D, A> {
     }
 
     // Reads a byte of a gate, or a block.
-    fn fetch(&mut self, at: u64, buffer: &mut [u8]) -> Result<(), DeviceFault>
+    pub(crate) fn fetch(&mut self, at: u64, buffer: &mut [u8]) -> Result<(), DeviceFault>
         requires within { at + length buffer.old ≤ length (seen_of self.old.memory) }
         ensures on { (self.new ≡ self.old) ⊎ ReadsOn D.Device self.old self.new }
-        ensures bytes { IsHonestLog D.is_honest self.old → OnOk result
+        ensures bytes { D.is_honest self.old.device → OnOk result
             (buffer.new ≡ slice_range (seen_of self.old.memory) at (at + length buffer.old)) }
     {
         self.is_long();
@@ -102,7 +101,7 @@ impl<D: Device, A: Allocator + Copy> LogDisk<D, A> {
     }
 
     // Writes a byte of a gate, or a block.
-    fn store(&mut self, at: u64, bytes: &[u8]) -> Result<(), DeviceFault>
+    pub(crate) fn store(&mut self, at: u64, bytes: &[u8]) -> Result<(), DeviceFault>
         requires within { at + length bytes.now ≤ length (seen_of self.old.memory) }
         ensures { (IsErr result × (self.new ≡ self.old)) ⊎ WritesOn D.Device self.old (write at bytes.now) self.new }
     {
@@ -122,7 +121,7 @@ impl<D: Device, A: Allocator + Copy> LogDisk<D, A> {
     }
 
     // Counts a call, and passes its outcome on.
-    fn count(&mut self, outcome: Result<(), DeviceFault>) -> Result<(), DeviceFault>
+    pub(crate) fn count(&mut self, outcome: Result<(), DeviceFault>) -> Result<(), DeviceFault>
         ensures same { result ≡ outcome }
         ensures counted { self.new ≡ with_counts self.old (raised self.old.memory.calls)
             (if is_ok outcome then self.old.memory.faults else raised self.old.memory.faults) }

@@ -1,7 +1,6 @@
 // What a crash leaves of the device, by what one of the disk might have left.
-ghost use Rattle.std.specs.Prelude.{ℕ, ◌≡◌, List};
+ghost use Rattle.std.specs.Prelude.{ℕ, List};
 ghost use Rattle.device.specs.Memory.{may_leave_of};
-ghost use Rattle.log_codec.specs.declared.sealing.Sealing.TheVariants.{ByByte};
 ghost use Rattle.log_disk.specs.Disk.{LogDiskValue, IsHonestLog};
 ghost use Rattle.log_disk.specs.Laws.{StandsForOne, StandsSince};
 
@@ -11,13 +10,12 @@ use std::alloc::Allocator;
 use volume_codec::one_reading;
 
 impl<D: Device, A: Allocator + Copy> LogDisk<D, A> {
-    /// States what the device has, and what a crash of it leaves, now and since any earlier state: bytes that stand for
-    /// some that a crash of the disk might have left. Makes no device call.
+    /// Says what a crash of the device leaves, now and since any earlier state: bytes that stand for some that a crash
+    /// of the disk might have left. Makes no device call.
     pub fn crashes_alike(&self)
-        ensures now { IsHonestLog D.is_honest self.now → self.now.volume.sealing ≡ ByByte → (c : List ℕ)
-            → D.may_leave self.now.device c → StandsForOne (may_leave_of self.now.memory) c }
-        ensures since { IsHonestLog D.is_honest self.now → self.now.volume.sealing ≡ ByByte
-            → (old : LogDiskValue D) → StandsSince D.Device old self.now }
+        ensures now { IsHonestLog D.is_honest self.now → (c : List ℕ) → D.may_leave self.now.device c
+            → StandsForOne (may_leave_of self.now.memory) c }
+        ensures since { IsHonestLog D.is_honest self.now → (old : LogDiskValue D) → StandsSince D.Device old self.now }
     {
         let _ = &self.alloc;
         one_reading();

@@ -4,10 +4,12 @@
 
 mod calls;
 mod committing;
+mod digested;
 mod disk;
 mod laws;
 mod opening;
 mod past;
 mod serving;
 
+pub use digested::DigestDisk;
 pub use disk::LogDisk;

@@ -6,7 +6,6 @@ ghost use Rattle.device.specs.Memory.DiskChange.{write, sync};
 ghost use Rattle.volume_codec.specs.Layout.{block_at, first_home, journals_of, gate_block};
 ghost use Rattle.volume_codec.specs.Super.{block_count};
 ghost use Rattle.log_codec.specs.Log.{first_log_home};
-ghost use Rattle.log_disk.specs.Disk.{IsHonestLog};
 ghost use Rattle.log_disk.specs.inside.Keeping.{ReadsOn, WritesOn};
 
 use crate::committing::{Firsts, commit_batch, moved_home};
@@ -130,7 +129,7 @@ impl<D: Device, A: Allocator + Copy> LogDisk<D, A> {
     fn read_home(&mut self, block: u32, buffer: &mut [u8; 4096]) -> Result<(), DeviceFault>
         requires within { block < block_count self.old.table }
         ensures on { (IsErr result × (self.new ≡ self.old)) ⊎ ReadsOn D.Device self.old self.new }
-        ensures bytes { IsHonestLog D.is_honest self.old
+        ensures bytes { D.is_honest self.old.device
             → OnOk result (buffer.new ≡ block_at (seen_of self.old.memory) block) }
     {
         let firsts = self.firsts();
@@ -160,7 +159,7 @@ impl<D: Device, A: Allocator + Copy> LogDisk<D, A> {
     ) -> Result<(), DeviceFault>
         requires within { block < block_count self.old.table }
         ensures on { (self.new ≡ self.old) ⊎ ReadsOn D.Device self.old self.new }
-        ensures bytes { IsHonestLog D.is_honest self.old
+        ensures bytes { D.is_honest self.old.device
             → OnOk result (buffer.new ≡ block_at (seen_of self.old.memory) block) }
     {
         if self.failed {

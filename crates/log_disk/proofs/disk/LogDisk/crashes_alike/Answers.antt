@@ -1,5 +1,4 @@
-use Rattle.std.proofs.Common.{◌≡◌, subst}
-use Rattle.log_codec.specs.declared.sealing.Sealing.TheVariants.{ByByte}
+use Rattle.std.proofs.Common.{subst}
 use Rattle.log_disk.specs.Disk.{LogDiskValue, IsHonestLog}
 use Rattle.log_disk.specs.Laws.{StandsForOne, StandsSince}
 use Rattle.log_disk.specs.inside.Keeping.{changed}
@@ -19,12 +18,12 @@ returns g c =
     } in
     let k = c.self.invariant in
     record {
-      now = subst (λ (d : LogDiskValue _). IsHonestLog g.D.Device.is_honest d → d.volume.sealing ≡ ByByte → (c : _)
+      now = subst (λ (d : LogDiskValue _). IsHonestLog g.D.Device.is_honest d → (c : _)
           → g.D.Device.may_leave d.device c → StandsForOne (may_leave_of d.memory) c) c.self.view_is
-          (λ honest byte. stands_now g.D.Device g.met.D.Device.now_is_since c.one_reading.ensures.contents
-          c.one_reading.ensures.files value k.fits k.table k.moments_are (k.backed (honest, byte)));
-      since = subst (λ (d : LogDiskValue _). IsHonestLog g.D.Device.is_honest d → d.volume.sealing ≡ ByByte → (old : _)
+          (λ honest. stands_now g.D.Device g.met.D.Device.now_is_since c.one_reading.ensures.contents
+          c.one_reading.ensures.files value k.fits k.table k.moments_are (k.backed honest));
+      since = subst (λ (d : LogDiskValue _). IsHonestLog g.D.Device.is_honest d → (old : _)
           → StandsSince g.D.Device old d) c.self.view_is
-          (λ honest byte. stands_since g.D.Device g.met.D.Device.now_is_since c.one_reading.ensures.contents
-          c.one_reading.ensures.files value k.fits k.table k.moments_are (k.backed (honest, byte)));
+          (λ honest. stands_since g.D.Device g.met.D.Device.now_is_since c.one_reading.ensures.contents
+          c.one_reading.ensures.files value k.fits k.table k.moments_are (k.backed honest));
     }

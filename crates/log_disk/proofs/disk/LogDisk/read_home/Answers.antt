@@ -11,8 +11,8 @@ use Rattle.log_volume.specs.Super.{log_of}
 use Rattle.log_disk.specs.Serving.{volume_home}
 use Rattle.log_pager.specs.Pager.{LogPagerValue, contents_put}
 use Rattle.log_codec.specs.Log.{LogValue}
-use Rattle.log_disk.specs.Disk.{LogDiskValue, IsHonestLog}
-use Rattle.log_disk.specs.inside.Keeping.{IsKeptDisk, IsHonestBelow, changed}
+use Rattle.log_disk.specs.Disk.{LogDiskValue}
+use Rattle.log_disk.specs.inside.Keeping.{IsKeptDisk, changed}
 use Rattle.log_disk.proofs.Kept.{kept_read, as_told}
 use Rattle.log_disk.proofs.Reading.{by_err, by_ok, home_bytes, home_within, none_put_bytes}
 use Rattle.log_disk.proofs.disk.LogDisk.read_home.Goals.{in-Ok, in-Err}
@@ -47,7 +47,7 @@ returns-clause-bytes g c = λ honest.
     let block = c.args.block in
     let seen = seen_of (changed d.past.first d.past.changes) in
     let below : g.D.Device.is_honest d.pager.device =
-    subst (IsHonestLog g.D.Device.is_honest) (sym c.self.view_is) honest in
+    subst (λ (d : LogDiskValue _). g.D.Device.is_honest d.device) (sym c.self.view_is) honest in
     let over = c.self.invariant.over below c.if-self.false in
     let table = c.self.invariant.table in
     let low : first_home d.table.layout d.table.slots ≡ c.firsts-firsts.result.shown =

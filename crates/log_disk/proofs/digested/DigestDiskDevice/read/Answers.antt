@@ -1,0 +1,10 @@
+use Rattle.std.proofs.Common.{subst}
+use Rattle.log_disk.specs.Disk.{LogDiskValue}
+use Rattle.log_disk.proofs.Trait.{ReadLeaves, read_time}
+use Rattle.log_disk.proofs.digested.DigestDiskDevice.read.Goals as goal
+
+pub returns-clause-time : goal.returns-clause-time
+returns-clause-time g c =
+    subst (λ (d : LogDiskValue _). ReadLeaves g.D.Device d c.count-outcome.new.self) c.self.view_is
+    (read_time g.D.Device c.self.inside.disk c.fetch-outcome.new.self c.count-outcome.new.self _ _
+    c.count-outcome.ensures.counted c.is_timed.ensures c.is_timed-2.ensures c.fetch-outcome.ensures.on)
