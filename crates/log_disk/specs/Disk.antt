@@ -4,7 +4,8 @@ use Rattle.std.specs.List.{AllByRecursion}
 use Rattle.device.specs.declared.device.Device.{Ghosts}
 use Rattle.device.specs.Memory.{Recorded, left_since_of, may_leave_of, moment_of, seen_of}
 use Rattle.volume_codec.specs.Super.{SuperValue}
-use Rattle.log_codec.specs.declared.sealing.Sealing.TheVariants.{ByByte}
+use Rattle.log_codec.specs.declared.sealing.Sealing.{Sealing}
+use Rattle.log_codec.specs.declared.sealing.Sealing.TheVariants.{ByByte, ByDigest}
 use Rattle.log_volume.specs.Super.{LogSuperValue}
 
 -- The device of the volume, what its super block says, and what that of the disk says. To its users the disk is one in
@@ -51,6 +52,11 @@ shown_by disk = record {
   is_honest = IsHonestLog disk.is_honest;
 }
 
--- the same disk as a device whose reads alone are promised
+-- the same disk as a device of which only reads are promised
 abbrev pub read_by : {D : Type 0} → Ghosts D → Ghosts (LogDiskValue D)
 read_by disk = record (shown_by disk) { is_honest = IsReadAlike disk.is_honest }
+
+-- the disk as a device, by what seals commits
+abbrev pub disk_by : {D : Type 0} → Sealing → Ghosts D → Ghosts (LogDiskValue D)
+disk_by ByByte disk = shown_by disk
+disk_by (ByDigest key) disk = read_by disk

@@ -4,6 +4,7 @@ ghost use Rattle.log_disk.specs.Disk.{LogDiskValue};
 
 use crate::past::Past;
 use device::Device;
+use log_codec::Sealing;
 use log_pager::LogPager;
 use log_volume::LogSuper;
 use shown_volume::ShownVolume;
@@ -64,6 +65,13 @@ impl<D: Device, A: Allocator + Copy> LogDisk<D, A> {
         ensures { result.now ≡ self.now.device }
     {
         self.pager.device()
+    }
+
+    /// What seals the commits of the log.
+    pub fn sealing(&self) -> Sealing
+        ensures { result ≡ self.now.volume.sealing }
+    {
+        self.volume.log().sealing()
     }
 
     /// The device of the volume, what its super block says, and what that of the disk says.

@@ -1,4 +1,5 @@
 pub mod Booting
+mod BySealing
 pub mod Reopened
 pub mod Standing
 pub mod Surviving

@@ -167,11 +167,10 @@ module _ {D : Type 0} (disk : Ghosts D) (files : List File) (start : Whole (LogD
         → ((files : List File) (device : D) → RecoversToLog (disk.seen device) files → FindsOnLog disk files device)
         → ((all : (c : List ℕ) → disk.may_leave before c → RecoversToLog c files) (c : List ℕ)
         → disk.left_since shown.device (disk.moment before) c → RecoversToLog c files)
-        → EachStep (IsLawful files) first steps replies → FaultsAreServed steps replies
         → StepsStand disk start steps replies last
         → SurvivesOnLog disk files before shown start steps replies last
     survive before shown shape steps replies last started honest recovers only stand left_as seen_is_left keeps finds
-        opened lawful served led =
+        opened led =
         let at_last = last_stands disk start steps replies last stand led in
         let here = honest_at steps replies last led in
         let now = after_run steps replies last led at_last (disk.seen last.device.device)
@@ -194,6 +193,4 @@ module _ {D : Type 0} (disk : Ghosts D) (files : List File) (start : Whole (LogD
             finds = finds (files_after files now.prefix) last.device.device now.recovers;
           };
           honest = here.0;
-          lawful = lawful;
-          served = served;
         }

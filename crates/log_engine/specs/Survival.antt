@@ -51,6 +51,12 @@ pub record StaysOnLog {D : Type 0} (disk : Ghosts D) (files : List File) (before
   pub found : FindsOnLog disk files after
   pub honest : disk.is_honest after
 
+-- loads, stores and faults are answered by what was observed before them, and a fault that is served is served
+pub record AreAnswered {D : Type 0} (files : List File) (start : Whole (LogDiskValue D)) (steps : List Step)
+    (replies : List Reply) : Type 0 where
+  pub lawful : EachStep (IsLawful files) (observed_first files start.state) steps replies
+  pub served : FaultsAreServed steps replies
+
 -- These steps of a machine that was booted over the disk that shows a volume with these files, and their replies.
 pub record SurvivesOnLog {D : Type 0} (disk : Ghosts D) (files : List File) (before : D) (shown : LogDiskValue D)
     (start : Whole (LogDiskValue D)) (steps : List Step) (replies : List Reply) (last : Whole (LogDiskValue D))
@@ -68,6 +74,3 @@ pub record SurvivesOnLog {D : Type 0} (disk : Ghosts D) (files : List File) (bef
   -- so it is without a crash, and the same can be done again on the device
   pub ended : FindsDurableOnLog disk files (history_of files start steps replies) last.device.device
   pub honest : disk.is_honest last.device.device
-  -- loads, stores and faults are answered by what was observed before them, and a fault that is served is served
-  pub lawful : EachStep (IsLawful files) (observed_first files start.state) steps replies
-  pub served : FaultsAreServed steps replies

@@ -1,14 +1,21 @@
 use Rattle.std.proofs.Common.{◌≡◌, inl, inr, ℕ, List, length, take, refl, sym, ◌∙◌, ap, subst}
 use Rattle.volume_codec.specs.Files.{File}
 use Rattle.volume_codec.specs.Layout.{block_at}
+use Rattle.std.specs.Prelude.{IfOk, IfErr}
+use Rattle.std.proofs.lemmas.Result.{IfErr-weaker, IfOk-weaker}
+use Rattle.machine.specs.declared.act.Reply.{Reply}
+use Rattle.engine.specs.Engine.{HasNotStarted, HasRun}
+use Rattle.engine.specs.Listening.{HasListened}
+use Rattle.log_engine.specs.Runs.{HasNotRunOnLog, HasRunOnLog}
 use Rattle.engine.proofs.Public.{begins}
 use Rattle.machine.specs.Crashes.{Begins}
-use Rattle.log_codec.specs.declared.sealing.Sealing.TheVariants.{ByByte}
+use Rattle.log_codec.specs.declared.sealing.Sealing.TheVariants.{ByByte, ByDigest}
 use Rattle.log_volume.specs.Files.{RecoversToLog, log_files_in}
-use Rattle.log_disk.specs.Disk.{LogDiskValue, IsHonestLog, shown_by}
-use Rattle.log_engine.specs.Survival.{StaysOnLog, SurvivesOnLog}
+use Rattle.log_disk.specs.Disk.{LogDiskValue, IsHonestLog, read_by, shown_by}
+use Rattle.log_engine.specs.Survival.{AreAnswered, StaysOnLog, SurvivesOnLog}
 use Rattle.log_engine.proofs.Booting.{honest_after, left_after_boot, left_in_boot, opens_of}
 use Rattle.log_engine.proofs.Reopened.{finds, found_after, keeps, one_files, opened_left}
+use Rattle.log_engine.proofs.BySealing.{made_by, refused_by, started_by}
 use Rattle.log_engine.proofs.Standing.{taken_of}
 use Rattle.log_engine.proofs.Surviving.{survive}
 use Rattle.log_engine.proofs.running.run.Goals as goal
@@ -29,10 +36,11 @@ returns-in-Ok-boot-clause-ran g c =
     let unique = one_files c.one_log_super.ensures.one c.one_log.ensures.contents in
     let opens = c.files_of_openings.ensures.opened in
     let crashed = c.files_of_openings.ensures.crashed in
-    let survives : disk.is_honest device → shown.volume.sealing ≡ ByByte
-    → (files : List File) × RecoversToLog (disk.seen device) files
-    × SurvivesOnLog disk files device shown start steps replies last =
-    λ honest by_byte.
+    let by_byte : shown.volume.sealing ≡ ByByte = sym c.sealing.ensures ∙ c.in-ByByte.is in
+    let survives : disk.is_honest device → (files : List File) × RecoversToLog (disk.seen device) files
+    × AreAnswered files start steps replies
+    × (shown.volume.sealing ≡ ByByte → SurvivesOnLog disk files device shown start steps replies last) =
+    λ honest.
     let opened = c.in-Ok.ensures.opened honest in
     let files = log_files_in shown.volume (block_at (disk.seen shown.device)) in
     let here = (opens device shown.device shown.volume opened.lengths opened.next opened.opened).1 in
@@ -44,16 +52,18 @@ returns-in-Ok-boot-clause-ran g c =
     on_disk) first.2 in (
       files,
       here,
-      survive disk files start begun g.met.D.Device.now_is_since c.runs_keep_the_laws.ensures.since
+      record {
+        lawful = c.runs_keep_the_laws.ensures.lawful files start last steps replies
+            (record { begins = begun; taken = taken });
+        served = c.faults_are_served.ensures start last steps replies taken;
+      },
+      λ sealed. survive disk files start begun g.met.D.Device.now_is_since c.runs_keep_the_laws.ensures.since
           (found_after disk magic unique opens crashed) device shown c.args.shape steps replies last started
           shown_honest
           on_disk c.in-Ok.ensures.synced c.in-Ok-boot.ensures.stands c.crashed_since_opening.ensures.left
           g.met.D.Device.seen_is_left (keeps disk magic unique opens crashed) (finds disk magic unique opens crashed)
           (λ all list left. opened_left disk magic unique opens crashed files device all here list
           ((c.in-Ok.ensures.crash honest).each list left))
-          (c.runs_keep_the_laws.ensures.lawful files start last steps replies
-          (record { begins = begun; taken = taken }))
-          (c.faults_are_served.ensures start last steps replies taken)
           stand,
     ) in (
       replies,
@@ -67,8 +77,8 @@ returns-in-Ok-boot-clause-ran g c =
           table = c.in-Ok.ensures.shown;
           opened = c.in-Ok.ensures.opened;
         };
-        started = started;
-        made = taken;
+        started = started_by disk shown.volume.sealing (inl (by_byte, refl)) started;
+        made = made_by disk shown.volume.sealing (inl (by_byte, refl)) start steps replies last taken;
         ended = c.into_device-in-Ok-boot.ensures ∙ ap (λ (d : LogDiskValue _). d.device) c.into_device.ensures;
         survives = survives;
       },
@@ -124,7 +134,8 @@ returns-in-Err-boot-clause-refused g c =
           opened = c.in-Ok.ensures.opened;
         };
         left = after;
-        refused = failed.1;
+        refused = refused_by disk shown.volume.sealing
+            (inl (sym c.sealing.ensures ∙ c.in-ByByte.is, refl)) shown c.args.shape after _ failed.1;
         ended = same;
         kept = λ honest by_byte.
             let there = kept honest by_byte in
@@ -161,3 +172,85 @@ returns-in-Err-clause-refused g c =
       }),
       refl,
     )
+
+pub returns-in-ByDigest-clause-ran : goal.returns-in-ByDigest-clause-ran
+returns-in-ByDigest-clause-ran g c =
+    let disk = g.D.Device in
+    let device = c.args.device in
+    let shown = c.in-Ok.disk in
+    let key : ℕ = c.in-ByDigest.field-0 in
+    let sealed : shown.volume.sealing ≡ ByDigest key = sym c.sealing.ensures ∙ c.in-ByDigest.is in
+    let opens = c.files_of_openings.ensures.opened in
+    IfOk-weaker c.run_by_digest.result
+    (λ after. (last : LogDiskValue _) × (replies : List Reply)
+    × HasListened g.L.Listener.hears (length c.args.steps.now) c.args.listener.now replies c.run_by_digest.new.listener
+    × HasRun (read_by disk) shown c.args.shape (take (length replies) c.args.steps.now) replies last
+    × (after ≡ last.device))
+    (λ after. (replies : List Reply)
+    × HasListened g.L.Listener.hears (length c.args.steps.now) c.args.listener.now replies c.run_by_digest.new.listener
+    × HasRunOnLog disk device c.args.shape (take (length replies) c.args.steps.now) replies after)
+    (λ after (last, replies, heard, ran, is). (
+      replies,
+      heard,
+      record {
+        shown = shown;
+        start = ran.start;
+        last = ran.last;
+        is_shown = record {
+          fresh = c.in-Ok.ensures.fresh;
+          table = c.in-Ok.ensures.shown;
+          opened = c.in-Ok.ensures.opened;
+        };
+        started = started_by disk shown.volume.sealing (inr (key, sealed, refl)) ran.started;
+        made = made_by disk shown.volume.sealing (inr (key, sealed, refl)) ran.start _ replies ran.last
+            ran.made;
+        ended = is ∙ ap (λ (d : LogDiskValue _). d.device) ran.ended;
+        survives = λ honest.
+            let opened = c.in-Ok.ensures.opened honest in
+            let files = log_files_in shown.volume (block_at (disk.seen shown.device)) in
+            let here = (opens device shown.device shown.volume opened.lengths opened.next opened.opened).1 in
+            let on_disk = c.in-Ok.ensures.files honest files here in
+            let stored = ran.survives (c.in-Ok.ensures.counted.honest.1 honest) in
+            let same = c.one_reading.ensures.files ((shown_by disk).seen shown) stored.0 files stored.1 on_disk in (
+              files,
+              here,
+              subst (λ (l : List File). AreAnswered l ran.start (take (length replies) c.args.steps.now) replies) same
+                  (record { lawful = stored.2.lawful; served = stored.2.served }),
+              λ byte. absurd (cc (sym byte ∙ sealed)),
+            );
+      },
+    )) (subst (λ (d : LogDiskValue _). IfOk c.run_by_digest.result (λ after. (last : LogDiskValue _)
+    × (replies : List Reply)
+    × HasListened g.L.Listener.hears (length c.args.steps.now) c.args.listener.now replies c.run_by_digest.new.listener
+    × HasRun (read_by disk) d c.args.shape (take (length replies) c.args.steps.now) replies last
+    × (after ≡ last.device))) c.over.ensures c.run_by_digest.ensures.ran)
+
+pub returns-in-ByDigest-clause-refused : goal.returns-in-ByDigest-clause-refused
+returns-in-ByDigest-clause-refused g c =
+    let disk = g.D.Device in
+    let shown = c.in-Ok.disk in
+    let key : ℕ = c.in-ByDigest.field-0 in
+    let sealed : shown.volume.sealing ≡ ByDigest key = sym c.sealing.ensures ∙ c.in-ByDigest.is in
+    IfErr-weaker c.run_by_digest.result
+    (λ refused. (left : LogDiskValue _) × HasNotStarted (read_by disk) shown c.args.shape left refused.0
+    × (refused.1 ≡ left.device) × (c.run_by_digest.new.listener ≡ c.args.listener.now))
+    (λ refused. HasNotRunOnLog disk c.args.device c.args.shape refused.1 refused.0
+    × (c.run_by_digest.new.listener ≡ c.args.listener.now))
+    (λ refused (left, not_started, same, listened). (
+      inr (record {
+        shown = shown;
+        is_shown = record {
+          fresh = c.in-Ok.ensures.fresh;
+          table = c.in-Ok.ensures.shown;
+          opened = c.in-Ok.ensures.opened;
+        };
+        left = left;
+        refused = refused_by disk shown.volume.sealing (inr (key, sealed, refl)) shown c.args.shape left refused.0
+            not_started;
+        ended = same;
+        kept = λ honest byte. absurd (cc (sym byte ∙ sealed));
+      }),
+      listened,
+    )) (subst (λ (d : LogDiskValue _). IfErr c.run_by_digest.result (λ refused. (left : LogDiskValue _)
+    × HasNotStarted (read_by disk) d c.args.shape left refused.0 × (refused.1 ≡ left.device)
+    × (c.run_by_digest.new.listener ≡ c.args.listener.now))) c.over.ensures c.run_by_digest.ensures.refused)
