@@ -7,4 +7,4 @@ pub use Rattle.log_commits.proofs.Committing.{committed_cases, logged_more, logg
 pub use Rattle.log_commits.proofs.Moving.{is_failed, leaves_as_before}
 pub use Rattle.log_commits.proofs.Left.{recovers}
 pub use Rattle.log_commits.proofs.Works.{did_one}
-pub use Rattle.log_commits.proofs.UnderWay.{ended_behind, ended_moving}
+pub use Rattle.log_commits.proofs.UnderWay.{ended_behind, ended_moving, told_ends}

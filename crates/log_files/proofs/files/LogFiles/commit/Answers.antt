@@ -4,9 +4,10 @@ use Rattle.device.specs.declared.device.Device.{Ghosts}
 use Rattle.kept_blocks.specs.Blocks.{homes_in}
 use Rattle.log_codec.specs.Chain.{LogRecovers}
 use Rattle.log_commits.specs.Commit.{TellsTorn}
+use Rattle.log_commits.proofs.Public.{told_ends}
 use Rattle.log_store.specs.Store.{committing_tail}
 use Rattle.log_pager.specs.declared.fault.PagerFault.{PagerFault}
-use Rattle.log_pager.specs.Pager.{IsPagerOver, RefusesPagerCommit, contents_put, records_put}
+use Rattle.log_pager.specs.Pager.{IsPagerOver, LogPagerValue, RefusesPagerCommit, contents_put, records_put}
 use Rattle.log_files.specs.State.{LogFilesState}
 use Rattle.log_files.specs.Calls.{IsFailedLogCommit, log_commit_refusal}
 use Rattle.log_files.specs.inside.Faults.{refusal_by}
@@ -27,6 +28,22 @@ leaves_put : (g : _) (c : After-commit g) (contents : ℕ → List ℕ)
     → LeavesPut g.D.Device contents c.commit.new.self.device c.args.self.now
 leaves_put g c contents =
     subst (LeavesPut g.D.Device contents c.commit.new.self.device) c.self.view_is (c.commit.ensures.leaves contents)
+
+-- what was committed, where the premise on a crash covers that on a read
+abbrev PutsOver : {D : Type 0} → Ghosts D → (ℕ → List ℕ) → LogPagerValue D → LogFilesState D → Type 0
+PutsOver disk contents new s = disk.is_honest s.pager.device → IsPagerOver disk s.pager contents
+    → TellsTorn (committing_tail s.pager.store) (homes_in s.pager.staged) (records_put s.pager.staged)
+    (disk.seen new.device)
+    → IsPagerOver disk new (contents_put contents s.pager.staged)
+
+pub returns-in-Ok-clause-over : goal.returns-in-Ok-clause-over
+returns-in-Ok-clause-over g c = λ contents.
+    let s : LogFilesState g.row.D.Denot = files_state_of c.self.inside in
+    let new = c.commit.new.self in
+    let over : PutsOver g.D.Device contents new s = λ honest over tells.
+    c.in-Ok.ensures.over contents honest over (told_ends (committing_tail s.pager.store) (homes_in s.pager.staged)
+    (records_put s.pager.staged) (g.D.Device.seen new.device) tells) in
+    subst (PutsOver g.D.Device contents new) c.self.view_is over
 
 pub returns-in-Ok-clause-leaves : goal.returns-in-Ok-clause-leaves
 returns-in-Ok-clause-leaves g c = leaves_put g (goal.at.returns-in-Ok-clause-leaves g c).After-commit
