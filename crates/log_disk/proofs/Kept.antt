@@ -61,8 +61,8 @@ module _ {D : Type 0} (disk : Ghosts D)
     };
   }
 
-  pub alike_now : IsHonestBelow disk v pager → (c : List ℕ) → disk.may_leave pager.device c → RecoverAlike v t c seen
-  alike_now honest = alike_by pager shown seen kept.log (kept.over honest.0 refl)
+  pub alike_now : disk.is_honest pager.device → (c : List ℕ) → disk.may_leave pager.device c → RecoverAlike v t c seen
+  alike_now honest = alike_by pager shown seen kept.log (kept.over honest refl)
 
   -- ---- a write or a sync more
 
@@ -155,7 +155,7 @@ module _ {D : Type 0} (disk : Ghosts D)
         first = over.first;
         recovers = stays.recovers t seen (shown_contents v t over.contents) (kept.shows works) over.recovers;
       };
-      leaves = λ honest. leaves_at_start (λ c left. inl (alike_now honest c (since_now pager.device c left)));
+      leaves = λ honest. leaves_at_start (λ c left. inl (alike_now honest.0 c (since_now pager.device c left)));
     })
 
   pub kept_sync : IsKeptDisk disk v t first (sync ∷ changes)
@@ -172,7 +172,7 @@ module _ {D : Type 0} (disk : Ghosts D)
         shows = kept.shows;
         none_put = kept.none_put;
         over = kept.over;
-        leaves = λ honest. leaves_at_start (λ c left. inl (alike_now honest c (since_now pager.device c left)));
+        leaves = λ honest. leaves_at_start (λ c left. inl (alike_now honest.0 c (since_now pager.device c left)));
       })
 
   -- ---- calls of the device that aren't seen
@@ -208,8 +208,8 @@ module _ {D : Type 0} (disk : Ghosts D)
         kept.moments_are refl refl refl
         (leaves_at_start {moment = moment_of} {left_since = left_since_of} {device = memory} {P = λ w. Unit {0}}
         (λ w now. tt))
-        leaves (λ c was. (seen, inl (seen_is_left_of memory), alike_now h c was))
-        (λ c now. (seen, seen_is_left_of memory, alike_now h c (left c now)))
+        leaves (λ c was. (seen, inl (seen_is_left_of memory), alike_now h.0 c was))
+        (λ c now. (seen, seen_is_left_of memory, alike_now h.0 c (left c now)))
         (since_now after.device) (kept.backed h);
   }
 

@@ -11,3 +11,4 @@ mod Reading
 mod Tables
 mod Times
 mod Trait
+mod Working

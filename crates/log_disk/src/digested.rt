@@ -1,14 +1,15 @@
 // The disk where a digest seals commits.
 ghost use Rattle.std.specs.Prelude.{◌≡◌};
+ghost use Rattle.log_disk.specs.Laws.{Works, WorksUnlessFailed};
 
 use crate::disk::LogDisk;
 use device::{Device, DeviceFault};
 use std::alloc::Allocator;
 use std::marker::Model;
 
-/// The disk over a volume with a log as a device of which only reads are promised: on an honest device they return what
-/// was written, in layouts 5 and 6. No clause covers what a crash leaves, so this serves a volume in layout 6, where
-/// `LogDisk` promises nothing.
+/// The disk over a volume with a log, for layout 6, where `LogDisk` promises nothing of content. On an honest device
+/// reads return what was written. A crash between two calls leaves bytes that stand for those of the disk, unless a call
+/// of the disk has failed. No clause covers a crash within a call.
 #[derive(Drop)]
 pub struct DigestDisk<D: Device, A: Allocator + Copy> {
     disk: LogDisk<D, A>,
@@ -17,20 +18,32 @@ pub struct DigestDisk<D: Device, A: Allocator + Copy> {
 impl<D: Device, A: Allocator + Copy> Model for DigestDisk<D, A> {
     ghost use Rattle.log_disk.specs.Disk.{LogDiskValue};
     ghost use Rattle.std.specs.Coded.{codes};
+    ghost use Rattle.log_disk.specs.Laws.{WorksUnlessFailed};
 
     ghost Value = { LogDiskValue D };
 
     ghost coded = { Prim.hlevel (codes, D.code) };
 
     ghost view = { λ d. d.disk };
+
+    ghost invariant = { λ d. WorksUnlessFailed D.Device d.disk };
 }
 
 impl<D: Device, A: Allocator + Copy> DigestDisk<D, A> {
-    /// The same disk.
+    /// The same disk, of which no call has failed yet.
     pub fn over(disk: LogDisk<D, A>) -> Self
+        requires { Works D.Device disk }
         ensures { result ≡ disk }
     {
         DigestDisk { disk }
+    }
+
+    /// States what the device has, and what a crash of it leaves now, unless a call of the disk has failed: bytes that
+    /// stand for those of the disk. Makes no device call.
+    pub fn works_unless_failed(&self)
+        ensures { WorksUnlessFailed D.Device self.now }
+    {
+        let _ = &self.disk;
     }
 
     /// The device of the volume, as the calls left it.
@@ -78,6 +91,7 @@ impl<D: Device, A: Allocator + Copy> Device for DigestDisk<D, A> {
     fn read(&mut self, at: u64, buffer: &mut [u8]) -> Result<(), DeviceFault> {
         self.disk.is_timed();
         let outcome = self.disk.fetch(at, buffer);
+        let outcome = self.disk.unless_failed(outcome);
         let outcome = self.disk.count(outcome);
         self.disk.is_timed();
         outcome
@@ -86,6 +100,7 @@ impl<D: Device, A: Allocator + Copy> Device for DigestDisk<D, A> {
     fn write(&mut self, at: u64, bytes: &[u8]) -> Result<(), DeviceFault> {
         self.disk.is_timed();
         let outcome = self.disk.store(at, bytes);
+        let outcome = self.disk.unless_failed(outcome);
         let outcome = self.disk.count(outcome);
         self.disk.is_timed();
         outcome
@@ -94,6 +109,7 @@ impl<D: Device, A: Allocator + Copy> Device for DigestDisk<D, A> {
     fn sync(&mut self) -> Result<(), DeviceFault> {
         self.disk.is_timed();
         let outcome = self.disk.settle();
+        let outcome = self.disk.unless_failed(outcome);
         let outcome = self.disk.count(outcome);
         self.disk.is_timed();
         outcome

@@ -1,11 +1,11 @@
 // What a crash leaves of the device, by what one of the disk might have left.
-ghost use Rattle.std.specs.Prelude.{ℕ, List};
+ghost use Rattle.std.specs.Prelude.{ℕ, ◌≡◌, List, IsTrue, OnOk};
 ghost use Rattle.device.specs.Memory.{may_leave_of};
 ghost use Rattle.log_disk.specs.Disk.{LogDiskValue, IsHonestLog};
-ghost use Rattle.log_disk.specs.Laws.{StandsForOne, StandsSince};
+ghost use Rattle.log_disk.specs.Laws.{StandsForOne, StandsSince, Works};
 
 use crate::disk::LogDisk;
-use device::Device;
+use device::{Device, DeviceFault};
 use std::alloc::Allocator;
 use volume_codec::one_reading;
 
@@ -19,5 +19,24 @@ impl<D: Device, A: Allocator + Copy> LogDisk<D, A> {
     {
         let _ = &self.alloc;
         one_reading();
+    }
+
+    // Whether the disk hasn't failed.
+    fn works(&self) -> bool
+        ensures { IsTrue result → Works D.Device self.now }
+    {
+        one_reading();
+        !self.failed
+    }
+
+    // The outcome of a call, unless the disk has failed.
+    pub(crate) fn unless_failed(&self, outcome: Result<(), DeviceFault>) -> Result<(), DeviceFault>
+        ensures same { OnOk result (result ≡ outcome) }
+        ensures works { OnOk result (Works D.Device self.now) }
+    {
+        if self.works() {
+            return outcome;
+        }
+        Err(DeviceFault)
     }
 }

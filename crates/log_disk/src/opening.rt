@@ -13,6 +13,7 @@ ghost use Rattle.log_opening.specs.Opening.{HasWrittenNothing};
 ghost use Rattle.log_opening.specs.Volume.{LeftByOpeningVolume};
 ghost use Rattle.log_disk.specs.Opening.{opened_disk, HasOpenedDisk, RefusesShown, RefusesDisk, IsCountedDisk};
 ghost use Rattle.log_disk.specs.Opening.{disk_result, disk_leaves};
+ghost use Rattle.log_disk.specs.Laws.{Works};
 ghost use Rattle.log_disk.specs.Serving.{IsShownTable};
 ghost use Rattle.log_disk.specs.inside.Opened.{asked_whole, IsOpenedLog};
 
@@ -29,7 +30,7 @@ use log_volume::{LogSuper, one_log_super};
 use page_entry::Refusal;
 use shown_volume::ShownVolume;
 use std::alloc::Allocator;
-use volume_codec::{FileSpec, Super};
+use volume_codec::{FileSpec, Super, one_reading};
 
 // The files of a volume as they are asked for, in the first places.
 fn specs_of<A: Allocator + Copy>(table: &Super<A>) -> [FileSpec<'_>; 64]
@@ -84,6 +85,7 @@ impl<D: Device, A: Allocator + Copy> LogDisk<D, A> {
         ensures crash { D.is_honest device → LeavesOnly D.moment D.left_since device (disk_leaves result)
             (LeftByOpeningVolume D.Device device) }
         ensures counted { IsCountedDisk D.Device device (disk_result result) (disk_leaves result) }
+        ensures works { IfOk result (Works D.Device) }
     {
         one_log();
         one_log_super();
@@ -109,8 +111,10 @@ impl<D: Device, A: Allocator + Copy> LogDisk<D, A> {
             → IsLogSuper opened.table (block_at old 0)
             → LogRecovers (log_of opened.table) (block_at (D.seen device)) old
             → RecoversToLog old files → RecoversTo (seen_of result.memory) files }
+        ensures works { Works D.Device result }
     {
         opened_store(&device);
+        one_reading();
         one_log();
         one_log_super();
         let OpenedLog {

@@ -2,6 +2,7 @@ use Rattle.std.proofs.Common.{◌+◌, ◌≤◌, length, sym, subst}
 use Rattle.device.specs.Memory.{seen_of}
 use Rattle.log_disk.specs.Disk.{LogDiskValue}
 use Rattle.log_disk.proofs.Trait.{WriteKeeps, WriteLeaves, WriteLeft, write_keeps, write_left, write_time}
+use Rattle.log_disk.proofs.Working.{works_counted}
 use Rattle.log_disk.proofs.digested.DigestDiskDevice.write.Goals as goal
 
 pub returns-clause-time : goal.returns-clause-time
@@ -31,3 +32,7 @@ returns-clause-keeps g c = λ honest.
     (write_keeps g.D.Device c.self.inside.disk c.store-outcome.new.self c.count-outcome.new.self _ _
     c.count-outcome.ensures.counted c.is_timed.ensures c.is_timed-2.ensures c.args.at c.args.bytes.now fits
     c.store-outcome.ensures)
+
+pub invariant_of-self : goal.invariant_of-self
+invariant_of-self g c = works_counted g.D.Device c.store-outcome.new.self c.count-outcome.new.self _
+    c.unless_failed-outcome.result c.count-outcome.ensures.counted c.unless_failed-outcome.ensures.works

@@ -8,10 +8,14 @@ use Rattle.log_volume.specs.Super.{log_of}
 use Rattle.log_commits.specs.Tail.{TailValue, tail_at}
 use Rattle.log_store.specs.Store.{StoreValue, IsStoreOver, fresh_store}
 use Rattle.log_disk.proofs.Opened.{kept_as, files_of_shown}
+use Rattle.log_disk.specs.inside.Keeping.{IsKeptDisk}
+use Rattle.log_disk.proofs.Working.{works_of}
+use Rattle.log_disk.proofs.disk.LogDisk.over.Goals.{After-new-3}
 use Rattle.log_disk.proofs.disk.LogDisk.over.Goals as goal
 
-pub invariant_of-result : goal.invariant_of-result
-invariant_of-result g c =
+kept : (g : _) (c : After-new-3 g) → IsKeptDisk g.D.Device c.args.opened.table c.args.table c.begin-past.result.first
+    c.begin-past.result.changes c.begin-past.result.moments c.new-3.result c.new-2.result false
+kept g c =
     let o = c.args.opened in
     let device = c.args.device in
     let contents = block_at (g.D.Device.seen device) in
@@ -31,6 +35,16 @@ invariant_of-result g c =
     (subst (λ (s : StoreValue). IsStoreOver g.D.Device s contents device) (sym store_is)
     (c.opened_store.ensures (log_of o.table) o.start o.second false opened.synced opened.log opened.selected))
     (omega (arith, c.requires.long, ap (λ (s : StoreValue). s.tail.log.blocks) store_is)))
+
+pub invariant_of-result : goal.invariant_of-result
+invariant_of-result g c = kept g (goal.at.invariant_of-result g c).After-new-3
+
+pub returns-clause-works : goal.returns-clause-works
+returns-clause-works g c =
+    let past = c.begin-past.result in
+    works_of g.D.Device g.met.D.Device.since_now g.met.D.Device.now_is_since c.one_reading.ensures.contents
+    c.one_reading.ensures.files c.args.opened.table c.args.table past.first past.changes past.moments c.new-3.result
+    c.new-2.result 0 0 (kept g (goal.at.returns-clause-works g c).After-new-3)
 
 pub returns-clause-files : goal.returns-clause-files
 returns-clause-files g c = λ honest old files says recovered to.
