@@ -2,6 +2,8 @@
 use Rattle.std.proofs.Common.{◌≡◌, inl, inr, ℕ, zero, suc, ◌≤◌, List, [], ◌∷◌, ◌++◌, take, Ok}
 use Rattle.std.proofs.Common.{refl, ap, subst, arith}
 use Rattle.device.specs.Device.{Only}
+use Rattle.device.specs.Memory.{seen_of}
+use Rattle.device.specs.inside.Laws.{seen_is_left_of}
 use Rattle.device.specs.declared.device.Device.{Ghosts}
 use Rattle.volume_codec.specs.Files.{File}
 use Rattle.volume_codec.specs.Recovery.{RecoversTo}
@@ -10,7 +12,7 @@ use Rattle.machine.specs.declared.act.Reply.{Reply}
 use Rattle.machine.specs.declared.act.Shape.{Shape}
 use Rattle.machine.specs.declared.act.Step.{Step}
 use Rattle.machine.specs.Crashes.{Begins, Throughout}
-use Rattle.machine.specs.Laws.{EachStep, FaultsAreServed, IsLawful, ReadsBackSince}
+use Rattle.machine.specs.Laws.{ReadsBackSince}
 use Rattle.machine.specs.Observed.{Observed, observe, observe_all}
 use Rattle.machine.specs.Reached.{IsReached}
 use Rattle.machine.specs.Runs.{StepsTaken}
@@ -20,9 +22,11 @@ use Rattle.engine.specs.Engine.{HasStarted}
 use Rattle.engine.specs.Survival.{history_of}
 use Rattle.engine.proofs.Public.{taken_kept}
 use Rattle.log_volume.specs.Files.{RecoversToLog}
-use Rattle.log_disk.specs.Disk.{LogDiskValue, IsHonestLog, shown_by}
+use Rattle.log_disk.specs.Disk.{LogDiskValue, IsHonestLog, moment_in, read_by, shown_by}
+use Rattle.log_disk.specs.Laws.{Works}
+use Rattle.log_disk.specs.inside.Times.{now_is_since as now_is_since_at}
 use Rattle.log_engine.specs.Openings.{FindsAfterLogCrash, FindsOnLog, KeepsOnLog}
-use Rattle.log_engine.specs.Survival.{BeforeOrWith, StepSurvivesOnLog, SurvivesOnLog}
+use Rattle.log_engine.specs.Survival.{BeforeOrWith, EndsOnLog, StepSurvivesOnLog, SurvivesOnLog}
 use Rattle.log_engine.specs.inside.Standing.{Stands, StepsStand, StepStands}
 use Rattle.log_engine.proofs.Booting.{LeavesAlike, left_in_boot}
 use Rattle.log_engine.proofs.Reopened.{ReadsBackOnLog}
@@ -58,6 +62,54 @@ ReadsBackAfter {D} disk =
     → IsReached disk files start earlier replied mid → StepsTaken disk mid later more last
     → disk.left_since last.device (disk.moment mid.device) c
     → ReadsBackSince files (observe_all (observed_first files start.state) earlier replied) later more c
+
+-- what is found after the last step
+pub ends_by : {D : Type 0} (disk : Ghosts D) (files : List File) (start : Whole (LogDiskValue D))
+    (found_after : (files : List File) (histories : List Event → Type 0) (lists : List ℕ → Type 0)
+    → ((c : List ℕ) → lists c → ReadsBackOnLog files histories c)
+    → FindsAfterLogCrash disk files histories lists)
+    (finds : (files : List File) (device : D) → RecoversToLog (disk.seen device) files → FindsOnLog disk files device)
+    (steps : List Step) (replies : List Reply) (last : Whole (LogDiskValue D)) → disk.is_honest last.device.device
+    → ((c : List ℕ) → disk.may_leave last.device.device c
+    → ReadsBackOnLog files (λ history. history ≡ history_of files start steps replies) c)
+    → ReadsBackOnLog files (λ history. history ≡ history_of files start steps replies) (disk.seen last.device.device)
+    → EndsOnLog disk files start steps replies last
+ends_by disk files start found_after finds steps replies last honest left now =
+    let whole : List Event → Type 0 = λ history. history ≡ history_of files start steps replies in
+    record {
+      after = found_after files whole (disk.may_leave last.device.device) left;
+      ended = record {
+        found = files_after files now.prefix;
+        durable = record {
+          prefix = now.prefix;
+          durable = subst (λ (h : List Event). IsDurablePrefix now.prefix h) now.is_one now.durable;
+          files_are = refl;
+        };
+        finds = finds (files_after files now.prefix) last.device.device now.recovers;
+      };
+      honest = honest;
+    }
+
+-- a disk over which a run ended, and whose device has what stands for its bytes
+module _ {D : Type 0} (disk : Ghosts D) (files : List File) (start last : Whole (LogDiskValue D)) (steps : List Step)
+    (replies : List Reply) (reached : IsReached (read_by disk) files start steps replies last)
+    (since : ReadsBackAfter (read_by disk)) (works : Works disk last.device)
+    (honest : disk.is_honest last.device.device) where
+  pub after_reads : (c : List ℕ) → disk.may_leave last.device.device c
+      → ReadsBackOnLog files (λ history. history ≡ history_of files start steps replies) c
+  after_reads c may =
+      let w : List ℕ = seen_of last.device.memory in
+      let left = now_is_since_at disk.moment last.device (moment_in disk.moment last.device) w
+      (seen_is_left_of last.device.memory) in
+      let back = since files start last last steps [] replies [] w reached refl left in
+      let o = observe_all (observed_first files start.state) steps replies in
+      record {
+        history = (observe_all o (take back.0 []) (take back.0 [])).history;
+        is_one = none_of_none o back.0;
+        prefix = back.1.prefix;
+        durable = back.1.durable;
+        recovers = works honest c may (files_after files back.1.prefix) back.1.recovers;
+      }
 
 module _ {D : Type 0} (disk : Ghosts D) (files : List File) (start : Whole (LogDiskValue D))
     (begun : Begins (shown_by disk) files start)
@@ -175,22 +227,11 @@ module _ {D : Type 0} (disk : Ghosts D) (files : List File) (start : Whole (LogD
         let here = honest_at steps replies last led in
         let now = after_run steps replies last led at_last (disk.seen last.device.device)
         (seen_is_left last.device.device here.0) in
-        let whole : List Event → Type 0 = λ history. history ≡ history_of files start steps replies in
         record {
           opening = λ all. keeps files (disk.left_since shown.device (disk.moment before)) (opened all);
           booting = keeps files (disk.left_since start.device.device (disk.moment shown.device))
               (while_booting shown shape started honest recovers only stand left_as);
           within = throughout [] [] start steps replies last refl led;
-          after = found_after files whole (disk.may_leave last.device.device)
-              (after_run steps replies last led at_last);
-          ended = record {
-            found = files_after files now.prefix;
-            durable = record {
-              prefix = now.prefix;
-              durable = subst (λ (h : List Event). IsDurablePrefix now.prefix h) now.is_one now.durable;
-              files_are = refl;
-            };
-            finds = finds (files_after files now.prefix) last.device.device now.recovers;
-          };
-          honest = here.0;
+          ends = ends_by disk files start found_after finds steps replies last here.0
+              (after_run steps replies last led at_last) now;
         }

@@ -16,7 +16,7 @@ use Rattle.log_opening.specs.Opening.{HasWrittenNothing}
 use Rattle.log_disk.specs.Disk.{LogDiskValue, disk_by}
 use Rattle.log_disk.specs.Opening.{HasShown, IsCountedDisk, RefusesDisk}
 use Rattle.log_engine.specs.Openings.{FindsOnLog, KeepsOnLog}
-use Rattle.log_engine.specs.Survival.{AreAnswered, StaysOnLog, SurvivesOnLog}
+use Rattle.log_engine.specs.Survival.{AreAnswered, EndsOnLog, StaysOnLog, SurvivesOnLog}
 
 -- A run over the device of a volume with a log: a machine was started over the disk that shows it, and these steps were
 -- made and answered so.
@@ -31,10 +31,11 @@ pub record HasRunOnLog {D : Type 0} (disk : Ghosts D) (before : D) (shape : Shap
   pub made : StepsTaken (disk_by shown.volume.sealing disk) start steps replies last
   pub ended : after ≡ last.device.device
   -- Over an honest device, replies are by the laws, from the files to which it recovered before. In layout 5, what was
-  -- stored in them survives.
+  -- stored in them survives. In layout 6, it is found after the last step, if no call of the disk failed.
   pub survives : disk.is_honest before → (files : List File) × RecoversToLog (disk.seen before) files
       × AreAnswered files start steps replies
       × (shown.volume.sealing ≡ ByByte → SurvivesOnLog disk files before shown start steps replies last)
+      × (last.device.memory.faults ≡ 0 → EndsOnLog disk files start steps replies last)
 
 -- Nothing was run, since the volume wasn't opened as a disk.
 pub record HasNotShown {D : Type 0} (disk : Ghosts D) (before : D) (refusal : Refusal) (after : D) : Type 0 where

@@ -57,6 +57,16 @@ pub record AreAnswered {D : Type 0} (files : List File) (start : Whole (LogDiskV
   pub lawful : EachStep (IsLawful files) (observed_first files start.state) steps replies
   pub served : FaultsAreServed steps replies
 
+-- What is found after the last step.
+pub record EndsOnLog {D : Type 0} (disk : Ghosts D) (files : List File) (start : Whole (LogDiskValue D))
+    (steps : List Step) (replies : List Reply) (last : Whole (LogDiskValue D)) : Type 0 where
+  -- a crash then: by the whole history
+  pub after : FindsAfterLogCrash disk files (λ history. history ≡ history_of files start steps replies)
+      (disk.may_leave last.device.device)
+  -- so it is without a crash, and the same can be done again on the device
+  pub ended : FindsDurableOnLog disk files (history_of files start steps replies) last.device.device
+  pub honest : disk.is_honest last.device.device
+
 -- These steps of a machine that was booted over the disk that shows a volume with these files, and their replies.
 pub record SurvivesOnLog {D : Type 0} (disk : Ghosts D) (files : List File) (before : D) (shown : LogDiskValue D)
     (start : Whole (LogDiskValue D)) (steps : List Step) (replies : List Reply) (last : Whole (LogDiskValue D))
@@ -68,9 +78,4 @@ pub record SurvivesOnLog {D : Type 0} (disk : Ghosts D) (files : List File) (bef
   pub booting : KeepsOnLog disk files (disk.left_since start.device.device (disk.moment shown.device))
   -- a crash within a step
   pub within : Throughout (StepSurvivesOnLog disk files) (observed_first files start.state) start steps replies last
-  -- a crash after the last step: by the whole history
-  pub after : FindsAfterLogCrash disk files (λ history. history ≡ history_of files start steps replies)
-      (disk.may_leave last.device.device)
-  -- so it is without a crash, and the same can be done again on the device
-  pub ended : FindsDurableOnLog disk files (history_of files start steps replies) last.device.device
-  pub honest : disk.is_honest last.device.device
+  pub ends : EndsOnLog disk files start steps replies last

@@ -4,6 +4,7 @@ ghost use Rattle.machine.specs.declared.act.Reply.{Reply};
 ghost use Rattle.engine.specs.Engine.{HasStarted, HasNotStarted, HasRun};
 ghost use Rattle.engine.specs.Listening.{HasListened};
 ghost use Rattle.log_disk.specs.Disk.{LogDiskValue, read_by, shown_by};
+ghost use Rattle.log_disk.specs.Laws.{WorksUnlessFailed};
 ghost use Rattle.log_engine.specs.Runs.{HasRunOnLog, HasNotRunOnLog};
 ghost use Rattle.log_engine.specs.inside.Standing.{Stands, StepsStand, StepStands};
 
@@ -72,7 +73,7 @@ fn boot<D: Device, A: Allocator + Copy>(
     }
 }
 
-// The same steps where a digest seals commits. What a crash leaves isn't covered.
+// The same steps where a digest seals commits. What a crash within a step leaves isn't covered.
 fn run_by_digest<D: Device, A: Allocator + Copy, L: Listener>(
     alloc: A,
     disk: DigestDisk<D, A>,
@@ -83,13 +84,16 @@ fn run_by_digest<D: Device, A: Allocator + Copy, L: Listener>(
     ensures ran { IfOk result (λ after. (last : LogDiskValue D) × (replies : List Reply)
         × HasListened L.hears (length steps.now) listener.old replies listener.new
         × HasRun (read_by D.Device) disk shape (take (length replies) steps.now) replies last
-        × (after ≡ last.device)) }
+        × WorksUnlessFailed D.Device last × (after ≡ last.device)) }
     ensures refused { IfErr result (λ refused. (left : LogDiskValue D)
         × HasNotStarted (read_by D.Device) disk shape left refused.0 × (refused.1 ≡ left.device)
         × (listener.new ≡ listener.old)) }
 {
     match engine::run(alloc, disk, shape, steps, listener) {
-        Ok(disk) => Ok(disk.into_device()),
+        Ok(disk) => {
+            disk.works_unless_failed();
+            Ok(disk.into_device())
+        }
         Err((refusal, disk)) => Err((refusal, disk.into_device())),
     }
 }
@@ -103,7 +107,8 @@ fn run_by_digest<D: Device, A: Allocator + Copy, L: Listener>(
 /// recover, by the log, to the volume's files after a prefix of the answered stores and length changes. The prefix is
 /// empty or ends at a mark, and has every mark that was acknowledged before the step. After the last step, with or
 /// without a crash, it is such a prefix of all of them. So it is after further openings, each with a crash within or
-/// after it. In layout 6 no clause covers what a crash or the end of the run leaves on the device.
+/// after it. In layout 6 the same holds after the last step, with or without a crash then, if no call of the disk failed.
+/// No clause covers a crash within a step in layout 6.
 ///
 /// A refusal as of `LogDisk::open` and of `engine::start`; nothing was told then. On an honest device the files of the
 /// volume are found after it, with or without a crash, as `HasNotRunOnLog` says.
@@ -134,7 +139,9 @@ pub fn run<D: Device, A: Allocator + Copy, L: Listener>(
     match disk.sealing() {
         Sealing::ByByte => {}
         Sealing::ByDigest(_) => {
-            return run_by_digest(alloc, DigestDisk::over(disk), shape, steps, listener);
+            let disk = DigestDisk::over(disk);
+            runs_keep_the_laws(&disk);
+            return run_by_digest(alloc, disk, shape, steps, listener);
         }
     }
     match boot(alloc, disk, shape) {

@@ -7,17 +7,18 @@ use Rattle.machine.specs.declared.act.Reply.{Reply}
 use Rattle.engine.specs.Engine.{HasNotStarted, HasRun}
 use Rattle.engine.specs.Listening.{HasListened}
 use Rattle.log_engine.specs.Runs.{HasNotRunOnLog, HasRunOnLog}
-use Rattle.engine.proofs.Public.{begins}
+use Rattle.engine.proofs.Public.{begins, taken_kept}
 use Rattle.machine.specs.Crashes.{Begins}
 use Rattle.log_codec.specs.declared.sealing.Sealing.TheVariants.{ByByte, ByDigest}
 use Rattle.log_volume.specs.Files.{RecoversToLog, log_files_in}
 use Rattle.log_disk.specs.Disk.{LogDiskValue, IsHonestLog, read_by, shown_by}
-use Rattle.log_engine.specs.Survival.{AreAnswered, StaysOnLog, SurvivesOnLog}
+use Rattle.log_disk.specs.Laws.{Works, WorksUnlessFailed}
+use Rattle.log_engine.specs.Survival.{AreAnswered, EndsOnLog, StaysOnLog, SurvivesOnLog}
 use Rattle.log_engine.proofs.Booting.{honest_after, left_after_boot, left_in_boot, opens_of}
 use Rattle.log_engine.proofs.Reopened.{finds, found_after, keeps, one_files, opened_left}
 use Rattle.log_engine.proofs.BySealing.{made_by, refused_by, started_by}
 use Rattle.log_engine.proofs.Standing.{taken_of}
-use Rattle.log_engine.proofs.Surviving.{survive}
+use Rattle.log_engine.proofs.Surviving.{after_reads, ends_by, survive}
 use Rattle.log_engine.proofs.running.run.Goals as goal
 
 pub returns-in-Ok-boot-clause-ran : goal.returns-in-Ok-boot-clause-ran
@@ -39,7 +40,8 @@ returns-in-Ok-boot-clause-ran g c =
     let by_byte : shown.volume.sealing ≡ ByByte = sym c.sealing.ensures ∙ c.in-ByByte.is in
     let survives : disk.is_honest device → (files : List File) × RecoversToLog (disk.seen device) files
     × AreAnswered files start steps replies
-    × (shown.volume.sealing ≡ ByByte → SurvivesOnLog disk files device shown start steps replies last) =
+    × (shown.volume.sealing ≡ ByByte → SurvivesOnLog disk files device shown start steps replies last)
+    × (last.device.memory.faults ≡ 0 → EndsOnLog disk files start steps replies last) =
     λ honest.
     let opened = c.in-Ok.ensures.opened honest in
     let files = log_files_in shown.volume (block_at (disk.seen shown.device)) in
@@ -49,7 +51,15 @@ returns-in-Ok-boot-clause-ran g c =
     let first = begins (shown_by disk) shown c.args.shape start started shown_honest in
     let B : List File → Type 0 = λ l. Begins (shown_by disk) l start in
     let begun : B files = subst B (c.one_reading.ensures.files ((shown_by disk).seen shown) first.0 files first.1
-    on_disk) first.2 in (
+    on_disk) first.2 in
+    let survive_all : SurvivesOnLog disk files device shown start steps replies last =
+    survive disk files start begun g.met.D.Device.now_is_since c.runs_keep_the_laws.ensures.since
+    (found_after disk magic unique opens crashed) device shown c.args.shape steps replies last started shown_honest
+    on_disk c.in-Ok.ensures.synced c.in-Ok-boot.ensures.stands c.crashed_since_opening.ensures.left
+    g.met.D.Device.seen_is_left (keeps disk magic unique opens crashed) (finds disk magic unique opens crashed)
+    (λ all list left. opened_left disk magic unique opens crashed files device all here list
+    ((c.in-Ok.ensures.crash honest).each list left))
+    stand in (
       files,
       here,
       record {
@@ -57,14 +67,8 @@ returns-in-Ok-boot-clause-ran g c =
             (record { begins = begun; taken = taken });
         served = c.faults_are_served.ensures start last steps replies taken;
       },
-      λ sealed. survive disk files start begun g.met.D.Device.now_is_since c.runs_keep_the_laws.ensures.since
-          (found_after disk magic unique opens crashed) device shown c.args.shape steps replies last started
-          shown_honest
-          on_disk c.in-Ok.ensures.synced c.in-Ok-boot.ensures.stands c.crashed_since_opening.ensures.left
-          g.met.D.Device.seen_is_left (keeps disk magic unique opens crashed) (finds disk magic unique opens crashed)
-          (λ all list left. opened_left disk magic unique opens crashed files device all here list
-          ((c.in-Ok.ensures.crash honest).each list left))
-          stand,
+      λ sealed. survive_all,
+      λ none. survive_all.ends,
     ) in (
       replies,
       c.make_steps.ensures.1,
@@ -181,15 +185,18 @@ returns-in-ByDigest-clause-ran g c =
     let key : ℕ = c.in-ByDigest.field-0 in
     let sealed : shown.volume.sealing ≡ ByDigest key = sym c.sealing.ensures ∙ c.in-ByDigest.is in
     let opens = c.files_of_openings.ensures.opened in
+    let crashed = c.files_of_openings.ensures.crashed in
+    let magic = c.one_log_super.ensures.magic in
+    let unique = one_files c.one_log_super.ensures.one c.one_log.ensures.contents in
     IfOk-weaker c.run_by_digest.result
     (λ after. (last : LogDiskValue _) × (replies : List Reply)
     × HasListened g.L.Listener.hears (length c.args.steps.now) c.args.listener.now replies c.run_by_digest.new.listener
     × HasRun (read_by disk) shown c.args.shape (take (length replies) c.args.steps.now) replies last
-    × (after ≡ last.device))
+    × WorksUnlessFailed disk last × (after ≡ last.device))
     (λ after. (replies : List Reply)
     × HasListened g.L.Listener.hears (length c.args.steps.now) c.args.listener.now replies c.run_by_digest.new.listener
     × HasRunOnLog disk device c.args.shape (take (length replies) c.args.steps.now) replies after)
-    (λ after (last, replies, heard, ran, is). (
+    (λ after (last, replies, heard, ran, works, is). (
       replies,
       heard,
       record {
@@ -211,19 +218,37 @@ returns-in-ByDigest-clause-ran g c =
             let here = (opens device shown.device shown.volume opened.lengths opened.next opened.opened).1 in
             let on_disk = c.in-Ok.ensures.files honest files here in
             let stored = ran.survives (c.in-Ok.ensures.counted.honest.1 honest) in
-            let same = c.one_reading.ensures.files ((shown_by disk).seen shown) stored.0 files stored.1 on_disk in (
+            let same = c.one_reading.ensures.files ((shown_by disk).seen shown) stored.0 files stored.1 on_disk in
+            let shown_honest = c.in-Ok.ensures.counted.honest.1 honest in
+            let first = begins (read_by disk) shown c.args.shape ran.start ran.started shown_honest in
+            let B : List File → Type 0 = λ l. Begins (read_by disk) l ran.start in
+            let begun : B files = subst B (c.one_reading.ensures.files ((read_by disk).seen shown) first.0 files first.1
+            on_disk) first.2 in
+            let steps = take (length replies) c.args.steps.now in
+            let still : disk.is_honest ran.last.device.device =
+            (taken_kept (read_by disk) ran.start steps replies ran.last ran.made).0.1 begun.honest in
+            let here_works : ran.last.device.memory.faults ≡ 0 → Works disk ran.last.device =
+            subst (WorksUnlessFailed disk) ran.ended works in (
               files,
               here,
               subst (λ (l : List File). AreAnswered l ran.start (take (length replies) c.args.steps.now) replies) same
                   (record { lawful = stored.2.lawful; served = stored.2.served }),
               λ byte. absurd (cc (sym byte ∙ sealed)),
+              λ none.
+                  let left = after_reads disk files ran.start ran.last steps replies
+                  (record { begins = begun; taken = ran.made }) c.runs_keep_the_laws-in-ByDigest.ensures.since (here_works none)
+                  still in
+                  ends_by disk files ran.start (found_after disk magic unique opens crashed)
+                  (finds disk magic unique opens crashed) steps replies ran.last still left
+                  (left (disk.seen ran.last.device.device)
+                  (g.met.D.Device.seen_is_left ran.last.device.device still)),
             );
       },
     )) (subst (λ (d : LogDiskValue _). IfOk c.run_by_digest.result (λ after. (last : LogDiskValue _)
     × (replies : List Reply)
     × HasListened g.L.Listener.hears (length c.args.steps.now) c.args.listener.now replies c.run_by_digest.new.listener
     × HasRun (read_by disk) d c.args.shape (take (length replies) c.args.steps.now) replies last
-    × (after ≡ last.device))) c.over.ensures c.run_by_digest.ensures.ran)
+    × WorksUnlessFailed disk last × (after ≡ last.device))) c.over-disk.ensures c.run_by_digest.ensures.ran)
 
 pub returns-in-ByDigest-clause-refused : goal.returns-in-ByDigest-clause-refused
 returns-in-ByDigest-clause-refused g c =
@@ -253,4 +278,4 @@ returns-in-ByDigest-clause-refused g c =
       listened,
     )) (subst (λ (d : LogDiskValue _). IfErr c.run_by_digest.result (λ refused. (left : LogDiskValue _)
     × HasNotStarted (read_by disk) d c.args.shape left refused.0 × (refused.1 ≡ left.device)
-    × (c.run_by_digest.new.listener ≡ c.args.listener.now))) c.over.ensures c.run_by_digest.ensures.refused)
+    × (c.run_by_digest.new.listener ≡ c.args.listener.now))) c.over-disk.ensures c.run_by_digest.ensures.refused)
