@@ -8,8 +8,8 @@ use std::alloc::Allocator;
 use std::marker::Model;
 
 /// The disk over a volume with a log, for layout 6, where `LogDisk` promises nothing of content. On an honest device
-/// reads return what was written. A crash between two calls leaves bytes that stand for those of the disk, unless a call
-/// of the disk has failed. No clause covers a crash within a call.
+/// reads return what was written. A crash between two calls leaves bytes that stand for those of the disk, unless a
+/// call of the disk has failed. No clause covers a crash within a call.
 #[derive(Drop)]
 pub struct DigestDisk<D: Device, A: Allocator + Copy> {
     disk: LogDisk<D, A>,

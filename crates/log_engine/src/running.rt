@@ -102,13 +102,13 @@ fn run_by_digest<D: Device, A: Allocator + Copy, L: Listener>(
 /// one at a time, tells each reply to the listener before the next step, and hands the device back. It ends after the
 /// last step, or where the listener says to stop.
 ///
-/// On an honest device each reply is by the rules and the laws of the machine. Take any steps, and device calls that may
-/// fail. In layout 5, what was stored survives (`HasRunOnLog.survives`): a crash within a step leaves bytes that
+/// On an honest device each reply is by the rules and the laws of the machine. Take any steps, and device calls that
+/// may fail. In layout 5, what was stored survives (`HasRunOnLog.survives`): a crash within a step leaves bytes that
 /// recover, by the log, to the volume's files after a prefix of the answered stores and length changes. The prefix is
 /// empty or ends at a mark, and has every mark that was acknowledged before the step. After the last step, with or
 /// without a crash, it is such a prefix of all of them. So it is after further openings, each with a crash within or
-/// after it. In layout 6 the same holds after the last step, with or without a crash then, if no call of the disk failed.
-/// No clause covers a crash within a step in layout 6.
+/// after it. In layout 6 the same holds after the last step, with or without a crash then, if no call of the disk
+/// failed. No clause covers a crash within a step in layout 6.
 ///
 /// A refusal as of `LogDisk::open` and of `engine::start`; nothing was told then. On an honest device the files of the
 /// volume are found after it, with or without a crash, as `HasNotRunOnLog` says.

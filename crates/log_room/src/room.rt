@@ -105,7 +105,9 @@ fn make_round<D: Device, A: Allocator + Copy>(pager: &mut LogPager<D, A>) -> Res
 }
 
 // Commits what was put, of which there is something, if the log has room for it.
-fn pager_commit<D: Device, A: Allocator + Copy>(pager: &mut LogPager<D, A>) -> Result<(), PagerFault>
+fn pager_commit<D: Device, A: Allocator + Copy>(
+    pager: &mut LogPager<D, A>,
+) -> Result<(), PagerFault>
     requires some { pager.old.staged ≢ [] }
     ensures { CommitsPut D.Device pager.old result pager.new }
 {
@@ -161,8 +163,8 @@ fn commit_in_rounds<D: Device, A: Allocator + Copy>(
 /// behind them. If nothing was put, no device call is made.
 ///
 /// If a digest seals commits, the log is read behind each commit and each move of the start. The call fails with a
-/// commit's `Device` if a read fails there, or if bytes there could be taken for the next commit. Other errors keep what
-/// was put; if a byte seals, each error does.
+/// commit's `Device` if a read fails there, or if bytes there could be taken for the next commit. Other errors keep
+/// what was put; if a byte seals, each error does.
 pub fn commit_with_room<D: Device, A: Allocator + Copy>(
     pager: &mut LogPager<D, A>,
 ) -> Result<(), PagerFault>

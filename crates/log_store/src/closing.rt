@@ -14,7 +14,8 @@ use std::alloc::Allocator;
 
 impl<A: Allocator + Copy> LogStore<A> {
     /// Whether the log of the device ends behind the last commit: no bytes there have the next number and a digest of
-    /// their own. Where a digest seals, this reads from there on. Where a byte seals, the log ends, and nothing is read.
+    /// their own. If a digest seals commits, this reads the device from there on. If a byte does, it reads nothing, and
+    /// the log ends.
     pub fn ends<D: Device>(&self, device: &mut D) -> Result<bool, StoreFault>
         requires long { 4096 * self.now.tail.log.blocks ≤ length (D.seen device.old) }
         ensures ends { D.is_honest device.old

@@ -236,8 +236,8 @@ returns-in-ByDigest-clause-ran g c =
               λ byte. absurd (cc (sym byte ∙ sealed)),
               λ none.
                   let left = after_reads disk files ran.start ran.last steps replies
-                  (record { begins = begun; taken = ran.made }) c.runs_keep_the_laws-in-ByDigest.ensures.since (here_works none)
-                  still in
+                  (record { begins = begun; taken = ran.made }) c.runs_keep_the_laws-in-ByDigest.ensures.since
+                  (here_works none) still in
                   ends_by disk files ran.start (found_after disk magic unique opens crashed)
                   (finds disk magic unique opens crashed) steps replies ran.last still left
                   (left (disk.seen ran.last.device.device)
