@@ -4,8 +4,8 @@
  *
  * A handle is a session with one volume. famsync_format and the command `famsync format` make
  * volumes. The library opens the volume's file and locks it. At any time a volume has at most one
- * session that writes, or any number of sessions that only read. Sessions of the program `famsync`
- * count, too.
+ * session that writes, or any number of sessions that only read. This limit includes sessions of
+ * the program `famsync`.
  *
  * A program can access the bytes of a file in two ways. Both may be used in one session, even for
  * the same file:
@@ -17,8 +17,8 @@
  *
  * famsync_msync commits all changes of a session. The commit is acknowledged when the call returns
  * FAMSYNC_OK. If this process is killed or the system crashes, the next session finds the files of
- * one commit. They have all changes before this commit, and no later changes. This commit is the
- * last acknowledged commit, or a later commit.
+ * one commit. These files have all changes before this commit, and no later changes. This commit is
+ * the last acknowledged commit, or a later commit.
  *
  * A page is 4,096 bytes of a file. The place of a page is a block of the volume's file. A commit
  * first writes its pages to a journal or a log of the volume. Later the library writes them to
@@ -35,8 +35,9 @@
  * doesn't keep the volume locked. A child of vfork shares the memory of its parent. Stores of the
  * child to plain memory count as stores of the parent. The child must not call the library.
  *
- * A file can't grow past its capacity, which is set when the volume is made. In layouts 1 and 2 the
- * length of a file never changes.
+ * A file can't grow past its capacity, which is set when the volume is made. A layout is one of six
+ * formats of a volume (see struct famsync_plan). In layouts 1 and 2 the length of a file never
+ * changes.
  */
 #ifndef FAMSYNC_H
 #define FAMSYNC_H
@@ -71,8 +72,8 @@ enum famsync_code {
     FAMSYNC_NOTREGULAR = -13, /* the path names a folder, a device, a pipe or a socket */
     FAMSYNC_NAMES = -14,      /* the file has several names (hard links), so others could open it by
                                  another name */
-    FAMSYNC_REPLACED = -15,   /* the path named another file each time that the library had locked
-                                 one */
+    FAMSYNC_REPLACED = -15,   /* each time that the library had locked a file, the path named
+                                 another file */
     FAMSYNC_NOTAVOLUME = -16, /* the file doesn't begin like a volume */
     FAMSYNC_DAMAGED = -17,    /* the file begins like a volume, but its bytes or its length break
                                  the format */
@@ -86,8 +87,8 @@ enum famsync_code {
     FAMSYNC_EINVAL = -30,  /* bytes past the file's end, or a length that the file can't have */
     FAMSYNC_OVERLAP = -33, /* plain memory of the file is already open */
     FAMSYNC_NOFILE = -34,  /* the volume has no such file */
-    FAMSYNC_BUSY = -35,    /* another backup is being made; or a thread stored during a commit; or
-                              the session has made 2^32 - 1 commits */
+    FAMSYNC_BUSY = -35,    /* another backup is being made; or a thread stored during a commit, with
+                              FAMSYNC_TRACK_KERNEL; or the session has made 2^32 - 1 commits */
 
     /* suspect flags that can't be made, and sessions that only read */
     FAMSYNC_UNMARKED = -39,     /* a sync failed, and the library couldn't make the suspect flag */
@@ -166,10 +167,11 @@ struct famsync_plan {
 };
 
 /* Makes a volume in a new file. The volume's files contain zeros. When the call succeeds, the
-   volume is durable. The volume has the same bytes as one that `famsync format` makes. If the call
-   fails or the process is killed, there is either the whole volume or no new file with this name.
-   If the file system has no unnamed files (O_TMPFILE), the library first makes the volume in a file
-   whose name ends in `.new`. A crash may leave that file.
+   volume is durable. The volume has the same bytes as a volume that `famsync format` makes with the
+   same layout, slots, files, log and key. If the call fails or the process is killed, there is
+   either the whole volume or no new file with the name `volume`. If the file system has no unnamed
+   files (O_TMPFILE), the library first makes the volume in a file whose name ends in `.new`. A
+   crash may leave that file.
 
    A commit has at most `slots` pages in layouts 1 and 2, and at most `slots` - 1 pages in layouts 3
    and 4. In layouts 5 and 6 a commit and its descriptor have to fit into the log, with one block
@@ -178,8 +180,8 @@ struct famsync_plan {
 
    In layouts 5 and 6 a commit writes its pages only to the log. Later the library writes the pages
    of many commits to their places together. A commit makes two syncs in layout 5, and one in layout
-   6. Layout 6 needs one more assumption: a commit that a crash has torn never has the digest of the
-   whole commit.
+   6. Layout 6 needs an assumption that layouts 1 to 5 don't need: a commit that a crash has torn
+   (written only partly) never matches its digest.
 
    FAMSYNC_ARGUMENT: the plan is invalid; `message` has the reason. FAMSYNC_SYSTEM: errno has the
    cause. EEXIST means that this file, or the one whose name ends in `.new`, already exists. */
@@ -193,23 +195,25 @@ int famsync_format(const char *volume, const struct famsync_plan *plan);
    FAMSYNC_INUSE: another session still has the volume open after `wait_ms` milliseconds.
    FAMSYNC_SYSTEM with ENAMETOOLONG: the name of the volume's file has more than 247 bytes, so the
    name of the suspect flag would be too long. FAMSYNC_UNMARKED: a sync failed, and the library
-   couldn't make the suspect flag; `message` has the reason.
+   couldn't make the suspect flag (the file VOLUME.suspect); `message` has the reason.
 
    With `readonly` any number of sessions can share a volume. The library opens the file only for
    reading, and writes nothing. While such sessions last, no session that writes can begin. In such
-   a session `trust` has no effect. FAMSYNC_NEEDSOPENING: a crash left a commit whose pages aren't
-   yet in their places, or the volume is flagged as suspect. In both cases open the volume for
-   writing once, and close it. In a session with `readonly`, famsync_write, famsync_setlength,
-   famsync_msync, famsync_rollback and famsync_memory_touch return FAMSYNC_READONLY. A store to
-   plain memory raises SIGSEGV, which the library doesn't handle. */
+   a session `trust` has no effect. FAMSYNC_NEEDSOPENING, only with `readonly`: a crash left a
+   commit whose pages aren't yet in their places, or the volume is flagged as suspect. In both cases
+   open the volume for writing once, and close it. In a session with `readonly`, famsync_write,
+   famsync_setlength, famsync_msync, famsync_rollback and famsync_memory_touch return
+   FAMSYNC_READONLY. A store to plain memory of such a session raises SIGSEGV, which the library
+   doesn't handle. */
 int famsync_open(const char *volume, const struct famsync_options *options, famsync **handle);
 
 /* Ends a session and frees the handle. Changes since the last commit are lost. Before the call,
    close all plain memory of the handle (otherwise FAMSYNC_ARGUMENT). No other call with the handle
    may be in progress. The call writes committed pages to their places before the session ends.
-   FAMSYNC_DEVICE, FAMSYNC_UNMARKED: a read, a write or a sync failed, in this call or earlier.
-   FAMSYNC_NOMEMORY: the system refused memory. In each case all acknowledged commits are
-   durable. */
+   FAMSYNC_DEVICE: a read failed in this call, or a write or a sync failed in this call or earlier.
+   FAMSYNC_UNMARKED: a sync failed, and the library couldn't make the suspect flag.
+   FAMSYNC_NOMEMORY: the system refused memory. After each of these three codes all acknowledged
+   commits are durable. */
 int famsync_close(famsync *handle);
 
 /* famsync_files returns the number of files of the volume. Files are numbered from 0.
@@ -229,18 +233,19 @@ unsigned famsync_frames(const famsync *handle);
    It is lost if the session ends before that.
 
    All pages that are added to a file count as written. If the file ended within a page, this page
-   counts, too. FAMSYNC_NOFRAME: together with the pages that already wait for a commit, these pages
-   are more than one commit can have. Then grow the file in steps, with an msync after each step. A
-   call that fails changes nothing.
+   counts as written, too. FAMSYNC_NOFRAME: together with the pages that already wait for a commit,
+   these pages are more than one commit can have. Then grow the file in steps, with an msync after
+   each step. A call that fails changes nothing.
 
-   If plain memory of the file is open, it grows or shrinks in place. The program must no longer use
-   bytes past the new end. FAMSYNC_SYSTEM: the system refused to change the memory. */
+   If plain memory of the file is open, this memory grows or shrinks in place. The program must no
+   longer use bytes past the new end. FAMSYNC_SYSTEM: the system refused to change the memory. */
 int famsync_setlength(famsync *handle, const char *file, uint64_t length);
 
 /* Reads `count` bytes of a file from `offset` on, including changes of this session that aren't
    committed. `*done` is set to the number of bytes read; `done` may be a null pointer. If the file
-   ends earlier, the call reads fewer bytes, or none, and returns FAMSYNC_OK. If a read of the
-   volume fails, `*done` is the number of bytes read before the failure. */
+   ends before `offset` + `count`, the call reads only the bytes up to the file's end, and returns
+   FAMSYNC_OK. If a read of the volume fails, `*done` is the number of bytes read before the
+   failure. */
 int famsync_read(famsync *handle, unsigned file, uint64_t offset, void *bytes, size_t count, size_t *done);
 
 /* Writes `count` bytes to a file from `offset` on. `*done` is set to the number of bytes written;
@@ -254,7 +259,8 @@ int famsync_read(famsync *handle, unsigned file, uint64_t offset, void *bytes, s
    FAMSYNC_DEVICE and FAMSYNC_NOMEMORY, `*done` is the number of bytes written before the failure.
 
    If plain memory of the file is open, famsync_read and famsync_write use this memory. A write is
-   then a store to this memory. It makes the stored pages writable, as famsync_memory_touch does. */
+   then a store to this memory. Such a write makes the stored pages writable, as
+   famsync_memory_touch does. */
 int famsync_write(famsync *handle, unsigned file, uint64_t offset, const void *bytes, size_t count, size_t *done);
 
 /* Commits all changes of this session: writes, stores to plain memory, and lengths. A commit makes
@@ -265,8 +271,8 @@ int famsync_write(famsync *handle, unsigned file, uint64_t offset, const void *b
 
    FAMSYNC_NOFRAME: the pages changed by famsync_write and in plain memory, together, are more than
    one commit can have. Nothing is committed, and no later call can commit all these changes. If you
-   close the plain memory, its stores are lost. The next call can then commit the writes of
-   famsync_write to other files.
+   close the plain memory of a file, the stores to this memory are lost. The next call can then
+   commit the writes of famsync_write to other files.
 
    FAMSYNC_DEVICE: a read, a write or a sync failed, and nothing is acknowledged. errno has the
    cause. ENOMEM means that the system refused memory; the disk didn't fail. After a failed read the
@@ -281,18 +287,18 @@ int famsync_write(famsync *handle, unsigned file, uint64_t offset, const void *b
 
    A commit makes some of its writes after its acknowledgement. A thread of the library makes these
    writes while no call is in progress, or the next commit makes them. In layouts 4 to 6 the thread
-   first waits until no commit has come for 10 ms. In layouts 5 and 6 the thread doesn't wait once
-   half of the log is in use. With `foreground` there is no such thread. */
+   first waits until no commit has come for 10 ms. But in layouts 5 and 6 the thread doesn't wait
+   once half of the log is in use. With `foreground` there is no such thread. */
 int famsync_msync(famsync *handle, uint64_t *mark);
 
 /* Undoes all changes of this session since the last commit: writes, lengths and stores to plain
-   memory. Other threads may store during the call. The call undoes exactly the stores before one
-   moment within the call. If a length is undone, plain memory of this file grows or shrinks in
-   place, as with famsync_setlength.
+   memory. Other threads may store during the call, except with FAMSYNC_TRACK_KERNEL. The call
+   undoes exactly the stores before one moment within the call. If the length of a file is undone,
+   plain memory of this file grows or shrinks in place, as with famsync_setlength.
 
    The call first writes the pages of earlier commits to their places. If a write or a length waits
-   for a commit, the library also opens the volume a second time. During the call this needs as much
-   memory as another session.
+   for a commit, the library also opens the volume a second time. During the call the second opening
+   needs as much memory as another session.
 
    A call that fails undoes nothing, with two exceptions. FAMSYNC_DEVICE: a read, a write or a sync
    failed, as with famsync_msync. If this failure came after the undoing, all changes are undone,
@@ -307,9 +313,9 @@ uint64_t famsync_acknowledged(famsync *handle);
 const char *famsync_strerror(int code);
 
 /* Statistics of a session. Set `size` to the size of this structure; with a smaller size
-   famsync_stat returns FAMSYNC_ARGUMENT. Later versions of the library add fields at the end.
-   famsync_stat sets fields that it doesn't know to 0. System calls are counted from the beginning
-   of the session, including calls that failed or were interrupted. */
+   famsync_stat returns FAMSYNC_ARGUMENT. Later versions of the library add fields at the end. If a
+   program has fields of a later version, famsync_stat sets these fields to 0. System calls are
+   counted from the beginning of the session, including calls that failed or were interrupted. */
 struct famsync_stat {
     size_t size;
     uint64_t commits;       /* the number of the last acknowledged commit */
@@ -327,10 +333,11 @@ struct famsync_stat {
 int famsync_stat(famsync *handle, struct famsync_stat *stat);
 
 /* Makes a backup: writes a clean volume, with the files of the last acknowledged commit, to the
-   file `descriptor`. Opening the backup needs no recovery. `descriptor` is a regular file, other
-   than the volume's, open for reading and writing, and without O_APPEND (otherwise
-   FAMSYNC_ARGUMENT). The call first empties this file. Blocks of zeros become holes. When the call
-   succeeds, the backup is synced. If you created the file for the backup, sync its folder, too.
+   file that has the file descriptor `descriptor`. Opening the backup needs no recovery. The file
+   must be a regular file other than the volume's file, and open for reading and writing, without
+   O_APPEND (otherwise FAMSYNC_ARGUMENT). The call first empties this file. Blocks of zeros become
+   holes. When the call succeeds, the backup is synced. If you created the file for the backup, sync
+   its folder, too.
 
    Other threads may use the handle during the backup, even for famsync_msync. A handle makes only
    one backup at a time (otherwise FAMSYNC_BUSY). The library locks the backup's file like a volume
@@ -344,10 +351,10 @@ int famsync_backup(famsync *handle, int descriptor);
 
 /*
  * Opens plain memory: a whole file of the volume as memory of this process. The memory is a private
- * mapping of the volume's file, so the call reads almost nothing. At first all its pages are
- * read-only. The first store to a page raises SIGSEGV. Then the library's handler notes the store,
- * and makes the page writable. The handler passes other faults to the handler that was installed
- * before it.
+ * mapping of the volume's file, so the call reads almost nothing. At first all pages of the memory
+ * are read-only. The first store to a page raises SIGSEGV. Then the library's handler notes the
+ * store, and makes the page writable. The handler passes other faults to the handler that was
+ * installed before it.
  *
  * A page that was stored to uses memory of this process. Once the page is committed and written to
  * its place, the library can return the page's memory to the system. It does so when the committed
@@ -362,11 +369,11 @@ int famsync_backup(famsync *handle, int descriptor);
  * reads the whole file if the system's pages are larger than 4,096 bytes, or if the system can't
  * map the volume's file.
  *
- * Other threads may store during a commit. A commit contains exactly the stores by all threads, to
- * all plain memory of the handle, before one moment within famsync_msync. At that moment the
- * library makes all pages read-only again. Then it copies the pages that were stored to. A store
- * during the copying waits until the copying ends, but never for the disk. If stores of several
- * threads belong together, make them all before a commit begins.
+ * With FAMSYNC_TRACK_SIGNALS other threads may store during a commit. A commit contains exactly the
+ * stores by all threads, to all plain memory of the handle, before one moment within famsync_msync.
+ * At that moment the library makes all pages read-only again. Then it copies the pages that were
+ * stored to. A store during the copying waits until the copying ends, but never for the disk. If
+ * stores of several threads belong together, make them all before a commit begins.
  *
  * The handler doesn't serve every store:
  *
@@ -388,8 +395,8 @@ int famsync_backup(famsync *handle, int descriptor);
  * famsync_msync returns FAMSYNC_BUSY, and nothing is committed. At its end a commit may return
  * committed pages to the system (`budget`). If another thread stores to them at that time, the
  * store may be lost. FAMSYNC_TRACKING, from famsync_open or famsync_memory_open: the system can't
- * track stores (Linux can from 6.7 on). FAMSYNC_ARGUMENT, from famsync_open: `resident` is set,
- * too.
+ * track stores (Linux can from 6.7 on). FAMSYNC_ARGUMENT, from famsync_open: the options have both
+ * FAMSYNC_TRACK_KERNEL and `resident`.
  *
  * If the file ends within its last page, stores to the rest of this page are never committed. The
  * addresses after the last page, up to the file's capacity, are reserved: the program must not use
@@ -400,13 +407,13 @@ int famsync_memory_open(famsync *handle, const char *file, famsync_memory **memo
 
 /* Opens plain memory at a given address, so that the file can contain pointers into itself. A null
    pointer means any address. The memory occupies addresses for the file's capacity, for one page
-   before, and for one page after. FAMSYNC_ADDRESS: the address isn't a multiple of the page size.
-   Or the occupied addresses begin below 65,536, end above the highest address, or contain other
-   memory. */
+   before the file, and for one page after it. FAMSYNC_ADDRESS: the address isn't a multiple of the
+   page size. Or the occupied addresses begin below 65,536, end above the highest address, or
+   contain other memory. */
 int famsync_memory_open_at(famsync *handle, const char *file, void *address, famsync_memory **memory);
 
-/* famsync_memory_at returns the address of the memory, which never changes. famsync_memory_length
-   returns the length of the file in bytes. */
+/* famsync_memory_at returns the address of the memory. This address never changes.
+   famsync_memory_length returns the length of the file in bytes. */
 void *famsync_memory_at(const famsync_memory *memory);
 size_t famsync_memory_length(const famsync_memory *memory);
 
