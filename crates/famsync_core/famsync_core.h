@@ -1,5 +1,5 @@
 /*
- * famsync_core: a library for sessions with volumes. It makes no system call.
+ * famsync_core, the core: a library for sessions with volumes. It makes no system call.
  *
  * A volume is a disk file that contains files. The core keeps the pages that wait for a commit, and
  * records the writes and syncs that make the commit durable. The program that uses the core is its
@@ -62,21 +62,23 @@
  *       return close(file);
  *   }
  *
- * A call takes the handle by value, and returns it through the last argument: pass `&core.at` of
- * the same handle. No call checks its handle. Pass the handle that the last call returned. It must
- * not be null or closed. Only one call at a time may use a handle. A pointer with a count has to
- * point to this number of bytes. If the count is 0, the pointer may be any pointer except null. The
- * bytes that famsync_core_call returns are valid until another function is called with the same
- * handle.
+ * A function takes the handle by value, and returns it through the last argument: pass `&core.at`
+ * of the same handle. No function checks its handle. Pass the handle that the previous function
+ * call returned. This handle must not be null or closed. Only one function at a time may use a
+ * handle. A pointer with a count has to point to this number of bytes. If the count is 0, the
+ * pointer may be any pointer except null. The bytes that famsync_core_call returns are valid until
+ * another function is called with the same handle.
  *
  * The core requests memory by three functions that the host defines: rattle_alloc, rattle_realloc
  * and rattle_dealloc (below).
  *
- * A block is known if the core has its bytes. The home block of a page is its place in the volume's
- * file. A page is home once it is written there. A commit is home once all its pages are home.
+ * A block is 4,096 bytes of the volume's file. A block is known if the core has its bytes. The home
+ * block of a page is the page's place in the volume's file. A page is home once it is written to
+ * its home block. A commit is home once all its pages are home.
  *
- * A call of type int64_t returns a number that isn't negative, or one of the negative codes. The
- * comment of each call lists the codes that the call can return, without the prefix FAMSYNC_CORE_.
+ * A function of type int64_t returns a number that isn't negative, or one of the negative codes.
+ * The comment of each function lists the codes that the function can return, without the prefix
+ * FAMSYNC_CORE_.
  */
 #ifndef FAMSYNC_CORE_H
 #define FAMSYNC_CORE_H
@@ -116,9 +118,9 @@ enum famsync_core_code {
     FAMSYNC_CORE_EINVAL = -30,  /* the page begins past the file's end, or the length is more than
                                    the capacity */
     FAMSYNC_CORE_NOFILE = -34,  /* the volume has no such file */
-    FAMSYNC_CORE_BUSY = -35,    /* the session has made 2^32 - 1 commits, or the numbers of the log
-                                   are used up */
-    FAMSYNC_CORE_OTHER = -38    /* any other refusal; these calls never return it */
+    FAMSYNC_CORE_BUSY = -35,    /* the session has made 2^32 - 1 commits, or the epochs or commit
+                                   numbers of the log are used up */
+    FAMSYNC_CORE_OTHER = -38    /* any other refusal; no function of this header returns it */
 };
 
 /* The kinds of recorded calls. */
@@ -131,25 +133,26 @@ enum famsync_core_kind { FAMSYNC_CORE_CALL_WRITE = 1, FAMSYNC_CORE_CALL_SYNC = 2
 int32_t famsync_core_begin(uint32_t blocks, uint8_t **at);
 
 /* Supplies a block that the host has read. `bytes` are the 4,096 bytes of the block in the volume's
-   file, as they are after all calls that the host has made. If the block is already known, nothing
-   changes. You may call it at any time.
+   file, as they are after all recorded calls that the host has made. If the block is already known,
+   nothing changes. You may call this function at any time.
 
    Codes: OK, ARGUMENT (no such block, or `count` isn't 4,096), NOMEMORY. */
 int32_t famsync_core_supply(famsync_core core, uint32_t block, const uint8_t *bytes, size_t count, uint8_t **at);
 
-/* Returns 1 if a block is known, and 0 otherwise. You may call it at any time. */
+/* Returns 1 if a block is known, and 0 otherwise. You may call this function at any time. */
 int32_t famsync_core_is_known(famsync_core core, uint32_t block, uint8_t **at);
 
 /* Opens the volume, of any layout. A commit then has at most `pages` pages. If `pages` is 0, or
    above the limit of the volume's journals or log, that limit holds. Opening always records calls.
    If a crash left commits that aren't home, some of these calls write them home.
 
-   Codes: OK, WANTED, NOTAVOLUME, DAMAGED, NOMEMORY and DEVICE (close the handle, and begin again),
-   BUSY (the epochs of the log are used up), ORDER.
+   Codes: OK, WANTED, NOTAVOLUME, DAMAGED, NOMEMORY or DEVICE (after either, close the handle, and
+   begin again), BUSY (the epochs of the log are used up), ORDER.
 
    WANTED: a block isn't known. Nothing is open, and no call was recorded. Opening wants one block
-   after the other, beginning with block 0. It wants the block of the lengths. It also wants the
-   gates and open journals, or the start of the log and the commits after the start. */
+   after the other, beginning with block 0. From layout 3 on it wants the block of the lengths. Of a
+   volume with journals it wants the gates and open journals. Of a volume with a log it wants the
+   start of the log and the commits after the start. */
 int32_t famsync_core_open(famsync_core core, uint32_t pages, uint32_t *wanted, uint8_t **at);
 
 /* famsync_core_files returns the number of files of the volume; files are numbered from 0.
@@ -200,7 +203,7 @@ int32_t famsync_core_is_staged(famsync_core core, uint32_t file, uint64_t page, 
 
    WANTED and NOMEMORY are returned only for volumes with a log. If the log has no room for the
    commit, the call first makes steps that write older commits home. A step or the commit may need a
-   block that isn't known. After these two codes the steps already made are kept, and the pages
+   block that isn't known. After WANTED and NOMEMORY the steps already made are kept, and the pages
    still wait for the commit. */
 int32_t famsync_core_commit(famsync_core core, uint32_t *mark, uint32_t *wanted, uint8_t **at);
 
@@ -232,14 +235,14 @@ int32_t famsync_core_log(famsync_core core, uint64_t *blocks, uint64_t *used, ui
 
 /* Sets the length of a file, up to its capacity. The length becomes durable with the next commit.
    The pages that are added to the file count as written. If the file ended within a page, this page
-   counts, too. A call that fails changes nothing.
+   counts as written, too. A call that fails changes nothing.
 
    Codes: OK, WANTED (the page in which the file ended isn't known), NOFILE, EINVAL (also if the
    volume has layout 1 or 2), BROKEN, NOFRAME, NOMEMORY, ORDER. */
 int32_t famsync_core_set_length(famsync_core core, uint32_t file, uint64_t length, uint32_t *wanted, uint8_t **at);
 
 /* Returns the number of waiting calls: recorded calls that the host hasn't reported as made. You
-   may call it at any time. */
+   may call this function at any time. */
 int64_t famsync_core_waiting(famsync_core core, uint8_t **at);
 
 /* Returns a waiting call. Index 0 is the oldest one. The host makes the calls in the order of their
@@ -249,28 +252,31 @@ int64_t famsync_core_waiting(famsync_core core, uint8_t **at);
      file.
    - FAMSYNC_CORE_CALL_SYNC: sync the volume's file.
 
-   Codes: OK, NONE (no call with this index waits). You may call it at any time. */
+   Codes: OK, NONE (no call with this index waits). You may call this function at any time. */
 int32_t famsync_core_call(famsync_core core, uint32_t index, uint32_t *kind, uint64_t *offset, const uint8_t **bytes,
                           uint64_t *length, uint8_t **at);
 
 /* Reports that the host has made the `count` oldest waiting calls, in order and successfully.
-   Codes: OK, ARGUMENT (fewer calls wait, and nothing changes). You may call it at any time. */
+   Codes: OK, ARGUMENT (fewer than `count` calls wait, and nothing changes). You may call this
+   function at any time. */
 int32_t famsync_core_carried_out(famsync_core core, uint32_t count, uint8_t **at);
 
 /* Forgets a block, so that it isn't known any more. A later call that needs this block returns
    WANTED. A block is kept if a waiting call writes to it. Once the volume is open, the blocks
-   before the files are kept, too, except the blocks of a log. Codes: OK, NONE (the block is kept),
-   ARGUMENT (no such block). You may call it at any time. */
+   before the files are also kept, except the blocks of a log. Codes: OK, NONE (the block is kept),
+   ARGUMENT (no such block). You may call this function at any time. */
 int32_t famsync_core_forget(famsync_core core, uint32_t block, uint8_t **at);
 
-/* Frees the session, and drops its waiting calls. You may call it at any time, but only once. */
+/* Frees the session, and drops its waiting calls. You may call this function at any time, but only
+   once for each handle. */
 void famsync_core_close(famsync_core core);
 
-/* The host defines these three functions with malloc, realloc and free of one allocator. `ok` is
-   true if the allocator had memory. Otherwise `p` points to any byte of the program, because `p`
-   must never be null. `align` is at most 16. rattle_realloc keeps the first `kept` bytes of the
-   block. If `size` is 0, request at least one byte from the allocator. If rattle_realloc fails, the
-   old block stays unchanged. */
+/* The host defines these three functions with malloc, realloc and free of one allocator. If the
+   allocator has memory, `ok` is true, and `p` points to this memory. Otherwise `ok` is false, and
+   `p` points to any byte of the program, because `p` must never be null. `align` is at most 16.
+   rattle_realloc keeps the first `kept` bytes of the memory at `old`. If `size` is 0, request at
+   least one byte from the allocator. If rattle_realloc fails, the memory at `old` stays
+   unchanged. */
 struct rattle_tried {
     bool ok;
     uint8_t *p;
