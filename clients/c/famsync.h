@@ -18,7 +18,7 @@
  * famsync_msync commits all changes of a session. The commit is acknowledged when the call returns
  * FAMSYNC_OK. If this process is killed or the system crashes, the next session finds the files of
  * one commit. These files have all changes before this commit, and no later changes. This commit is
- * the last acknowledged commit, or a later commit.
+ * the last acknowledged commit, or a later commit that wasn't acknowledged.
  *
  * A page is 4,096 bytes of a file. The place of a page is a block of the volume's file. A commit
  * first writes its pages to a journal or a log of the volume. Later the library writes them to
@@ -174,14 +174,15 @@ struct famsync_plan {
    crash may leave that file.
 
    A commit has at most `slots` pages in layouts 1 and 2, and at most `slots` - 1 pages in layouts 3
-   and 4. In layouts 5 and 6 a commit and its descriptor have to fit into the log, with one block
-   left free. A log of 16,384 blocks has room for a commit of 16,366 pages. Without `preallocate`,
-   the first write to a block fails if the disk is full. Then the session is over (FAMSYNC_DEVICE).
+   and 4. In layouts 5 and 6 a commit and its descriptor (the list of its pages) have to fit into
+   the log, with one block left free. A log of 16,384 blocks has room for a commit of 16,366 pages.
+   Without `preallocate`, the first write to a block fails if the disk is full. Then the session is
+   over (FAMSYNC_DEVICE).
 
    In layouts 5 and 6 a commit writes its pages only to the log. Later the library writes the pages
    of many commits to their places together. A commit makes two syncs in layout 5, and one in layout
    6. Layout 6 needs an assumption that layouts 1 to 5 don't need: a commit that a crash has torn
-   (written only partly) never matches its digest.
+   (written only partly) never matches its digest (checksum).
 
    FAMSYNC_ARGUMENT: the plan is invalid; `message` has the reason. FAMSYNC_SYSTEM: errno has the
    cause. EEXIST means that this file, or the one whose name ends in `.new`, already exists. */
