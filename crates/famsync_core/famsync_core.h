@@ -127,19 +127,20 @@ enum famsync_core_code {
 enum famsync_core_kind { FAMSYNC_CORE_CALL_WRITE = 1, FAMSYNC_CORE_CALL_SYNC = 2 };
 
 /* Begins a session with a volume of `blocks` blocks. This number is the length of the volume's file
-   divided by 4,096, rounded down. If the call fails, `*at` is unchanged.
+   divided by 4,096, rounded down. If the function fails, `*at` is unchanged.
 
    Codes: OK, ARGUMENT (0 blocks), NOMEMORY. */
 int32_t famsync_core_begin(uint32_t blocks, uint8_t **at);
 
 /* Supplies a block that the host has read. `bytes` are the 4,096 bytes of the block in the volume's
    file, as they are after all recorded calls that the host has made. If the block is already known,
-   nothing changes. You may call this function at any time.
+   nothing changes. You may call this function at any time, also before the volume is open.
 
    Codes: OK, ARGUMENT (no such block, or `count` isn't 4,096), NOMEMORY. */
 int32_t famsync_core_supply(famsync_core core, uint32_t block, const uint8_t *bytes, size_t count, uint8_t **at);
 
-/* Returns 1 if a block is known, and 0 otherwise. You may call this function at any time. */
+/* Returns 1 if a block is known, and 0 otherwise. You may call this function at any time, also
+   before the volume is open. */
 int32_t famsync_core_is_known(famsync_core core, uint32_t block, uint8_t **at);
 
 /* Opens the volume, of any layout. A commit then has at most `pages` pages. If `pages` is 0, or
@@ -182,7 +183,7 @@ int32_t famsync_core_read(famsync_core core, uint32_t file, uint64_t page, uint8
                           uint32_t *wanted, uint8_t **at);
 
 /* Writes a whole page of a file. The page waits in memory for the next commit. Bytes past the
-   file's end become zeros. A call that fails changes nothing.
+   file's end become zeros. If the function fails, nothing changes.
 
    Codes: OK, ARGUMENT (`count` isn't 4,096), NOFILE, EINVAL, BROKEN, NOFRAME, NOMEMORY, ORDER. */
 int32_t famsync_core_write(famsync_core core, uint32_t file, uint64_t page, const uint8_t *bytes, size_t count,
@@ -202,13 +203,13 @@ int32_t famsync_core_is_staged(famsync_core core, uint32_t file, uint64_t page, 
    Codes: OK, WANTED, NOMEMORY (make the same call again), BROKEN, DEVICE, BUSY, ORDER.
 
    WANTED and NOMEMORY are returned only for volumes with a log. If the log has no room for the
-   commit, the call first makes steps that write older commits home. A step or the commit may need a
-   block that isn't known. After WANTED and NOMEMORY the steps already made are kept, and the pages
-   still wait for the commit. */
+   commit, the function first makes steps that write older commits home. A step or the commit may
+   need a block that isn't known. After WANTED and NOMEMORY the steps already made are kept, and the
+   pages still wait for the commit. */
 int32_t famsync_core_commit(famsync_core core, uint32_t *mark, uint32_t *wanted, uint8_t **at);
 
 /* Returns the number of the last acknowledged commit, or 0 if there is none. A commit is
-   acknowledged, and durable, once the host has reported all calls that waited when
+   acknowledged, and durable, once the host has reported all recorded calls that waited when
    famsync_core_commit returned. Calls that were recorded later may still wait. If a second commit
    is made before the first one is acknowledged, both are acknowledged together. Codes: ORDER. */
 int64_t famsync_core_acknowledged(famsync_core core, uint8_t **at);
@@ -235,14 +236,14 @@ int32_t famsync_core_log(famsync_core core, uint64_t *blocks, uint64_t *used, ui
 
 /* Sets the length of a file, up to its capacity. The length becomes durable with the next commit.
    The pages that are added to the file count as written. If the file ended within a page, this page
-   counts as written, too. A call that fails changes nothing.
+   counts as written, too. If the function fails, nothing changes.
 
    Codes: OK, WANTED (the page in which the file ended isn't known), NOFILE, EINVAL (also if the
    volume has layout 1 or 2), BROKEN, NOFRAME, NOMEMORY, ORDER. */
 int32_t famsync_core_set_length(famsync_core core, uint32_t file, uint64_t length, uint32_t *wanted, uint8_t **at);
 
 /* Returns the number of waiting calls: recorded calls that the host hasn't reported as made. You
-   may call this function at any time. */
+   may call this function at any time, also before the volume is open. */
 int64_t famsync_core_waiting(famsync_core core, uint8_t **at);
 
 /* Returns a waiting call. Index 0 is the oldest one. The host makes the calls in the order of their
@@ -252,23 +253,25 @@ int64_t famsync_core_waiting(famsync_core core, uint8_t **at);
      file.
    - FAMSYNC_CORE_CALL_SYNC: sync the volume's file.
 
-   Codes: OK, NONE (no call with this index waits). You may call this function at any time. */
+   Codes: OK, NONE (no call with this index waits). You may call this function at any time, also
+   before the volume is open. */
 int32_t famsync_core_call(famsync_core core, uint32_t index, uint32_t *kind, uint64_t *offset, const uint8_t **bytes,
                           uint64_t *length, uint8_t **at);
 
 /* Reports that the host has made the `count` oldest waiting calls, in order and successfully.
    Codes: OK, ARGUMENT (fewer than `count` calls wait, and nothing changes). You may call this
-   function at any time. */
+   function at any time, also before the volume is open. */
 int32_t famsync_core_carried_out(famsync_core core, uint32_t count, uint8_t **at);
 
-/* Forgets a block, so that it isn't known any more. A later call that needs this block returns
-   WANTED. A block is kept if a waiting call writes to it. Once the volume is open, the blocks
-   before the files are also kept, except the blocks of a log. Codes: OK, NONE (the block is kept),
-   ARGUMENT (no such block). You may call this function at any time. */
+/* Forgets a block, so that it isn't known any more. A later function call that needs this block
+   returns WANTED. A block is kept if a waiting recorded call writes to it. Once the volume is open,
+   the blocks before the files are also kept, except the blocks of a log. Codes: OK, NONE (the block
+   is kept), ARGUMENT (no such block). You may call this function at any time, also before the
+   volume is open. */
 int32_t famsync_core_forget(famsync_core core, uint32_t block, uint8_t **at);
 
-/* Frees the session, and drops its waiting calls. You may call this function at any time, but only
-   once for each handle. */
+/* Frees the session, and drops its waiting calls. You may call this function at any time, also
+   before the volume is open, but only once for each handle. */
 void famsync_core_close(famsync_core core);
 
 /* The host defines these three functions with malloc, realloc and free of one allocator. If the
