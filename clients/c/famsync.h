@@ -139,7 +139,7 @@ const char *famsync_version(void);
 
 /* A file of a new volume. `name` has 1 to 32 characters from '!' to '~'. `length` is in bytes.
    `capacity` is the greatest length that the file may have; 0 means `length`. In layouts 1 and 2
-   the capacity is the length. */
+   it has to be 0 or equal to `length`. */
 struct famsync_new_file {
     const char *name;
     uint64_t length;
@@ -422,11 +422,11 @@ size_t famsync_memory_length(const famsync_memory *memory);
    even if its bytes didn't change. One commit can have at most famsync_frames of these pages. */
 size_t famsync_memory_dirty(const famsync_memory *memory);
 
-/* Makes the pages of `count` bytes from `offset` on writable, as a store to each page would. Until
-   a thread calls famsync_msync or famsync_rollback, stores to these pages raise no SIGSEGV, and the
-   kernel can store to them. With FAMSYNC_TRACK_SIGNALS the pages count as stored to.
-   FAMSYNC_ARGUMENT: the range isn't within the file. FAMSYNC_NOFRAME: the range has more pages than
-   one commit can have. In both cases nothing changes. */
+/* Makes pages writable, as a store to each of them would: all pages that contain one of the `count`
+   bytes that begin at `offset`. Until a thread calls famsync_msync or famsync_rollback, stores to
+   these pages raise no SIGSEGV, and the kernel can store to them. With FAMSYNC_TRACK_SIGNALS the
+   pages count as stored to. FAMSYNC_ARGUMENT: the range isn't within the file. FAMSYNC_NOFRAME: the
+   range has more pages than one commit can have. In both cases nothing changes. */
 int famsync_memory_touch(famsync_memory *memory, size_t offset, size_t count);
 
 /* Closes the memory. Stores since the last commit are lost. After the call begins, no thread may
