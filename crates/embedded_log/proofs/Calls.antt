@@ -1,11 +1,11 @@
 -- Where each call of the files leads.
-use Rattle.std.proofs.Common.{◌≡◌, ◌≢◌, ◌≤◌, ℕ, ◌+◌, ◌*◌, List, [], ◌∷◌, ◌++◌, length, Bool}
+use Rattle.std.proofs.Common.{◌≡◌, ◌≢◌, ℕ, ◌+◌, ◌*◌, List, [], ◌∷◌, ◌++◌, length, Bool}
 use Rattle.std.proofs.Common.{true, false, refl, sym, ◌∙◌, ap}
 use Rattle.std.proofs.Common.{if◌then◌else◌}
-use Rattle.std.proofs.Common.{ap, subst, arith, inl, inr, ◌⊎◌, Option, Some, None, eqb}
-use Rattle.std.proofs.lemmas.Bool.{cases_eq, eq-eqb, cond-true, cond-false}
+use Rattle.std.proofs.Common.{ap, subst, inl, inr, None, eqb}
+use Rattle.std.proofs.lemmas.Bool.{cases_eq, eq-eqb, cond-true}
 use Rattle.std.proofs.lemmas.List.Elements.{Contains-append_right, Contains-push}
-use Rattle.std.specs.Prelude.{⊤, Result, Ok, Err, OnOk, OnErr, IfErr, Contains}
+use Rattle.std.specs.Prelude.{Contains}
 use Rattle.device.specs.Device.{LeavesOnly}
 use Rattle.deferred_disk.specs.Deferred.{Deferred, carried_moment, IsSuppliedWell}
 use Rattle.recovery.specs.Reading.{IsOnlyRead}
@@ -15,18 +15,20 @@ use Rattle.page_entry.specs.declared.refusal.Refusal.TheVariants as refusals
 use Rattle.history.specs.History.{Event, Store, SetLength, Mark, Acknowledge}
 use Rattle.pager.specs.State.{file_length}
 use Rattle.log_recovery.specs.Reading.{ReadsAlone}
+use Rattle.kept_blocks.specs.Blocks.{AreWholeBlocks}
 use Rattle.log_commits.specs.Tail.{TailValue}
+use Rattle.log_commits.specs.Behind.{LeftUnchanged}
 use Rattle.log_store.specs.declared.fault.Progress.{Progress}
-use Rattle.log_pager.specs.Pager.{IsPagerOver, contents_put}
+use Rattle.log_pager.specs.Pager.{IsPagerOver, LeftByPut, contents_put}
 use Rattle.log_files.specs.State.{LogFilesState, on_device}
 use Rattle.log_files.specs.Calls.{log_put_refusal, after_page_put, log_commit_refusal}
 use Rattle.log_files.specs.Calls.{IsLogFilesCommit, IsFailedLogCommit}
 use Rattle.log_files.specs.Calls.{KeepsLogFiles, IsLogFilesStep, IsFailedLogStep, log_length_refusal, last_log_page}
 use Rattle.log_files.specs.Calls.{after_log_length, log_resized_to}
 use Rattle.log_histories.specs.Histories.{LogStays, LogPut, LogCommitted, LogMarked, LogStepped, LogRead, LogRefused}
-use Rattle.log_histories.specs.Histories.{LogResized, KeepsContents, RecoversIn, TellsCommit, TrustsStep}
+use Rattle.log_histories.specs.Histories.{LogResized, KeepsContents}
 use Rattle.embedded.specs.Recorded.{deferred_disk}
-use Rattle.embedded_log.specs.Runs.{Nowhere, InCommit, InStep, Unfailed, StoppedInCommit, StoppedInStep}
+use Rattle.embedded_log.specs.Runs.{StoppedInCommit, StoppedInStep}
 use Rattle.embedded_log.specs.inside.Leading.{LeadsLog, RunsLog, AnyEvents, HasAcknowledgedMark}
 use Rattle.embedded_log.proofs.Stepping.{device_or_not}
 use Rattle.embedded_log.proofs.Leading.{GoesForth, goes_forth, leads_nowhere, leads_of, not_read, runs_by, unlike}
@@ -38,15 +40,9 @@ pub leads_put : (s : LogFilesState Deferred) (owner : FilePage) (bytes : List �
     → LeadsLog s (after_page_put s owner bytes)
 leads_put s owner bytes admitted page over =
     leads_of AnyEvents s (after_page_put s owner bytes)
-    (runs_by AnyEvents s (after_page_put s owner bytes) Nowhere (Store owner.file (4096 * owner.page) bytes ∷ [])
+    (runs_by AnyEvents s (after_page_put s owner bytes) (Store owner.file (4096 * owner.page) bytes ∷ [])
     (λ before. tt) (λ well. well) refl
-    (λ well. record {
-      later = omega arith;
-      goes = λ trusted. (
-        LogPut [] s owner bytes (record { admitted = admitted; a_page = page; over = over }) LogStays,
-        λ c tells. tt,
-      );
-    }))
+    (λ well. LogPut [] s owner bytes (record { admitted = admitted; a_page = page; over = over }) LogStays))
     (λ well spent. (not_read s.pager.device, spent))
 
 -- the device was only read
@@ -57,14 +53,8 @@ pub leads_read : (s : LogFilesState Deferred) (after : Deferred)
     → carried_moment after ≡ carried_moment s.pager.device → LeadsLog s (on_device s after)
 leads_read s after well read over carried =
     leads_of AnyEvents s (on_device s after)
-    (runs_by AnyEvents s (on_device s after) Nowhere [] (λ before. tt) well carried
-    (λ is. record {
-      later = (read is).time.later;
-      goes = λ trusted. (
-        LogRead [] s after (record { read = read is; over = over is }) LogStays,
-        λ c tells. tt,
-      );
-    }))
+    (runs_by AnyEvents s (on_device s after) [] (λ before. tt) well carried
+    (λ is. LogRead [] s after (record { read = read is; over = over is }) LogStays))
     (λ is spent. (read is, spent))
 
 pub only_read_of : (a b : Deferred) → ReadsAlone deferred_disk a b → IsOnlyRead deferred_disk a b
@@ -106,22 +96,15 @@ leads_length s new file to admitted set some alone over = elim (cases_eq to (fil
       (log_resized_to s file to some.0 new.pager.device) (eq-eqb to (file_length s.lengths file) same)))
       (leads_nowhere s)
   | inr other ↦ leads_of AnyEvents s new
-      (runs_by AnyEvents s new Nowhere (SetLength file (file_length s.lengths file) to ∷ []) (λ before. tt)
+      (runs_by AnyEvents s new (SetLength file (file_length s.lengths file) to ∷ []) (λ before. tt)
       alone.honest.0 alone.carried
-      (λ is. record {
-        later = alone.time.later;
-        goes = λ trusted. (
-          LogResized [] s file to new
-              (record {
-                admitted = admitted;
-                other = other;
-                read = alone;
-                resized = λ contents held. set contents (alone.honest.0 is) held;
-                over = over (alone.honest.0 is);
-              }) LogStays,
-          λ c tells. tt,
-        );
-      }))
+      (λ is. LogResized [] s file to new (record {
+        admitted = admitted;
+        other = other;
+        read = alone;
+        resized = λ contents held. set contents (alone.honest.0 is) held;
+        over = over (alone.honest.0 is);
+      }) LogStays))
       (λ is spent. (
         only_read_of s.pager.device new.pager.device alone,
         ap (λ (t : LogFilesState Deferred). t.pager.store.tail.spent) some.1
@@ -140,68 +123,59 @@ has_mark mark number before is =
     (subst (λ (n : ℕ). Contains (Mark number ∷ Acknowledge number ∷ []) (Acknowledge n)) (sym is)
     (Contains-push (Mark number ∷ []) (Acknowledge number)))
 
--- the contents after a commit of what was put, where the digest is right
+-- the contents after a commit of what was put
 abbrev pub CommitsContents : LogFilesState Deferred → LogFilesState Deferred → Type 0
 CommitsContents s new = (contents : ℕ → List ℕ) → IsPagerOver deferred_disk s.pager contents
-    → TellsCommit s (deferred_disk.seen new.pager.device)
     → IsPagerOver deferred_disk new.pager (contents_put contents s.pager.staged)
 
 -- what a crash within a commit leaves
 abbrev pub CommitLeft : LogFilesState Deferred → Deferred → Type 0
 CommitLeft s after = (contents : ℕ → List ℕ) → IsPagerOver deferred_disk s.pager contents
     → LeavesOnly deferred_disk.moment deferred_disk.left_since s.pager.device after
-    (λ c. TellsCommit s c → RecoversIn s contents c ⊎ RecoversIn s (contents_put contents s.pager.staged) c)
+    (LeftByPut s.pager.store.tail contents s.pager.staged)
 
 module _ (s new : LogFilesState Deferred) (mark : ℕ) (admitted : log_commit_refusal s ≡ None)
-    (mark_is : mark ≡ s.marks + 1)
+    (mark_is : mark ≡ s.marks + 1) (whole : AreWholeBlocks s.pager.staged)
     (well : IsSuppliedWell new.pager.device → IsSuppliedWell s.pager.device) where
   runs_marked : s.pager.staged ≡ [] → new ≡ record s { marks = s.marks + 1 }
       → RunsLog (HasAcknowledgedMark mark) s new
   runs_marked none is = subst (λ (t : LogFilesState Deferred). RunsLog (HasAcknowledgedMark mark) s t) (sym is)
-      (runs_by (HasAcknowledgedMark mark) s (record s { marks = s.marks + 1 }) Nowhere
+      (runs_by (HasAcknowledgedMark mark) s (record s { marks = s.marks + 1 })
       (Mark (s.marks + 1) ∷ Acknowledge (s.marks + 1) ∷ [])
       (λ before. has_mark mark (s.marks + 1) before mark_is) (λ is_well. is_well) refl
-      (λ is_well. record {
-        later = omega arith;
-        goes = λ trusted. (
-          LogMarked [] s (record { admitted = admitted; none = none }) LogStays,
-          λ c tells. tt,
-        );
-      }))
+      (λ is_well. LogMarked [] s (record { admitted = admitted; none = none }) LogStays))
 
   runs_committed : IsLogFilesCommit deferred_disk s new → (IsSuppliedWell s.pager.device → CommitsContents s new)
       → (IsSuppliedWell s.pager.device → CommitLeft s new.pager.device) → RunsLog (HasAcknowledgedMark mark) s new
   runs_committed made over leaves =
       let forth : GoesForth s.pager.device new.pager.device
       = goes_forth _ true s.pager.device new.pager.device made.did in
-      runs_by (HasAcknowledgedMark mark) s new InCommit (Mark (s.marks + 1) ∷ Acknowledge (s.marks + 1) ∷ [])
+      runs_by (HasAcknowledgedMark mark) s new (Mark (s.marks + 1) ∷ Acknowledge (s.marks + 1) ∷ [])
       (λ before. has_mark mark (s.marks + 1) before mark_is) well forth.carried
-      (λ is. record {
-        later = forth.later;
-        goes = λ told. (
-          LogCommitted [] s new
-              (record {
-                calls = record { honest = well is; may = made.may; did = made.did; leaves = leaves (well is) };
-                made = made;
-                told = told;
-                over = λ contents held. over (well is) contents held told;
-              }) LogStays,
-          λ c tells. (tt, tells),
-        );
-      })
+      (λ is. LogCommitted [] s new (record {
+        calls = record {
+          honest = well is;
+          may = made.may;
+          whole = whole;
+          did = made.did;
+          leaves = leaves (well is);
+        };
+        made = made;
+        over = over (well is);
+      }) LogStays)
 
 -- what was put is committed, or nothing was put
 pub runs_commit : (s new : LogFilesState Deferred) (mark : ℕ) → log_commit_refusal s ≡ None → mark ≡ s.marks + 1
-    → (IsSuppliedWell new.pager.device → IsSuppliedWell s.pager.device)
+    → AreWholeBlocks s.pager.staged → (IsSuppliedWell new.pager.device → IsSuppliedWell s.pager.device)
     → (s.pager.staged ≡ [] → new ≡ record s { marks = s.marks + 1 })
     → (s.pager.staged ≢ [] → IsLogFilesCommit deferred_disk s new)
     → (IsSuppliedWell s.pager.device → CommitsContents s new)
     → (IsSuppliedWell s.pager.device → CommitLeft s new.pager.device) → RunsLog (HasAcknowledgedMark mark) s new
-runs_commit s new mark admitted mark_is well nothing some over leaves = go s.pager.staged refl
+runs_commit s new mark admitted mark_is whole well nothing some over leaves = go s.pager.staged refl
   where
     go : (blocks : List (ℕ × List ℕ)) → s.pager.staged ≡ blocks → RunsLog (HasAcknowledgedMark mark) s new
-    go [] is = runs_marked s new mark admitted mark_is well is (nothing is)
-    go (block ∷ blocks) is = runs_committed s new mark admitted mark_is well
+    go [] is = runs_marked s new mark admitted mark_is whole well is (nothing is)
+    go (block ∷ blocks) is = runs_committed s new mark admitted mark_is whole well
         (some (λ none. absurd (let e : (block ∷ blocks) ≡ [] = sym is ∙ none in cc))) over leaves
 
 -- where a device call had failed no commit is made
@@ -220,15 +194,21 @@ stuck_commit s new nothing some well spent = go s.pager.staged refl
 
 -- a commit of which a device call failed
 pub leads_failed_commit : (s new : LogFilesState Deferred) → IsFailedLogCommit deferred_disk s new
-    → (IsSuppliedWell new.pager.device → IsSuppliedWell s.pager.device)
+    → AreWholeBlocks s.pager.staged → (IsSuppliedWell new.pager.device → IsSuppliedWell s.pager.device)
     → (IsSuppliedWell s.pager.device → CommitLeft s new.pager.device) → LeadsLog s new
-leads_failed_commit s new failed well leaves = record {
+leads_failed_commit s new failed whole well leaves = record {
   well = well;
   carried = (goes_forth _ false s.pager.device new.pager.device failed.did).carried;
   goes = λ is start before run. (
     before ++ Mark (s.marks + 1) ∷ [],
     StoppedInCommit before s new new.pager.device
-        (record { honest = well is; may = failed.may; did = failed.did; leaves = leaves (well is) })
+        (record {
+          honest = well is;
+          may = failed.may;
+          whole = whole;
+          did = failed.did;
+          leaves = leaves (well is);
+        })
         (not_read new.pager.device) (ap (λ (t : TailValue). t.spent) failed.spent) run,
   );
   stuck = λ is spent. unlike s new failed.may.whole is spent;
@@ -240,15 +220,8 @@ pub leads_refused : (s new : LogFilesState Deferred) → KeepsLogFiles s new →
 leads_refused s new kept device over =
     let well : IsSuppliedWell new.pager.device → IsSuppliedWell s.pager.device = subst IsSuppliedWell device in
     leads_of AnyEvents s new
-    (runs_by AnyEvents s new Nowhere [] (λ before. tt) well (ap carried_moment device)
-    (λ is. record {
-      later = (subst (λ (d : Deferred). IsOnlyRead deferred_disk s.pager.device d) (sym device)
-          (not_read s.pager.device)).time.later;
-      goes = λ trusted. (
-        LogRefused [] s new (record { kept = kept; over = over (well is) }) LogStays,
-        λ c tells. tt,
-      );
-    }))
+    (runs_by AnyEvents s new [] (λ before. tt) well (ap carried_moment device)
+    (λ is. LogRefused [] s new (record { kept = kept; over = over (well is) }) LogStays))
     (λ is spent. (
       subst (λ (d : Deferred). IsOnlyRead deferred_disk s.pager.device d) (sym device) (not_read s.pager.device),
       ap (λ (t : TailValue). t.spent) kept.store.tail ∙ spent,
@@ -256,37 +229,25 @@ leads_refused s new kept device over =
 
 -- ---- steps
 
-abbrev pub StepsContents : LogFilesState Deferred → LogFilesState Deferred → Type 0
-StepsContents s new = (contents : ℕ → List ℕ) → IsPagerOver deferred_disk s.pager contents
-    → TrustsStep s (deferred_disk.seen new.pager.device) → IsPagerOver deferred_disk new.pager contents
-
 abbrev pub StepLeft : LogFilesState Deferred → Deferred → Type 0
 StepLeft s after = (contents : ℕ → List ℕ) → IsPagerOver deferred_disk s.pager contents
     → LeavesOnly deferred_disk.moment deferred_disk.left_since s.pager.device after
-    (λ c. TrustsStep s c → RecoversIn s contents c)
+    (LeftUnchanged s.pager.store.tail contents)
 
 pub leads_step : (s new : LogFilesState Deferred) (progress : Progress) → IsLogFilesStep deferred_disk s progress new
     → (IsSuppliedWell new.pager.device → IsSuppliedWell s.pager.device)
-    → (IsSuppliedWell s.pager.device → StepsContents s new)
+    → (IsSuppliedWell s.pager.device → KeepsContents deferred_disk s new)
     → (IsSuppliedWell s.pager.device → StepLeft s new.pager.device) → LeadsLog s new
 leads_step s new progress made well over leaves =
     let forth : GoesForth s.pager.device new.pager.device
     = goes_forth _ true s.pager.device new.pager.device made.did in
     leads_of AnyEvents s new
-    (runs_by AnyEvents s new InStep [] (λ before. tt) well forth.carried
-    (λ is. record {
-      later = forth.later;
-      goes = λ trusted. (
-        LogStepped [] s progress new
-            (record {
-              calls = record { honest = well is; may = made.may; did = made.did; leaves = leaves (well is) };
-              made = made;
-              trusted = trusted;
-              over = λ contents held. over (well is) contents held trusted;
-            }) LogStays,
-        λ c tells. (tt, tells),
-      );
-    }))
+    (runs_by AnyEvents s new [] (λ before. tt) well forth.carried
+    (λ is. LogStepped [] s progress new (record {
+      calls = record { honest = well is; may = made.may; did = made.did; leaves = leaves (well is) };
+      made = made;
+      over = over (well is);
+    }) LogStays))
     (unlike s new made.whole)
 
 pub leads_failed_step : (s new : LogFilesState Deferred) → IsFailedLogStep deferred_disk s new
@@ -318,10 +279,10 @@ leads_stopped_step s new why kept failed well leaves = elim (device_or_not why) 
 pub leads_stopped_commit : (s new : LogFilesState Deferred) (why : Refusal)
     → (why ≢ refusals.Device → KeepsLogFiles s new × (new.pager.device ≡ s.pager.device))
     → (why ≢ refusals.Device → IsSuppliedWell s.pager.device → KeepsContents deferred_disk s new)
-    → (why ≡ refusals.Device → IsFailedLogCommit deferred_disk s new)
+    → (why ≡ refusals.Device → IsFailedLogCommit deferred_disk s new) → AreWholeBlocks s.pager.staged
     → (IsSuppliedWell new.pager.device → IsSuppliedWell s.pager.device)
     → (IsSuppliedWell s.pager.device → CommitLeft s new.pager.device) → LeadsLog s new
-leads_stopped_commit s new why kept over failed well leaves = elim (device_or_not why) [
-  | inl is ↦ leads_failed_commit s new (failed is) well leaves
+leads_stopped_commit s new why kept over failed whole well leaves = elim (device_or_not why) [
+  | inl is ↦ leads_failed_commit s new (failed is) whole well leaves
   | inr other ↦ leads_refused s new (kept other).0 (kept other).1 (over other)
 ]

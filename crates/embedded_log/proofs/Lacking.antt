@@ -1,12 +1,11 @@
 -- An opening that is refused by a read of a block that isn't known.
-use Rattle.std.proofs.Common.{◌≡◌, ℕ, ◌+◌, ◌<◌, ◌^◌, Option, Some, inl, refl, arith}
+use Rattle.std.proofs.Common.{◌≡◌, ℕ, ◌+◌, ◌<◌, ◌^◌, Some, inl, refl, arith}
 use Rattle.std.proofs.lemmas.Bool.Decides.{nat_tests}
 use Rattle.std.specs.Prelude.{false}
 use Rattle.device.specs.Count.{raised}
 use Rattle.device.specs.inside.Laws.{since_now_of}
 use Rattle.deferred_disk.specs.Deferred.{Deferred, as_memory, after_read}
 use Rattle.page_entry.specs.declared.refusal.Refusal.TheVariants as refusals
-use Rattle.embedded.specs.Recorded.{deferred_disk}
 use Rattle.embedded_log.specs.Opening.{RefusesEmbeddedLog, LeavesByOpening}
 
 raised_once : (n : ℕ) → n + 1 < 2 ^ 64 → raised n ≡ n + 1

@@ -1,7 +1,6 @@
 -- Where the calls of a request lead: one after another.
-use Rattle.std.proofs.Common.{◌≡◌, ◌≤◌, ℕ, List, [], ◌∷◌, ◌++◌, Bool, true, false, refl, sym, ◌∙◌, ap, subst, arith}
-use Rattle.std.proofs.Common.{inl, inr, ◌⊎◌}
-use Rattle.std.specs.Prelude.{⊤}
+use Rattle.std.proofs.Common.{◌≡◌, ◌≤◌, List, [], ◌∷◌, ◌++◌, Bool, true, false, refl, sym, ◌∙◌, subst, arith}
+use Rattle.std.proofs.Common.{inl, inr}
 use Rattle.deferred_disk.specs.Deferred.{Deferred, as_memory, carried_moment, IsSuppliedWell}
 use Rattle.device.specs.Memory.{moment_of}
 use Rattle.device.specs.Work.{Work}
@@ -11,8 +10,9 @@ use Rattle.recovery.specs.Reading.{IsOnlyRead}
 use Rattle.history.specs.History.{Event}
 use Rattle.log_commits.specs.Calls.{DidAll}
 use Rattle.log_files.specs.State.{LogFilesState}
+use Rattle.log_histories.proofs.Public.{gone_on}
 use Rattle.embedded.specs.Recorded.{deferred_disk}
-use Rattle.embedded_log.specs.Runs.{GoesTrusting, HasRunLog, HasServedLog, RunOn, Trusting}
+use Rattle.embedded_log.specs.Runs.{HasRunLog, HasServedLog}
 use Rattle.embedded_log.specs.Runs.{Unfailed, StoppedInCommit, StoppedInStep}
 use Rattle.embedded_log.specs.inside.Leading.{LeadsLog, RunsLog}
 
@@ -131,15 +131,15 @@ runs_on E a b c whole first second = record {
 -- ---- one call
 
 -- it went, as long as each block was supplied as it was
-pub runs_by : (E : List Event → Type 0) (old new : LogFilesState Deferred) (trusting : Trusting) (more : List Event)
+pub runs_by : (E : List Event → Type 0) (old new : LogFilesState Deferred) (more : List Event)
     → ((before : List Event) → E (before ++ more)) → (IsSuppliedWell new.pager.device → IsSuppliedWell old.pager.device)
     → carried_moment new.pager.device ≡ carried_moment old.pager.device
-    → (IsSuppliedWell new.pager.device → GoesTrusting trusting old more new) → RunsLog E old new
-runs_by E old new trusting more holds well carried goes = record {
+    → (IsSuppliedWell new.pager.device → HasRunLog old more new) → RunsLog E old new
+runs_by E old new more holds well carried goes = record {
   well = well;
   carried = carried;
   runs = λ is start before run.
-      (before ++ more, holds before, RunOn trusting before more old new (goes is) run);
+      (before ++ more, holds before, (gone_on deferred_disk start before old run (goes is)).0);
 }
 
 -- it led nowhere, where a device call had failed

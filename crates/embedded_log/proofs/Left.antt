@@ -1,37 +1,26 @@
 -- What a crash leaves while a host makes the calls.
-use Rattle.std.proofs.Common.{◌≡◌, ◌≤◌, ℕ, List, take, false}
+use Rattle.std.proofs.Common.{◌≡◌, ℕ, List, [], take, false, ap, ◌∙◌}
 use Rattle.std.proofs.lemmas.List.Elements.{Contains-append_left}
-use Rattle.deferred_disk.specs.Deferred.{Deferred, as_memory, carried_moment}
+use Rattle.deferred_disk.specs.Deferred.{Deferred, as_memory}
 use Rattle.device.specs.Device.{LeavesOnly}
-use Rattle.device.specs.Memory.{left_since_of, moment_of}
+use Rattle.device.specs.Memory.{moment_of}
 use Rattle.device.specs.inside.Laws.{now_is_since_of, since_now_of}
 use Rattle.device.proofs.Public.{leaves_weaker, leaves_then}
 use Rattle.volume_codec.specs.Files.{File}
 use Rattle.recovery.specs.Reading.{IsOnlyRead}
 use Rattle.history.specs.History.{Event, Acknowledge}
+use Rattle.log_codec.specs.declared.sealing.Sealing.TheVariants.{ByByte}
+use Rattle.log_volume.specs.Super.{LogSuperValue}
 use Rattle.log_files.specs.State.{LogFilesState}
-use Rattle.log_histories.specs.Histories.{HasComeLog, HasGoneLog, LogStays}
-use Rattle.log_histories.specs.Runs.{ReadsBackAmongLog, TellsRun}
-use Rattle.log_histories.proofs.Runs.{gone_on, left_since, left_in_commit, left_in_step}
+use Rattle.log_histories.specs.Histories.{HasComeLog, LogStays}
+use Rattle.log_histories.specs.Runs.{ReadsBackAmongLog}
+use Rattle.log_histories.proofs.Public.{KeepsLog, contents_now, keeps, left_since, left_in_run_commit, left_in_run_step}
+use Rattle.log_histories.proofs.Public.{same_table, told_run}
 use Rattle.embedded.specs.Recorded.{deferred_disk}
-use Rattle.embedded.proofs.Hosted.{sooner}
 use Rattle.embedded_log.specs.Hosting.{KeepsLogMark}
-use Rattle.embedded_log.specs.Runs.{HasRunLog, HasServedLog, RunStays, RunOn, Unfailed, StoppedInCommit, StoppedInStep}
-use Rattle.embedded_log.specs.Runs.{IsToldRun, IsToldServed, TellsLeft, TellsServed}
+use Rattle.embedded_log.specs.Runs.{HasRunLog, HasServedLog, Unfailed, StoppedInCommit, StoppedInStep}
+use Rattle.embedded_log.specs.Runs.{TellsServed}
 use Rattle.embedded_log.specs.Serving.{HasPassedLogMark}
-
--- ---- runs of which a digest tells
-
--- a run of which a digest told is one of the laws of histories
-pub gone_of : {start : LogFilesState Deferred} {events : List Event} {s : LogFilesState Deferred}
-    (run : HasRunLog start events s) → IsToldRun run
-    → (gone : HasGoneLog deferred_disk start events s) × ((l : List ℕ) → TellsLeft run l → TellsRun gone l)
-gone_of RunStays told = (LogStays, λ l tells. tt)
-gone_of {start} (RunOn trusting events more s next goes run) told =
-    let rest = gone_of run told.0 in
-    let call = goes.goes told.1 in
-    let one = gone_on deferred_disk start events s rest.0 call.0 in
-    (one.0, λ l tells. one.1 l (rest.1 l tells.0) (call.1 l tells.1))
 
 -- ---- crashes
 
@@ -50,23 +39,36 @@ module _ (files : List File) (history : List Event) (mid : LogFilesState Deferre
       leaves_then leaves (leaves_weaker read.time (λ c may.
       leaves.each c (now_is_since_of (as_memory a) (moment_of (as_memory mid.pager.device)) c leaves.later may)))
 
+  abbrev contents : ℕ → List ℕ
+  contents = contents_now deferred_disk since files come
+
+  had : KeepsLog deferred_disk files history mid contents
+  had = keeps deferred_disk since files come
+
   pub left_served : {events : List Event} {s : LogFilesState Deferred} (served : HasServedLog mid events s)
-      → IsToldServed served
       → Leaves s.pager.device (λ c. TellsServed served c → ReadsBackAmongLog files history events c)
-  left_served (Unfailed events s run) told =
-      let gone = gone_of run told in
-      leaves_weaker (left_since deferred_disk since files history mid come gone.0)
-      (λ c back tells. back (gone.1 c tells))
-  left_served (StoppedInCommit events last s after call read spent run) told =
-      let gone = gone_of run told in
+  left_served (Unfailed events s run) = left_since deferred_disk since files history mid contents had run
+  left_served (StoppedInCommit events last s after call read spent run) =
       read_after _ after s.pager.device
-      (leaves_weaker (left_in_commit deferred_disk since files history mid come gone.0 false after call)
-      (λ c back tells. back (gone.1 c tells.0) tells.1)) read
-  left_served (StoppedInStep events last s after call read spent run) told =
-      let gone = gone_of run told in
+      (left_in_run_commit deferred_disk since files history mid contents had run false after call) read
+  left_served (StoppedInStep events last s after call read spent run) =
       read_after _ after s.pager.device
-      (leaves_weaker (left_in_step deferred_disk since files history mid come gone.0 false after call)
-      (λ c back tells. back (gone.1 c tells.0) tells.1)) read
+      (left_in_run_step deferred_disk since files history mid contents had run false after call) read
+
+  -- where a byte seals
+  pub told_served : {events : List Event} {s : LogFilesState Deferred} (served : HasServedLog mid events s)
+      → mid.table.sealing ≡ ByByte → (c : List ℕ) → TellsServed served c
+  told_served (Unfailed events s run) byte c =
+      (told_run deferred_disk since files history mid contents had run byte c).0
+  told_served (StoppedInCommit events last s after call read spent run) byte c =
+      (told_run deferred_disk since files history mid contents had run byte c).1
+  told_served (StoppedInStep events last s after call read spent run) byte c =
+      (told_run deferred_disk since files history mid contents had run byte c).0
+
+  pub same_sealing : {events : List Event} {s : LogFilesState Deferred} → HasRunLog mid events s
+      → s.table.sealing ≡ mid.table.sealing
+  same_sealing run = ap (λ (v : LogSuperValue). v.sealing)
+      (same_table deferred_disk since files history mid contents had run)
 
 -- a mark that is acknowledged is in each durable prefix
 pub kept : (files : List File) (mark : ℕ) (s : LogFilesState Deferred) (reached : HasPassedLogMark files mark s)
@@ -78,11 +80,24 @@ kept files mark s reached c among = record {
 }
 
 pub come_of : (files : List File) (mark : ℕ) (s : LogFilesState Deferred) (reached : HasPassedLogMark files mark s)
-    → IsToldRun reached.run → HasComeLog deferred_disk files reached.earlier reached.mid
-come_of files mark s reached told = record {
+    → HasComeLog deferred_disk files reached.earlier reached.mid
+come_of files mark s reached = record {
   before = reached.opened.before;
   first = reached.first;
   opened = reached.opened.opened;
   files_are = reached.opened.files_are;
-  gone = (gone_of reached.run told).0;
+  gone = reached.run;
 }
+
+pub told_mark : (files : List File) (mark : ℕ) (s : LogFilesState Deferred) (reached : HasPassedLogMark files mark s)
+    → reached.first.table.sealing ≡ ByByte → (c : List ℕ) → TellsServed reached.served c
+told_mark files mark s reached byte =
+    let came : HasComeLog deferred_disk files [] reached.first = record {
+      before = reached.opened.before;
+      first = reached.first;
+      opened = reached.opened.opened;
+      files_are = reached.opened.files_are;
+      gone = LogStays;
+    } in
+    told_served files reached.earlier reached.mid (come_of files mark s reached) reached.served
+    (same_sealing files [] reached.first came reached.run ∙ byte)

@@ -4,4 +4,3 @@ mod Calls
 mod Serving
 mod Left
 mod Lacking
-mod Byte

@@ -1,20 +1,20 @@
 -- What a volume with a log has served stays so by further calls, and a commit adds its mark.
-use Rattle.std.proofs.Common.{◌≡◌, ◌≤◌, ℕ, ◌+◌, ◌-◌, ◌^◌, Bool, true, false, List, [], ◌++◌, length, Option, Some, None}
+use Rattle.std.proofs.Common.{◌≡◌, ◌≤◌, ℕ, ◌+◌, ◌-◌, ◌^◌, Bool, true, false, List, [], length, Option, Some, None}
 use Rattle.std.proofs.Common.{IfSome, Result, Ok, Err, OnOk, OnErr, if◌then◌else◌, refl, sym, ◌∙◌, ap, subst, arith}
 use Rattle.std.proofs.lemmas.Bool.Decides.{nat_tests}
 use Rattle.std.specs.Prelude.{⊤, min, nat_le}
 use Rattle.deferred_disk.specs.Deferred.{Deferred, as_memory, carried_moment, IsSuppliedWell, recorded_calls}
-use Rattle.device.specs.Memory.{Recorded, moment_of, seen_of}
+use Rattle.device.specs.Memory.{moment_of, seen_of}
 use Rattle.volume_codec.specs.Files.{File}
 use Rattle.volume_codec.specs.Layout.{block_at}
 use Rattle.volume_codec.specs.Lengths.{IsLengths}
 use Rattle.page_entry.specs.declared.numbers.FilePage.{FilePage}
 use Rattle.page_entry.specs.declared.refusal.Refusal.{Refusal}
 use Rattle.recovery.specs.Reading.{IsOnlyRead}
-use Rattle.history.specs.History.{Event, Acknowledge}
+use Rattle.history.specs.History.{Event}
 use Rattle.log_codec.specs.Log.{first_log_home}
-use Rattle.log_volume.specs.Super.{LogSuperValue, table_of}
-use Rattle.log_volume.specs.Files.{RecoversToLog, log_files_in, log_lengths_in}
+use Rattle.log_volume.specs.Super.{table_of}
+use Rattle.log_volume.specs.Files.{RecoversToLog, log_files_in}
 use Rattle.log_opening.specs.Volume.{HasOpenedVolume}
 use Rattle.log_pager.specs.Pager.{IsPagerOver}
 use Rattle.log_recovery.specs.Reading.{ReadsAlone}
@@ -22,14 +22,15 @@ use Rattle.log_files.specs.State.{LogFilesState, fresh_log_files, on_device}
 use Rattle.log_files.specs.Calls.{log_put_refusal, after_page_put, log_length_refusal, after_log_length, last_log_page}
 use Rattle.log_store.proofs.Public.{read_only}
 use Rattle.log_pager.proofs.Public.{pager_kept}
-use Rattle.log_histories.specs.Histories.{KeepsContents, LogStays, LogRead}
-use Rattle.log_histories.proofs.Lowered.{lengths_say}
+use Rattle.log_histories.specs.Histories.{KeepsContents, LogStays, LogPut, LogCommitted, LogMarked, LogStepped}
+use Rattle.log_histories.specs.Histories.{LogRead, LogRefused, LogResized}
+use Rattle.log_histories.proofs.Public.{lengths_say}
 use Rattle.embedded.specs.Embedded.{acknowledged_by_calls, made_calls}
 use Rattle.embedded.specs.Recorded.{deferred_disk}
 use Rattle.embedded.proofs.Tended.{IsLike, only_read}
-use Rattle.embedded_log.specs.Runs.{HasRunLog, HasServedLog, Nowhere, RunStays, RunOn, Unfailed}
+use Rattle.embedded_log.specs.Runs.{HasRunLog, HasServedLog, Unfailed}
 use Rattle.embedded_log.specs.Runs.{StoppedInCommit, StoppedInStep}
-use Rattle.embedded_log.specs.Serving.{HasPassedLogMark, HasNeededLog, HasMadeLogCalls, IsFirst, ServesLogWell}
+use Rattle.embedded_log.specs.Serving.{HasPassedLogMark, HasNeededLog, HasMadeLogCalls, ServesLogWell}
 use Rattle.embedded_log.specs.inside.Leading.{LeadsLog, RunsLog, HasAcknowledgedMark}
 use Rattle.embedded_log.proofs.Calls.{leads_put, leads_alone, leads_length}
 use Rattle.embedded_log.proofs.Leading.{goes_forth, run_of, served_on, then_read}
@@ -73,7 +74,7 @@ serves_opened before s opened over fresh honest = λ well.
         recovered = recovers_opened before s (opened had);
       };
       history = [];
-      served = Unfailed [] s RunStays;
+      served = Unfailed [] s LogStays;
       commits = tt;
       durable = tt;
     }
@@ -157,7 +158,7 @@ module _ (old new : LogFilesState Deferred) (due : ℕ) (committed acknowledged 
             run = it.2;
             acknowledges = it.1;
             later = [];
-            served = Unfailed [] new RunStays;
+            served = Unfailed [] new LogStays;
           },
           omega arith,
         );
@@ -171,8 +172,19 @@ module _ (old new : LogFilesState Deferred) (due : ℕ) (committed acknowledged 
 run_later : {start : LogFilesState Deferred} {events : List Event} {s : LogFilesState Deferred}
     → HasRunLog start events s
     → moment_of (as_memory start.pager.device) ≤ moment_of (as_memory s.pager.device)
-run_later RunStays = omega arith
-run_later (RunOn trusting events more s next goes run) = omega (arith, run_later run, goes.later)
+run_later LogStays = omega arith
+run_later (LogPut events s owner bytes put run) = run_later run
+run_later (LogCommitted events s next commit run) =
+    omega (arith, run_later run, (goes_forth _ true s.pager.device next.pager.device commit.calls.did).later)
+run_later (LogMarked events s commit run) = run_later run
+run_later (LogStepped events s progress next step run) =
+    omega (arith, run_later run, (goes_forth _ true s.pager.device next.pager.device step.calls.did).later)
+run_later (LogRead events s after read run) = omega (arith, run_later run, read.read.time.later)
+run_later {start} (LogRefused events s next refused run) =
+    subst (λ (n : LogFilesState Deferred).
+    moment_of (as_memory start.pager.device) ≤ moment_of (as_memory n.pager.device)) (sym refused.kept.rest)
+    (run_later run)
+run_later (LogResized events s file to next resize run) = omega (arith, run_later run, resize.read.time.later)
 
 served_later : {start : LogFilesState Deferred} {events : List Event} {s : LogFilesState Deferred}
     → HasServedLog start events s
@@ -256,14 +268,8 @@ like_over s after read contents over =
 tended_goes : (after : Deferred) {start : LogFilesState Deferred} {events : List Event} {s : LogFilesState Deferred}
     → IsOnlyRead deferred_disk s.pager.device after → KeepsContents deferred_disk s (on_device s after)
     → HasServedLog start events s → (later : List Event) × HasServedLog start later (on_device s after)
-tended_goes after read over (Unfailed events s run) = (
-  events ++ [],
-  Unfailed (events ++ []) (on_device s after) (RunOn Nowhere events [] s (on_device s after)
-      (record {
-        later = read.time.later;
-        goes = λ trusted. (LogRead [] s after (record { read = read; over = over }) LogStays, λ c tells. tt);
-      }) run),
-)
+tended_goes after read over (Unfailed events s run) =
+    (events, Unfailed events (on_device s after) (LogRead events s after (record { read = read; over = over }) run))
 tended_goes after read over (StoppedInCommit events last s mid call other spent run) = (
   _,
   StoppedInCommit events last (on_device s after) mid call (then_read mid s.pager.device after other read) spent

@@ -1,6 +1,6 @@
 -- Steps that are made for a commit, and commits.
-use Rattle.std.proofs.Common.{◌≡◌, ◌≢◌, ◌≤◌, ◌<◌, ℕ, ◌+◌, List, [], ◌∷◌, Bool, true, false}
-use Rattle.std.proofs.Common.{refl, sym, ◌∙◌, ap, subst, arith}
+use Rattle.std.proofs.Common.{◌≡◌, ◌≢◌, ℕ, ◌+◌, List, [], ◌∷◌, Bool, true, false}
+use Rattle.std.proofs.Common.{refl, subst, arith}
 use Rattle.std.proofs.Common.{inl, inr, ◌⊎◌, Option, Some, None}
 use Rattle.std.specs.Prelude.{IsTrue, ◌↔◌, Result, Ok, Err, IfOk, IfErr, nat_le, not, ◌&&◌, ◌||◌, ◌^◌, ◌-◌}
 use Rattle.std.proofs.lemmas.Bool.{iff_false}
@@ -14,11 +14,10 @@ use Rattle.log_files.specs.State.{LogFilesState}
 use Rattle.log_store.specs.Store.{StepsBy}
 use Rattle.log_files.specs.Calls.{log_commit_refusal, has_number_for, has_blocks_for, IsLogFilesStep}
 use Rattle.embedded.specs.declared.reading.Unread.{Unread}
-use Rattle.embedded.specs.declared.reading.Unread.TheVariants.{Wanted, Refused}
 use Rattle.embedded.specs.Recorded.{deferred_disk}
 use Rattle.embedded_log.specs.Needs.{lacked_by_step}
-use Rattle.embedded_log.specs.Steps.{MakesLogSteps, NoLogStep, ThenLogStep, WhileFull, StopsAtStep, RefusesNextStep}
-use Rattle.embedded_log.specs.Steps.{CommitsLog, CommitsPut, StopsLogCommit, WithRoom, WithoutRoom, StopsAtCommit}
+use Rattle.embedded_log.specs.Steps.{MakesLogSteps, NoLogStep, ThenLogStep, WhileFull}
+use Rattle.embedded_log.specs.Steps.{CommitsLog, CommitsPut, StopsLogCommit, WithRoom, StopsAtCommit}
 use Rattle.embedded_log.specs.Steps.{IsAllHome, has_log_room}
 use Rattle.embedded_log.specs.inside.Leading.{LeadsLog, RunsLog, HasAcknowledgedMark}
 use Rattle.embedded_log.specs.inside.Rounds.{MakesWhileFull, StopsWhileFull}

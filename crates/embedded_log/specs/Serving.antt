@@ -9,7 +9,7 @@ use Rattle.log_volume.specs.Files.{RecoversToLog, log_files_in}
 use Rattle.log_files.specs.State.{LogFilesState}
 use Rattle.log_histories.specs.Histories.{IsJustOpened}
 use Rattle.embedded.specs.Recorded.{deferred_disk}
-use Rattle.embedded_log.specs.Runs.{HasRunLog, HasServedLog, IsToldRun, IsToldServed}
+use Rattle.embedded_log.specs.Runs.{HasRunLog, HasServedLog}
 
 -- a volume that had these files was opened
 pub record IsFirst (files : List File) (first : LogFilesState Deferred) : Type 0 where
@@ -29,11 +29,6 @@ pub record HasPassedLogMark (files : List File) (mark : ℕ) (s : LogFilesState 
   pub acknowledges : Contains earlier (Acknowledge mark)
   pub later : List Event
   pub served : HasServedLog mid later s
-
--- the digest is right about the bytes that a read gave after each of these calls
-abbrev pub IsToldMark : {files : List File} {mark : ℕ} {s : LogFilesState Deferred}
-    → HasPassedLogMark files mark s → Type 0
-IsToldMark reached = IsToldRun reached.run × IsToldServed reached.served
 
 -- So they did, and there this many device calls were recorded. (A count that has come to 2^64-1 stays there.)
 abbrev pub HasNeededLog : List File → (due mark : ℕ) → LogFilesState Deferred → Type 0

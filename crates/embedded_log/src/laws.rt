@@ -11,8 +11,8 @@ ghost use Rattle.log_files.specs.State.{LogFilesState};
 ghost use Rattle.log_histories.specs.Histories.{HasComeLog};
 ghost use Rattle.log_histories.specs.Runs.{ReadsBackAmongLog};
 ghost use Rattle.embedded.specs.Recorded.{deferred_disk};
-ghost use Rattle.embedded_log.specs.Runs.{HasServedLog, IsToldServed, TellsServed};
-ghost use Rattle.embedded_log.specs.Serving.{HasPassedLogMark, IsToldMark, ServesLogWell};
+ghost use Rattle.embedded_log.specs.Runs.{HasServedLog, TellsServed};
+ghost use Rattle.embedded_log.specs.Serving.{HasPassedLogMark, ServesLogWell};
 ghost use Rattle.embedded_log.specs.Hosting.{KeepsLogMark};
 
 use deferred_disk::DeferredDisk;
@@ -26,19 +26,19 @@ use std::alloc::Allocator;
 /// before, and of some later calls (`left`). So it keeps each mark that was acknowledged in the history of such a state
 /// (`mark`), and the mark that an embedded volume acknowledges (`acknowledged`).
 ///
-/// In layout 6 all of this has two premises: the digest is right about the bytes that a read gave after each call
-/// (`IsToldMark`), and about the bytes that the crash leaves (`TellsServed`).
+/// In layout 6 all of this has one premise on the bytes that the crash leaves: each commit since that state that can be
+/// read from them was made (`TellsServed`), so the digest told each torn one.
 pub fn crashed_on_the_host<D: Device, A: Allocator + Copy>(device: &D, disk: &DeferredDisk<A>)
     ensures left { (files : List File) (history events : List Event) (mid s : LogFilesState Deferred) (old new : D)
         (done : Bool) (left : ℕ)
-        → HasComeLog deferred_disk files history mid → (served : HasServedLog mid events s) → IsToldServed served
+        → HasComeLog deferred_disk files history mid → (served : HasServedLog mid events s)
         → moment_of (as_memory mid.pager.device) ≤ carried_moment s.pager.device
         → IsBehind D.is_honest D.seen D.may_leave old s.pager.device
         → CarriedOut D.Device old s.pager.device done new left
         → LeavesOnly D.moment D.left_since old new
         (λ c. TellsServed served c → ReadsBackAmongLog files history events c) }
     ensures mark { (files : List File) (mark : ℕ) (s : LogFilesState Deferred) (old new : D) (done : Bool) (left : ℕ)
-        (reached : HasPassedLogMark files mark s) → IsToldMark reached
+        (reached : HasPassedLogMark files mark s)
         → moment_of (as_memory reached.mid.pager.device) ≤ carried_moment s.pager.device
         → IsBehind D.is_honest D.seen D.may_leave old s.pager.device
         → CarriedOut D.Device old s.pager.device done new left
@@ -49,15 +49,15 @@ pub fn crashed_on_the_host<D: Device, A: Allocator + Copy>(device: &D, disk: &De
         → IsBehind D.is_honest D.seen D.may_leave old s.pager.device
         → CarriedOut D.Device old s.pager.device done new left
         → (files : List File) × (reached : HasPassedLogMark files mark s)
-        × (IsToldMark reached → LeavesOnly D.moment D.left_since old new
-        (λ c. TellsServed reached.served c → KeepsLogMark files mark s reached c)) }
+        × LeavesOnly D.moment D.left_since old new
+        (λ c. TellsServed reached.served c → KeepsLogMark files mark s reached c) }
 {
     what_log_runs_leave(disk);
 }
 
-/// In layout 5, where a byte seals, both premises of `crashed_on_the_host` hold.
+/// In layout 5, where a byte seals, all bytes fulfil the premise of `crashed_on_the_host`.
 pub fn told_by_byte()
     ensures { (files : List File) (mark : ℕ) (s : LogFilesState Deferred) (reached : HasPassedLogMark files mark s)
         → reached.first.table.sealing ≡ ByByte
-        → IsToldMark reached × ((c : List ℕ) → TellsServed reached.served c) }
+        → (c : List ℕ) → TellsServed reached.served c }
 {}

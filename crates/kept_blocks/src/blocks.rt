@@ -45,6 +45,13 @@ impl<A: Allocator + Copy> Blocks<A> {
         self.tree.len()
     }
 
+    /// States that each block has 4,096 bytes.
+    pub fn are_whole(&self)
+        ensures { AreWholeBlocks self.now }
+    {
+        let _ = &self.tree;
+    }
+
     /// Whether there are none.
     pub fn is_empty(&self) -> bool
         ensures { IsTrue result ↔ (self.now ≡ []) }

@@ -2,20 +2,18 @@
 use Rattle.std.proofs.Common.{◌≡◌, ℕ, ◌+◌, ◌-◌, ◌*◌, ◌/◌, ◌%◌, ◌<◌, ◌≤◌, List, [], ◌∷◌, ◌++◌}
 use Rattle.std.proofs.Common.{Bool, true, false, length, get_or, refl, sym, ap, subst, ◌∙◌, arith}
 use Rattle.std.proofs.Math.Nat.{mod-add-mod}
-use Rattle.std.proofs.lemmas.List.{append-nil}
 use Rattle.volume_codec.specs.Layout.{block_at}
 use Rattle.log_codec.specs.declared.start.LogStart.{LogStart}
 use Rattle.log_codec.specs.Log.{LogValue, IsLog, ring_block, ring_bytes, log_commit_blocks}
 use Rattle.log_codec.specs.Start.{HasLogStart, IsStartBlock, start_block, counts_second}
 use Rattle.log_codec.specs.Commit.{LogDescriptor}
-use Rattle.log_codec.specs.Chain.{IsNextCommit, LogEndsAt, IsChain, HasLog, IsLogHome}
-use Rattle.log_codec.specs.Chain.{records_position, position_after, chain_end, chain_blocks}
-use Rattle.log_codec.specs.Chain.{newest_or}
-use Rattle.log_commits.specs.Tail.{TailValue, HoldsLog}
+use Rattle.log_codec.specs.Chain.{IsNextCommit, IsLogHome}
+use Rattle.log_codec.specs.Chain.{records_position, chain_end, chain_blocks, newest_or}
+use Rattle.log_commits.specs.Tail.{TailValue, BeginsLog, HoldsLog, HoldsUpTo, MayGoOn}
 use Rattle.log_commits.specs.Commit.{committed_to, next_logged, tail_after}
 use Rattle.log_commits.proofs.Places.{blocks_apart, block_low, same_block}
 use Rattle.log_commits.proofs.Ranges.{RingTorn, torn_round, torn_low, torn_block}
-use Rattle.log_commits.proofs.Moved.{SameBlocks, chain_on, end_is, end_more, blocks_more, length_more}
+use Rattle.log_commits.proofs.Moved.{SameBlocks, read_moved, read_more, end_is, end_more, blocks_more, length_more}
 use Rattle.log_commits.proofs.Moved.{newest_same, newest_with, committed_as}
 
 -- new has the starts of old, the first blocks of the log from the start on, as many as are in use, and the home blocks
@@ -56,50 +54,63 @@ module _ (t : TailValue) (contents : ℕ → List ℕ) (old new : List ℕ) (hel
   kept_blocks : SameBlocks g.ring s.position s.position (chain_blocks chain) old new
   kept_blocks = λ k lt. keeps.chain k (omega (arith, held.used_is))
 
-  kept_log : (es : List LogDescriptor)
-      → IsChain g s.epoch end (s.number + length chain) (g.ring - chain_blocks chain) es new
-      → HasLog g s (chain ++ es) new
-  kept_log es more = record {
+  -- its commits are there
+  pub kept_log : BeginsLog g s chain new
+  kept_log = record {
     long = omega (arith, held.log.long, keeps.same_length);
     start = start_kept g.ring s old new keeps.same_length keeps.low held.log.start;
-    commits = chain_on g s.epoch s.position s.number g.ring chain es old new kept_blocks held.log.commits more;
+    commits = read_moved g s.epoch s.position s.position s.number g.ring g.ring chain old new kept_blocks (omega arith)
+        held.log.commits;
   }
 
-  kept_contents : (b : ℕ) → IsLogHome g b → contents b ≡ block_at new (newest_or g.ring b s.position chain b)
+  pub kept_contents : (b : ℕ) → IsLogHome g b → contents b ≡ block_at new (newest_or g.ring b s.position chain b)
   kept_contents b home =
       held.contents_are b home
       ∙ sym (newest_same g.ring b s.position chain b old new (keeps.homes b home) kept_blocks)
 
-  -- the same log, where it ends as before
-  pub held_still : LogEndsAt g.sealing g s.epoch end (s.number + length chain) (g.ring - chain_blocks chain) new
-      → (h : HoldsLog t contents new) × (h.chain ≡ held.chain)
-  held_still ends =
-      let P : List LogDescriptor → Type 0 = λ ds. HasLog g s ds new in (
-        record {
-          chain = chain;
-          log = subst P (append-nil chain) (kept_log [] ends);
-          position_is = held.position_is;
-          number_is = held.number_is;
-          used_is = held.used_is;
-          contents_are = kept_contents;
-        },
-        refl,
-      )
+  -- whatever lies behind them
+  pub kept_up_to : HoldsUpTo g t.number contents new
+  kept_up_to = record {
+    start = s;
+    chain = chain;
+    log = kept_log;
+    number_is = held.number_is;
+    contents_are = kept_contents;
+  }
+
+  -- the same log, where it may go on
+  pub held_still : MayGoOn g.sealing g.ring t.position new → (h : HoldsLog t contents new) × (h.chain ≡ held.chain)
+  held_still next = (
+    record {
+      chain = chain;
+      log = kept_log;
+      next = next;
+      position_is = held.position_is;
+      number_is = held.number_is;
+      used_is = held.used_is;
+      contents_are = kept_contents;
+    },
+    refl,
+  )
 
   -- and with one commit more
   pub held_more : (homes records : List ℕ) → 0 < g.ring → 4096 * (4 + g.ring) ≤ length new
       → IsNextCommit g s.epoch end (s.number + length chain) (g.ring - chain_blocks chain) (next_logged t homes) new
       → ring_bytes g.ring new (records_position end (next_logged t homes)) (length homes) ≡ records
-      → LogEndsAt g.sealing g s.epoch (position_after end (next_logged t homes)) (s.number + length chain + 1)
-      (g.ring - chain_blocks chain - log_commit_blocks (length homes)) new
+      → MayGoOn g.sealing g.ring ((t.position + log_commit_blocks (length homes)) % g.ring) new
       → (h : HoldsLog (tail_after t homes) (committed_to contents homes records) new)
       × (h.chain ≡ held.chain ++ next_logged t homes ∷ [])
-  held_more homes records some long next are ends =
+  held_more homes records some long there are next =
       let d : LogDescriptor = next_logged t homes in
       let n : ℕ = log_commit_blocks (length homes) in (
         record {
           chain = chain ++ d ∷ [];
-          log = kept_log (d ∷ []) (next, ends);
+          log = record {
+            long = kept_log.long;
+            start = kept_log.start;
+            commits = read_more g s.epoch s.position s.number g.ring chain d new kept_log.commits there;
+          };
+          next = next;
           position_is = ap (λ x. (x + n) % g.ring) held.position_is ∙ mod-add-mod end g.ring n
               ∙ ap (λ x. x % g.ring) (sym (end_more s.position chain d));
           number_is = omega (arith, held.number_is, length_more chain d);

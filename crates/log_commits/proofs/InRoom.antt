@@ -9,7 +9,7 @@ use Rattle.log_codec.specs.Start.{counts_second}
 use Rattle.log_commits.specs.declared.behind.OldCommits.{OldCommits}
 use Rattle.log_commits.specs.Calls.{DidAll}
 use Rattle.log_commits.specs.Tail.{TailValue, IsTail, HoldsLog}
-use Rattle.log_commits.specs.Commit.{CommitLeaves, EndsBehind, MayCommit}
+use Rattle.log_commits.specs.Commit.{CommitLeaves, MayCommit}
 use Rattle.log_commits.specs.Commit.{commit_works, committed_to, next_logged, records_in, tail_after}
 use Rattle.log_commits.specs.Behind.{HasCommits, HoldsCommits, IsReadyToMove, IsSameOutside, MayMove, tail_behind}
 use Rattle.log_commits.specs.Selecting.{IsSureBy, selecting_works}
@@ -60,11 +60,11 @@ module _ {D : Type 0} (disk : Ghosts D) (t : TailValue) (homes room : List ℕ) 
 
   pub room_commits : {new : D} (second : Bool) (contents : ℕ → List ℕ) (chain : List LogDescriptor)
       → disk.is_honest old → HasCommits disk second t contents chain old
-      → DidAll disk old (commit_works t homes records) true new → EndsBehind t homes (disk.seen new)
+      → DidAll disk old (commit_works t homes records) true new
       → HoldsCommits second (tail_after t homes) (committed_to contents homes records)
       (chain ++ next_logged t homes ∷ []) (disk.seen new)
-  room_commits {new} second contents chain honest held did ends =
-      let more = leaves_chain (begun contents honest (λ x left. (held x left).held)) true did refl ends in
+  room_commits {new} second contents chain honest held did =
+      let more = leaves_chain (begun contents honest (λ x left. (held x left).held)) true did refl in
       let before = held (disk.seen old) (seen_is_left old honest) in
       let same = room_outside true did honest in
       let next : LogDescriptor = next_logged t homes in
@@ -89,12 +89,11 @@ module _ {D : Type 0} (disk : Ghosts D) (t : TailValue) (homes room : List ℕ) 
       → HasCommits disk second t contents (ds ++ younger) old
       → IsReadyToMove second t oldest contents ds younger (disk.seen old) → IsSureBy disk t.log.sealing old
       → DidAll disk old (selecting_works t second homes records) true new
-      → EndsBehind (tail_behind t oldest) homes (disk.seen new)
       → HoldsCommits (not second) (tail_after (tail_behind t oldest) homes) (committed_to contents homes records)
       (younger ++ next_logged t homes ∷ []) (disk.seen new)
-  room_selected {new} contents oldest can second ds younger honest held ready sure did ends =
+  room_selected {new} contents oldest can second ds younger honest held ready sure did =
       (selecting_left disk t contents homes records (length room) oldest tail.log may can second ds younger head_size
-      records_size old honest long held ready seen_is_left true sure did).committed refl ends
+      records_size old honest long held ready seen_is_left true sure did).committed refl
 
 -- a call that failed leaves what it does by its answer
 pub by_answer : {D T E : Type 0} (disk : Ghosts D) {t : TailValue} {contents : ℕ → List ℕ} {homes records : List ℕ}

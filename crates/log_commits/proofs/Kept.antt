@@ -15,17 +15,17 @@ use Rattle.log_codec.specs.declared.start.LogStart.{LogStart}
 use Rattle.log_codec.specs.Log.{IsLog, first_log_home}
 use Rattle.log_codec.specs.Start.{HasLogStart, IsStartBlock, start_block, start_text, counts_second}
 use Rattle.log_codec.specs.Commit.{LogDescriptor}
-use Rattle.log_codec.specs.Chain.{LogRecovers, IsLogHome, chain_end, chain_blocks}
+use Rattle.log_codec.specs.Chain.{IsLogHome, chain_end, chain_blocks}
 use Rattle.log_commits.specs.declared.behind.OldCommits.{OldCommits}
 use Rattle.log_commits.specs.Tail.{TailValue}
-use Rattle.log_commits.specs.Homes.{IsLoggedHome, StaysLastBy, start_behind_of, tail_from}
-use Rattle.log_commits.specs.Behind.{HoldsCommits, AreOldest, IsReadyToMove, HasHomes, StaysLast}
+use Rattle.log_commits.specs.Homes.{IsLoggedHome, start_behind_of, tail_from}
+use Rattle.log_commits.specs.Behind.{HoldsCommits, AreOldest, IsReadyToMove, HasHomes, LeftUnchanged}
 use Rattle.log_commits.specs.Behind.{start_behind, tail_behind, selecting}
 use Rattle.log_commits.proofs.Places.{same_block, length-block, get_or-block}
 use Rattle.log_commits.proofs.Moved.{end_is}
 use Rattle.log_commits.proofs.Held.{start_kept}
 use Rattle.log_commits.proofs.Written.{kept_with_homes, may_start}
-use Rattle.log_commits.proofs.Left.{recovers}
+use Rattle.log_commits.proofs.Told.{left_unchanged}
 
 -- ---- the two starts
 
@@ -235,10 +235,9 @@ module _ (t : TailValue) (contents : ℕ → List ℕ) (oldest : OldCommits) (lo
       subst R selected (subst Q (start_same t oldest ds ready.oldest_are)
       (subst P (sym (start_there (not second))) ready.start))
 
-  pub moves : not second ≡ counts_second (get_or c 4096 0) → StaysLast t oldest c
+  pub moves : not second ≡ counts_second (get_or c 4096 0)
       → HoldsCommits (not second) (tail_behind t oldest) contents younger c
-  moves selected last =
-      let P : ℕ → Type 0 = λ n. StaysLastBy t.log.sealing t (t.log.ring - (t.used - n)) c in
+  moves selected =
       let behind : drop 16384 c ≡ drop 16384 m =
       sym (drop-drop 12287 4097 c) ∙ ap (drop 12287) torn.after ∙ drop-drop 12287 4097 m in
       let moved = may_start t contents m c log ready.holds.held ds younger ready.holds.chain_is (record {
@@ -246,14 +245,15 @@ module _ (t : TailValue) (contents : ℕ → List ℕ) (oldest : OldCommits) (lo
         same_behind = behind;
         start = moved_start selected;
         written = ready.written;
-        last = subst P ready.oldest_are.blocks last;
       }) in
       let Q : TailValue → Type 0 = λ v. HoldsCommits (not second) v contents younger c in
       subst Q (tail_same t oldest ds ready.oldest_are)
       (record { held = moved.0; chain_is = moved.1; selected = selected })
 
-  pub either : StaysLast t oldest c → LogRecovers t.log contents c
-  either last = elim (same_or_other second (counts_second (get_or c 4096 0))) [
-    | inl same ↦ recovers t contents c (stays same).held
-    | inr other ↦ recovers (tail_behind t oldest) contents c (moves other last).held
+  pub either : LeftUnchanged t contents c
+  either = elim (same_or_other second (counts_second (get_or c 4096 0))) [
+    | inl same ↦ left_unchanged t contents c (stays same).held
+    | inr other ↦
+        let is = left_unchanged (tail_behind t oldest) contents c (moves other).held in
+        record { up_to = is.up_to; recovers = is.recovers }
   ]

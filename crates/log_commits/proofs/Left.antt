@@ -1,5 +1,5 @@
 -- What the calls of a commit leave.
-use Rattle.std.proofs.Common.{◌≡◌, ◌≢◌, ℕ, ◌+◌, ◌*◌, ◌/◌, ◌%◌, ◌<◌, ◌≤◌, Bool, true, false}
+use Rattle.std.proofs.Common.{◌≡◌, ◌≢◌, ◌⊎◌, ℕ, ◌+◌, ◌*◌, ◌/◌, ◌%◌, ◌<◌, ◌≤◌, Bool, true, false}
 use Rattle.std.proofs.Common.{List, [], ◌∷◌, ◌++◌, length, get_or, inl, inr, refl, sym, ap, subst, ◌∙◌, arith}
 use Rattle.std.proofs.Common.{length-append}
 use Rattle.std.proofs.lemmas.Bool.{cases_lt, cases_eq, false≢true}
@@ -7,39 +7,30 @@ use Rattle.device.specs.Device.{Torn, TornFrom, Only, LeavesOnly}
 use Rattle.device.specs.Work.{WriteAt, Sync}
 use Rattle.device.specs.Did.{Did}
 use Rattle.device.specs.declared.device.Device.{Ghosts}
-use Rattle.device.proofs.Public.{leaves_weaker, leaves_then, done_seen, torn_before, torn_after}
+use Rattle.device.proofs.Public.{leaves_at_start, leaves_weaker, leaves_then, done_seen, torn_before, torn_after}
 use Rattle.log_codec.specs.declared.sealing.Sealing.{Sealing}
 use Rattle.log_codec.specs.declared.sealing.Sealing.TheVariants.{ByByte, ByDigest}
 use Rattle.volume_codec.specs.Layout.{block_at}
 use Rattle.log_codec.specs.declared.start.LogStart.{LogStart}
 use Rattle.log_codec.specs.Log.{LogValue, IsLog, ring_block, log_descriptor_blocks, log_commit_blocks}
 use Rattle.log_codec.specs.Commit.{LogDescriptor, log_body, log_seal}
-use Rattle.log_codec.specs.Chain.{LogRecovers, HasLog, spare_blocks}
+use Rattle.log_codec.specs.Chain.{HasLog, LogEndsAt, LogRecovers, spare_blocks}
 use Rattle.log_commits.specs.Calls.{DidAll}
 use Rattle.log_commits.specs.Ring.{ring_works}
-use Rattle.log_commits.specs.Tail.{TailValue, HoldsLog, tail_at}
-use Rattle.log_commits.specs.Commit.{MayCommit, LeftByCommit, EndsBehind, EndsBehindBy, EndsByDigest}
-use Rattle.log_commits.specs.Commit.{TellsTorn, TellsTornBy, TellsTornByDigest}
+use Rattle.log_commits.specs.Tail.{TailValue, EndsAtTail, EndsAtTailBy, HoldsLog, MayGoOn, tail_at}
+use Rattle.log_commits.specs.Told.{TellsTornBy, IsThis}
+use Rattle.log_commits.specs.Commit.{CommitLeaves, LeftByCommit, MayCommit}
 use Rattle.log_commits.specs.Commit.{committed_to, next_logged, commit_bytes, works_by, commit_works, tail_after}
-use Rattle.log_commits.specs.Commit.{CommitLeaves}
 use Rattle.log_commits.specs.Behind.{IsSameOutside}
-use Rattle.log_commits.proofs.Places.{ring_place, places_apart, block_low}
+use Rattle.log_commits.proofs.Places.{ring_place, places_apart, block_low, block_round}
 use Rattle.log_commits.proofs.Ranges.{RingTorn, RingHas, torn_within}
 use Rattle.log_commits.proofs.Outside.{did_length, all_outside, commit_in}
-use Rattle.log_commits.proofs.Held.{KeepsLog, keeps_of_torn}
-use Rattle.log_commits.proofs.UnderWay.{closed_by_byte, open_by_byte, whole_by_digest, torn_by_digest, closed_before}
+use Rattle.log_commits.proofs.Moved.{SameBlocks, next_moved}
+use Rattle.log_commits.proofs.Held.{KeepsLog, keeps_of_torn, kept_up_to}
+use Rattle.log_commits.proofs.Told.{recovers_by_byte, told_commit, up_to}
+use Rattle.log_commits.proofs.UnderWay.{closed_by_byte, open_by_byte, whole_by_digest, closed_before}
 use Rattle.log_commits.proofs.Works.{RingFrom, WentRound, went_round, did_split, one_did, crash_synced, torn_synced}
 use Rattle.log_commits.proofs.Works.{byte_written}
-
--- bytes that hold a log recover to its contents
-pub recovers : (t : TailValue) (contents : ℕ → List ℕ) (bytes : List ℕ) → HoldsLog t contents bytes
-    → LogRecovers t.log contents bytes
-recovers t contents bytes held = record {
-  start = t.start;
-  chain = held.chain;
-  log = held.log;
-  contents_are = held.contents_are;
-}
 
 -- the size of a commit's bytes
 pub commit_size : (t : TailValue) (homes records : List ℕ)
@@ -54,12 +45,27 @@ commit_size t homes records head_size records_size = omega (
   records_size,
 )
 
+-- before a commit
+pub left_before : (t : TailValue) (contents : ℕ → List ℕ) (homes records c : List ℕ) → HoldsLog t contents c
+    → LeftByCommit t contents homes records c
+left_before t contents homes records c held = record {
+  up_to = up_to t contents c held;
+  recovers = by t.log.sealing refl;
+}
+  where
+    by : (s : Sealing) → t.log.sealing ≡ s → TellsTornBy s (IsThis (next_logged t homes) records) t.log t.number c
+        → LogRecovers t.log contents c ⊎ LogRecovers t.log (committed_to contents homes records) c
+    by ByByte byte tells = inl (recovers_by_byte t contents c byte held)
+    by (ByDigest key) digest tells =
+        let P : Sealing → Type 0 = λ s. TellsTornBy s (IsThis (next_logged t homes) records) t.log t.number c in
+        told_commit t contents homes records c key digest (up_to t contents c held) (subst P (sym digest) tells)
+
 -- what the calls of a commit leave; the commits that are read once it is made are known, too
 pub record CommitLeft {D : Type 0} (disk : Ghosts D) (t : TailValue) (contents : ℕ → List ℕ)
     (homes records : List ℕ) (chain : List LogDescriptor) (done : Bool) (old new : D) : Type 0 where
   pub crash : LeavesOnly disk.moment disk.left_since old new (LeftByCommit t contents homes records)
   pub durable : done ≡ true → Only (disk.may_leave new) (disk.seen new)
-  pub committed : done ≡ true → EndsBehind t homes (disk.seen new)
+  pub committed : done ≡ true
       → (h : HoldsLog (tail_after t homes) (committed_to contents homes records) (disk.seen new))
       × (h.chain ≡ chain ++ next_logged t homes ∷ [])
 
@@ -123,29 +129,19 @@ module _ {D : Type 0} {disk : Ghosts D} {t : TailValue} {contents : ℕ → List
   -- ---- where a digest seals
 
   module _ (key : ℕ) (digest : t.log.sealing ≡ ByDigest key) where
-    tells_by : (c : List ℕ) → TellsTorn t homes records c → TellsTornByDigest t homes records c
-    tells_by c tells =
-        let P : Sealing → Type 0 = λ s. TellsTornBy s t homes records c in subst P digest tells
-
-    ends_by : (c : List ℕ) → EndsBehind t homes c → EndsByDigest t homes c
-    ends_by c ends =
-        let P : Sealing → Type 0 = λ s. EndsBehindBy s t homes c in subst P digest ends
-
     pub keeps : (b c : List ℕ) → HoldsLog t contents b → RingTorn ring t.position 0 (length bytes) b c
         → KeepsLog t b c
     keeps b c is torn =
         keeps_of_torn t contents b c (length bytes) n begun.log is torn (omega (arith, size))
         (omega (arith, begun.may.free))
 
+    pub left_torn : (b c : List ℕ) → HoldsLog t contents b → RingTorn ring t.position 0 (length bytes) b c → Left c
+    left_torn b c held torn =
+        let is = kept_up_to t contents b c held (keeps b c held torn) in
+        record { up_to = is; recovers = told_commit t contents homes records c key digest is }
+
     left_by : (c : List ℕ) → RingFrom ring t.position 0 (length bytes) (disk.may_leave old) c → Left c
-    left_by c from tells =
-        let before = begun.held from.0 from.1 in
-        elim (torn_by_digest t contents from.0 c homes records room begun.log before begun.may begun.head_size
-        begun.records_size
-        (keeps from.0 c before from.2) key digest (tells_by c tells)) [
-          | inl is ↦ inl (recovers t contents c is.0)
-          | inr is ↦ inr (recovers after newer c is.0)
-        ]
+    left_by c from = left_torn from.0 c (begun.held from.0 from.1) from.2
 
     pub leaves_by_digest : {new : D} (done : Bool)
         → DidAll disk old (ring_works ring t.position 0 bytes ++ Sync ∷ []) done new → Leaves new done
@@ -167,17 +163,15 @@ module _ {D : Type 0} {disk : Ghosts D} {t : TailValue} {contents : ℕ → List
               record {
                 crash = crash_synced {P = Left} went.has sync left_by;
                 durable = durable_by done is sync;
-                committed = λ made ends.
+                committed = λ made.
                     let same : disk.seen new ≡ disk.seen both.0 = done_seen sync is made in
                     let P : List ℕ → Type 0 = λ l. HoldsMore l in
-                    let Q : List ℕ → Type 0 = λ l. EndsBehind t homes l in
                     let c : List ℕ = disk.seen both.0 in
                     let has : RingHas ring t.position 0 (4096 * n) bytes c = λ k least most.
                     went.is refl begun.honest k least (omega (arith, size)) in
                     subst P (sym same) (whole_by_digest t contents (disk.seen old) c homes records room begun.log
                     seen_held begun.may begun.head_size begun.records_size
-                    (keeps (disk.seen old) c seen_held (went.has.torn begun.honest)) key digest
-                    (ends_by c (subst Q same ends)) has);
+                    (keeps (disk.seen old) c seen_held (went.has.torn begun.honest)) key digest has);
               }
         ]
 
@@ -221,8 +215,13 @@ module _ {D : Type 0} {disk : Ghosts D} {t : TailValue} {contents : ℕ → List
         (byte_keeps b c is (widened b c torn)) byte
         (λ opened. closed_before t contents b is byte (sym stays ∙ opened))).0
 
-    left_unsealed : (c : List ℕ) → RingFrom ring t.position 1 (length image) (disk.may_leave old) c → Left c
-    left_unsealed c from tells = inl (recovers t contents c (unsealed from.0 c (begun.held from.0 from.1) from.2))
+    pub left_unsealed : (c : List ℕ) → RingFrom ring t.position 1 (length image) (disk.may_leave old) c → Left c
+    left_unsealed c from =
+        let held = unsealed from.0 c (begun.held from.0 from.1) from.2 in
+        record {
+          up_to = up_to t contents c held;
+          recovers = λ tells. inl (recovers_by_byte t contents c byte held);
+        }
 
     abbrev place : ℕ
     place = 4096 * ring_block ring t.position
@@ -254,7 +253,7 @@ module _ {D : Type 0} {disk : Ghosts D} {t : TailValue} {contents : ℕ → List
             stays ∙ (widened (disk.seen old) m torn).elsewhere i other;
       }
 
-      seal_keeps : KeepsLog t (disk.seen old) c
+      pub seal_keeps : KeepsLog t (disk.seen old) c
       seal_keeps = byte_keeps (disk.seen old) c seen_held seal_torn
 
       pub sealed : get_or c place 0 ≡ 0xA7 → HoldsMore c
@@ -283,10 +282,13 @@ module _ {D : Type 0} {disk : Ghosts D} {t : TailValue} {contents : ℕ → List
           seal_keeps byte (λ opened. other (ap (λ x. get_or c x 0) (sym place_is) ∙ opened))
 
       pub left_sealing : Left c
-      left_sealing tells = elim (cases_eq (get_or c place 0) 0xA7) [
-        | inl is ↦ inr (recovers after newer c (sealed is).0)
-        | inr other ↦ inl (recovers t contents c (closed other).0)
-      ]
+      left_sealing = record {
+        up_to = kept_up_to t contents (disk.seen old) c seen_held seal_keeps;
+        recovers = λ tells. elim (cases_eq (get_or c place 0) 0xA7) [
+          | inl is ↦ inr (recovers_by_byte after newer c byte (sealed is).0)
+          | inr other ↦ inl (recovers_by_byte t contents c byte (closed other).0)
+        ];
+      }
 
     pub few : 1 < 4096
     few = omega arith
@@ -336,7 +338,7 @@ module _ {D : Type 0} {disk : Ghosts D} {t : TailValue} {contents : ℕ → List
                 (leaves_weaker did.time left_seal))
                 (leaves_weaker last.time (λ x may. left_seal x (did.left x may)));
             durable = durable_by done is last;
-            committed = λ made ends.
+            committed = λ made.
                 let same : disk.seen new ≡ c = done_seen last is made in
                 let P : List ℕ → Type 0 = λ l. HoldsMore l in
                 let room_two : place + 1 ≤ length (disk.seen two) =
@@ -393,11 +395,24 @@ module _ {D : Type 0} {disk : Ghosts D} {t : TailValue} {contents : ℕ → List
       → CommitLeaves disk t contents homes records done old new
   leaves {new} done did =
       let is = left done did in
-      record { crash = is.crash; durable = is.durable; committed = λ made ends. (is.committed made ends).0 }
+      record { crash = is.crash; durable = is.durable; committed = λ made. (is.committed made).0 }
 
   pub leaves_chain : {new : D} (done : Bool) → DidAll disk old (commit_works t homes records) done new → done ≡ true
-      → EndsBehind t homes (disk.seen new) → HoldsMore (disk.seen new)
-  leaves_chain {new} done did made ends = (left done did).committed made ends
+      → HoldsMore (disk.seen new)
+  leaves_chain {new} done did made = (left done did).committed made
+
+-- no call was made
+pub commit_refused : {D : Type 0} (disk : Ghosts D) (t : TailValue) (contents : ℕ → List ℕ) (homes records : List ℕ)
+    (old : D) → ((c : List ℕ) → disk.left_since old (disk.moment old) c → disk.may_leave old c)
+    → ((c : List ℕ) → disk.may_leave old c → HoldsLog t contents c)
+    → CommitLeaves disk t contents homes records false old old
+commit_refused disk t contents homes records old now held =
+    let P : List ℕ → Type 0 = LeftByCommit t contents homes records in
+    record {
+      crash = leaves_at_start {P = P} (λ c left. left_before t contents homes records c (held c (now c left)));
+      durable = λ made. absurd (false≢true made);
+      committed = λ made. absurd (false≢true made);
+    }
 
 -- what is outside the log stays
 pub leaves_outside : {D : Type 0} (disk : Ghosts D) (t : TailValue) (homes records : List ℕ) (room : ℕ) → IsLog t.log
@@ -419,21 +434,43 @@ leaves_outside disk t homes records room log may head_size records_size old new 
     }
 
 -- a log without commits
-pub held_at_start : (g : LogValue) (s : LogStart) (spent : Bool) (bytes : List ℕ) → HasLog g s [] bytes
+pub may_go_on : (x : Sealing) (g : LogValue) (s : LogStart) (bytes : List ℕ)
+    → LogEndsAt x g s.epoch s.position s.number g.ring bytes
+    → MayGoOn x g.ring ((s.position + 0) % g.ring) bytes
+may_go_on ByByte g s bytes closed = λ opened.
+    let p : ℕ = (s.position + 0) % g.ring in
+    let zero_p : p + 0 ≡ p = omega arith in
+    let zero_s : s.position ≡ s.position + 0 + 0 = omega arith in
+    closed (ap (λ (x : ℕ). get_or (block_at bytes x) 0 0)
+    (ap (ring_block g.ring) zero_s ∙ sym (block_round g.ring (s.position + 0) 0) ∙ ap (ring_block g.ring) zero_p)
+    ∙ opened)
+may_go_on (ByDigest key) g s bytes none = tt
+
+abbrev pub held_at_start : (g : LogValue) (s : LogStart) (spent : Bool) (bytes : List ℕ) → HasLog g s [] bytes
     → HoldsLog (tail_at g s spent) (block_at bytes) bytes
 held_at_start g s spent bytes has =
     let place : s.position + 0 ≡ s.position = omega arith in
     record {
       chain = [];
-      log = has;
+      log = record { long = has.long; start = has.start; commits = tt };
+      next = may_go_on g.sealing g s bytes has.commits;
       position_is = ap (λ p. p % g.ring) place;
       number_is = omega arith;
       used_is = refl;
       contents_are = λ b home. refl;
     }
 
--- where a byte seals, there is no premise
-pub tells_by_byte : (t : TailValue) (homes records bytes : List ℕ) → t.log.sealing ≡ ByByte
-    → TellsTorn t homes records bytes
-tells_by_byte t homes records bytes byte =
-    let P : Sealing → Type 0 = λ s. TellsTornBy s t homes records bytes in subst P (sym byte) tt
+pub ends_at_start : (g : LogValue) (s : LogStart) (spent : Bool) (bytes : List ℕ) → HasLog g s [] bytes
+    → EndsAtTail (tail_at g s spent) bytes
+ends_at_start g s spent bytes has = by g.sealing has.commits
+  where
+    by : (x : Sealing) → LogEndsAt x g s.epoch s.position s.number g.ring bytes
+        → EndsAtTailBy x (tail_at g s spent) bytes
+    by ByByte closed = tt
+    by (ByDigest key) none = λ d next.
+        let p : ℕ = s.position in
+        let zero_p : p + 0 ≡ p = omega arith in
+        let same : SameBlocks g.ring ((p + 0) % g.ring) p (log_commit_blocks (length d.homes)) bytes bytes = λ k lt.
+        ap (λ x. block_at bytes (ring_block g.ring (x + k))) (sym zero_p)
+        ∙ ap (block_at bytes) (sym (block_round g.ring (p + 0) k)) in
+        none d (next_moved g s.epoch ((p + 0) % g.ring) p s.number g.ring d bytes bytes same next)

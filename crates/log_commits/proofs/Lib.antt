@@ -3,6 +3,7 @@ pub mod Ranges
 pub mod Moved
 pub mod Held
 pub mod Written
+pub mod Told
 pub mod UnderWay
 pub mod Works
 pub mod Outside

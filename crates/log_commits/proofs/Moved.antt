@@ -8,6 +8,7 @@ use Rattle.log_codec.specs.Commit.{LogDescriptor}
 use Rattle.log_codec.specs.Chain.{IsNextCommit, LogEndsAt, IsChain, records_position}
 use Rattle.log_codec.specs.Chain.{position_after, chain_end, chain_blocks, logged_or, newest_or}
 use Rattle.log_codec.proofs.Public.{next_alike}
+use Rattle.log_commits.specs.Tail.{AreRead}
 use Rattle.log_commits.specs.Commit.{committed_to}
 use Rattle.log_commits.proofs.Places.{same_ring, length-block, block_low}
 
@@ -38,28 +39,93 @@ next_moved g epoch p q number left d old new same is =
     (same_ring g.ring q p blocks new old (λ k lt. same k (omega arith)))
     (same_ring g.ring (q + blocks) (p + blocks) count new old (same_behind g.ring p q blocks count old new same)) is
 
--- a chain in the same blocks, that goes on with other commits
-pub chain_on : (g : LogValue) (epoch p number left : ℕ) (ds es : List LogDescriptor) (old new : List ℕ)
-    → SameBlocks g.ring p p (chain_blocks ds) old new → IsChain g epoch p number left ds old
-    → IsChain g epoch (chain_end p ds) (number + length ds) (left - chain_blocks ds) es new
-    → IsChain g epoch p number left (ds ++ es) new
-chain_on g epoch p number left [] es old new same is more =
-    let P : ℕ → Type 0 = λ n. IsChain g epoch p n left es new in
-    let Q : ℕ → Type 0 = λ n. IsChain g epoch p (number + 0) n es new in
+-- commits in the same blocks, with more room
+pub read_moved : (g : LogValue) (epoch p q number left wide : ℕ) (ds : List LogDescriptor) (old new : List ℕ)
+    → SameBlocks g.ring p q (chain_blocks ds) old new → left ≤ wide → AreRead g epoch p number left ds old
+    → AreRead g epoch q number wide ds new
+read_moved g epoch p q number left wide [] old new same le are = tt
+read_moved g epoch p q number left wide (d ∷ ds) old new same le are =
+    let n : ℕ = log_commit_blocks (length d.homes) in
+    let moved = next_moved g epoch p q number left d old new
+    (same_first g.ring p q n (n + chain_blocks ds) old new same (omega arith)) are.0 in (
+      record { sealed = moved.sealed; number_is = moved.number_is; room = omega (arith, moved.room, le) },
+      read_moved g epoch (p + n) (q + n) (number + 1) (left - n) (wide - n) ds old new
+          (same_behind g.ring p q n (chain_blocks ds) old new same) (omega arith) are.1,
+    )
+
+-- one commit more
+pub read_more : (g : LogValue) (epoch p number left : ℕ) (ds : List LogDescriptor) (d : LogDescriptor)
+    (bytes : List ℕ) → AreRead g epoch p number left ds bytes
+    → IsNextCommit g epoch (chain_end p ds) (number + length ds) (left - chain_blocks ds) d bytes
+    → AreRead g epoch p number left (ds ++ d ∷ []) bytes
+read_more g epoch p number left [] d bytes are next =
+    let P : ℕ → Type 0 = λ n. IsNextCommit g epoch p n left d bytes in
+    let Q : ℕ → Type 0 = λ n. IsNextCommit g epoch p (number + 0) n d bytes in
     let none : left - 0 ≡ left = omega arith in
     let here : number + 0 ≡ number = omega arith in
-    subst P here (subst Q none more)
-chain_on g epoch p number left (d ∷ ds) es old new same is more =
+    (subst P here (subst Q none next), tt)
+read_more g epoch p number left (e ∷ ds) d bytes are next =
+    let n : ℕ = log_commit_blocks (length e.homes) in
+    let end : ℕ = chain_end (position_after p e) ds in
+    let P : ℕ → Type 0 = λ x. IsNextCommit g epoch end x (left - (n + chain_blocks ds)) d bytes in
+    let Q : ℕ → Type 0 = λ x. IsNextCommit g epoch end (number + 1 + length ds) x d bytes in
+    let numbers : number + length (e ∷ ds) ≡ number + 1 + length ds = omega arith in
+    let rest : left - (n + chain_blocks ds) ≡ left - n - chain_blocks ds = omega arith in (
+      are.0,
+      read_more g epoch (position_after p e) (number + 1) (left - n) ds d bytes are.1
+          (subst Q rest (subst P numbers next)),
+    )
+
+-- those behind the first ones
+pub read_behind : (g : LogValue) (epoch p number left : ℕ) (ds es : List LogDescriptor) (bytes : List ℕ)
+    → AreRead g epoch p number left (ds ++ es) bytes
+    → AreRead g epoch (chain_end p ds) (number + length ds) (left - chain_blocks ds) es bytes
+read_behind g epoch p number left [] es bytes are =
+    let P : ℕ → Type 0 = λ n. AreRead g epoch p n left es bytes in
+    let Q : ℕ → Type 0 = λ n. AreRead g epoch p (number + 0) n es bytes in
+    let none : left ≡ left - 0 = omega arith in
+    let here : number ≡ number + 0 = omega arith in
+    subst Q none (subst P here are)
+read_behind g epoch p number left (d ∷ ds) es bytes are =
     let n : ℕ = log_commit_blocks (length d.homes) in
     let end : ℕ = chain_end (position_after p d) ds in
-    let P : ℕ → Type 0 = λ x. IsChain g epoch end x (left - (n + chain_blocks ds)) es new in
-    let Q : ℕ → Type 0 = λ x. IsChain g epoch end (number + 1 + length ds) x es new in
+    let P : ℕ → Type 0 = λ x. AreRead g epoch end x (left - n - chain_blocks ds) es bytes in
+    let Q : ℕ → Type 0 = λ x. AreRead g epoch end (number + length (d ∷ ds)) x es bytes in
+    let numbers : number + 1 + length ds ≡ number + length (d ∷ ds) = omega arith in
+    let rest : left - n - chain_blocks ds ≡ left - (n + chain_blocks ds) = omega arith in
+    subst Q rest (subst P numbers (read_behind g epoch (position_after p d) (number + 1) (left - n) ds es bytes are.1))
+
+-- all commits of a log can be read
+pub read_of_chain : (g : LogValue) (epoch p number left : ℕ) (ds : List LogDescriptor) (bytes : List ℕ)
+    → IsChain g epoch p number left ds bytes → AreRead g epoch p number left ds bytes
+read_of_chain g epoch p number left [] bytes is = tt
+read_of_chain g epoch p number left (d ∷ ds) bytes is = (
+  is.0,
+  read_of_chain g epoch (position_after p d) (number + 1) (left - log_commit_blocks (length d.homes)) ds bytes
+      is.1,
+)
+
+-- they are all, where the log ends behind them
+pub chain_of_read : (g : LogValue) (epoch p number left : ℕ) (ds : List LogDescriptor) (bytes : List ℕ)
+    → AreRead g epoch p number left ds bytes
+    → LogEndsAt g.sealing g epoch (chain_end p ds) (number + length ds) (left - chain_blocks ds) bytes
+    → IsChain g epoch p number left ds bytes
+chain_of_read g epoch p number left [] bytes are ends =
+    let P : ℕ → Type 0 = λ n. LogEndsAt g.sealing g epoch p n left bytes in
+    let Q : ℕ → Type 0 = λ n. LogEndsAt g.sealing g epoch p (number + 0) n bytes in
+    let none : left - 0 ≡ left = omega arith in
+    let here : number + 0 ≡ number = omega arith in
+    subst P here (subst Q none ends)
+chain_of_read g epoch p number left (d ∷ ds) bytes are ends =
+    let n : ℕ = log_commit_blocks (length d.homes) in
+    let end : ℕ = chain_end (position_after p d) ds in
+    let P : ℕ → Type 0 = λ x. LogEndsAt g.sealing g epoch end x (left - (n + chain_blocks ds)) bytes in
+    let Q : ℕ → Type 0 = λ x. LogEndsAt g.sealing g epoch end (number + 1 + length ds) x bytes in
     let numbers : number + length (d ∷ ds) ≡ number + 1 + length ds = omega arith in
     let rest : left - (n + chain_blocks ds) ≡ left - n - chain_blocks ds = omega arith in (
-      next_moved g epoch p p number left d old new
-          (same_first g.ring p p n (n + chain_blocks ds) old new same (omega arith)) is.0,
-      chain_on g epoch (position_after p d) (number + 1) (left - n) ds es old new
-          (same_behind g.ring p p n (chain_blocks ds) old new same) is.1 (subst Q rest (subst P numbers more)),
+      are.0,
+      chain_of_read g epoch (position_after p d) (number + 1) (left - n) ds bytes are.1
+          (subst Q rest (subst P numbers ends)),
     )
 
 -- ---- the end of a chain
@@ -141,22 +207,3 @@ committed_as ring other p (home ∷ homes) records contents b bytes some long he
       | true ↦ one
       | false ↦ others
     ]
-
--- where a chain ends
-pub ends_of : (g : LogValue) (epoch p number left : ℕ) (ds : List LogDescriptor) (bytes : List ℕ)
-    → IsChain g epoch p number left ds bytes
-    → LogEndsAt g.sealing g epoch (chain_end p ds) (number + length ds) (left - chain_blocks ds) bytes
-ends_of g epoch p number left [] bytes is =
-    let P : ℕ → Type 0 = λ n. LogEndsAt g.sealing g epoch p n left bytes in
-    let Q : ℕ → Type 0 = λ n. LogEndsAt g.sealing g epoch p (number + 0) n bytes in
-    let none : left ≡ left - 0 = omega arith in
-    let here : number ≡ number + 0 = omega arith in
-    subst Q none (subst P here is)
-ends_of g epoch p number left (d ∷ ds) bytes is =
-    let n : ℕ = log_commit_blocks (length d.homes) in
-    let end : ℕ = chain_end (position_after p d) ds in
-    let P : ℕ → Type 0 = λ x. LogEndsAt g.sealing g epoch end x (left - n - chain_blocks ds) bytes in
-    let Q : ℕ → Type 0 = λ x. LogEndsAt g.sealing g epoch end (number + length (d ∷ ds)) x bytes in
-    let numbers : number + 1 + length ds ≡ number + length (d ∷ ds) = omega arith in
-    let rest : left - n - chain_blocks ds ≡ left - (n + chain_blocks ds) = omega arith in
-    subst Q rest (subst P numbers (ends_of g epoch (position_after p d) (number + 1) (left - n) ds bytes is.1))

@@ -15,16 +15,15 @@ use Rattle.log_codec.specs.declared.start.LogStart.{LogStart}
 use Rattle.log_codec.specs.Log.{IsLog, first_log_home}
 use Rattle.log_codec.specs.Start.{IsLogStart, start_block, start_text, counts_second}
 use Rattle.log_codec.specs.Commit.{LogDescriptor}
-use Rattle.log_codec.specs.Chain.{LogRecovers}
 use Rattle.log_commits.specs.declared.behind.OldCommits.{OldCommits}
 use Rattle.log_commits.specs.Calls.{DidAll}
 use Rattle.log_commits.specs.Tail.{TailValue}
 use Rattle.log_commits.specs.Homes.{IsLoggedHome, AreWrittenHome}
-use Rattle.log_commits.specs.Behind.{HoldsCommits, AreOldest, IsReadyToMove, StaysLast, LeavesCommits, MoveLeaves}
+use Rattle.log_commits.specs.Behind.{HoldsCommits, AreOldest, IsReadyToMove, LeavesCommits, LeftUnchanged, MoveLeaves}
 use Rattle.log_commits.specs.Behind.{start_behind, tail_behind, selecting, start_work, select_works, move_works}
 use Rattle.log_commits.proofs.Kept.{start_most, selects, homes_torn, other_torn, length-start_text}
 use Rattle.log_commits.proofs.Kept.{written_block, written_elsewhere, moves, either}
-use Rattle.log_commits.proofs.Left.{recovers}
+use Rattle.log_commits.proofs.Told.{left_unchanged}
 use Rattle.log_commits.proofs.Works.{one_did}
 
 pub is_failed : {T E : Type 0} (result : Result T E) → IsErr result → is_ok result ≡ false
@@ -85,7 +84,7 @@ module _ {D : Type 0} (disk : Ghosts D) (t : TailValue) (contents : ℕ → List
     (log : IsLog t.log) (second : Bool) (ds younger : List LogDescriptor)
     (seen_is_left : (device : D) → disk.is_honest device → disk.may_leave device (disk.seen device)) where
   abbrev Left : List ℕ → Type 0
-  Left c = StaysLast t oldest c → LogRecovers t.log contents c
+  Left = LeftUnchanged t contents
 
   abbrev Leaves : D → Bool → D → Type 0
   Leaves old done new = MoveLeaves disk second t oldest contents younger done old new
@@ -96,7 +95,7 @@ module _ {D : Type 0} (disk : Ghosts D) (t : TailValue) (contents : ℕ → List
       → ((c : List ℕ) → disk.may_leave old c → HoldsCommits second t contents (ds ++ younger) c)
       → Leaves old done old
   leaves_refused old done failed now held = record {
-    crash = leaves_at_start {P = Left} (λ c left last. recovers t contents c (held c (now c left)).held);
+    crash = leaves_at_start {P = Left} (λ c left. left_unchanged t contents c (held c (now c left)).held);
     durable = λ made. absurd (false≢true (sym failed ∙ made));
     moved = λ made. absurd (false≢true (sym failed ∙ made));
   }
@@ -133,10 +132,9 @@ module _ {D : Type 0} (disk : Ghosts D) (t : TailValue) (contents : ℕ → List
           crash = leaves_then {P = Left} (leaves_weaker did.time by_byte)
               (leaves_weaker sync.time (λ c may. by_byte c (did.left c may)));
           durable = durable_by done is sync;
-          moved = λ made last.
+          moved = λ made.
               let c : List ℕ = disk.seen one in
               let same : disk.seen new ≡ c = done_seen sync is made in
-              let P : List ℕ → Type 0 = λ l. StaysLast t oldest l in
               let Q : List ℕ → Type 0 =
               λ l. HoldsCommits (not second) (tail_behind t oldest) contents younger l in
               let byte : get_or c 4096 0 ≡ selecting (not second) =
@@ -145,7 +143,7 @@ module _ {D : Type 0} (disk : Ghosts D) (t : TailValue) (contents : ℕ → List
               (omega arith) in
               subst Q (sym same) (moves t contents oldest log second ds younger (disk.seen old) ready c
               (torn_byte c (did.left c (seen_is_left one is)))
-              (selects (not second) ∙ ap counts_second (sym byte)) (subst P same last));
+              (selects (not second) ∙ ap counts_second (sym byte)));
         }
 
   -- ---- the whole move
@@ -160,7 +158,7 @@ module _ {D : Type 0} (disk : Ghosts D) (t : TailValue) (contents : ℕ → List
         leaves_start disk t contents second (ds ++ younger) old held done (start_behind t oldest) log did
 
     recovering : (c : List ℕ) → HoldsCommits second t contents (ds ++ younger) c → Left c
-    recovering c is last = recovers t contents c is.held
+    recovering c is = left_unchanged t contents c is.held
 
     is_start : IsLogStart t.log.ring (start_behind t oldest)
     is_start =

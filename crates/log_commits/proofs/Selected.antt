@@ -1,5 +1,5 @@
 -- What the calls of a commit leave that selects a start.
-use Rattle.std.proofs.Common.{◌≡◌, ℕ, ◌+◌, ◌*◌, ◌≤◌, Bool, true, false, List, [], ◌∷◌, ◌++◌}
+use Rattle.std.proofs.Common.{◌≡◌, ◌⊎◌, ℕ, ◌+◌, ◌*◌, ◌≤◌, Bool, true, false, List, [], ◌∷◌, ◌++◌}
 use Rattle.std.proofs.Common.{length, get_or, inl, inr, refl, sym, ap, subst, ◌∙◌, arith}
 use Rattle.std.specs.Prelude.{not}
 use Rattle.std.proofs.lemmas.Bool.{cases_eq, false≢true}
@@ -18,8 +18,7 @@ use Rattle.log_commits.specs.declared.behind.OldCommits.{OldCommits}
 use Rattle.log_commits.specs.Calls.{DidAll}
 use Rattle.log_commits.specs.Ring.{ring_works}
 use Rattle.log_commits.specs.Tail.{TailValue, HoldsLog}
-use Rattle.log_commits.specs.Commit.{CommitLeaves, EndsBehind, EndsBehindBy, EndsByDigest, LeftByCommit, MayCommit}
-use Rattle.log_commits.specs.Commit.{TellsTorn, TellsTornBy, TellsTornByDigest}
+use Rattle.log_commits.specs.Commit.{CommitLeaves, LeftByCommit, MayCommit}
 use Rattle.log_commits.specs.Commit.{committed_to, next_logged, commit_bytes, works_with, tail_after}
 use Rattle.log_commits.specs.Behind.{HoldsCommits, IsReadyToMove, IsSameOutside, MayMove, select_works, selecting}
 use Rattle.log_commits.specs.Behind.{tail_behind}
@@ -27,13 +26,13 @@ use Rattle.log_commits.specs.Selecting.{IsSureBy, selecting_works}
 use Rattle.log_commits.proofs.Places.{block_low}
 use Rattle.log_commits.proofs.Ranges.{RingTorn, RingHas}
 use Rattle.log_commits.proofs.Kept.{selects}
-use Rattle.log_commits.proofs.Left.{IsBegun, Went, recovers, some, log_long, size, keeps, unsealed, sealed, closed}
-use Rattle.log_commits.proofs.Left.{seal_torn, image_went}
-use Rattle.log_commits.proofs.UnderWay.{torn_by_digest, whole_by_digest}
+use Rattle.log_commits.proofs.Left.{IsBegun, Went, some, log_long, size, keeps, sealed, closed, left_before}
+use Rattle.log_commits.proofs.Left.{left_unsealed, seal_keeps, seal_torn, image_went}
+use Rattle.log_commits.proofs.UnderWay.{whole_by_digest}
 use Rattle.log_commits.proofs.Works.{RingFrom, went_round, did_split, one_did, crash_synced, torn_synced}
 use Rattle.log_commits.proofs.Works.{byte_written}
-use Rattle.log_commits.proofs.Ready.{Before, After, Either, Left, torn_outside, ready_same, ready_more}
-use Rattle.log_commits.proofs.Ready.{left_selecting, left_either, selected_with}
+use Rattle.log_commits.proofs.Ready.{Before, After, Either, Known, Left, near_kept, torn_outside, ready_same}
+use Rattle.log_commits.proofs.Ready.{ready_more, left_selecting, left_either, selected_with}
 
 module _ {D : Type 0} (disk : Ghosts D) (t : TailValue) (contents : ℕ → List ℕ) (homes records : List ℕ) (room : ℕ)
     (oldest : OldCommits) (log : IsLog t.log) (may : MayCommit t homes room) (can : MayMove t oldest) (second : Bool)
@@ -73,7 +72,7 @@ module _ {D : Type 0} (disk : Ghosts D) (t : TailValue) (contents : ℕ → List
   pub record Leaves (new : D) (done : Bool) : Type 0 where
     pub crash : LeavesOnly disk.moment disk.left_since old new Crash
     pub durable : done ≡ true → Only (disk.may_leave new) (disk.seen new)
-    pub committed : done ≡ true → EndsBehind behind homes (disk.seen new)
+    pub committed : done ≡ true
         → HoldsCommits (not second) (tail_after behind homes) newer (younger ++ next_logged t homes ∷ [])
         (disk.seen new)
 
@@ -116,7 +115,7 @@ module _ {D : Type 0} (disk : Ghosts D) (t : TailValue) (contents : ℕ → List
 
   module _ (mid : D) (is : disk.is_honest mid) (room_for : 16384 ≤ length (disk.seen mid))
       (lists : (c : List ℕ) → disk.may_leave mid c → Mid c)
-      (whole : EndsBehind t homes (disk.seen mid) → With (disk.seen mid))
+      (whole : With (disk.seen mid))
       (before : LeavesOnly disk.moment disk.left_since old mid Crash) where
     by_byte : (c : List ℕ) → TornFrom 4096 1 (disk.may_leave mid) c → Crash c
     by_byte c from =
@@ -144,13 +143,12 @@ module _ {D : Type 0} (disk : Ghosts D) (t : TailValue) (contents : ℕ → List
           crash = leaves_then {P = Crash} (leaves_then {P = Crash} before (leaves_weaker did.time by_byte))
               (leaves_weaker sync.time (λ x may. by_byte x (did.left x may)));
           durable = λ made x may. sync.durable one_is made refl x may ∙ sym (done_seen sync one_is made);
-          committed = λ made ends.
+          committed = λ made.
               let same : disk.seen new ≡ c = done_seen sync one_is made in
-              let Q : List ℕ → Type 0 = λ l. EndsBehind behind homes l in
               let R : List ℕ → Type 0 = λ l. HoldsCommits (not second) (tail_after behind homes) newer
               (younger ++ next_logged t homes ∷ []) l in
               subst R (sym same) (selected_with t contents homes records room oldest log may can second ds younger
-              (disk.seen mid) c torn whole (selects (not second) ∙ ap counts_second (sym byte)) (subst Q same ends));
+              (disk.seen mid) c torn whole (selects (not second) ∙ ap counts_second (sym byte)));
         }
 
   -- ---- where a digest seals
@@ -159,26 +157,17 @@ module _ {D : Type 0} (disk : Ghosts D) (t : TailValue) (contents : ℕ → List
     abbrev seen : List ℕ
     seen = disk.seen old
 
-    tells_by : (c : List ℕ) → TellsTorn t homes records c → TellsTornByDigest t homes records c
-    tells_by c tells =
-        let P : Sealing → Type 0 = λ s. TellsTornBy s t homes records c in subst P digest tells
-
-    ends_by : (c : List ℕ) → EndsBehind t homes c → EndsByDigest t homes c
-    ends_by c ends =
-        let P : Sealing → Type 0 = λ s. EndsBehindBy s t homes c in subst P digest ends
-
     kept : (c : List ℕ) (torn : RingTorn ring t.position 0 (length bytes) seen c) → IsSameOutside t.log seen c
     kept c torn = torn_outside t.log t.position 0 (length bytes) seen c (some begun) torn
 
     torn_either : (c : List ℕ) → RingTorn ring t.position 0 (length bytes) seen c → Mid c
-    torn_either c torn tells =
-        elim (torn_by_digest t contents seen c homes records room log seen_held may head_size records_size
-        (keeps begun key digest seen c seen_held torn) key digest (tells_by c tells)) [
-          | inl is ↦ inl (ready_same t contents homes records room oldest log may can second ds younger seen c ready
-              (kept c torn) is)
-          | inr is ↦ inr (ready_more t contents homes records room oldest log may can second ds younger seen c ready
-              (kept c torn) is)
-        ]
+    torn_either c torn =
+        let P : Sealing → Type 0 =
+        λ x. Known t contents homes records room oldest log may can second ds younger x c in (
+          near_kept t contents homes records room oldest log may can second ds younger seen c ready (kept c torn)
+              (keeps begun key digest seen c seen_held torn),
+          subst P (sym digest) tt,
+        )
 
     from_either : (c : List ℕ) → RingFrom ring t.position 0 (length bytes) (disk.may_leave old) c → Mid c
     from_either c from =
@@ -205,11 +194,10 @@ module _ {D : Type 0} (disk : Ghosts D) (t : TailValue) (contents : ℕ → List
               λ k least most. went.is refl honest k least (omega (arith, size begun)) in
               select_last mid (went.has.honest.1 honest) (omega (arith, went.has.same_length, low))
               (λ c may. from_either c (went.has.left c may))
-              (λ ends. ready_more t contents homes records room oldest log may can second ds younger seen
+              (ready_more t contents homes records room oldest log may can second ds younger seen
               (disk.seen mid) ready (kept (disk.seen mid) torn)
               (whole_by_digest t contents seen (disk.seen mid) homes records room log seen_held may head_size
-              records_size (keeps begun key digest seen (disk.seen mid) seen_held torn) key digest
-              (ends_by (disk.seen mid) ends) has))
+              records_size (keeps begun key digest seen (disk.seen mid) seen_held torn) key digest has))
               (leaves_weaker went.has.time left_ring) done both.2
         ]
 
@@ -222,9 +210,9 @@ module _ {D : Type 0} (disk : Ghosts D) (t : TailValue) (contents : ℕ → List
     abbrev place : ℕ
     place = 4096 * ring_block ring t.position
 
-    left_unsealed : (c : List ℕ) → RingFrom ring t.position 1 (length image) (disk.may_leave old) c → Crash c
-    left_unsealed c from tells =
-        inl (recovers t contents c (unsealed begun byte from.0 c (lists_held from.0 from.1) from.2))
+    left_torn : (c : List ℕ) → RingFrom ring t.position 1 (length image) (disk.may_leave old) c → Crash c
+    left_torn c from =
+        let is = left_unsealed begun byte c from in record { up_to = is.up_to; recovers = is.recovers }
 
     same_chain : (lists_held (disk.seen old) (seen_is_left old honest)).chain ≡ seen_held.chain
     same_chain = (held (disk.seen old) (seen_is_left old honest)).chain_is ∙ sym ready.holds.chain_is
@@ -242,14 +230,23 @@ module _ {D : Type 0} (disk : Ghosts D) (t : TailValue) (contents : ℕ → List
           ready_more t contents homes records room oldest log may can second ds younger (disk.seen old) c ready outside
           (more.0, more.1 ∙ ap (λ (l : List LogDescriptor). l ++ next_logged t homes ∷ []) same_chain)
 
-      seal_either : Mid c
-      seal_either tells = elim (cases_eq (get_or c place 0) 0xA7) [
-        | inl is ↦ inr (opened_with is)
+      which : With c ⊎ Without c
+      which = elim (cases_eq (get_or c place 0) 0xA7) [
+        | inl is ↦ inl (opened_with is)
         | inr other ↦
             let still = closed begun byte m torn has c seal other in
-            inl (ready_same t contents homes records room oldest log may can second ds younger (disk.seen old) c ready
+            inr (ready_same t contents homes records room oldest log may can second ds younger (disk.seen old) c ready
             outside (still.0, still.1 ∙ same_chain))
       ]
+
+      seal_either : Mid c
+      seal_either =
+          let P : Sealing → Type 0 =
+          λ x. Known t contents homes records room oldest log may can second ds younger x c in (
+            near_kept t contents homes records room oldest log may can second ds younger (disk.seen old) c ready outside
+                (seal_keeps begun byte m torn has c seal),
+            subst P (sym byte) (elim which [ inl with ↦ inr with | inr without ↦ inl without ]),
+          )
 
     module _ (one two : D) (went : Went begun byte one true) (sync : Did disk one Sync true two) where
       one_is : disk.is_honest one
@@ -266,7 +263,7 @@ module _ {D : Type 0} (disk : Ghosts D) (t : TailValue) (contents : ℕ → List
       crash_sealing : {done : Bool} {three : D} → Did disk two (WriteAt place (0xA7 ∷ [])) done three
           → LeavesOnly disk.moment disk.left_since old three Crash
       crash_sealing did =
-          leaves_then {P = Crash} (crash_synced {P = Crash} went.has sync left_unsealed)
+          leaves_then {P = Crash} (crash_synced {P = Crash} went.has sync left_torn)
           (leaves_weaker did.time (λ c from. crash_of c (either_seal c from)))
 
       seal_failed : {new : D} → Did disk two (WriteAt place (0xA7 ∷ [])) false new → Leaves new false
@@ -283,7 +280,7 @@ module _ {D : Type 0} (disk : Ghosts D) (t : TailValue) (contents : ℕ → List
           select_last three is
           (omega (arith, low, went.has.same_length, sync.same_length, did.same_length))
           (λ x may. either_seal x (did.left x may))
-          (λ ends. opened_with (disk.seen one) (went.has.torn honest) (went.is refl honest) c
+          (opened_with (disk.seen one) (went.has.torn honest) (went.is refl honest) c
           (torn_synced disk one_is sync place 1 c (did.left c (seen_is_left three is)))
           (byte_written disk place 0xA7 did two_is fits)) (crash_sealing did) done rest
 
@@ -295,7 +292,7 @@ module _ {D : Type 0} (disk : Ghosts D) (t : TailValue) (contents : ℕ → List
         (Sync ∷ WriteAt place (0xA7 ∷ []) ∷ select_works second) old new done did) [
           | inl failed ↦
               let went = image_went begun byte false failed.0 in
-              failed_as done failed.1 (failed_by (leaves_weaker went.has.time left_unsealed))
+              failed_as done failed.1 (failed_by (leaves_weaker went.has.time left_torn))
           | inr both ↦
               further both.0 (image_went begun byte true both.1) both.2
         ]
@@ -303,7 +300,7 @@ module _ {D : Type 0} (disk : Ghosts D) (t : TailValue) (contents : ℕ → List
         further : (one : D) → Went begun byte one true
             → DidAll disk one (Sync ∷ WriteAt place (0xA7 ∷ []) ∷ select_works second) done new → Leaves new done
         further one went (inl failed) =
-            failed_as done failed.1 (failed_by (crash_synced {P = Crash} went.has failed.0 left_unsealed))
+            failed_as done failed.1 (failed_by (crash_synced {P = Crash} went.has failed.0 left_torn))
         further one went (inr (two, sync, inl failed)) =
             failed_as done failed.1 (seal_failed one two went sync failed.0)
         further one went (inr (two, sync, inr (three, did, rest))) =
@@ -327,7 +324,7 @@ module _ {D : Type 0} (disk : Ghosts D) (t : TailValue) (contents : ℕ → List
       let is = selecting_left done sure did in record {
         crash = is.crash;
         durable = is.durable;
-        committed = λ made ends. (is.committed made ends).held;
+        committed = λ made. (is.committed made).held;
       }
 
 -- no call was made
@@ -339,7 +336,9 @@ pub selecting_refused : {D : Type 0} (disk : Ghosts D) (t : TailValue) (contents
 selecting_refused disk t contents homes records oldest second chain old now held =
     let P : List ℕ → Type 0 = LeftByCommit (tail_behind t oldest) contents homes records in
     record {
-      crash = leaves_at_start {P = P} (λ c left tells. inl (recovers t contents c (held c (now c left)).held));
+      crash = leaves_at_start {P = P} (λ c left.
+          let is = left_before t contents homes records c (held c (now c left)).held in
+          record { up_to = is.up_to; recovers = is.recovers });
       durable = λ made. absurd (false≢true made);
       committed = λ made. absurd (false≢true made);
     }

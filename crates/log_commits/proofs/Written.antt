@@ -1,12 +1,12 @@
 -- Home blocks that commits have are free to be written, and once they are, a start behind these commits may count.
-use Rattle.std.proofs.Common.{◌≡◌, ◌⊎◌, ℕ, zero, suc, ◌+◌, ◌-◌, ◌*◌, ◌/◌, ◌%◌, ◌<◌, ◌≤◌, ◌==◌, List, [], ◌∷◌, ◌++◌}
+use Rattle.std.proofs.Common.{◌≡◌, ◌⊎◌, ℕ, zero, suc, ◌+◌, ◌-◌, ◌*◌, ◌%◌, ◌<◌, ◌≤◌, ◌==◌, List, [], ◌∷◌, ◌++◌}
 use Rattle.std.proofs.Common.{Bool, true, false, cond, length, get_or, inl, inr, refl, sym, ap, subst, ◌∙◌, arith}
 use Rattle.std.proofs.Common.{length-append}
 use Rattle.std.proofs.Math.Nat.{mod-add-mod}
 use Rattle.std.specs.List.{Contains}
 use Rattle.std.proofs.lemmas.Bool.{cases_eq}
 use Rattle.std.proofs.lemmas.Bool.Decides.{nat_tests}
-use Rattle.std.proofs.lemmas.List.{append-nil, get_or-take, get_or-drop}
+use Rattle.std.proofs.lemmas.List.{get_or-take, get_or-drop}
 use Rattle.volume_codec.specs.Layout.{block_at}
 use Rattle.log_codec.specs.declared.sealing.Sealing.{Sealing}
 use Rattle.log_codec.specs.declared.sealing.Sealing.TheVariants.{ByByte, ByDigest}
@@ -14,16 +14,14 @@ use Rattle.log_codec.specs.declared.start.LogStart.{LogStart}
 use Rattle.log_codec.specs.Log.{LogValue, IsLog, ring_block, log_descriptor_blocks, log_commit_blocks}
 use Rattle.log_codec.specs.Start.{HasLogStart}
 use Rattle.log_codec.specs.Commit.{LogDescriptor}
-use Rattle.log_codec.specs.Chain.{LogEndsAt, IsChain, IsLogHome, records_position}
-use Rattle.log_codec.specs.Chain.{position_after, chain_end, chain_blocks, logged_or, newest_or}
-use Rattle.log_commits.specs.Tail.{TailValue, HoldsLog}
+use Rattle.log_codec.specs.Chain.{IsLogHome, records_position, position_after, chain_end, chain_blocks}
+use Rattle.log_codec.specs.Chain.{contents_of_log, logged_or, newest_or}
+use Rattle.log_commits.specs.Tail.{TailValue, BeginsLog, HoldsLog, HoldsUpTo, MayGoOn}
 use Rattle.log_commits.specs.Homes.{IsLoggedHome, DiffersInHomes, AreWrittenHome, tail_from, start_behind_of}
-use Rattle.log_commits.specs.Homes.{StaysLastBy, MayStartBehind}
-use Rattle.log_commits.proofs.Places.{block_low, block_round, ring_place, same_block, first-block}
-use Rattle.log_commits.proofs.UnderWay.{closed_before}
-use Rattle.log_commits.proofs.Moved.{SameBlocks, same_behind, same_first, next_moved, chain_on, newest_same, ends_of}
-use Rattle.log_commits.proofs.Moved.{end_is}
-use Rattle.log_commits.proofs.Held.{start_kept}
+use Rattle.log_commits.specs.Homes.{MayStartBehind}
+use Rattle.log_commits.proofs.Places.{block_low, block_round, same_block}
+use Rattle.log_commits.proofs.Moved.{SameBlocks, read_moved, read_behind, newest_same, end_is}
+use Rattle.log_commits.proofs.Held.{KeepsLog, kept_contents, kept_log, start_kept}
 
 -- ---- which block is read
 
@@ -136,32 +134,27 @@ module _ (t : TailValue) (contents : ℕ → List ℕ) (old new : List ℕ) (log
   in_ring p n = λ k lt.
       same (ring_block ring (p + k)) (omega arith) (block_low ring (p + k) (omega (arith, log.some_ring)))
 
-  ends_same : (s : Sealing) (p number room : ℕ) → LogEndsAt s t.log t.start.epoch p number room old
-      → LogEndsAt s t.log t.start.epoch p number room new
-  ends_same ByByte p number room closed = λ opened.
+  goes_on : (s : Sealing) → MayGoOn s ring t.position old → MayGoOn s ring t.position new
+  goes_on ByByte closed = λ opened.
       closed (ap (λ (l : List ℕ). get_or l 0 0)
-      (sym (same (ring_block ring p) (omega arith) (block_low ring p (omega (arith, log.some_ring))))) ∙ opened)
-  ends_same (ByDigest key) p number room none = λ d next.
-      none d (next_moved t.log t.start.epoch p p number room d new old
-      (λ k lt. sym (in_ring p (log_commit_blocks (length d.homes)) k lt)) next)
+      (sym (same (ring_block ring t.position) (omega arith) (block_low ring t.position (omega (arith, log.some_ring)))))
+      ∙ opened)
+  goes_on (ByDigest key) any = tt
 
   pub kept_with_homes : (h : HoldsLog t contents new) × (h.chain ≡ held.chain)
   kept_with_homes =
       let g : LogValue = t.log in
       let s : LogStart = t.start in
-      let chain : List LogDescriptor = held.chain in
-      let ends = ends_same g.sealing (chain_end s.position chain) (s.number + length chain)
-      (g.ring - chain_blocks chain)
-      (ends_of g s.epoch s.position s.number g.ring chain old held.log.commits) in
-      let P : List LogDescriptor → Type 0 = λ ds. IsChain g s.epoch s.position s.number g.ring ds new in (
+      let chain : List LogDescriptor = held.chain in (
         record {
           chain = chain;
           log = record {
             long = omega (arith, held.log.long, same_length);
             start = start;
-            commits = subst P (append-nil chain) (chain_on g s.epoch s.position s.number g.ring chain [] old new
-                (in_ring s.position (chain_blocks chain)) held.log.commits ends);
+            commits = read_moved g s.epoch s.position s.position s.number g.ring g.ring chain old new
+                (in_ring s.position (chain_blocks chain)) (omega arith) held.log.commits;
           };
+          next = goes_on g.sealing held.next;
           position_is = held.position_is;
           number_is = held.number_is;
           used_is = held.used_is;
@@ -204,57 +197,70 @@ blocks_split : (ds es : List LogDescriptor) → chain_blocks (ds ++ es) ≡ chai
 blocks_split [] es = omega arith
 blocks_split (d ∷ ds) es = omega (arith, blocks_split ds es)
 
-chain_behind : (g : LogValue) (epoch p number left : ℕ) (ds es : List LogDescriptor) (bytes : List ℕ)
-    → IsChain g epoch p number left (ds ++ es) bytes
-    → IsChain g epoch (chain_end p ds) (number + length ds) (left - chain_blocks ds) es bytes
-chain_behind g epoch p number left [] es bytes is =
-    let P : ℕ → Type 0 = λ n. IsChain g epoch p n left es bytes in
-    let Q : ℕ → Type 0 = λ n. IsChain g epoch p (number + 0) n es bytes in
-    let none : left ≡ left - 0 = omega arith in
-    let here : number ≡ number + 0 = omega arith in
-    subst Q none (subst P here is)
-chain_behind g epoch p number left (d ∷ ds) es bytes is =
-    let n : ℕ = log_commit_blocks (length d.homes) in
-    let end : ℕ = chain_end (position_after p d) ds in
-    let P : ℕ → Type 0 = λ x. IsChain g epoch end x (left - n - chain_blocks ds) es bytes in
-    let Q : ℕ → Type 0 = λ x. IsChain g epoch end (number + length (d ∷ ds)) x es bytes in
-    let numbers : number + 1 + length ds ≡ number + length (d ∷ ds) = omega arith in
-    let rest : left - n - chain_blocks ds ≡ left - (n + chain_blocks ds) = omega arith in
-    subst Q rest (subst P numbers (chain_behind g epoch (position_after p d) (number + 1) (left - n) ds es bytes is.1))
+-- a log that begins with these commits, as a tail has them; more may follow
+pub record BeginsAt (t : TailValue) (contents : ℕ → List ℕ) (chain : List LogDescriptor) (bytes : List ℕ)
+    : Type 0 where
+  pub log : BeginsLog t.log t.start chain bytes
+  pub position_is : t.position ≡ chain_end t.start.position chain % t.log.ring
+  pub number_is : t.number ≡ t.start.number + length chain
+  pub used_is : t.used ≡ chain_blocks chain
+  pub contents_are : (b : ℕ) → IsLogHome t.log b → contents b ≡ contents_of_log t.log t.start.position chain bytes b
 
--- a chain with more room
-chain_wider : (g : LogValue) (epoch p q number left wide : ℕ) (ds : List LogDescriptor) (old new : List ℕ)
-    → SameBlocks g.ring p q (chain_blocks ds) old new → left ≤ wide → IsChain g epoch p number left ds old
-    → LogEndsAt g.sealing g epoch (chain_end q ds) (number + length ds) (wide - chain_blocks ds) new
-    → IsChain g epoch q number wide ds new
-chain_wider g epoch p q number left wide [] old new same le is ends =
-    let P : ℕ → Type 0 = λ n. LogEndsAt g.sealing g epoch q n wide new in
-    let Q : ℕ → Type 0 = λ n. LogEndsAt g.sealing g epoch q (number + 0) n new in
-    let none : wide - 0 ≡ wide = omega arith in
-    let here : number + 0 ≡ number = omega arith in
-    subst P here (subst Q none ends)
-chain_wider g epoch p q number left wide (d ∷ ds) old new same le is ends =
-    let n : ℕ = log_commit_blocks (length d.homes) in
-    let end : ℕ = chain_end (position_after q d) ds in
-    let P : ℕ → Type 0 = λ x. LogEndsAt g.sealing g epoch end x (wide - (n + chain_blocks ds)) new in
-    let Q : ℕ → Type 0 = λ x. LogEndsAt g.sealing g epoch end (number + 1 + length ds) x new in
-    let numbers : number + length (d ∷ ds) ≡ number + 1 + length ds = omega arith in
-    let rest : wide - (n + chain_blocks ds) ≡ wide - n - chain_blocks ds = omega arith in
-    let moved = next_moved g epoch p q number left d old new
-    (same_first g.ring p q n (n + chain_blocks ds) old new same (omega arith)) is.0 in (
-      record { sealed = moved.sealed; number_is = moved.number_is; room = omega (arith, moved.room, le) },
-      chain_wider g epoch (p + n) (q + n) (number + 1) (left - n) (wide - n) ds old new
-          (same_behind g.ring p q n (chain_blocks ds) old new same) (omega arith) is.1
-          (subst Q rest (subst P numbers ends)),
-    )
+pub begins_at : (t : TailValue) (contents : ℕ → List ℕ) (chain : List LogDescriptor) (bytes : List ℕ)
+    → (held : HoldsLog t contents bytes) → held.chain ≡ chain → BeginsAt t contents chain bytes
+begins_at t contents chain bytes held is =
+    let P : List LogDescriptor → Type 0 = λ ds. BeginsAt t contents ds bytes in
+    subst P is (record {
+      log = held.log;
+      position_is = held.position_is;
+      number_is = held.number_is;
+      used_is = held.used_is;
+      contents_are = held.contents_are;
+    })
 
-module _ (t : TailValue) (contents : ℕ → List ℕ) (old new : List ℕ) (log : IsLog t.log)
-    (held : HoldsLog t contents old) (ds es : List LogDescriptor) (parts : held.chain ≡ ds ++ es)
-    (same_length : length new ≡ length old) (high : (i : ℕ) → 16384 ≤ i → get_or new i 0 ≡ get_or old i 0)
+-- where the log is kept
+pub begins_kept : (t : TailValue) (contents : ℕ → List ℕ) (chain : List LogDescriptor) (old new : List ℕ)
+    → (held : HoldsLog t contents old) → held.chain ≡ chain → KeepsLog t old new → BeginsAt t contents chain new
+begins_kept t contents chain old new held is keeps =
+    let P : List LogDescriptor → Type 0 = λ ds. BeginsAt t contents ds new in
+    subst P is (record {
+      log = kept_log t contents old new held keeps;
+      position_is = held.position_is;
+      number_is = held.number_is;
+      used_is = held.used_is;
+      contents_are = kept_contents t contents old new held keeps;
+    })
+
+-- by the same start, where all behind the two starts is the same
+pub up_to_same : (t : TailValue) (contents : ℕ → List ℕ) (chain : List LogDescriptor) (old new : List ℕ)
+    → BeginsAt t contents chain old → length new ≡ length old
+    → ((b : ℕ) → 4 ≤ b → block_at new b ≡ block_at old b) → HasLogStart t.log.ring t.start new
+    → HoldsUpTo t.log t.number contents new
+up_to_same t contents chain old new held same_length same start =
+    let ring : ℕ = t.log.ring in
+    let p : ℕ = t.start.position in
+    let in_ring : (n : ℕ) → SameBlocks ring p p n old new = λ n k lt. same (ring_block ring (p + k)) (omega arith) in
+    record {
+      start = t.start;
+      chain = chain;
+      log = record {
+        long = omega (arith, held.log.long, same_length);
+        start = start;
+        commits = read_moved t.log t.start.epoch p p t.start.number ring ring chain old new
+            (in_ring (chain_blocks chain)) (omega arith) held.log.commits;
+      };
+      number_is = held.number_is;
+      contents_are = λ b home.
+          held.contents_are b home
+          ∙ sym (newest_same ring b p chain b old new (same b (omega (arith, home.low)))
+          (in_ring (chain_blocks chain)));
+    }
+
+module _ (t : TailValue) (contents : ℕ → List ℕ) (old new : List ℕ) (log : IsLog t.log) (ds es : List LogDescriptor)
+    (held : BeginsAt t contents (ds ++ es) old) (same_length : length new ≡ length old)
+    (high_block : (b : ℕ) → 4 ≤ b → block_at new b ≡ block_at old b)
     (start : HasLogStart t.log.ring (start_behind_of t.log t.start ds) new)
-    (written : AreWrittenHome t.log contents ds es old)
-    (ends : LogEndsAt t.log.sealing t.log t.start.epoch t.position t.number
-    (t.log.ring - (t.used - chain_blocks ds)) new) where
+    (written : AreWrittenHome t.log contents ds es old) where
   abbrev turn : ℕ
   turn = t.log.ring
 
@@ -267,60 +273,27 @@ module _ (t : TailValue) (contents : ℕ → List ℕ) (old new : List ℕ) (log
   abbrev number : ℕ
   number = t.start.number + length ds
 
-  high_block : (b : ℕ) → 4 ≤ b → block_at new b ≡ block_at old b
-  high_block b le = same_block new old b same_length (λ j small. high (4096 * b + j) (omega arith))
-
   moved_blocks : (n : ℕ) → SameBlocks turn p q n old new
   moved_blocks n = λ k lt.
       ap (block_at new) (block_round turn p k) ∙ high_block (ring_block turn (p + k)) (omega arith)
 
   position : t.position ≡ chain_end q es % turn
   position =
-      let all = ap (chain_end t.start.position) parts ∙ end_split t.start.position ds es ∙ end_is p es in
+      let all = end_split t.start.position ds es ∙ end_is p es in
       held.position_is ∙ ap (λ x. x % turn) all ∙ sym (mod-add-mod p turn (chain_blocks es))
       ∙ ap (λ x. x % turn) (sym (end_is q es))
 
   numbers : t.number ≡ number + length es
-  numbers =
-      let all = ap (λ (l : List LogDescriptor). length l) parts in
-      omega (arith, held.number_is, all, length-append ds es)
+  numbers = omega (arith, held.number_is, length-append ds es)
 
   used : t.used - chain_blocks ds ≡ chain_blocks es
-  used =
-      let all = ap chain_blocks parts ∙ blocks_split ds es in
-      omega (arith, held.used_is, all)
-
-  end_there : LogEndsAt t.log.sealing t.log t.start.epoch (chain_end q es) (number + length es)
-      (turn - chain_blocks es) new
-  end_there =
-      let P : ℕ → Type 0 = λ x. LogEndsAt t.log.sealing t.log t.start.epoch t.position x
-      (turn - (t.used - chain_blocks ds)) new in
-      let Q : ℕ → Type 0 = λ x. LogEndsAt t.log.sealing t.log t.start.epoch t.position (number + length es)
-      (turn - x) new in
-      round_end t.log.sealing (subst Q used (subst P numbers ends))
-    where
-      round_end : (s : Sealing)
-          → LogEndsAt s t.log t.start.epoch t.position (number + length es) (turn - chain_blocks es) new
-          → LogEndsAt s t.log t.start.epoch (chain_end q es) (number + length es) (turn - chain_blocks es) new
-      round_end ByByte closed = λ opened.
-          let zero_end : chain_end q es + 0 ≡ chain_end q es = omega arith in
-          let zero_tail : t.position ≡ t.position + 0 = omega arith in
-          closed (ap (λ (x : ℕ). get_or (block_at new x) 0 0)
-          (ap (ring_block turn) zero_tail ∙ ap (λ x. ring_block turn (x + 0)) position
-          ∙ block_round turn (chain_end q es) 0 ∙ ap (ring_block turn) zero_end) ∙ opened)
-      round_end (ByDigest key) none = λ d next.
-          none d (next_moved t.log t.start.epoch (chain_end q es) t.position (number + length es)
-          (turn - chain_blocks es) d new new (λ k lt.
-          ap (λ x. block_at new (ring_block turn (x + k))) position
-          ∙ ap (block_at new) (block_round turn (chain_end q es) k)) next)
+  used = omega (arith, held.used_is, blocks_split ds es)
 
   recovered : (b : ℕ) → IsLogHome t.log b → contents b ≡ block_at new (newest_or turn b q es b)
   recovered b home =
       let before : ℕ = newest_or turn b t.start.position ds b in
       let whole : contents b ≡ block_at old (newest_or turn before p es b) =
-      held.contents_are b home
-      ∙ ap (λ (l : List LogDescriptor). block_at old (newest_or turn b t.start.position l b)) parts
-      ∙ ap (block_at old) (newest_split turn b t.start.position ds es b) in
+      held.contents_are b home ∙ ap (block_at old) (newest_split turn b t.start.position ds es b) in
       let by_later : IsLoggedHome es b → contents b ≡ block_at old (newest_or turn b p es b) = λ has.
       whole ∙ ap (block_at old) (newest_in turn before b p es b has) in
       let here : contents b ≡ block_at old (newest_or turn b p es b) = elim (newest_cases es b) [
@@ -339,53 +312,64 @@ module _ (t : TailValue) (contents : ℕ → List ℕ) (old new : List ℕ) (log
       here ∙ sym (newest_same turn b p es b old new (high_block b (omega (arith, home.low))) kept)
       ∙ ap (block_at new) (sym (newest_round turn b p q es b (λ k. block_round turn p k)))
 
-  pub held_from : (h : HoldsLog (tail_from t ds) contents new) × (h.chain ≡ es)
-  held_from =
-      let P : List LogDescriptor → Type 0 =
-      λ l. IsChain t.log t.start.epoch t.start.position t.start.number turn l old in (
-        record {
-          chain = es;
-          log = record {
-            long = omega (arith, held.log.long, same_length);
-            start = start;
-            commits = chain_wider t.log t.start.epoch p q number (turn - chain_blocks ds) turn es old new
-                (moved_blocks (chain_blocks es)) (omega arith)
-                (chain_behind t.log t.start.epoch t.start.position t.start.number turn ds es old
-                (subst P parts held.log.commits)) end_there;
-          };
-          position_is = position;
-          number_is = numbers;
-          used_is = used;
-          contents_are = recovered;
-        },
-        refl,
-      )
+  begins_from : BeginsLog t.log (start_behind_of t.log t.start ds) es new
+  begins_from = record {
+    long = omega (arith, held.log.long, same_length);
+    start = start;
+    commits = read_moved t.log t.start.epoch p q number (turn - chain_blocks ds) turn es old new
+        (moved_blocks (chain_blocks es)) (omega arith)
+        (read_behind t.log t.start.epoch t.start.position t.start.number turn ds es old held.log.commits);
+  }
 
--- the log ends where it did
-ends_by : (t : TailValue) (contents : ℕ → List ℕ) (old new : List ℕ) (left : ℕ) (s : Sealing) → t.log.sealing ≡ s
-    → HoldsLog t contents old → ((i : ℕ) → 16384 ≤ i → get_or new i 0 ≡ get_or old i 0) → StaysLastBy s t left new
-    → LogEndsAt s t.log t.start.epoch t.position t.number left new
-ends_by t contents old new left ByByte byte held high last = λ opened.
-    let place : ℕ = ring_place t.log.ring t.position 0 in
-    let block : t.position ≡ t.position + 0 / 4096 = omega arith in
-    let first : 4096 * ring_block t.log.ring (t.position + 0 / 4096) ≡ place = omega arith in
-    let there : 4096 * ring_block t.log.ring t.position ≡ place =
-    ap (λ x. 4096 * ring_block t.log.ring x) block ∙ first in
-    closed_before t contents old held byte
-    (sym (high place (omega (arith, there))) ∙ ap (λ i. get_or new i 0) (sym there)
-    ∙ sym (first-block new (ring_block t.log.ring t.position)) ∙ opened)
-ends_by t contents old new left (ByDigest key) digest held high last = last
+  -- whatever lies behind them
+  pub up_to_from : HoldsUpTo t.log t.number contents new
+  up_to_from = record {
+    start = start_behind_of t.log t.start ds;
+    chain = es;
+    log = begins_from;
+    number_is = numbers;
+    contents_are = recovered;
+  }
+
+  pub held_from : MayGoOn t.log.sealing turn t.position new
+      → (h : HoldsLog (tail_from t ds) contents new) × (h.chain ≡ es)
+  held_from next = (
+    record {
+      chain = es;
+      log = begins_from;
+      next = next;
+      position_is = position;
+      number_is = numbers;
+      used_is = used;
+      contents_are = recovered;
+    },
+    refl,
+  )
+
+-- the log may go on where it did
+goes_on_as : (s : Sealing) (size p : ℕ) (old new : List ℕ)
+    → block_at new (ring_block size p) ≡ block_at old (ring_block size p) → MayGoOn s size p old → MayGoOn s size p new
+goes_on_as ByByte size p old new same closed = λ opened. closed (ap (λ (l : List ℕ). get_or l 0 0) (sym same) ∙ opened)
+goes_on_as (ByDigest key) size p old new same any = tt
 
 pub may_start : (t : TailValue) (contents : ℕ → List ℕ) (old new : List ℕ) → IsLog t.log
     → (held : HoldsLog t contents old) → (ds younger : List LogDescriptor) → held.chain ≡ ds ++ younger
     → MayStartBehind t contents ds younger old new → (h : HoldsLog (tail_from t ds) contents new) × (h.chain ≡ younger)
 may_start t contents old new log held ds younger parts may =
-    let high : (i : ℕ) → 16384 ≤ i → get_or new i 0 ≡ get_or old i 0 = λ i le.
-    ap (λ k. get_or new k 0) (behind_place i le) ∙ sym (get_or-drop 16384 new (i - 16384) 0)
-    ∙ ap (λ (l : List ℕ). get_or l (i - 16384) 0) may.same_behind ∙ get_or-drop 16384 old (i - 16384) 0
-    ∙ ap (λ k. get_or old k 0) (sym (behind_place i le)) in
-    held_from t contents old new log held ds younger parts may.same_length high may.start may.written
-    (ends_by t contents old new (t.log.ring - (t.used - chain_blocks ds)) t.log.sealing refl held high may.last)
+    held_from t contents old new log ds younger (begins_at t contents (ds ++ younger) old held parts) may.same_length
+    high_block may.start may.written
+    (goes_on_as t.log.sealing t.log.ring t.position old new
+    (high_block (ring_block t.log.ring t.position) (omega arith))
+    held.next)
   where
     behind_place : (i : ℕ) → 16384 ≤ i → i ≡ 16384 + (i - 16384)
     behind_place i le = omega arith
+
+    high : (i : ℕ) → 16384 ≤ i → get_or new i 0 ≡ get_or old i 0
+    high i le =
+        ap (λ k. get_or new k 0) (behind_place i le) ∙ sym (get_or-drop 16384 new (i - 16384) 0)
+        ∙ ap (λ (l : List ℕ). get_or l (i - 16384) 0) may.same_behind ∙ get_or-drop 16384 old (i - 16384) 0
+        ∙ ap (λ k. get_or old k 0) (sym (behind_place i le))
+
+    high_block : (b : ℕ) → 4 ≤ b → block_at new b ≡ block_at old b
+    high_block b le = same_block new old b may.same_length (λ j small. high (4096 * b + j) (omega arith))

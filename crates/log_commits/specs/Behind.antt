@@ -13,8 +13,9 @@ use Rattle.log_codec.specs.Chain.{LogRecovers, IsLogHome, chain_blocks}
 use Rattle.log_commits.specs.declared.behind.OldCommits.{OldCommits}
 use Rattle.log_commits.specs.declared.behind.MoveFault.{MoveFault}
 use Rattle.log_commits.specs.declared.behind.MoveFault.TheVariants.{Spent, Range, Device}
-use Rattle.log_commits.specs.Tail.{TailValue, HoldsLog}
-use Rattle.log_commits.specs.Homes.{AreWrittenHome, StaysLastBy}
+use Rattle.log_commits.specs.Tail.{TailValue, HoldsLog, HoldsUpTo}
+use Rattle.log_commits.specs.Told.{TellsTorn, IsNone}
+use Rattle.log_commits.specs.Homes.{AreWrittenHome}
 
 -- the start behind the oldest commits, as many as are below a number
 abbrev pub start_behind : TailValue → OldCommits → LogStart
@@ -129,16 +130,15 @@ pub record IsReadyToMove (second : Bool) (t : TailValue) (oldest : OldCommits) (
   pub start : IsStartBlock t.log.ring (start_behind t oldest) (block_at bytes (start_block (not second)))
   pub written : AreWrittenHome t.log contents ds younger bytes
 
--- what a digest is trusted with: at the end of the log no commit has its own digest and the next number, also in the
--- room that gets free. Where a byte seals, this is no premise.
-abbrev pub StaysLast : TailValue → OldCommits → List ℕ → Type 0
-StaysLast t oldest bytes = StaysLastBy t.log.sealing t (t.log.ring - (t.used - oldest.blocks)) bytes
+-- What a crash leaves within calls that change no contents: the commits so far. That is all, if no other commit can be
+-- read.
+pub record LeftUnchanged (t : TailValue) (contents : ℕ → List ℕ) (bytes : List ℕ) : Type 0 where
+  pub up_to : HoldsUpTo t.log t.number contents bytes
+  pub recovers : TellsTorn IsNone t.log t.number bytes → LogRecovers t.log contents bytes
 
 -- what the calls of a move leave: at each moment the same contents, and once they have succeeded the start counts
 pub record MoveLeaves {D : Type 0} (disk : Ghosts D) (second : Bool) (t : TailValue) (oldest : OldCommits)
     (contents : ℕ → List ℕ) (younger : List LogDescriptor) (done : Bool) (old new : D) : Type 0 where
-  pub crash : LeavesOnly disk.moment disk.left_since old new
-      (λ c. StaysLast t oldest c → LogRecovers t.log contents c)
+  pub crash : LeavesOnly disk.moment disk.left_since old new (LeftUnchanged t contents)
   pub durable : done ≡ true → Only (disk.may_leave new) (disk.seen new)
-  pub moved : done ≡ true → StaysLast t oldest (disk.seen new)
-      → HoldsCommits (not second) (tail_behind t oldest) contents younger (disk.seen new)
+  pub moved : done ≡ true → HoldsCommits (not second) (tail_behind t oldest) contents younger (disk.seen new)

@@ -1,5 +1,5 @@
 -- A commit to the log: when it is refused, its device calls, and what a crash leaves of it.
-use Rattle.std.specs.Prelude.{⊤, ◌≡◌, ◌≢◌, ◌⊎◌, ℕ, ◌+◌, ◌-◌, ◌*◌, ◌%◌, ◌<◌, ◌≤◌, ◌^◌, ◌==◌, if◌then◌else◌}
+use Rattle.std.specs.Prelude.{◌≡◌, ◌≢◌, ◌⊎◌, ℕ, ◌+◌, ◌*◌, ◌%◌, ◌<◌, ◌≤◌, ◌^◌, ◌==◌, if◌then◌else◌}
 use Rattle.std.specs.Prelude.{Bool, true, false, List, [], ◌∷◌, ◌++◌, length, take, drop}
 use Rattle.volume_codec.specs.Descriptor.{RiseWithin}
 use Rattle.device.specs.declared.device.Device.{Ghosts}
@@ -7,15 +7,16 @@ use Rattle.device.specs.Device.{LeavesOnly, Only}
 use Rattle.device.specs.Work.{Work, WriteAt, Sync}
 use Rattle.log_codec.specs.declared.sealing.Sealing.{Sealing}
 use Rattle.log_codec.specs.declared.sealing.Sealing.TheVariants.{ByByte, ByDigest}
-use Rattle.log_codec.specs.Log.{IsCommitSize, first_log_home, ring_block, ring_bytes}
+use Rattle.log_codec.specs.Log.{IsCommitSize, first_log_home, ring_block}
 use Rattle.log_codec.specs.Log.{log_descriptor_blocks, log_commit_blocks}
 use Rattle.log_codec.specs.Commit.{LogDescriptor, log_body, log_seal}
-use Rattle.log_codec.specs.Chain.{IsNextCommit, LogRecovers, spare_blocks, records_position, position_after}
+use Rattle.log_codec.specs.Chain.{LogRecovers, spare_blocks}
 use Rattle.log_commits.specs.declared.fault.CommitFault.{CommitFault}
 use Rattle.log_commits.specs.declared.fault.CommitFault.TheVariants.{Spent, Count, Homes, Room, Number, Busy}
 use Rattle.log_commits.specs.declared.fault.CommitFault.TheVariants.{Start, Device}
 use Rattle.log_commits.specs.Ring.{ring_works}
-use Rattle.log_commits.specs.Tail.{TailValue, HoldsLog}
+use Rattle.log_commits.specs.Tail.{TailValue, HoldsLog, HoldsUpTo}
+use Rattle.log_commits.specs.Told.{TellsTorn, IsThis}
 
 -- the records in the caller's room: they lie behind the blocks of the descriptor
 abbrev pub records_in : List ℕ → List ℕ → List ℕ
@@ -83,44 +84,12 @@ committed_to contents [] records b = contents b
 committed_to contents (home ∷ homes) records b =
     if b == home then take 4096 records else committed_to contents homes (drop 4096 records) b
 
--- by their digests, these bytes have no further commit behind the one under way
-abbrev pub EndsByDigest : TailValue → List ℕ → List ℕ → Type 0
-EndsByDigest t homes bytes = (d : LogDescriptor)
-    → IsNextCommit t.log t.start.epoch (position_after t.position (next_logged t homes)) (t.number + 1)
-    (t.log.ring - t.used - log_commit_blocks (length homes)) d bytes
-    → ⊥
-
-abbrev pub EndsBehindBy : Sealing → TailValue → List ℕ → List ℕ → Type 0
-EndsBehindBy ByByte t homes bytes = ⊤
-EndsBehindBy (ByDigest key) t homes bytes = EndsByDigest t homes bytes
-
--- The premise on bytes that a read gives after a commit: the log ends behind it. Where a byte seals, there is none.
-abbrev pub EndsBehind : TailValue → List ℕ → List ℕ → Type 0
-EndsBehind t homes bytes = EndsBehindBy t.log.sealing t homes bytes
-
--- what the digest is trusted with: a commit that these bytes have at the end of the log, with the number of the commit
--- under way and with its own digest, is the commit under way, and no further commit lies behind it
-pub record TellsTornByDigest (t : TailValue) (homes records : List ℕ) (bytes : List ℕ) : Type 0 where
-  pub same : (d : LogDescriptor)
-      → IsNextCommit t.log t.start.epoch t.position t.number (t.log.ring - t.used) d bytes
-      → (d ≡ next_logged t homes)
-      × (ring_bytes t.log.ring bytes (records_position t.position d) (length d.homes) ≡ records)
-  pub last : EndsByDigest t homes bytes
-
--- the premise on bytes that a crash leaves: the digest tells a torn commit from a whole one. Where a byte seals, there
--- is none.
-abbrev pub TellsTornBy : Sealing → TailValue → List ℕ → List ℕ → List ℕ → Type 0
-TellsTornBy ByByte t homes records bytes = ⊤
-TellsTornBy (ByDigest key) t homes records bytes = TellsTornByDigest t homes records bytes
-
-abbrev pub TellsTorn : TailValue → List ℕ → List ℕ → List ℕ → Type 0
-TellsTorn t homes records bytes = TellsTornBy t.log.sealing t homes records bytes
-
--- what a crash within a commit leaves: the contents before it, or with all of its records
-abbrev pub LeftByCommit : TailValue → (ℕ → List ℕ) → List ℕ → List ℕ → List ℕ → Type 0
-LeftByCommit t contents homes records bytes =
-    TellsTorn t homes records bytes
-    → LogRecovers t.log contents bytes ⊎ LogRecovers t.log (committed_to contents homes records) bytes
+-- What a crash within a commit leaves: the commits before it. With all of its records, or without them, that is all,
+-- if the digest tells a torn commit from a whole one.
+pub record LeftByCommit (t : TailValue) (contents : ℕ → List ℕ) (homes records bytes : List ℕ) : Type 0 where
+  pub up_to : HoldsUpTo t.log t.number contents bytes
+  pub recovers : TellsTorn (IsThis (next_logged t homes) records) t.log t.number bytes
+      → LogRecovers t.log contents bytes ⊎ LogRecovers t.log (committed_to contents homes records) bytes
 
 -- what the calls of a commit leave: within them a crash leaves what it may, and once they have succeeded the commit is
 -- durable
@@ -128,5 +97,4 @@ pub record CommitLeaves {D : Type 0} (disk : Ghosts D) (t : TailValue) (contents
     (homes records : List ℕ) (done : Bool) (old new : D) : Type 0 where
   pub crash : LeavesOnly disk.moment disk.left_since old new (LeftByCommit t contents homes records)
   pub durable : done ≡ true → Only (disk.may_leave new) (disk.seen new)
-  pub committed : done ≡ true → EndsBehind t homes (disk.seen new)
-      → HoldsLog (tail_after t homes) (committed_to contents homes records) (disk.seen new)
+  pub committed : done ≡ true → HoldsLog (tail_after t homes) (committed_to contents homes records) (disk.seen new)

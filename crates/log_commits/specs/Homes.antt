@@ -1,14 +1,12 @@
 -- Home blocks that commits of a log have, and a start behind some of its commits.
-use Rattle.std.specs.Prelude.{◌≡◌, ◌⊎◌, ⊤, ℕ, ◌+◌, ◌-◌, ◌*◌, ◌%◌, List, [], ◌∷◌, length, take, drop}
+use Rattle.std.specs.Prelude.{◌≡◌, ◌⊎◌, ℕ, ◌+◌, ◌-◌, ◌*◌, ◌%◌, List, [], ◌∷◌, length, take, drop}
 use Rattle.std.specs.List.{Contains}
 use Rattle.volume_codec.specs.Layout.{block_at}
-use Rattle.log_codec.specs.declared.sealing.Sealing.{Sealing}
-use Rattle.log_codec.specs.declared.sealing.Sealing.TheVariants.{ByByte, ByDigest}
 use Rattle.log_codec.specs.declared.start.LogStart.{LogStart}
 use Rattle.log_codec.specs.Log.{LogValue, first_log_home}
 use Rattle.log_codec.specs.Start.{HasLogStart}
 use Rattle.log_codec.specs.Commit.{LogDescriptor}
-use Rattle.log_codec.specs.Chain.{IsLogHome, IsNextCommit, chain_end, chain_blocks}
+use Rattle.log_codec.specs.Chain.{IsLogHome, chain_end, chain_blocks}
 use Rattle.log_commits.specs.Tail.{TailValue}
 
 -- one of these commits has this home block
@@ -39,19 +37,11 @@ abbrev pub AreWrittenHome : LogValue → (ℕ → List ℕ) → List LogDescript
 AreWrittenHome g contents ds younger bytes =
     (b : ℕ) → IsLogHome g b → IsLoggedHome ds b → IsLoggedHome younger b ⊎ (block_at bytes b ≡ contents b)
 
--- Where a digest seals, no commit with the next number and its own digest lies at the end of the log, also in this many
--- blocks. Where a byte seals, this is no premise.
-abbrev pub StaysLastBy : Sealing → TailValue → ℕ → List ℕ → Type 0
-StaysLastBy ByByte t left bytes = ⊤
-StaysLastBy (ByDigest key) t left bytes =
-    (d : LogDescriptor) → IsNextCommit t.log t.start.epoch t.position t.number left d bytes → ⊥
-
 -- what is asked of a start behind some commits, before it may count: the starts and block 1 alone changed, it counts in
--- the new bytes, the home blocks of these commits are written, and the log ends where it did
+-- the new bytes, and the home blocks of these commits are written
 pub record MayStartBehind (t : TailValue) (contents : ℕ → List ℕ) (ds younger : List LogDescriptor)
     (old new : List ℕ) : Type 0 where
   pub same_length : length new ≡ length old
   pub same_behind : drop 16384 new ≡ drop 16384 old
   pub start : HasLogStart t.log.ring (start_behind_of t.log t.start ds) new
   pub written : AreWrittenHome t.log contents ds younger old
-  pub last : StaysLastBy t.log.sealing t (t.log.ring - (t.used - chain_blocks ds)) new

@@ -1,6 +1,7 @@
 pub mod Calls
 pub mod Ring
 pub mod Tail
+pub mod Told
 pub mod Keeps
 pub mod Commit
 pub mod Homes

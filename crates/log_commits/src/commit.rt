@@ -11,7 +11,7 @@ ghost use Rattle.log_codec.specs.Commit.{LogDescriptor};
 ghost use Rattle.log_commits.specs.Tail.{HoldsLog};
 ghost use Rattle.log_commits.specs.Behind.{HasCommits, HoldsCommits, IsSameOutside};
 ghost use Rattle.log_commits.specs.Selecting.{last_works};
-ghost use Rattle.log_commits.specs.Commit.{MayCommit, RefusesTailCommit, CommitLeaves, EndsBehind, committed_to};
+ghost use Rattle.log_commits.specs.Commit.{MayCommit, RefusesTailCommit, CommitLeaves, committed_to};
 ghost use Rattle.log_commits.specs.Commit.{next_logged, commit_bytes, commit_works, works_with, records_in};
 ghost use Rattle.log_commits.specs.Commit.{tail_after};
 
@@ -199,8 +199,7 @@ impl LogTail {
         ensures commits { (second : Bool) (contents : ℕ → List ℕ) (chain : List LogDescriptor)
             → D.is_honest device.old
             → HasCommits D.Device second self.old contents chain device.old
-            → OnOk result (EndsBehind self.old homes.now (D.seen device.new)
-            → HoldsCommits second (tail_after self.old homes.now)
+            → OnOk result (HoldsCommits second (tail_after self.old homes.now)
             (committed_to contents homes.now (records_in homes.now room.old))
             (chain ++ next_logged self.old homes.now ∷ []) (D.seen device.new)) }
 

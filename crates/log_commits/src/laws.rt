@@ -1,31 +1,49 @@
 // What follows of the definitions alone.
-ghost use Rattle.std.specs.Prelude.{◌≡◌, ◌++◌, ℕ, List, [], ◌∷◌, Bool};
+ghost use Rattle.std.specs.Prelude.{◌≡◌, ◌⊎◌, ◌++◌, ℕ, List, [], ◌∷◌, Bool};
 ghost use Rattle.volume_codec.specs.Layout.{block_at};
-ghost use Rattle.log_codec.specs.declared.sealing.Sealing.TheVariants.{ByByte};
+ghost use Rattle.log_codec.specs.declared.sealing.Sealing.TheVariants.{ByDigest};
 ghost use Rattle.log_codec.specs.declared.start.LogStart.{LogStart};
 ghost use Rattle.log_codec.specs.Log.{LogValue, IsLog};
 ghost use Rattle.log_codec.specs.Commit.{LogDescriptor};
-ghost use Rattle.log_codec.specs.Chain.{HasLog, LogRecovers};
-ghost use Rattle.log_commits.specs.Tail.{TailValue, HoldsLog, tail_at};
+ghost use Rattle.log_codec.specs.Chain.{HasLog, IsLogHome, LogRecovers};
+ghost use Rattle.log_commits.specs.Tail.{TailValue, EndsAtTail, HoldsLog, HoldsUpTo, tail_at};
+ghost use Rattle.log_commits.specs.Told.{IsThis, TellsTorn};
 ghost use Rattle.log_commits.specs.declared.behind.OldCommits.{OldCommits};
-ghost use Rattle.log_commits.specs.Commit.{EndsBehind, TellsTorn, committed_to, next_logged, tail_after};
+ghost use Rattle.log_commits.specs.Commit.{committed_to, next_logged, tail_after};
 ghost use Rattle.log_commits.specs.Homes.{AreWrittenHome, DiffersInHomes, MayStartBehind, tail_from};
 ghost use Rattle.log_commits.specs.Behind.{HoldsCommits, IsReadyToMove, IsSameOutside};
 
-/// Bytes that hold a log with a tail recover to its contents. A log without commits holds its home blocks.
+use log_codec::one_log;
+
+/// Bytes that hold a log with a tail recover to its contents, if no further commit lies behind it. Where a byte seals,
+/// none does. A log without commits holds its home blocks.
 pub fn held_log()
     ensures recovers { (t : TailValue) (contents : ℕ → List ℕ) (bytes : List ℕ) → HoldsLog t contents bytes
-        → LogRecovers t.log contents bytes }
+        → EndsAtTail t bytes → LogRecovers t.log contents bytes }
+    ensures up_to { (t : TailValue) (contents : ℕ → List ℕ) (bytes : List ℕ) → HoldsLog t contents bytes
+        → HoldsUpTo t.log t.number contents bytes }
     ensures at_start { (g : LogValue) (s : LogStart) (spent : Bool) (bytes : List ℕ) → HasLog g s [] bytes
         → HoldsLog (tail_at g s spent) (block_at bytes) bytes }
+    ensures ends_at_start { (g : LogValue) (s : LogStart) (spent : Bool) (bytes : List ℕ) → HasLog g s [] bytes
+        → EndsAtTail (tail_at g s spent) bytes }
 {}
 
-/// Where a byte seals, commits need no premise. Where a digest does, the premise on a crash covers that on a read.
-pub fn no_premise()
-    ensures byte { (t : TailValue) (homes records bytes : List ℕ) → t.log.sealing ≡ ByByte
-        → TellsTorn t homes records bytes }
-    ensures ends { (t : TailValue) (homes records bytes : List ℕ) → TellsTorn t homes records bytes
-        → EndsBehind t homes bytes }
+/// Bytes that hold the commits below a number have one list of contents by them.
+pub fn one_held()
+    ensures { (g : LogValue) (number : ℕ) (contents others : ℕ → List ℕ) (bytes : List ℕ) (b : ℕ) → IsLog g
+        → HoldsUpTo g number contents bytes → HoldsUpTo g number others bytes → IsLogHome g b
+        → contents b ≡ others b }
+{
+    one_log();
+}
+
+/// Where a digest seals, bytes that hold the commits up to a number recover to their contents, or to those with the
+/// next commit, if that is the only commit from this number on that can be read.
+pub fn told_commit()
+    ensures { (t : TailValue) (contents : ℕ → List ℕ) (homes records bytes : List ℕ) (key : ℕ)
+        → t.log.sealing ≡ ByDigest key → HoldsUpTo t.log t.number contents bytes
+        → TellsTorn (IsThis (next_logged t homes) records) t.log t.number bytes
+        → LogRecovers t.log contents bytes ⊎ LogRecovers t.log (committed_to contents homes records) bytes }
 {}
 
 /// What writing home may do. A home block that a commit of the log has may contain any bytes, so a crash within its

@@ -12,5 +12,5 @@ mod tail;
 
 pub use behind::{MoveFault, OldCommits};
 pub use fault::CommitFault;
-pub use laws::{committing_keeps, held_log, no_premise, written_home};
+pub use laws::{committing_keeps, held_log, one_held, told_commit, written_home};
 pub use tail::LogTail;

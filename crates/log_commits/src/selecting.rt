@@ -4,7 +4,7 @@ ghost use Rattle.log_codec.specs.Commit.{LogDescriptor};
 ghost use Rattle.log_commits.specs.declared.fault.CommitFault.TheVariants.{Device};
 ghost use Rattle.log_commits.specs.Calls.{DidAll};
 ghost use Rattle.log_commits.specs.Keeps.{KeepsTail};
-ghost use Rattle.log_commits.specs.Commit.{CommitLeaves, EndsBehind, MayCommit};
+ghost use Rattle.log_commits.specs.Commit.{CommitLeaves, MayCommit};
 ghost use Rattle.log_commits.specs.Commit.{committed_to, next_logged, records_in, tail_after};
 ghost use Rattle.log_commits.specs.Behind.{HasCommits, HoldsCommits, IsReadyToMove, MayMove, tail_behind};
 ghost use Rattle.log_commits.specs.Selecting.{IsSureBy, RefusesSelecting, selecting_works};
@@ -47,8 +47,7 @@ impl LogTail {
             → HasCommits D.Device second self.old contents (ds ++ younger) device.old
             → IsReadyToMove second self.old oldest contents ds younger (D.seen device.old)
             → IsSureBy D.Device self.old.log.sealing device.old
-            → OnOk result (EndsBehind (tail_behind self.old oldest) homes.now (D.seen device.new)
-            → HoldsCommits (not second) (tail_after (tail_behind self.old oldest) homes.now)
+            → OnOk result (HoldsCommits (not second) (tail_after (tail_behind self.old oldest) homes.now)
             (committed_to contents homes.now (records_in homes.now room.old))
             (younger ++ next_logged self.old homes.now ∷ []) (D.seen device.new)) }
     {

@@ -1,12 +1,12 @@
 -- The records of a batch are put, and committed.
-use Rattle.std.proofs.Common.{◌≡◌, ◌≢◌, ◌⊎◌, ◌↔◌, ℕ, ◌+◌, ◌<◌, ◌≤◌, Bool, true, false, List, [], length}
+use Rattle.std.proofs.Common.{◌≡◌, ◌≢◌, ◌⊎◌, ◌↔◌, ℕ, ◌+◌, ◌<◌, ◌≤◌, Bool, true, List, [], ◌∷◌, length}
 use Rattle.std.proofs.Common.{Option, Some, Result, Ok, Err, OnOk, get_or, if◌then◌else◌, refl, sym, ap, subst}
 use Rattle.std.proofs.Common.{◌∙◌, arith, inl, inr}
 use Rattle.std.specs.Prelude.{⊤, is_ok, unwrap_or}
 use Rattle.std.proofs.lemmas.Bool.{cases_eq, eq-eqb, ne_eqb}
 use Rattle.device.specs.declared.device.Device.{Ghosts}
 use Rattle.device.specs.Device.{LeavesOnly}
-use Rattle.device.proofs.Public.{leaves_at_start, leaves_weaker}
+use Rattle.device.proofs.Public.{leaves_weaker}
 use Rattle.volume_codec.specs.Layout.{GeometryValue, IsHome, block_at, first_home, record_block}
 use Rattle.volume_codec.specs.Descriptor.{RiseWithin}
 use Rattle.volume_codec.specs.Recovery.{Batch}
@@ -16,11 +16,11 @@ use Rattle.kept_blocks.specs.Blocks.{Blocks, bytes_in, with_home}
 use Rattle.kept_blocks.proofs.Public.{bytes_put}
 use Rattle.log_codec.specs.declared.sealing.Sealing.TheVariants.{ByByte}
 use Rattle.log_codec.specs.Chain.{LogRecovers}
-use Rattle.log_commits.proofs.Public.{recovers}
+use Rattle.log_commits.specs.Tail.{HoldsUpTo}
 use Rattle.log_store.specs.Store.{StoreValue}
 use Rattle.log_pager.specs.declared.fault.PagerFault.{PagerFault}
 use Rattle.log_pager.specs.Pager.{LogPagerValue, IsPagerOver, contents_put}
-use Rattle.log_room.specs.Room.{KeepsFirst}
+use Rattle.log_room.specs.Room.{IsEnded, KeepsFirst, commits_of}
 use Rattle.shown_volume.specs.Shown.{ShownValue, OpensShown}
 use Rattle.log_disk.specs.inside.Committing.{ArePut, HasPut, HasPutUpTo, CommitsBatch, moved_home, with_batch}
 
@@ -133,41 +133,17 @@ when_ok (Err e) p done = cc
 
 module _ {D : Type 0} (disk : Ghosts D) (old : LogPagerValue D) (shown : ShownValue) (batch : Batch)
     (low first : ℕ) where
-  -- what a crash leaves: the old contents, or those with the records
-  abbrev LeftBy : (ℕ → List ℕ) → List ℕ → Type 0
-  LeftBy contents c = LogRecovers old.store.tail.log contents c
-      ⊎ ((after : ℕ → List ℕ) × HasPut shown batch low first contents after
-      × OpensShown shown batch (with_batch shown batch) × LogRecovers old.store.tail.log after c)
-
-  -- a fault before the commit
-  pub none_committed : (since_now : (device : D) (c : List ℕ) → disk.left_since device (disk.moment device) c
-      → disk.may_leave device c) (new : LogPagerValue D) (opened : ShownValue)
-      → new ≡ record old { staged = new.staged }
-      → CommitsBatch disk old shown batch low first false new opened
-  none_committed since_now new opened is =
-      let device : old.device ≡ new.device = sym (ap (λ (s : LogPagerValue D). s.device) is) in
-      record {
-        log = ap (λ (s : LogPagerValue D). s.store.tail.log) is;
-        honest = subst (λ d. disk.is_honest d ↔ disk.is_honest old.device) device (λ h. h, λ h. h);
-        later = subst (λ d. disk.moment old.device ≤ disk.moment d) device (omega arith);
-        none_put = λ done. cc;
-        opens = λ done. cc;
-        opened_is = λ done. cc;
-        over = λ done. cc;
-        leaves = λ contents honest byte over. subst
-            (λ d. LeavesOnly disk.moment disk.left_since old.device d (LeftBy contents)) device
-            (leaves_at_start (λ c left. inl (recovers old.store.tail contents c
-            (over.store.holds c (since_now old.device c left)).held)));
-        stays = λ text has. subst (KeepsFirst disk text old.device) device (record {
-          crash = leaves_at_start (λ c left. has c (since_now old.device c left));
-          left = has;
-        });
-      }
+  -- some record is put
+  one_put : (put : Blocks) → 0 < length batch.homes → ArePut shown batch low first (length batch.homes) put
+      → commits_of put ≡ 1
+  one_put [] some is =
+      absurd (let at = (is.each 0 some).2 in cc)
+  one_put (block ∷ blocks) some is = refl
 
   -- the commit of what was put
   pub committed : (mid new : LogPagerValue D) (opened : ShownValue) (result : Result ⊤ PagerFault)
       (done : Bool) → is_ok result ≡ done → mid ≡ record old { staged = mid.staged }
-      → ArePut shown batch low first (length batch.homes) mid.staged
+      → 0 < length batch.homes → ArePut shown batch low first (length batch.homes) mid.staged
       → ((contents : ℕ → List ℕ) → IsPagerOver disk old contents → IsPagerOver disk mid contents)
       → opened ≡ with_batch shown batch
       → OpensShown shown batch opened
@@ -175,8 +151,14 @@ module _ {D : Type 0} (disk : Ghosts D) (old : LogPagerValue D) (shown : ShownVa
       → OnOk result (new.staged ≡ [])
       → (disk.is_honest new.device ↔ disk.is_honest mid.device)
       → disk.moment mid.device ≤ disk.moment new.device
+      → OnOk result (new.store.tail.number ≡ mid.store.tail.number + commits_of mid.staged)
       → ((contents : ℕ → List ℕ) → disk.is_honest mid.device
       → IsPagerOver disk mid contents → OnOk result (IsPagerOver disk new (contents_put contents mid.staged)))
+      → ((contents : ℕ → List ℕ) → disk.is_honest mid.device → IsPagerOver disk mid contents → IsEnded disk mid
+      → OnOk result (IsEnded disk new))
+      → ((contents : ℕ → List ℕ) → disk.is_honest mid.device → IsPagerOver disk mid contents
+      → LeavesOnly disk.moment disk.left_since mid.device new.device
+      (HoldsUpTo mid.store.tail.log mid.store.tail.number contents))
       → ((contents : ℕ → List ℕ) → disk.is_honest mid.device → mid.store.tail.log.sealing ≡ ByByte
       → IsPagerOver disk mid contents → LeavesOnly disk.moment disk.left_since mid.device new.device
       (λ c. LogRecovers mid.store.tail.log contents c
@@ -184,7 +166,8 @@ module _ {D : Type 0} (disk : Ghosts D) (old : LogPagerValue D) (shown : ShownVa
       → ((text : List ℕ) → ((c : List ℕ) → disk.may_leave mid.device c → block_at c 0 ≡ text)
       → KeepsFirst disk text mid.device new.device)
       → CommitsBatch disk old shown batch low first done new opened
-  committed mid new opened result done told is put over opened_is opens log value honest later after leaves stays =
+  committed mid new opened result done told is some put over opened_is opens log value honest later counted after ends
+      held leaves stays =
       let device : mid.device ≡ old.device = ap (λ (s : LogPagerValue D). s.device) is in
       let store : mid.store ≡ old.store = ap (λ (s : LogPagerValue D). s.store) is in
       let trusted : disk.is_honest old.device → disk.is_honest mid.device =
@@ -196,24 +179,30 @@ module _ {D : Type 0} (disk : Ghosts D) (old : LogPagerValue D) (shown : ShownVa
         honest = subst (λ d. disk.is_honest new.device ↔ disk.is_honest d) device honest;
         later = subst (λ d. disk.moment d ≤ disk.moment new.device) device later;
         none_put = λ is_done. when_ok result value (told ∙ is_done);
-        opens = λ is_done. opens;
-        opened_is = λ is_done. opened_is;
-        over = λ is_done contents fair was. (
-          contents_put contents mid.staged,
-          has_put shown batch low first mid.staged contents put,
-          when_ok result (after contents (trusted fair) (over contents was)) (told ∙ is_done),
-        );
+        number = λ is_done. when_ok result counted (told ∙ is_done)
+            ∙ ap (λ (s : StoreValue). s.tail.number + commits_of mid.staged) store
+            ∙ ap (λ (n : ℕ). old.store.tail.number + n) (one_put mid.staged some put);
+        opens = opens;
+        opened_is = opened_is;
+        after = λ contents. contents_put contents mid.staged;
+        put = λ contents. has_put shown batch low first mid.staged contents put;
+        over = λ is_done contents fair was.
+            when_ok result (after contents (trusted fair) (over contents was)) (told ∙ is_done);
+        ended = λ is_done contents fair was ended. when_ok result (ends contents (trusted fair) (over contents was)
+            (subst (λ (s : LogPagerValue D). IsEnded disk s) (sym is) ended)) (told ∙ is_done);
+        held = λ contents fair was.
+            let Held : LogPagerValue D → Type 0 = λ s. LeavesOnly disk.moment disk.left_since s.device new.device
+            (HoldsUpTo s.store.tail.log s.store.tail.number contents) in
+            subst Held is (held contents (trusted fair) (over contents was));
         leaves = λ contents fair byte was. subst
-            (λ d. LeavesOnly disk.moment disk.left_since d new.device (LeftBy contents)) device
+            (λ d. LeavesOnly disk.moment disk.left_since d new.device
+            (λ c. LogRecovers old.store.tail.log contents c
+            ⊎ LogRecovers old.store.tail.log (contents_put contents mid.staged) c)) device
             (leaves_weaker (leaves contents (trusted fair) (sealed byte) (over contents was)) (λ c left. elim left [
               | inl before ↦ inl (subst (λ (s : StoreValue). LogRecovers s.tail.log contents c) store before)
-              | inr with_them ↦ inr (
-                contents_put contents mid.staged,
-                has_put shown batch low first mid.staged contents put,
-                subst (OpensShown shown batch) opened_is opens,
-                subst (λ (s : StoreValue). LogRecovers s.tail.log (contents_put contents mid.staged) c) store
-                    with_them,
-              )
+              | inr with_them ↦
+                  inr (subst (λ (s : StoreValue). LogRecovers s.tail.log (contents_put contents mid.staged) c) store
+                  with_them)
             ]));
         stays = λ text has. subst (λ d. KeepsFirst disk text d new.device) device
             (stays text (λ c left. has c (subst (λ d. disk.may_leave d c) device left)));

@@ -10,5 +10,6 @@ mod Pasts
 mod Reading
 mod Tables
 mod Times
+mod Told
 mod Trait
 mod Working

@@ -7,10 +7,8 @@ use Rattle.device.specs.Device.{LeavesOnly}
 use Rattle.device.specs.Memory.{Recorded, left_since_of, may_leave_of, moment_of}
 use Rattle.device.specs.declared.device.Device.{Ghosts}
 use Rattle.device.specs.inside.Laws.{now_is_since_of, since_now_of}
-use Rattle.volume_codec.specs.Super.{SuperValue}
-use Rattle.log_volume.specs.Super.{LogSuperValue}
 use Rattle.log_disk.specs.Disk.{LogDiskValue, joint_moment, moment_in}
-use Rattle.log_disk.specs.inside.Keeping.{AreBacked, AreMoments, RecoverAlike}
+use Rattle.log_disk.specs.inside.Keeping.{AreBackedBy, AreMoments}
 
 -- ---- one number for two moments
 
@@ -59,10 +57,11 @@ IsBefore u r m = (m.0 ≤ u) × (m.1 ≤ r)
 abbrev IsLeftAt : Recorded → ℕ → List ℕ → ℕ × ℕ → Type 0
 IsLeftAt memory t w m = joint_moment m.0 m.1 ≡ t → left_since_of memory m.0 w
 
--- each list that a crash of the device left since the moment of the pair is alike to one that a crash of the disk left
-abbrev IsBacked : {D : Type 0} → Ghosts D → D → LogSuperValue → SuperValue → Recorded → ℕ × ℕ → Type 0
-IsBacked disk device v t memory m =
-    (c : List ℕ) → disk.left_since device m.1 c → (w : List ℕ) × left_since_of memory m.0 w × RecoverAlike v t c w
+-- each list that a crash of the device left since the moment of the pair has one beside it that a crash of the disk
+-- left
+abbrev IsBackedBy : {D : Type 0} → (ℕ → List ℕ → List ℕ → Type 0) → Ghosts D → D → Recorded → ℕ × ℕ → Type 0
+IsBackedBy R disk device memory m =
+    (c : List ℕ) → disk.left_since device m.1 c → (w : List ℕ) × left_since_of memory m.0 w × R m.0 c w
 
 -- each pair that has P has Q
 map_pairs : (P Q : ℕ × ℕ → Type 0) (moments : List (ℕ × ℕ)) → ((m : ℕ × ℕ) → P m → Q m) → AllByRecursion P moments
@@ -268,24 +267,27 @@ module _ {D : Type 0} (moment : D → ℕ) (old : LogDiskValue D)
         subst P (sym (same_now old.memory new.memory changes start)) (subst Q (sym (ap moment device))
         (subst (AreMoments (moment_of old.memory) (moment old.device)) (sym moments) are))
 
--- ---- what a crash leaves of the device is alike to what it leaves of the disk
+-- ---- what a crash leaves of the device, beside what it leaves of the disk
 
 module _ {D : Type 0} (disk : Ghosts D) where
-  -- What a crash of the device left since an earlier state is alike to what one of the disk might have left since then.
-  -- If no moment is that of the earlier state, nothing is said of the disk.
-  pub left_between : (self old : LogDiskValue D)
-      → AreBacked disk self.device self.volume self.table self.memory self.moments
+  -- What a crash of the device left since an earlier state has one beside it that a crash of the disk might have left
+  -- since then. If no moment is that of the earlier state, nothing is said of the disk.
+  pub left_between : (self old : LogDiskValue D) (R : ℕ → List ℕ → List ℕ → Type 0)
+      → AreBackedBy R disk self.device self.memory self.moments
       → (c : List ℕ) → disk.left_since self.device (disk.moment old.device) c
-      → ((w : List ℕ) × left_in self (moment_in disk.moment old) w × RecoverAlike self.volume self.table c w)
+      → ((w : List ℕ) × left_since_of self.memory (moment_of old.memory) w × R (moment_of old.memory) c w
+      × ((w : List ℕ) → left_since_of self.memory (moment_of old.memory) w
+      → left_in self (moment_in disk.moment old) w))
       ⊎ ((w : List ℕ) → left_in self (moment_in disk.moment old) w)
-  left_between self old backed c left =
-      by (find_joint (moment_in disk.moment old) (IsBacked disk self.device self.volume self.table self.memory)
-      self.moments backed)
+  left_between self old R backed c left =
+      by (find_joint (moment_in disk.moment old) (IsBackedBy R disk self.device self.memory) self.moments backed)
     where
       by : AllByRecursion (λ m. joint_moment m.0 m.1 ≢ moment_in disk.moment old) self.moments
           ⊎ ((m : ℕ × ℕ) × (joint_moment m.0 m.1 ≡ moment_in disk.moment old)
-          × IsBacked disk self.device self.volume self.table self.memory m)
-          → ((w : List ℕ) × left_in self (moment_in disk.moment old) w × RecoverAlike self.volume self.table c w)
+          × IsBackedBy R disk self.device self.memory m)
+          → ((w : List ℕ) × left_since_of self.memory (moment_of old.memory) w × R (moment_of old.memory) c w
+          × ((w : List ℕ) → left_since_of self.memory (moment_of old.memory) w
+          → left_in self (moment_in disk.moment old) w))
           ⊎ ((w : List ℕ) → left_in self (moment_in disk.moment old) w)
       by (inl none) = inr (λ w.
           map_pairs (λ m. joint_moment m.0 m.1 ≢ moment_in disk.moment old)
@@ -294,31 +296,32 @@ module _ {D : Type 0} (disk : Ghosts D) where
       by (inr found) =
           let one = joint_one found.0.0 found.0.1 (moment_of old.memory) (disk.moment old.device) found.1 in
           let at = found.2 c (subst (λ r. disk.left_since self.device r c) (sym one.1) left) in
-          let w = at.0 in inl (
-            w,
-            all_pairs (IsLeftAt self.memory (moment_in disk.moment old) w) self.moments (λ m same.
+          inl (
+            at.0,
+            subst (λ u. left_since_of self.memory u at.0) one.0 at.1,
+            subst (λ u. R u c at.0) one.0 at.2,
+            λ w there. all_pairs (IsLeftAt self.memory (moment_in disk.moment old) w) self.moments (λ m same.
                 subst (λ u. left_since_of self.memory u w)
-                (joint_one found.0.0 found.0.1 m.0 m.1 (found.1 ∙ sym same)).0 at.1),
-            at.2,
+                (sym (joint_one m.0 m.1 (moment_of old.memory) (disk.moment old.device) same).0) there),
           )
 
   -- after calls of the device
-  pub backed_on : (old new : LogDiskValue D) {P Q : List ℕ → Type 0}
+  pub backed_on : (old new : LogDiskValue D) (R S : ℕ → List ℕ → List ℕ → Type 0) {P Q : List ℕ → Type 0}
       → AreMoments (moment_of old.memory) (disk.moment old.device) old.moments
       → new.moments ≡ (moment_of new.memory, disk.moment new.device) ∷ old.moments
-      → new.volume ≡ old.volume → new.table ≡ old.table
       → LeavesOnly moment_of left_since_of old.memory new.memory P
       → LeavesOnly disk.moment disk.left_since old.device new.device Q
+      → ((u : ℕ) (c w : List ℕ) → R u c w → S u c w)
       → ((c : List ℕ) → Q c → (w : List ℕ) × (may_leave_of old.memory w ⊎ may_leave_of new.memory w)
-      × RecoverAlike old.volume old.table c w)
+      × ((u : ℕ) → u ≤ moment_of old.memory → S u c w))
       → ((c : List ℕ) → disk.may_leave new.device c
-      → (w : List ℕ) × may_leave_of new.memory w × RecoverAlike old.volume old.table c w)
+      → (w : List ℕ) × may_leave_of new.memory w × S (moment_of new.memory) c w)
       → ((c : List ℕ) → disk.left_since new.device (disk.moment new.device) c → disk.may_leave new.device c)
-      → AreBacked disk old.device old.volume old.table old.memory old.moments
-      → AreBacked disk new.device new.volume new.table new.memory new.moments
-  backed_on old new {P} {Q} are newest volume table leaves calls between now law backed =
-      let Was : ℕ × ℕ → Type 0 = IsBacked disk old.device old.volume old.table old.memory in
-      let Is : ℕ × ℕ → Type 0 = IsBacked disk new.device old.volume old.table new.memory in
+      → AreBackedBy R disk old.device old.memory old.moments
+      → AreBackedBy S disk new.device new.memory new.moments
+  backed_on old new R S {P} {Q} are newest leaves calls grows between now law backed =
+      let Was : ℕ × ℕ → Type 0 = IsBackedBy R disk old.device old.memory in
+      let Is : ℕ × ℕ → Type 0 = IsBackedBy S disk new.device new.memory in
       let first : Is (moment_of new.memory, disk.moment new.device) = λ c left.
       let r = now c (law c left) in
       (r.0, now_is_since_of new.memory (moment_of new.memory) r.0 (omega arith) r.1, r.2) in
@@ -327,37 +330,17 @@ module _ {D : Type 0} (disk : Ghosts D) where
       (λ m under was c left. by m under.0 c (⊎_elim (λ before. inl (was c before)) (λ has. inr (between c has))
       (calls.before m.1 c under.1 left)))
       (moments_each (moment_of old.memory) (disk.moment old.device) old.moments are) backed in
-      subst (λ v. AreBacked disk new.device v new.table new.memory new.moments) (sym volume)
-      (subst (λ t. AreBacked disk new.device old.volume t new.memory new.moments) (sym table)
-      (subst (AllByRecursion Is) (sym newest) (first, others)))
+      subst (AllByRecursion Is) (sym newest) (first, others)
     where
       by : (m : ℕ × ℕ) → m.0 ≤ moment_of old.memory → (c : List ℕ)
-          → ((w : List ℕ) × left_since_of old.memory m.0 w × RecoverAlike old.volume old.table c w)
+          → ((w : List ℕ) × left_since_of old.memory m.0 w × R m.0 c w)
           ⊎ ((w : List ℕ) × (may_leave_of old.memory w ⊎ may_leave_of new.memory w)
-          × RecoverAlike old.volume old.table c w)
-          → (w : List ℕ) × left_since_of new.memory m.0 w × RecoverAlike old.volume old.table c w
-      by m under c (inl was) = (was.0, leaves.keeps m.0 was.0 under was.1, was.2)
+          × ((u : ℕ) → u ≤ moment_of old.memory → S u c w))
+          → (w : List ℕ) × left_since_of new.memory m.0 w × S m.0 c w
+      by m under c (inl was) = (was.0, leaves.keeps m.0 was.0 under was.1, grows m.0 c was.0 was.2)
       by m under c (inr is) = (
         is.0,
         ⊎_elim (λ left. leaves.keeps m.0 is.0 under (now_is_since_of old.memory m.0 is.0 under left))
             (λ left. now_is_since_of new.memory m.0 is.0 (omega (arith, under, leaves.later)) left) is.1,
-        is.2,
+        is.2 m.0 under,
       )
-
-  -- after a call that changes counts alone
-  pub backed_same : (old new : LogDiskValue D) → new.memory.first ≡ old.memory.first
-      → new.memory.changes ≡ old.memory.changes → new.memory.start ≡ old.memory.start → new.device ≡ old.device
-      → new.volume ≡ old.volume → new.table ≡ old.table → new.moments ≡ old.moments
-      → AreBacked disk old.device old.volume old.table old.memory old.moments
-      → AreBacked disk new.device new.volume new.table new.memory new.moments
-  backed_same old new first changes start device volume table moments backed =
-      subst (λ d. AreBacked disk d new.volume new.table new.memory new.moments) (sym device)
-      (subst (λ v. AreBacked disk old.device v new.table new.memory new.moments) (sym volume)
-      (subst (λ t. AreBacked disk old.device old.volume t new.memory new.moments) (sym table)
-      (subst (AreBacked disk old.device old.volume old.table new.memory) (sym moments)
-      (map_pairs
-      (IsBacked disk old.device old.volume old.table old.memory)
-      (IsBacked disk old.device old.volume old.table new.memory) old.moments
-      (λ m was c left. let r = was c left in
-      (r.0, (same_left old.memory new.memory first changes start m.0 r.0).0 r.1, r.2))
-      backed))))

@@ -24,11 +24,12 @@ use Rattle.log_codec.specs.Chain.{LogRecovers, IsLogHome}
 use Rattle.log_volume.specs.Super.{LogSuperValue, FitsLog, IsLogSuper, table_of, log_of, log_super_text}
 use Rattle.log_volume.specs.Files.{RecoversToLog, log_lengths_in, log_files_in}
 use Rattle.log_opening.specs.Opening.{IsCounted}
+use Rattle.log_commits.specs.Tail.{EndsAtTail, HoldsUpTo}
 use Rattle.log_store.specs.Store.{StoreValue}
 use Rattle.log_pager.specs.Pager.{LogPagerValue, IsPagerOver}
 use Rattle.log_disk.specs.Opening.{fitted, shown_bytes, IsCountedDisk}
 use Rattle.log_disk.specs.Serving.{IsShownTable, volume_home}
-use Rattle.log_disk.specs.inside.Keeping.{shown_contents, RecoverAlike, AreBacked, IsOverLog, IsKeptDisk}
+use Rattle.log_disk.specs.inside.Keeping.{shown_contents, RecoverAlike, AreBacked, IsHeld, IsOverLog, IsKeptDisk}
 use Rattle.log_disk.specs.inside.Keeping.{changed}
 use Rattle.log_disk.specs.inside.Opened.{IsOpenedLog}
 use Rattle.log_disk.proofs.Alike.{table_four, four, first_shown, lengths_shown, files_shown}
@@ -237,10 +238,12 @@ module _ (v : LogSuperValue) (t : SuperValue) (seen : List ℕ) (is : IsShownTab
     module _ {D : Type 0} (disk : Ghosts D) (device : D) (super_block : block_at seen 0 ≡ log_super_text v)
         (recovers : LogRecovers (log_of v) (block_at seen) seen) (only : Only (disk.may_leave device) seen) where
       pub over_opened : (pager : LogPagerValue D) → pager.device ≡ device → IsPagerOver disk pager (block_at seen)
-          → IsOverLog disk v t pager (closed_volume t) (shown_bytes v t seen)
-      over_opened pager at over = record {
+          → EndsAtTail pager.store.tail seen → IsOverLog disk v t pager (closed_volume t) (shown_bytes v t seen)
+      over_opened pager at over ends = record {
         contents = block_at seen;
         over = over;
+        ended = λ c left. subst (EndsAtTail pager.store.tail)
+            (sym (only c (subst (λ d. disk.may_leave d c) at left))) ends;
         first = λ c left. ap (λ (l : List ℕ). block_at l 0)
             (only c (subst (λ d. disk.may_leave d c) at left)) ∙ super_block;
         recovers = recovers_shown;
@@ -275,7 +278,7 @@ counted_disk disk old new x y is =
 
 -- ---- the disk
 
-module _ {D : Type 0} (disk : Ghosts D) (v : LogSuperValue) (t : SuperValue) (device : D) (is : IsShownTable v t)
+module _ {D : Type 0} (disk : Ghosts D) (v : LogSuperValue) (t : SuperValue) (device : D) (is_table : IsShownTable v t)
     (whole : length (super_text t) ≡ 4096) (fits : FitsLog v)
     (long : 4096 * (log_of v).blocks ≤ length (disk.seen device))
     (start : LogStart) (second : Bool) (opened : disk.is_honest device → IsOpenedLog disk v start second device)
@@ -291,41 +294,81 @@ module _ {D : Type 0} (disk : Ghosts D) (v : LogSuperValue) (t : SuperValue) (de
   recovers_itself honest =
       record { start = start; chain = []; log = (opened honest).log; contents_are = λ b home. refl }
 
-  kept_opened : (store : StoreValue) → store.tail.log ≡ log_of v
+  -- and holds all commits so far, which are none
+  held_opened : IsOpenedLog disk v start second device → (c : List ℕ) → disk.may_leave device c
+      → IsHeld v t start (shown_bytes v t seen_there) [] 0 c (shown_bytes v t seen_there)
+  held_opened o c left =
+      let is = o.synced c left in
+      record {
+        newer = [];
+        older = [];
+        parts = refl;
+        late = omega arith;
+        seen = refl;
+        contents = block_at seen_there;
+        text = ap (λ (l : List ℕ). block_at l 0) is ∙ o.super_block;
+        recovers =
+            let by = recovers_shown v t seen_there is_table whole long in
+            record { batches = []; volume = by.volume; contents_are = by.contents_are };
+        holds = subst (HoldsUpTo (log_of v) (start.number + 0) (block_at seen_there)) (sym is) (record {
+          start = start;
+          chain = [];
+          log = record { long = o.log.long; start = o.log.start; commits = tt };
+          number_is = refl;
+          contents_are = λ b home. refl;
+        });
+      }
+
+  kept_opened : (store : StoreValue) → store.tail.log ≡ log_of v → store.tail.number ≡ start.number
       → (IsOpenedLog disk v start second device
-      → IsPagerOver disk (record { store = store; staged = []; device = device }) (block_at seen_there))
-      → IsKeptDisk disk v t (shown_bytes v t seen_there) [] first_moments
+      → IsPagerOver disk (record { store = store; staged = []; device = device }) (block_at seen_there)
+      × EndsAtTail store.tail seen_there)
+      → IsKeptDisk disk v t start (shown_bytes v t seen_there) [] first_moments
       (record { store = store; staged = []; device = device }) (closed_volume t) false
-  kept_opened store log over = record {
+  kept_opened store log number over = record {
     fits = fits;
-    table = is;
+    table = is_table;
     log = log;
-    long = length-shown v t seen_there is whole;
+    number = λ ok. omega (arith, number);
+    long = length-shown v t seen_there is_table whole;
     within = tt;
     moments_are = record { older = []; newest = refl; each = tt };
-    shows = λ ok. has_shown v t seen_there is whole;
+    shows = λ ok. has_shown v t seen_there is_table whole;
     none_put = λ ok. refl;
     over = λ honest ok.
         let o = opened honest in
-        over_opened v t seen_there is whole long disk device o.super_block (recovers_itself honest) o.synced
-        (record { store = store; staged = []; device = device }) refl (over o);
+        over_opened v t seen_there is_table whole long disk device o.super_block (recovers_itself honest) o.synced
+        (record { store = store; staged = []; device = device }) refl (over o).0 (over o).1;
     backed = λ honest.
         let o = opened honest.0 in
-        backed_opened v t seen_there is whole long disk device o.super_block (recovers_itself honest.0) o.synced law;
+        backed_opened v t seen_there is_table whole long disk device o.super_block (recovers_itself honest.0) o.synced
+        law;
+    followed = tt;
+    held = λ honest.
+        let o = opened honest in (
+          λ c left. (
+            shown_bytes v t seen_there,
+            (0, omega arith, omega arith, record { same_length = refl; synced = λ i none. refl }),
+            held_opened o c (law c left),
+          ),
+          tt,
+        );
   }
 
   pub kept_as : (pager : LogPagerValue D) (store : StoreValue) (shown : ShownValue) (first : List ℕ)
       (changes : List DiskChange) (moments : List (ℕ × ℕ))
       → pager ≡ record { store = store; staged = []; device = device } → store.tail.log ≡ log_of v
+      → store.tail.number ≡ start.number
       → shown ≡ closed_volume t → first ≡ shown_bytes v t seen_there → changes ≡ [] → moments ≡ first_moments
-      → (IsOpenedLog disk v start second device → IsPagerOver disk pager (block_at seen_there))
-      → IsKeptDisk disk v t first changes moments pager shown false
-  kept_as pager store shown first changes moments pager_is log shown_is first_is changes_are moments_are over =
+      → (IsOpenedLog disk v start second device
+      → IsPagerOver disk pager (block_at seen_there) × EndsAtTail store.tail seen_there)
+      → IsKeptDisk disk v t start first changes moments pager shown false
+  kept_as pager store shown first changes moments pager_is log number shown_is first_is changes_are moments_are over =
       let bytes = shown_bytes v t seen_there in
-      subst (λ s. IsKeptDisk disk v t first changes moments pager s false) (sym shown_is)
-      (subst (λ l. IsKeptDisk disk v t l changes moments pager (closed_volume t) false) (sym first_is)
-      (subst (λ l. IsKeptDisk disk v t bytes l moments pager (closed_volume t) false) (sym changes_are)
-      (subst (λ l. IsKeptDisk disk v t bytes [] l pager (closed_volume t) false) (sym moments_are)
-      (subst (λ p. IsKeptDisk disk v t bytes [] first_moments p (closed_volume t) false) (sym pager_is)
-      (kept_opened store log
-      (λ o. subst (λ p. IsPagerOver disk p (block_at seen_there)) pager_is (over o)))))))
+      subst (λ s. IsKeptDisk disk v t start first changes moments pager s false) (sym shown_is)
+      (subst (λ l. IsKeptDisk disk v t start l changes moments pager (closed_volume t) false) (sym first_is)
+      (subst (λ l. IsKeptDisk disk v t start bytes l moments pager (closed_volume t) false) (sym changes_are)
+      (subst (λ l. IsKeptDisk disk v t start bytes [] l pager (closed_volume t) false) (sym moments_are)
+      (subst (λ p. IsKeptDisk disk v t start bytes [] first_moments p (closed_volume t) false) (sym pager_is)
+      (kept_opened store log number
+      (λ o. (subst (λ p. IsPagerOver disk p (block_at seen_there)) pager_is (over o).0, (over o).1)))))))

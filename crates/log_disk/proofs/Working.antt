@@ -15,6 +15,7 @@ use Rattle.volume_codec.specs.Layout.{IsHome}
 use Rattle.volume_codec.specs.Recovery.{Recovers, RecoversTo}
 use Rattle.volume_codec.specs.Super.{SuperValue, geometry_of}
 use Rattle.shown_volume.specs.Shown.{ShownValue}
+use Rattle.log_codec.specs.declared.start.LogStart.{LogStart}
 use Rattle.log_volume.specs.Super.{LogSuperValue}
 use Rattle.log_pager.specs.Pager.{LogPagerValue}
 use Rattle.log_disk.specs.Disk.{LogDiskValue}
@@ -31,19 +32,21 @@ pub works_of : {D : Type 0} (disk : Ghosts D)
     → (v ≡ w) × ((b : ℕ) → IsHome (geometry_of v) b → contents b ≡ others b))
     (one_recovery : (bytes : List ℕ) (files others : List File) → RecoversTo bytes files → RecoversTo bytes others
     → files ≡ others)
-    (v : LogSuperValue) (t : SuperValue) (first : List ℕ) (changes : List DiskChange) (moments : List (ℕ × ℕ))
-    (pager : LogPagerValue D) (shown : ShownValue) (calls faults : ℕ)
-    → IsKeptDisk disk v t first changes moments pager shown false
+    (v : LogSuperValue) (t : SuperValue) (start : LogStart) (first : List ℕ) (changes : List DiskChange)
+    (moments : List (ℕ × ℕ)) (pager : LogPagerValue D) (shown : ShownValue) (calls faults : ℕ)
+    → IsKeptDisk disk v t start first changes moments pager shown false
     → Works disk (record {
       device = pager.device;
       volume = v;
       table = t;
+      log_start = start;
       memory = record (changed first changes) { calls = calls; faults = faults };
       moments = moments;
     })
-works_of disk since_now now_is_since one_contents one_recovery v t first changes moments pager shown calls faults kept =
+works_of disk since_now now_is_since one_contents one_recovery v t start first changes moments pager shown calls faults
+    kept =
     λ honest c left. stands one_contents one_recovery v t c (seen_of (changed first changes)) kept.table kept.fits
-    (alike_now disk since_now now_is_since v t first changes moments pager shown kept honest c left)
+    (alike_now disk since_now now_is_since v t start first changes moments pager shown kept honest c left)
 
 -- a call that was counted: a failed one counts as one
 pub works_counted : {D : Type 0} (disk : Ghosts D) (mid new : LogDiskValue D) (calls : ℕ)

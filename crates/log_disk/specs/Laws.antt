@@ -4,15 +4,16 @@ use Rattle.device.specs.Memory.{seen_of}
 use Rattle.device.specs.declared.device.Device.{Ghosts}
 use Rattle.log_disk.specs.Serving.{StandsFor}
 use Rattle.log_disk.specs.Disk.{LogDiskValue, left_at, moment_in}
+use Rattle.log_disk.specs.Made.{IsTold}
 
 -- these bytes of the device stand for one of these lists
 abbrev pub StandsForOne : (List ℕ → Type 0) → List ℕ → Type 0
 StandsForOne lists c = (w : List ℕ) × lists w × StandsFor c w
 
--- since an earlier state of the disk, a crash of the device left only bytes that stand for some that one of the disk
--- might have left
+-- Since an earlier state of the disk, a crash of the device left bytes. If only commits can be read from them that the
+-- disk made, they stand for some that a crash of the disk might have left.
 abbrev pub StandsSince : {D : Type 0} → Ghosts D → LogDiskValue D → LogDiskValue D → Type 0
-StandsSince disk old new = (c : List ℕ) → disk.left_since new.device (disk.moment old.device) c
+StandsSince disk old new = (c : List ℕ) → disk.left_since new.device (disk.moment old.device) c → IsTold new c
     → StandsForOne (left_at disk.moment new (moment_in disk.moment old)) c
 
 -- what a crash of the device now leaves, and what the device has, stands for what the disk has

@@ -26,11 +26,12 @@ shown_bytes v t bytes =
     ++ fitted (4096 * (block_count t - first_home t.layout t.slots)) (drop (4096 * first_log_home v.ring) bytes)
 
 -- the disk over this device before its first call: it shows the bytes that the device has, and all of it is synced
-abbrev pub opened_disk : {D : Type 0} → Ghosts D → LogSuperValue → SuperValue → D → LogDiskValue D
-opened_disk disk v t device = record {
+abbrev pub opened_disk : {D : Type 0} → Ghosts D → LogSuperValue → SuperValue → LogStart → D → LogDiskValue D
+opened_disk disk v t start device = record {
   device = device;
   volume = v;
   table = t;
+  log_start = start;
   memory = new_disk (shown_bytes v t (disk.seen device));
   moments = (0, disk.moment device) ∷ [];
 }
@@ -38,13 +39,12 @@ opened_disk disk v t device = record {
 -- the device was opened, and the disk is over it
 pub record HasOpenedDisk {D : Type 0} (disk : Ghosts D) (old : D) (new : LogDiskValue D) : Type 0 where
   pub lengths : List ℕ
-  pub next : LogStart
-  pub opened : HasOpenedVolume disk old new.volume lengths next new.device
+  pub opened : HasOpenedVolume disk old new.volume lengths new.log_start new.device
 
 -- a device was opened, and this disk shows its volume
 pub record HasShown {D : Type 0} (disk : Ghosts D) (before : D) (shown : LogDiskValue D) : Type 0 where
   pub opened : disk.is_honest before → HasOpenedDisk disk before shown
-  pub fresh : shown ≡ opened_disk disk shown.volume shown.table shown.device
+  pub fresh : shown ≡ opened_disk disk shown.volume shown.table shown.log_start shown.device
   pub table : IsShownTable shown.volume shown.table
 
 -- how an opening ended, and the device that it leaves

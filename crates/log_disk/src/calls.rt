@@ -1,4 +1,4 @@
-// The disk as a device.
+// The calls of the disk, before they are counted.
 ghost use Rattle.std.specs.Prelude.{◌≡◌, ◌⊎◌, ℕ, ◌+◌, ◌*◌, ◌^◌, ◌<◌, ◌≤◌, [], ◌∷◌, length, slice_index, slice_range};
 ghost use Rattle.std.specs.Prelude.{is_ok, IsErr, IfSome, OnOk, if◌then◌else◌};
 ghost use Rattle.device.specs.Count.{raised};
@@ -7,7 +7,7 @@ ghost use Rattle.device.specs.Memory.DiskChange.{write, sync};
 ghost use Rattle.volume_codec.specs.Super.{block_count};
 ghost use Rattle.log_disk.specs.inside.Keeping.{AreMoments, ReadsOn, WritesOn, with_counts};
 
-use crate::disk::LogDisk;
+use crate::parts::DiskParts;
 use device::{Device, DeviceFault, raise};
 use std::alloc::Allocator;
 
@@ -19,7 +19,7 @@ const OPEN: u8 = 0xA7;
 
 const CLOSED: u8 = 0;
 
-impl<D: Device, A: Allocator + Copy> LogDisk<D, A> {
+impl<D: Device, A: Allocator + Copy> DiskParts<D, A> {
     // The bytes of the disk end within so many blocks.
     pub(crate) fn is_long(&self)
         ensures long { length (seen_of self.now.memory) ≡ 4096 * block_count self.now.table }
@@ -131,73 +131,5 @@ impl<D: Device, A: Allocator + Copy> LogDisk<D, A> {
             raise(&mut self.faults);
         }
         outcome
-    }
-}
-
-impl<D: Device, A: Allocator + Copy> Device for LogDisk<D, A> {
-    ghost use Rattle.device.specs.Memory.{seen_of, may_leave_of};
-    ghost use Rattle.device.specs.inside.Laws.{seen_is_left_of};
-    ghost use Rattle.log_disk.specs.Disk.{IsHonestLog, left_at, moment_in};
-    ghost use Rattle.log_disk.specs.inside.Times.{now_is_since, since_now};
-
-    ghost seen = { λ disk. seen_of disk.memory };
-
-    ghost may_leave = { λ disk. may_leave_of disk.memory };
-
-    ghost moment = { moment_in D.moment };
-
-    ghost left_since = { left_at D.moment };
-
-    ghost calls_made = { λ disk. disk.memory.calls };
-
-    ghost faults_met = { λ disk. disk.memory.faults };
-
-    ghost carried = { λ disk. 0 };
-
-    ghost is_honest = { IsHonestLog D.is_honest };
-
-    ghost seen_is_left = { λ disk honest. seen_is_left_of disk.memory };
-
-    ghost left_is_whole = { λ disk c honest left. left.same_length };
-
-    ghost now_is_since = { λ disk t c under left. now_is_since D.moment disk t c left };
-
-    ghost since_now = { λ disk c left. since_now D.moment disk c left };
-
-    fn len(&self) -> u64 {
-        self.is_long();
-        BLOCK * u64::from(self.table.block_count())
-    }
-
-    fn read(&mut self, at: u64, buffer: &mut [u8]) -> Result<(), DeviceFault> {
-        self.is_timed();
-        let outcome = self.fetch(at, buffer);
-        let outcome = self.count(outcome);
-        self.is_timed();
-        outcome
-    }
-
-    fn write(&mut self, at: u64, bytes: &[u8]) -> Result<(), DeviceFault> {
-        self.is_timed();
-        let outcome = self.store(at, bytes);
-        let outcome = self.count(outcome);
-        self.is_timed();
-        outcome
-    }
-
-    fn sync(&mut self) -> Result<(), DeviceFault> {
-        self.is_timed();
-        let outcome = self.settle();
-        let outcome = self.count(outcome);
-        self.is_timed();
-        outcome
-    }
-
-    fn calls(&self) -> u64 {
-        self.calls
-    }
-
-    fn faults(&self) -> u64 {
-        self.faults
     }
 }

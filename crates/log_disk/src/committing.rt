@@ -1,14 +1,13 @@
-// A batch of the disk is committed to the log.
-ghost use Rattle.std.specs.Prelude.{◌≡◌, ℕ, ◌+◌, ◌^◌, ◌<◌, ◌≤◌, List, [], length, is_ok, OnOk};
+// A batch of the disk is put for a commit to the log.
+ghost use Rattle.std.specs.Prelude.{◌≡◌, ℕ, ◌+◌, ◌^◌, ◌<◌, ◌≤◌, List, [], length, OnOk};
 ghost use Rattle.volume_codec.specs.Layout.{first_home};
 ghost use Rattle.journal.specs.WriteOut.{IsBatch};
 ghost use Rattle.log_pager.specs.Pager.{IsPagerOver};
-ghost use Rattle.shown_volume.specs.Shown.{MayOpen};
-ghost use Rattle.log_disk.specs.inside.Committing.{ArePut, CommitsBatch, moved_home};
+ghost use Rattle.shown_volume.specs.Shown.{MayOpen, OpensShown};
+ghost use Rattle.log_disk.specs.inside.Committing.{ArePut, moved_home, with_batch};
 
 use device::{Device, DeviceFault};
 use log_pager::LogPager;
-use log_room::commit_with_room;
 use shown_volume::{OpenJournal, ShownVolume};
 use std::alloc::Allocator;
 
@@ -58,8 +57,8 @@ fn put_records<D: Device, A: Allocator + Copy>(
     Ok(())
 }
 
-// Commits the records of a batch to the log, and opens its gate.
-pub(crate) fn commit_batch<D: Device, A: Allocator + Copy>(
+// Puts the records of a batch, and opens its gate.
+pub(crate) fn put_batch<D: Device, A: Allocator + Copy>(
     pager: &mut LogPager<D, A>,
     shown: &mut ShownVolume<A>,
     batch: OpenJournal<A>,
@@ -69,18 +68,16 @@ pub(crate) fn commit_batch<D: Device, A: Allocator + Copy>(
     requires may { MayOpen shown.old batch }
     requires low { firsts.shown ≡ first_home shown.old.geometry.layout shown.old.geometry.slots }
     requires high { shown.old.geometry.blocks + firsts.volume ≤ firsts.shown + 2 ^ 32 }
-    ensures { CommitsBatch D.Device pager.old shown.old batch firsts.shown firsts.volume (is_ok result)
-        pager.new shown.new }
+    ensures put { OnOk result (ArePut shown.old batch firsts.shown firsts.volume (length batch.homes)
+        pager.new.staged) }
+    ensures staged { pager.new ≡ record pager.old { staged = pager.new.staged } }
+    ensures over { (contents : ℕ → List ℕ) → IsPagerOver D.Device pager.old contents
+        → IsPagerOver D.Device pager.new contents }
+    ensures opened { OnOk result (shown.new ≡ with_batch shown.old batch) }
+    ensures opens { OnOk result (OpensShown shown.old batch shown.new) }
 {
-    match put_records(pager, shown, &batch, firsts) {
-        Ok(()) => {}
-        Err(fault) => return Err(fault),
-    }
+    put_records(pager, shown, &batch, firsts)?;
     match shown.open(batch) {
-        Ok(()) => {}
-        Err(_) => return Err(DeviceFault),
-    }
-    match commit_with_room(pager) {
         Ok(()) => Ok(()),
         Err(_) => Err(DeviceFault),
     }

@@ -1,13 +1,14 @@
 // The disk.
-ghost use Rattle.std.specs.Prelude.{◌≡◌, ◌↔◌, ℕ, List, length};
+ghost use Rattle.std.specs.Prelude.{◌≡◌, ℕ, List};
+ghost use Rattle.device.specs.Memory.{may_leave_of};
+ghost use Rattle.log_codec.specs.declared.sealing.Sealing.TheVariants.{ByByte};
 ghost use Rattle.log_disk.specs.Disk.{LogDiskValue};
+ghost use Rattle.log_disk.specs.Laws.{StandsForOne, StandsSince, WorksUnlessFailed};
+ghost use Rattle.log_disk.specs.Made.{IsTold};
 
-use crate::past::Past;
-use device::Device;
-use log_codec::Sealing;
-use log_pager::LogPager;
+use crate::parts::DiskParts;
+use device::{Device, DeviceFault};
 use log_volume::LogSuper;
-use shown_volume::ShownVolume;
 use std::alloc::Allocator;
 use std::marker::Model;
 use volume_codec::Super;
@@ -19,44 +20,26 @@ use volume_codec::Super;
 /// It takes the calls that a journal makes and those that open a volume whose journals are closed, and refuses others:
 /// the write of a block that recovery reads, and the read of a block that it doesn't know. Once a commit fails, each
 /// call fails.
+///
+/// On an honest device reads return what was written. `crashes_alike` and `works_unless_failed` state what a crash of
+/// the device leaves.
 #[derive(Drop)]
 pub struct LogDisk<D: Device, A: Allocator + Copy> {
-    pub(crate) alloc: A,
-    pub(crate) volume: LogSuper<A>,
-    pub(crate) table: Super<A>,
-    pub(crate) pager: LogPager<D, A>,
-    pub(crate) shown: ShownVolume<A>,
-    pub(crate) failed: bool,
-    pub(crate) past: Past,
-    pub(crate) calls: u64,
-    pub(crate) faults: u64,
+    pub(crate) disk: DiskParts<D, A>,
 }
 
 impl<D: Device, A: Allocator + Copy> Model for LogDisk<D, A> {
     ghost use Rattle.log_disk.specs.Disk.{LogDiskValue};
     ghost use Rattle.std.specs.Coded.{codes};
-    ghost use Rattle.log_disk.specs.inside.Keeping.{IsKeptDisk};
+    ghost use Rattle.log_disk.specs.Laws.{WorksUnlessFailed};
 
     ghost Value = { LogDiskValue D };
 
     ghost coded = { Prim.hlevel (codes, D.code) };
 
-    ghost view = { λ d. record {
-      device = d.pager.device;
-      volume = d.volume;
-      table = d.table;
-      memory = record {
-        first = d.past.first;
-        changes = d.past.changes;
-        start = 0;
-        calls = d.calls;
-        faults = d.faults;
-      };
-      moments = d.past.moments;
-    } };
+    ghost view = { λ d. d.disk };
 
-    ghost invariant = { λ d. IsKeptDisk D.Device d.volume d.table d.past.first d.past.changes d.past.moments d.pager
-        d.shown d.failed };
+    ghost invariant = { λ d. WorksUnlessFailed D.Device d.disk };
 }
 
 impl<D: Device, A: Allocator + Copy> LogDisk<D, A> {
@@ -64,14 +47,28 @@ impl<D: Device, A: Allocator + Copy> LogDisk<D, A> {
     pub fn device(&self) -> &D
         ensures { result.now ≡ self.now.device }
     {
-        self.pager.device()
+        self.disk.pager.device()
     }
 
-    /// What seals the commits of the log.
-    pub fn sealing(&self) -> Sealing
-        ensures { result ≡ self.now.volume.sealing }
+    /// States what a crash of the device leaves, now and since any earlier state, within calls or between two. Suppose
+    /// that each commit since the opening that can be read from these bytes was made by the disk (`IsTold`). Then they
+    /// stand for some that a crash of the disk might have left. If a byte seals commits, all bytes fulfil the premise
+    /// (`byte`). Makes no device call.
+    pub fn crashes_alike(&self)
+        ensures now { D.is_honest self.now.device → (c : List ℕ) → D.may_leave self.now.device c → IsTold self.now c
+            → StandsForOne (may_leave_of self.now.memory) c }
+        ensures since { D.is_honest self.now.device → (old : LogDiskValue D) → StandsSince D.Device old self.now }
+        ensures byte { self.now.volume.sealing ≡ ByByte → (c : List ℕ) → IsTold self.now c }
     {
-        self.volume.log().sealing()
+        self.disk.crashes_alike();
+    }
+
+    /// States what the device has, and what a crash of it leaves now, unless a call of the disk has failed: bytes that
+    /// stand for those of the disk. Makes no device call.
+    pub fn works_unless_failed(&self)
+        ensures { WorksUnlessFailed D.Device self.now }
+    {
+        let _ = &self.disk;
     }
 
     /// The device of the volume, what its super block says, and what that of the disk says.
@@ -80,24 +77,84 @@ impl<D: Device, A: Allocator + Copy> LogDisk<D, A> {
         ensures volume { result.1 ≡ self.volume }
         ensures table { result.2 ≡ self.table }
     {
-        let LogDisk {
-            alloc: _,
-            volume,
-            table,
-            pager,
-            shown: _,
-            failed: _,
-            past: _,
-            calls: _,
-            faults: _,
-        } = self;
-        (pager.into_device(), volume, table)
+        self.disk.into_parts()
     }
 
     /// The device of the volume, as the calls left it.
     pub fn into_device(self) -> D
         ensures { result ≡ self.device }
     {
-        self.pager.into_device()
+        self.disk.pager.into_device()
+    }
+}
+
+impl<D: Device, A: Allocator + Copy> Device for LogDisk<D, A> {
+    ghost use Rattle.device.specs.Memory.{seen_of, may_leave_of};
+    ghost use Rattle.device.specs.inside.Laws.{seen_is_left_of};
+    ghost use Rattle.log_disk.specs.Disk.{left_at, moment_in};
+    ghost use Rattle.log_disk.specs.inside.Times.{now_is_since, since_now};
+
+    ghost seen = { λ disk. seen_of disk.memory };
+
+    ghost may_leave = { λ disk. may_leave_of disk.memory };
+
+    ghost moment = { moment_in D.moment };
+
+    ghost left_since = { left_at D.moment };
+
+    ghost calls_made = { λ disk. disk.memory.calls };
+
+    ghost faults_met = { λ disk. disk.memory.faults };
+
+    ghost carried = { λ disk. 0 };
+
+    ghost is_honest = { λ disk. D.is_honest disk.device };
+
+    ghost seen_is_left = { λ disk honest. seen_is_left_of disk.memory };
+
+    ghost left_is_whole = { λ disk c honest left. left.same_length };
+
+    ghost now_is_since = { λ disk t c under left. now_is_since D.moment disk t c left };
+
+    ghost since_now = { λ disk c left. since_now D.moment disk c left };
+
+    fn len(&self) -> u64 {
+        self.disk.is_long();
+        4096 * u64::from(self.disk.table.block_count())
+    }
+
+    fn read(&mut self, at: u64, buffer: &mut [u8]) -> Result<(), DeviceFault> {
+        self.disk.is_timed();
+        let outcome = self.disk.fetch(at, buffer);
+        let outcome = self.disk.unless_failed(outcome);
+        let outcome = self.disk.count(outcome);
+        self.disk.is_timed();
+        outcome
+    }
+
+    fn write(&mut self, at: u64, bytes: &[u8]) -> Result<(), DeviceFault> {
+        self.disk.is_timed();
+        let outcome = self.disk.store(at, bytes);
+        let outcome = self.disk.unless_failed(outcome);
+        let outcome = self.disk.count(outcome);
+        self.disk.is_timed();
+        outcome
+    }
+
+    fn sync(&mut self) -> Result<(), DeviceFault> {
+        self.disk.is_timed();
+        let outcome = self.disk.settle();
+        let outcome = self.disk.unless_failed(outcome);
+        let outcome = self.disk.count(outcome);
+        self.disk.is_timed();
+        outcome
+    }
+
+    fn calls(&self) -> u64 {
+        self.disk.calls
+    }
+
+    fn faults(&self) -> u64 {
+        self.disk.faults
     }
 }

@@ -1,21 +1,18 @@
 // What a crash leaves of the device, by what one of the disk might have left.
-ghost use Rattle.std.specs.Prelude.{ℕ, ◌≡◌, List, IsTrue, OnOk};
-ghost use Rattle.device.specs.Memory.{may_leave_of};
-ghost use Rattle.log_disk.specs.Disk.{LogDiskValue, IsHonestLog};
-ghost use Rattle.log_disk.specs.Laws.{StandsForOne, StandsSince, Works};
+ghost use Rattle.std.specs.Prelude.{◌≡◌, IsTrue, OnOk};
+ghost use Rattle.log_disk.specs.Disk.{LogDiskValue};
+ghost use Rattle.log_disk.specs.Laws.{StandsSince, Works};
 
-use crate::disk::LogDisk;
+use crate::parts::DiskParts;
 use device::{Device, DeviceFault};
 use std::alloc::Allocator;
 use volume_codec::one_reading;
 
-impl<D: Device, A: Allocator + Copy> LogDisk<D, A> {
-    /// Says what a crash of the device leaves, now and since any earlier state: bytes that stand for some that a crash
-    /// of the disk might have left. Makes no device call.
-    pub fn crashes_alike(&self)
-        ensures now { IsHonestLog D.is_honest self.now → (c : List ℕ) → D.may_leave self.now.device c
-            → StandsForOne (may_leave_of self.now.memory) c }
-        ensures since { IsHonestLog D.is_honest self.now → (old : LogDiskValue D) → StandsSince D.Device old self.now }
+impl<D: Device, A: Allocator + Copy> DiskParts<D, A> {
+    // Says what a crash of the device leaves since any earlier state, of bytes from which only commits can be read that
+    // the disk made: bytes that stand for some that a crash of the disk might have left.
+    pub(crate) fn crashes_alike(&self)
+        ensures { D.is_honest self.now.device → (old : LogDiskValue D) → StandsSince D.Device old self.now }
     {
         let _ = &self.alloc;
         one_reading();

@@ -4,12 +4,11 @@
 
 mod calls;
 mod committing;
-mod digested;
 mod disk;
 mod laws;
 mod opening;
+mod parts;
 mod past;
 mod serving;
 
-pub use digested::DigestDisk;
 pub use disk::LogDisk;

@@ -18,11 +18,12 @@ ghost use Rattle.log_disk.specs.Serving.{IsShownTable};
 ghost use Rattle.log_disk.specs.inside.Opened.{asked_whole, IsOpenedLog};
 
 use crate::disk::LogDisk;
+use crate::parts::DiskParts;
 use crate::past::Past;
 use device::Device;
 use kept_blocks::has_whole_block;
 use log_codec::one_log;
-use log_commits::LogTail;
+use log_commits::{LogTail, held_log};
 use log_opening::{OpenedLog, open_log_volume};
 use log_pager::LogPager;
 use log_store::{LogStore, opened_store};
@@ -74,7 +75,8 @@ impl<D: Device, A: Allocator + Copy> LogDisk<D, A> {
     /// the device back.
     pub fn open(alloc: A, mut device: D) -> Result<Self, (Refusal, D)>
         ensures opened { D.is_honest device → IfOk result (HasOpenedDisk D.Device device) }
-        ensures fresh { IfOk result (λ disk. disk ≡ opened_disk D.Device disk.volume disk.table disk.device) }
+        ensures fresh { IfOk result (λ disk. disk
+            ≡ opened_disk D.Device disk.volume disk.table disk.log_start disk.device) }
         ensures shown { IfOk result (λ disk. IsShownTable disk.volume disk.table) }
         ensures files { D.is_honest device → IfOk result (λ disk. (files : List File)
             → RecoversToLog (D.seen device) files → RecoversTo (seen_of disk.memory) files) }
@@ -85,7 +87,6 @@ impl<D: Device, A: Allocator + Copy> LogDisk<D, A> {
         ensures crash { D.is_honest device → LeavesOnly D.moment D.left_since device (disk_leaves result)
             (LeftByOpeningVolume D.Device device) }
         ensures counted { IsCountedDisk D.Device device (disk_result result) (disk_leaves result) }
-        ensures works { IfOk result (Works D.Device) }
     {
         one_log();
         one_log_super();
@@ -97,16 +98,20 @@ impl<D: Device, A: Allocator + Copy> LogDisk<D, A> {
             Ok(table) => table,
             Err(refusal) => return Err((refusal, device)),
         };
-        Ok(LogDisk::over(alloc, opened, table, device))
+        Ok(LogDisk {
+            disk: DiskParts::over(alloc, opened, table, device),
+        })
     }
+}
 
-    // The disk that shows a volume that was opened.
+impl<D: Device, A: Allocator + Copy> DiskParts<D, A> {
+    // The parts of the disk that shows a volume that was opened.
     fn over(alloc: A, opened: OpenedLog<A>, table: Super<A>, device: D) -> Self
         requires shown { IsShownTable opened.table table }
         requires long { 4096 * (log_of opened.table).blocks ≤ length (D.seen device) }
         requires opened { D.is_honest device
             → IsOpenedLog D.Device opened.table opened.start opened.second device }
-        ensures value { result ≡ opened_disk D.Device opened.table table device }
+        ensures value { result ≡ opened_disk D.Device opened.table table opened.start device }
         ensures files { D.is_honest device → (old : List ℕ) (files : List File)
             → IsLogSuper opened.table (block_at old 0)
             → LogRecovers (log_of opened.table) (block_at (D.seen device)) old
@@ -114,6 +119,7 @@ impl<D: Device, A: Allocator + Copy> LogDisk<D, A> {
         ensures works { Works D.Device result }
     {
         opened_store(&device);
+        held_log();
         one_reading();
         one_log();
         one_log_super();
@@ -128,11 +134,12 @@ impl<D: Device, A: Allocator + Copy> LogDisk<D, A> {
         let shown = table.to_block();
         has_whole_block(&shown);
         let store = LogStore::new(alloc, LogTail::new(volume.log(), start), second);
-        LogDisk {
+        DiskParts {
             alloc,
             shown: ShownVolume::new(alloc, table.geometry()),
             volume,
             table,
+            log_start: start,
             pager: LogPager::new(alloc, store, device),
             failed: false,
             past,

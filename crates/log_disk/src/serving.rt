@@ -8,14 +8,15 @@ ghost use Rattle.volume_codec.specs.Super.{block_count};
 ghost use Rattle.log_codec.specs.Log.{first_log_home};
 ghost use Rattle.log_disk.specs.inside.Keeping.{ReadsOn, WritesOn};
 
-use crate::committing::{Firsts, commit_batch, moved_home};
-use crate::disk::LogDisk;
+use crate::committing::{Firsts, moved_home, put_batch};
+use crate::parts::DiskParts;
 use crate::past::Past;
 use device::{Device, DeviceFault};
+use log_room::commit_with_room;
 use std::alloc::Allocator;
-use volume_codec::recovered_from;
+use volume_codec::{one_reading, recovered_from};
 
-impl<D: Device, A: Allocator + Copy> LogDisk<D, A> {
+impl<D: Device, A: Allocator + Copy> DiskParts<D, A> {
     // Where home blocks begin.
     fn firsts(&self) -> Firsts
         ensures shown { result.shown ≡ first_home self.now.table.layout self.now.table.slots }
@@ -60,10 +61,16 @@ impl<D: Device, A: Allocator + Copy> LogDisk<D, A> {
         let Ok(Some(batch)) = self.shown.batch_in(journal) else {
             return Err(DeviceFault);
         };
-        let outcome = commit_batch(&mut self.pager, &mut self.shown, batch, firsts);
+        one_reading();
+        self.failed = true;
+        put_batch(&mut self.pager, &mut self.shown, batch, firsts)?;
+        let outcome = commit_with_room(&mut self.pager);
         self.failed = outcome.is_err();
         self.past = Past::with_write(&self.past, &at, bytes, self.pager.device());
-        outcome
+        match outcome {
+            Ok(()) => Ok(()),
+            Err(_) => Err(DeviceFault),
+        }
     }
 
     // Closes the gate of a journal.
@@ -85,6 +92,7 @@ impl<D: Device, A: Allocator + Copy> LogDisk<D, A> {
         if !self.shown.close(journal) {
             return Err(DeviceFault);
         }
+        one_reading();
         self.past = Past::with_write(&self.past, &at, bytes, self.pager.device());
         Ok(())
     }
@@ -110,6 +118,7 @@ impl<D: Device, A: Allocator + Copy> LogDisk<D, A> {
             Ok(()) => {}
             Err(_) => return Err(DeviceFault),
         }
+        one_reading();
         self.past = Past::with_write(&self.past, &at, &bytes[..], self.pager.device());
         Ok(())
     }

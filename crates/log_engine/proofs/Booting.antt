@@ -1,5 +1,5 @@
 -- What a crash leaves while a machine is booted over the disk that shows a volume, and what a failed boot leaves.
-use Rattle.std.proofs.Common.{List, ℕ, Result, Ok, Err, inl, inr, sym, subst}
+use Rattle.std.proofs.Common.{List, ℕ, ◌≤◌, Result, Ok, Err, inl, inr, sym, subst, arith}
 use Rattle.device.specs.Device.{Only}
 use Rattle.device.specs.declared.device.Device.{Ghosts}
 use Rattle.page_entry.specs.declared.refusal.Refusal.{Refusal}
@@ -11,15 +11,16 @@ use Rattle.recovery.specs.Openings.{RecoversAs}
 use Rattle.machine.specs.declared.act.Shape.{Shape}
 use Rattle.engine.specs.Engine.{HasNotStarted}
 use Rattle.log_volume.specs.Files.{RecoversToLog}
-use Rattle.log_disk.specs.Disk.{LogDiskValue, IsHonestLog, left_at, moment_in, shown_by}
+use Rattle.log_disk.specs.Disk.{LogDiskValue, left_at, moment_in, shown_by}
+use Rattle.log_disk.specs.Made.{IsTold}
 use Rattle.log_disk.specs.Serving.{StandsFor}
-use Rattle.log_disk.specs.inside.Times.{now_is_since}
+use Rattle.log_disk.specs.inside.Times.{since_now, now_is_since as left_now}
 use Rattle.log_engine.specs.inside.Standing.{Stands}
 
 -- since a disk was opened, a crash leaves what recovers as something that one might have left before
 abbrev pub LeavesAlike : {D : Type 0} → Ghosts D → Type 0
 LeavesAlike {D} disk = (before after : LogDiskValue D) (result : Result SuperValue Refusal) (w : List ℕ)
-    → IsHonestLog disk.is_honest before → Opens (shown_by disk) before result after
+    → disk.is_honest before.device → Opens (shown_by disk) before result after
     → left_at disk.moment after (moment_in disk.moment before) w
     → RecoversAs ((shown_by disk).may_leave before) w
 
@@ -32,10 +33,11 @@ opens_of disk shown shape after refusal (inr (table, opens, refuses)) = (Ok tabl
 
 module _ {D : Type 0} (disk : Ghosts D) (left_as : LeavesAlike disk) (files : List File)
     (shown after : LogDiskValue D) (result : Result SuperValue Refusal)
-    (opens : Opens (shown_by disk) shown result after) (honest : IsHonestLog disk.is_honest shown)
+    (opens : Opens (shown_by disk) shown result after) (honest : disk.is_honest shown.device)
     (recovers : RecoversTo ((shown_by disk).seen shown) files)
-    (only : Only ((shown_by disk).may_leave shown) ((shown_by disk).seen shown)) (stands : Stands disk after) where
-  pub honest_after : IsHonestLog disk.is_honest after
+    (only : Only ((shown_by disk).may_leave shown) ((shown_by disk).seen shown))
+    (stands : Stands disk after) where
+  pub honest_after : disk.is_honest after.device
   honest_after = opens.kept.honest.1 honest
 
   stood_for : (c w : List ℕ) → left_at disk.moment after (moment_in disk.moment shown) w → StandsFor c w
@@ -52,10 +54,15 @@ module _ {D : Type 0} (disk : Ghosts D) (left_as : LeavesAlike disk) (files : Li
         files_are = before.files_are;
       })
 
-  pub left_in_boot : (c : List ℕ) → disk.left_since after.device (disk.moment shown.device) c → RecoversToLog c files
-  left_in_boot c left = let s = stands.since honest_after shown c left in stood_for c s.0 s.1 s.2
+  pub left_in_boot : (c : List ℕ) → disk.left_since after.device (disk.moment shown.device) c → IsTold after c
+      → RecoversToLog c files
+  left_in_boot c left tells = let s = stands honest_after shown c left tells in stood_for c s.0 s.1 s.2
 
-  pub left_after_boot : (c : List ℕ) → disk.may_leave after.device c → RecoversToLog c files
-  left_after_boot c may =
-      let s = stands.now honest_after c may in
-      stood_for c s.0 (now_is_since disk.moment after (moment_in disk.moment shown) s.0 s.1) s.2
+  -- a crash after it
+  pub left_after_boot : ((d : D) (t : ℕ) (c : List ℕ) → t ≤ disk.moment d → disk.may_leave d c → disk.left_since d t c)
+      → (c : List ℕ) → disk.may_leave after.device c → IsTold after c → RecoversToLog c files
+  left_after_boot now_is_since c may tells =
+      let s = stands honest_after after c (now_is_since after.device (disk.moment after.device) c (omega arith) may)
+      tells in
+      stood_for c s.0
+      (left_now disk.moment after (moment_in disk.moment shown) s.0 (since_now disk.moment after s.0 s.1)) s.2

@@ -1,5 +1,4 @@
 pub mod Booting
-mod BySealing
 pub mod Reopened
 pub mod Standing
 pub mod Surviving

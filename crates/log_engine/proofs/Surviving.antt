@@ -22,8 +22,9 @@ use Rattle.engine.specs.Engine.{HasStarted}
 use Rattle.engine.specs.Survival.{history_of}
 use Rattle.engine.proofs.Public.{taken_kept}
 use Rattle.log_volume.specs.Files.{RecoversToLog}
-use Rattle.log_disk.specs.Disk.{LogDiskValue, IsHonestLog, moment_in, read_by, shown_by}
+use Rattle.log_disk.specs.Disk.{LogDiskValue, moment_in, shown_by}
 use Rattle.log_disk.specs.Laws.{Works}
+use Rattle.log_disk.specs.Made.{IsTold}
 use Rattle.log_disk.specs.inside.Times.{now_is_since as now_is_since_at}
 use Rattle.log_engine.specs.Openings.{FindsAfterLogCrash, FindsOnLog, KeepsOnLog}
 use Rattle.log_engine.specs.Survival.{BeforeOrWith, EndsOnLog, StepSurvivesOnLog, SurvivesOnLog}
@@ -69,31 +70,34 @@ pub ends_by : {D : Type 0} (disk : Ghosts D) (files : List File) (start : Whole 
     → ((c : List ℕ) → lists c → ReadsBackOnLog files histories c)
     → FindsAfterLogCrash disk files histories lists)
     (finds : (files : List File) (device : D) → RecoversToLog (disk.seen device) files → FindsOnLog disk files device)
-    (steps : List Step) (replies : List Reply) (last : Whole (LogDiskValue D)) → disk.is_honest last.device.device
-    → ((c : List ℕ) → disk.may_leave last.device.device c
+    (told : List ℕ → Type 0) (steps : List Step) (replies : List Reply) (last : Whole (LogDiskValue D))
+    → disk.is_honest last.device.device → disk.may_leave last.device.device (disk.seen last.device.device)
+    → ((c : List ℕ) → disk.may_leave last.device.device c → told c
     → ReadsBackOnLog files (λ history. history ≡ history_of files start steps replies) c)
-    → ReadsBackOnLog files (λ history. history ≡ history_of files start steps replies) (disk.seen last.device.device)
-    → EndsOnLog disk files start steps replies last
-ends_by disk files start found_after finds steps replies last honest left now =
+    → EndsOnLog told disk files start steps replies last
+ends_by disk files start found_after finds told steps replies last honest here left =
     let whole : List Event → Type 0 = λ history. history ≡ history_of files start steps replies in
     record {
-      after = found_after files whole (disk.may_leave last.device.device) left;
-      ended = record {
-        found = files_after files now.prefix;
-        durable = record {
-          prefix = now.prefix;
-          durable = subst (λ (h : List Event). IsDurablePrefix now.prefix h) now.is_one now.durable;
-          files_are = refl;
-        };
-        finds = finds (files_after files now.prefix) last.device.device now.recovers;
-      };
+      after = found_after files whole (λ c. disk.may_leave last.device.device c × told c)
+          (λ c both. left c both.0 both.1);
+      ended = λ tells.
+          let now = left (disk.seen last.device.device) here tells in
+          record {
+            found = files_after files now.prefix;
+            durable = record {
+              prefix = now.prefix;
+              durable = subst (λ (h : List Event). IsDurablePrefix now.prefix h) now.is_one now.durable;
+              files_are = refl;
+            };
+            finds = finds (files_after files now.prefix) last.device.device now.recovers;
+          };
       honest = honest;
     }
 
 -- a disk over which a run ended, and whose device has what stands for its bytes
 module _ {D : Type 0} (disk : Ghosts D) (files : List File) (start last : Whole (LogDiskValue D)) (steps : List Step)
-    (replies : List Reply) (reached : IsReached (read_by disk) files start steps replies last)
-    (since : ReadsBackAfter (read_by disk)) (works : Works disk last.device)
+    (replies : List Reply) (reached : IsReached (shown_by disk) files start steps replies last)
+    (since : ReadsBackAfter (shown_by disk)) (works : Works disk last.device)
     (honest : disk.is_honest last.device.device) where
   pub after_reads : (c : List ℕ) → disk.may_leave last.device.device c
       → ReadsBackOnLog files (λ history. history ≡ history_of files start steps replies) c
@@ -118,28 +122,31 @@ module _ {D : Type 0} (disk : Ghosts D) (files : List File) (start : Whole (LogD
   abbrev Shown : Type 0
   Shown = LogDiskValue D
 
+  abbrev own : Ghosts Shown
+  own = shown_by disk
+
   abbrev first : Observed
   first = observed_first files start.state
 
-  reached : (steps : List Step) (replies : List Reply) (last : Whole Shown) → StepsStand disk start steps replies last
-      → IsReached (shown_by disk) files start steps replies last
+  reached : (steps : List Step) (replies : List Reply) (last : Whole Shown)
+      → StepsStand disk start steps replies last → IsReached own files start steps replies last
   reached steps replies last led = record { begins = begun; taken = taken_of disk start steps replies last led }
 
   pub honest_at : (steps : List Step) (replies : List Reply) (last : Whole Shown)
-      → StepsStand disk start steps replies last → IsHonestLog disk.is_honest last.device
+      → StepsStand disk start steps replies last → disk.is_honest last.device.device
   honest_at steps replies last led =
       let taken = taken_of disk start steps replies last led in
-      (taken_kept (shown_by disk) start steps replies last taken).0.1 begun.honest
+      (taken_kept own start steps replies last taken).0.1 begun.honest
 
   -- a crash of the volume's device within a step
   within_step : (earlier : List Step) (replied : List Reply) (step : Step) (reply : Reply) (mid new : Whole Shown)
       → StepsStand disk start earlier replied mid → StepStands disk mid step reply new
-      → (c : List ℕ) → disk.left_since new.device.device (disk.moment mid.device.device) c
+      → (c : List ℕ) → disk.left_since new.device.device (disk.moment mid.device.device) c × IsTold new.device c
       → ReadsBackOnLog files (BeforeOrWith (observe_all first earlier replied) step reply) c
   within_step earlier replied step reply mid new led this c left =
       let further = stand_more disk start mid new earlier replied step reply led this in
       let here = honest_at (earlier ++ step ∷ []) (replied ++ reply ∷ []) new further in
-      let stands = this.stands.since here mid.device c left in
+      let stands = this.stands here mid.device c left.0 left.1 in
       let back = since files start mid new earlier (step ∷ []) replied (reply ∷ []) stands.0
       (reached earlier replied mid led) (new, this.taken, refl) stands.1 in
       let o = observe_all first earlier replied in
@@ -154,12 +161,12 @@ module _ {D : Type 0} (disk : Ghosts D) (files : List File) (start : Whole (LogD
   -- a crash of the volume's device after the last step
   after_run : (steps : List Step) (replies : List Reply) (last : Whole Shown)
       → StepsStand disk start steps replies last → Stands disk last.device
-      → (c : List ℕ) → disk.may_leave last.device.device c
+      → (c : List ℕ) → disk.may_leave last.device.device c → IsTold last.device c
       → ReadsBackOnLog files (λ history. history ≡ history_of files start steps replies) c
-  after_run steps replies last led stand c may =
+  after_run steps replies last led stand c may tells =
       let here = honest_at steps replies last led in
       let left = now_is_since last.device.device (disk.moment last.device.device) c (omega arith) may in
-      let stands = stand.since here last.device c left in
+      let stands = stand here last.device c left tells in
       let back = since files start last last steps [] replies [] stands.0 (reached steps replies last led) refl
       stands.1 in
       let o = observe_all first steps replies in
@@ -172,16 +179,18 @@ module _ {D : Type 0} (disk : Ghosts D) (files : List File) (start : Whole (LogD
       }
 
   -- a crash of the volume's device while the machine is booted
-  while_booting : (shown : Shown) (shape : Shape) → HasStarted (shown_by disk) shown shape start
-      → IsHonestLog disk.is_honest shown → RecoversTo ((shown_by disk).seen shown) files
-      → Only ((shown_by disk).may_leave shown) ((shown_by disk).seen shown) → Stands disk start.device
+  while_booting : (shown : Shown) (shape : Shape) → HasStarted own shown shape start
+      → disk.is_honest shown.device → RecoversTo (own.seen shown) files
+      → Only (own.may_leave shown) (own.seen shown) → Stands disk start.device
       → LeavesAlike disk
-      → (c : List ℕ) → disk.left_since start.device.device (disk.moment shown.device) c → RecoversToLog c files
+      → (c : List ℕ) → disk.left_since start.device.device (disk.moment shown.device) c × IsTold start.device c
+      → RecoversToLog c files
   while_booting shown shape started honest recovers only stand left_as c left =
       let device : start.device ≡ started.volume.device = ap (λ (w : Whole Shown). w.device) started.booted in
-      let Left : Shown → Type 0 = λ d. disk.left_since d.device (disk.moment shown.device) c in
-      left_in_boot disk left_as files shown started.volume.device (Ok started.volume.table) started.opened honest
-      recovers only (subst (Stands disk) device stand) c (subst Left device left)
+      let Left : Shown → Type 0 = λ d. disk.left_since d.device (disk.moment shown.device) c × IsTold d c in
+      let there = subst Left device left in
+      left_in_boot disk left_as files shown started.volume.device (Ok started.volume.table) started.opened
+      honest recovers only (subst (Stands disk) device stand) c there.0 there.1
 
   module _ (found_after : (files : List File) (histories : List Event → Type 0) (lists : List ℕ → Type 0)
       → ((c : List ℕ) → lists c → ReadsBackOnLog files histories c)
@@ -199,19 +208,19 @@ module _ {D : Type 0} (disk : Ghosts D) (files : List File) (start : Whole (LogD
           record {
             taken = this.taken;
             within = found_after files (BeforeOrWith (observe_all first earlier replied) step reply)
-                (disk.left_since next.device.device (disk.moment mid.device.device))
+                (λ c. disk.left_since next.device.device (disk.moment mid.device.device) c × IsTold next.device c)
                 (within_step earlier replied step reply mid next led this);
           },
-          subst T (observe_more (shown_by disk) first start earlier replied mid step reply taken)
+          subst T (observe_more own first start earlier replied mid step reply taken)
               (throughout (earlier ++ step ∷ []) (replied ++ reply ∷ []) next steps replies new further stand),
         )
     throughout earlier replied mid [] (r ∷ replies) new led stand = absurd stand
     throughout earlier replied mid (s ∷ steps) [] new led stand = absurd stand
 
     pub survive : (before : D) (shown : Shown) (shape : Shape) (steps : List Step) (replies : List Reply)
-        (last : Whole Shown) → HasStarted (shown_by disk) shown shape start
-        → IsHonestLog disk.is_honest shown → RecoversTo ((shown_by disk).seen shown) files
-        → Only ((shown_by disk).may_leave shown) ((shown_by disk).seen shown) → Stands disk start.device
+        (last : Whole Shown) → HasStarted own shown shape start
+        → disk.is_honest shown.device → RecoversTo (own.seen shown) files
+        → Only (own.may_leave shown) (own.seen shown) → Stands disk start.device
         → LeavesAlike disk
         → ((d : D) → disk.is_honest d → disk.may_leave d (disk.seen d))
         → ((files : List File) (lists : List ℕ → Type 0) → ((c : List ℕ) → lists c → RecoversToLog c files)
@@ -225,13 +234,12 @@ module _ {D : Type 0} (disk : Ghosts D) (files : List File) (start : Whole (LogD
         opened led =
         let at_last = last_stands disk start steps replies last stand led in
         let here = honest_at steps replies last led in
-        let now = after_run steps replies last led at_last (disk.seen last.device.device)
-        (seen_is_left last.device.device here.0) in
         record {
           opening = λ all. keeps files (disk.left_since shown.device (disk.moment before)) (opened all);
-          booting = keeps files (disk.left_since start.device.device (disk.moment shown.device))
+          booting = keeps files
+              (λ c. disk.left_since start.device.device (disk.moment shown.device) c × IsTold start.device c)
               (while_booting shown shape started honest recovers only stand left_as);
           within = throughout [] [] start steps replies last refl led;
-          ends = ends_by disk files start found_after finds steps replies last here.0
-              (after_run steps replies last led at_last) now;
+          ends = ends_by disk files start found_after finds (IsTold last.device) steps replies last here
+              (seen_is_left last.device.device here) (after_run steps replies last led at_last);
         }

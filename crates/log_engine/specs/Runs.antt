@@ -10,13 +10,12 @@ use Rattle.machine.specs.declared.act.Step.{Step}
 use Rattle.machine.specs.Runs.{StepsTaken}
 use Rattle.machine.specs.State.{Whole}
 use Rattle.engine.specs.Engine.{HasStarted, HasNotStarted}
-use Rattle.log_codec.specs.declared.sealing.Sealing.TheVariants.{ByByte}
 use Rattle.log_volume.specs.Files.{RecoversToLog}
 use Rattle.log_opening.specs.Opening.{HasWrittenNothing}
-use Rattle.log_disk.specs.Disk.{LogDiskValue, disk_by}
+use Rattle.log_disk.specs.Disk.{LogDiskValue, shown_by}
 use Rattle.log_disk.specs.Opening.{HasShown, IsCountedDisk, RefusesDisk}
 use Rattle.log_engine.specs.Openings.{FindsOnLog, KeepsOnLog}
-use Rattle.log_engine.specs.Survival.{AreAnswered, EndsOnLog, StaysOnLog, SurvivesOnLog}
+use Rattle.log_engine.specs.Survival.{AnyBytes, AreAnswered, EndsOnLog, StaysOnLog, SurvivesOnLog}
 
 -- A run over the device of a volume with a log: a machine was started over the disk that shows it, and these steps were
 -- made and answered so.
@@ -26,16 +25,16 @@ pub record HasRunOnLog {D : Type 0} (disk : Ghosts D) (before : D) (shape : Shap
   pub start : Whole (LogDiskValue D)
   pub last : Whole (LogDiskValue D)
   pub is_shown : HasShown disk before shown
-  pub started : HasStarted (disk_by shown.volume.sealing disk) shown shape start
+  pub started : HasStarted (shown_by disk) shown shape start
   -- each reply by the rules, and the calls of the disk by each step
-  pub made : StepsTaken (disk_by shown.volume.sealing disk) start steps replies last
+  pub made : StepsTaken (shown_by disk) start steps replies last
   pub ended : after ≡ last.device.device
-  -- Over an honest device, replies are by the laws, from the files to which it recovered before. In layout 5, what was
-  -- stored in them survives. In layout 6, it is found after the last step, if no call of the disk failed.
+  -- Over an honest device, replies are by the laws, from the files to which it recovered before, and what was stored in
+  -- them survives. If no call of the disk failed, it is found after the last step, of any bytes.
   pub survives : disk.is_honest before → (files : List File) × RecoversToLog (disk.seen before) files
       × AreAnswered files start steps replies
-      × (shown.volume.sealing ≡ ByByte → SurvivesOnLog disk files before shown start steps replies last)
-      × (last.device.memory.faults ≡ 0 → EndsOnLog disk files start steps replies last)
+      × SurvivesOnLog disk files before shown start steps replies last
+      × (last.device.memory.faults ≡ 0 → EndsOnLog AnyBytes disk files start steps replies last)
 
 -- Nothing was run, since the volume wasn't opened as a disk.
 pub record HasNotShown {D : Type 0} (disk : Ghosts D) (before : D) (refusal : Refusal) (after : D) : Type 0 where
@@ -55,12 +54,11 @@ pub record HasNotBooted {D : Type 0} (disk : Ghosts D) (before : D) (shape : Sha
   pub shown : LogDiskValue D
   pub is_shown : HasShown disk before shown
   pub left : LogDiskValue D
-  pub refused : HasNotStarted (disk_by shown.volume.sealing disk) shown shape left refusal
+  pub refused : HasNotStarted (shown_by disk) shown shape left refusal
   pub ended : after ≡ left.device
-  -- Over an honest device and in layout 5, the files to which it recovered before are found after it.
-  pub kept : disk.is_honest before → shown.volume.sealing ≡ ByByte
-      → (files : List File) × RecoversToLog (disk.seen before) files
-      × StaysOnLog disk files before shown.device after
+  -- Over an honest device, the files to which it recovered before are found after it.
+  pub kept : disk.is_honest before → (files : List File) × RecoversToLog (disk.seen before) files
+      × StaysOnLog disk files before shown.device left
 
 -- Nothing was run.
 abbrev pub HasNotRunOnLog : {D : Type 0} → Ghosts D → D → Shape → D → Refusal → Type 0

@@ -1,17 +1,16 @@
 // A volume with a log is opened as a disk, a machine is booted over that, and steps are made one at a time.
 ghost use Rattle.std.specs.Prelude.{◌≡◌, List, length, take, IfOk, IfErr};
 ghost use Rattle.machine.specs.declared.act.Reply.{Reply};
-ghost use Rattle.engine.specs.Engine.{HasStarted, HasNotStarted, HasRun};
+ghost use Rattle.engine.specs.Engine.{HasStarted, HasNotStarted};
 ghost use Rattle.engine.specs.Listening.{HasListened};
-ghost use Rattle.log_disk.specs.Disk.{LogDiskValue, read_by, shown_by};
-ghost use Rattle.log_disk.specs.Laws.{WorksUnlessFailed};
+ghost use Rattle.log_disk.specs.Disk.{LogDiskValue, shown_by};
 ghost use Rattle.log_engine.specs.Runs.{HasRunOnLog, HasNotRunOnLog};
 ghost use Rattle.log_engine.specs.inside.Standing.{Stands, StepsStand, StepStands};
 
 use device::Device;
 use engine::{Listener, start};
-use log_codec::{Sealing, one_log};
-use log_disk::{DigestDisk, LogDisk};
+use log_codec::one_log;
+use log_disk::LogDisk;
 use log_opening::files_of_openings;
 use log_volume::one_log_super;
 use machine::{Machine, Reply, Shape, Step, faults_are_served, runs_keep_the_laws};
@@ -73,42 +72,18 @@ fn boot<D: Device, A: Allocator + Copy>(
     }
 }
 
-// The same steps where a digest seals commits. What a crash within a step leaves isn't covered.
-fn run_by_digest<D: Device, A: Allocator + Copy, L: Listener>(
-    alloc: A,
-    disk: DigestDisk<D, A>,
-    shape: Shape,
-    steps: &[Step],
-    listener: &mut L,
-) -> Result<D, (Refusal, D)>
-    ensures ran { IfOk result (λ after. (last : LogDiskValue D) × (replies : List Reply)
-        × HasListened L.hears (length steps.now) listener.old replies listener.new
-        × HasRun (read_by D.Device) disk shape (take (length replies) steps.now) replies last
-        × WorksUnlessFailed D.Device last × (after ≡ last.device)) }
-    ensures refused { IfErr result (λ refused. (left : LogDiskValue D)
-        × HasNotStarted (read_by D.Device) disk shape left refused.0 × (refused.1 ≡ left.device)
-        × (listener.new ≡ listener.old)) }
-{
-    match engine::run(alloc, disk, shape, steps, listener) {
-        Ok(disk) => {
-            disk.works_unless_failed();
-            Ok(disk.into_device())
-        }
-        Err((refusal, disk)) => Err((refusal, disk.into_device())),
-    }
-}
-
 /// Opens the volume with a log of a device, boots a machine of this shape over the disk that shows it, makes the steps
 /// one at a time, tells each reply to the listener before the next step, and hands the device back. It ends after the
 /// last step, or where the listener says to stop.
 ///
 /// On an honest device each reply is by the rules and the laws of the machine. Take any steps, and device calls that
-/// may fail. In layout 5, what was stored survives (`HasRunOnLog.survives`): a crash within a step leaves bytes that
-/// recover, by the log, to the volume's files after a prefix of the answered stores and length changes. The prefix is
-/// empty or ends at a mark, and has every mark that was acknowledged before the step. After the last step, with or
-/// without a crash, it is such a prefix of all of them. So it is after further openings, each with a crash within or
-/// after it. In layout 6 the same holds after the last step, with or without a crash then, if no call of the disk
-/// failed. No clause covers a crash within a step in layout 6.
+/// may fail. What was stored survives (`HasRunOnLog.survives`): a crash within a step leaves bytes that recover, by the
+/// log, to the volume's files after a prefix of the answered stores and length changes. The prefix is empty or ends at
+/// a mark, and has every mark that was acknowledged before the step. After the last step, with or without a crash, it
+/// is such a prefix of all of them. So it is after further openings, each with a crash within or after it.
+///
+/// In layout 6 this has a premise on the bytes that the crash leaves: each commit since the opening that can be read
+/// from them was made by the disk (`IsTold`). After the last step it has none, if no call of the disk failed.
 ///
 /// A refusal as of `LogDisk::open` and of `engine::start`; nothing was told then. On an honest device the files of the
 /// volume are found after it, with or without a crash, as `HasNotRunOnLog` says.
@@ -136,17 +111,10 @@ pub fn run<D: Device, A: Allocator + Copy, L: Listener>(
     runs_keep_the_laws(&disk);
     faults_are_served(&disk);
     crashed_since_opening(&disk);
-    match disk.sealing() {
-        Sealing::ByByte => {}
-        Sealing::ByDigest(_) => {
-            let disk = DigestDisk::over(disk);
-            runs_keep_the_laws(&disk);
-            return run_by_digest(alloc, disk, shape, steps, listener);
-        }
-    }
     match boot(alloc, disk, shape) {
         Ok(mut machine) => {
             make_steps(&mut machine, steps, listener);
+            machine.device().works_unless_failed();
             Ok(machine.into_device().into_device())
         }
         Err(refused) => Err(refused),

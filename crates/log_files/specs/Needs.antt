@@ -1,5 +1,5 @@
 -- Blocks that the next commit reads, or of which it writes a part.
-use Rattle.std.specs.Prelude.{ℕ, List, [], ◌∷◌, length, Option, None}
+use Rattle.std.specs.Prelude.{ℕ, [], ◌∷◌, length, Option, None}
 use Rattle.kept_blocks.specs.Blocks.{Blocks}
 use Rattle.log_commits.specs.Tail.{TailValue}
 use Rattle.log_store.specs.Needs.{commit_edges}

@@ -1,11 +1,9 @@
 // Commits, and steps by which they are written home.
-ghost use Rattle.std.specs.Prelude.{◌≡◌, ◌≢◌, ◌↔◌, ◌⊎◌, ◌+◌, ℕ, List, [], None, Some, IfOk, IfErr, OnOk, OnErr};
+ghost use Rattle.std.specs.Prelude.{◌≡◌, ◌≢◌, ◌↔◌, ◌+◌, ℕ, List, [], None, Some, IfOk, IfErr, OnOk, OnErr};
 ghost use Rattle.device.specs.Device.{LeavesOnly};
-ghost use Rattle.kept_blocks.specs.Blocks.{homes_in};
-ghost use Rattle.log_codec.specs.Chain.{LogRecovers};
-ghost use Rattle.log_commits.specs.Commit.{TellsTorn};
-ghost use Rattle.log_store.specs.Store.{TrustsBy, committing_tail};
-ghost use Rattle.log_pager.specs.Pager.{IsPagerOver, contents_put, records_put};
+ghost use Rattle.kept_blocks.specs.Blocks.{AreWholeBlocks};
+ghost use Rattle.log_commits.specs.Behind.{LeftUnchanged};
+ghost use Rattle.log_pager.specs.Pager.{IsPagerOver, LeftByPut, contents_put};
 ghost use Rattle.log_files.specs.Calls.{log_commit_refusal, RefusesFilesCommit, IsLogFilesCommit, IsFailedLogCommit};
 ghost use Rattle.log_files.specs.Calls.{KeepsLogFiles, IsLogFilesStep, IsFailedLogStep, RefusesFilesStep};
 ghost use Rattle.log_files.specs.inside.Faults.{refusal_by};
@@ -60,24 +58,21 @@ impl<D: Device, A: Allocator + Copy> LogFiles<D, A> {
             × (self.new.pager.device ≡ self.old.pager.device)) }
         ensures failed { IfErr result (λ why. why ≡ Refusal.Device → IsFailedLogCommit D.Device self.old self.new) }
         ensures honest { D.is_honest self.new.pager.device ↔ D.is_honest self.old.pager.device }
+        ensures whole { AreWholeBlocks self.old.pager.staged }
 
         // The home blocks have what was put, or what they had.
         ensures over { (contents : ℕ → List ℕ) → D.is_honest self.old.pager.device
             → IsPagerOver D.Device self.old.pager contents
-            → OnOk result (TellsTorn (committing_tail self.old.pager.store) (homes_in self.old.pager.staged)
-            (records_put self.old.pager.staged) (D.seen self.new.pager.device)
-            → IsPagerOver D.Device self.new.pager (contents_put contents self.old.pager.staged)) }
+            → OnOk result (IsPagerOver D.Device self.new.pager (contents_put contents self.old.pager.staged)) }
         ensures stays { (contents : ℕ → List ℕ) → D.is_honest self.old.pager.device
             → IsPagerOver D.Device self.old.pager contents
             → IfErr result (λ why. why ≢ Refusal.Device → IsPagerOver D.Device self.new.pager contents) }
         ensures leaves { (contents : ℕ → List ℕ) → D.is_honest self.old.pager.device
             → IsPagerOver D.Device self.old.pager contents
             → LeavesOnly D.moment D.left_since self.old.pager.device self.new.pager.device
-            (λ c. TellsTorn (committing_tail self.old.pager.store) (homes_in self.old.pager.staged)
-            (records_put self.old.pager.staged) c
-            → LogRecovers self.old.pager.store.tail.log contents c
-            ⊎ LogRecovers self.old.pager.store.tail.log (contents_put contents self.old.pager.staged) c) }
+            (LeftByPut self.old.pager.store.tail contents self.old.pager.staged) }
     {
+        self.pager.are_whole();
         self.judge_commit()?;
         match self.pager.commit() {
             Ok(()) => {
@@ -105,13 +100,11 @@ impl<D: Device, A: Allocator + Copy> LogFiles<D, A> {
         // The home blocks have the same contents.
         ensures over { (contents : ℕ → List ℕ) → D.is_honest self.old.pager.device
             → IsPagerOver D.Device self.old.pager contents
-            → OnOk result (TrustsBy self.old.pager.store self.old.pager.store.stage (D.seen self.new.pager.device)
-            → IsPagerOver D.Device self.new.pager contents) }
+            → OnOk result (IsPagerOver D.Device self.new.pager contents) }
         ensures leaves { (contents : ℕ → List ℕ) → D.is_honest self.old.pager.device
             → IsPagerOver D.Device self.old.pager contents
             → LeavesOnly D.moment D.left_since self.old.pager.device self.new.pager.device
-            (λ c. TrustsBy self.old.pager.store self.old.pager.store.stage c
-            → LogRecovers self.old.pager.store.tail.log contents c) }
+            (LeftUnchanged self.old.pager.store.tail contents) }
     {
         if self.pager.is_spent() {
             return Err(Refusal::Broken);

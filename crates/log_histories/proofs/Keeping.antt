@@ -2,7 +2,6 @@
 use Rattle.std.proofs.Common.{◌≡◌, ℕ, suc, zero, ◌+◌, ◌*◌, List, [], ◌∷◌, ◌++◌, map, refl, ap, sym, ◌∙◌, true}
 use Rattle.std.proofs.Common.{subst, arith, inl, inr, append_assoc}
 use Rattle.std.specs.List.{Contains}
-use Rattle.std.specs.Prelude.{None}
 use Rattle.std.proofs.lemmas.List.Elements.{Contains-append_left, Contains-append_right, Contains-append_cases}
 use Rattle.page_entry.specs.declared.numbers.FilePage.{FilePage}
 use Rattle.device.specs.declared.device.Device.{Ghosts}
@@ -35,11 +34,10 @@ use Rattle.log_histories.proofs.Lowered.{lower, depth, lowered, home_lowered}
 abbrev pub HaveLogFiles : List File → LogSuperValue → (ℕ → List ℕ) → List Event → Type 0
 HaveLogFiles files v contents history = HaveFiles files (lower v) (lowered v contents) history
 
--- The home blocks have some contents, with the files after an earlier part of the history. That part has every mark
+-- The home blocks have these contents, with the files after an earlier part of the history. That part has every mark
 -- that was acknowledged. With the blocks that were put, they have the files after all of the history.
 pub record KeepsLog {D : Type 0} (disk : Ghosts D) (files : List File) (history : List Event) (s : LogFilesState D)
-    : Type 0 where
-  pub contents : ℕ → List ℕ
+    (contents : ℕ → List ℕ) : Type 0 where
   pub over : IsPagerOver disk s.pager contents
   pub earlier : List Event
   pub rest : List Event
@@ -55,7 +53,7 @@ pub record KeepsLog {D : Type 0} (disk : Ghosts D) (files : List File) (history 
   pub first : (c : List ℕ) → disk.may_leave s.pager.device c → block_at c 0 ≡ log_super_text s.table
 
 module _ {D : Type 0} (disk : Ghosts D) (files : List File) (history : List Event) (s : LogFilesState D)
-    (k : KeepsLog disk files history s) where
+    (contents : ℕ → List ℕ) (k : KeepsLog disk files history s contents) where
   abbrev number : ℕ
   number = s.marks + 1
 
@@ -67,14 +65,13 @@ module _ {D : Type 0} (disk : Ghosts D) (files : List File) (history : List Even
   -- it changes no more than the lengths, what is put, and the device
   pub keeps_event : (event : Event) (lengths : List ℕ) (staged : Blocks) (device : D)
       → ((n : ℕ) → Acknowledge n ≡ event → ⊥)
-      → IsPagerOver disk (record s.pager { staged = staged; device = device }) k.contents
-      → HaveLogFiles files s.table (contents_put k.contents staged) (history ++ event ∷ [])
+      → IsPagerOver disk (record s.pager { staged = staged; device = device }) contents
+      → HaveLogFiles files s.table (contents_put contents staged) (history ++ event ∷ [])
       → lengths_after (lengths_of files) (history ++ event ∷ []) ≡ lengths
       → ((c : List ℕ) → disk.may_leave device c → disk.may_leave s.pager.device c)
       → KeepsLog disk files (history ++ event ∷ [])
-      (record s { lengths = lengths; pager = record s.pager { staged = staged; device = device } })
+      (record s { lengths = lengths; pager = record s.pager { staged = staged; device = device } }) contents
   keeps_event event lengths staged device other over has now left = record {
-    contents = k.contents;
     over = over;
     earlier = k.earlier;
     rest = k.rest ++ event ∷ [];
@@ -106,22 +103,22 @@ module _ {D : Type 0} (disk : Ghosts D) (files : List File) (history : List Even
     in_file =
         let is = page_allowed s.lengths owner (first_none (page_refusal s.lengths owner) _ put.admitted) in
         let are = lengths_may files (lower s.table) history s.lengths
-        (lowered s.table (contents_put k.contents s.pager.staged)) k.current k.lengths in
+        (lowered s.table (contents_put contents s.pager.staged)) k.current k.lengths in
         record { there = omega (arith, is.0, are.count); inside = is.1 }
 
-    put_has : HaveLogFiles files s.table (contents_put k.contents (with_home s.pager.staged home page))
+    put_has : HaveLogFiles files s.table (contents_put contents (with_home s.pager.staged home page))
         (history ++ Store owner.file (4096 * owner.page) bytes ∷ [])
     put_has = stored_has files (lower s.table) history s.lengths
-        (lowered s.table (contents_put k.contents s.pager.staged)) k.current k.lengths owner bytes
-        (lowered s.table (contents_put k.contents (with_home s.pager.staged home page))) in_file put.a_page
-        (over_there k.contents s.pager.staged home page _ place)
-        (λ b other. over_elsewhere k.contents s.pager.staged home page (b + depth s.table)
+        (lowered s.table (contents_put contents s.pager.staged)) k.current k.lengths owner bytes
+        (lowered s.table (contents_put contents (with_home s.pager.staged home page))) in_file put.a_page
+        (over_there contents s.pager.staged home page _ place)
+        (λ b other. over_elsewhere contents s.pager.staged home page (b + depth s.table)
         (λ same. other (omega (arith, same, place))))
 
     pub keeps_page : KeepsLog disk files (history ++ Store owner.file (4096 * owner.page) bytes ∷ [])
-        (after_page_put s owner bytes)
+        (after_page_put s owner bytes) contents
     keeps_page = keeps_event (Store owner.file (4096 * owner.page) bytes) s.lengths
-        (with_home s.pager.staged home page) s.pager.device (λ n e. cc) (put.over k.contents k.over) put_has
+        (with_home s.pager.staged home page) s.pager.device (λ n e. cc) (put.over contents k.over) put_has
         (lengths_store (lengths_of files) history owner.file (4096 * owner.page) bytes ∙ k.lengths) (λ c may. may)
 
   -- ---- a commit
@@ -153,23 +150,22 @@ module _ {D : Type 0} (disk : Ghosts D) (files : List File) (history : List Even
       own n (suc (suc i), lt, is) = absurd (omega (arith, lt))
 
   -- these contents are durable, and have the files after the history
-  keeps_durable : (contents : ℕ → List ℕ) (store : StoreValue) (device : D)
-      → HaveLogFiles files s.table contents history
-      → IsPagerOver disk (record { store = store; staged = []; device = device }) contents
+  keeps_durable : (durable : ℕ → List ℕ) (store : StoreValue) (device : D)
+      → HaveLogFiles files s.table durable history
+      → IsPagerOver disk (record { store = store; staged = []; device = device }) durable
       → store.tail.log ≡ log_of s.table
       → ((c : List ℕ) → disk.may_leave device c → block_at c 0 ≡ log_super_text s.table)
       → KeepsLog disk files (history ++ marks)
-      (record s { marks = number; pager = record { store = store; staged = []; device = device } })
-  keeps_durable contents store device has over log first = record {
-    contents = contents;
+      (record s { marks = number; pager = record { store = store; staged = []; device = device } }) durable
+  keeps_durable durable store device has over log first = record {
     over = over;
     earlier = history ++ Mark number ∷ [];
     rest = Acknowledge number ∷ [];
     begins = append_assoc history (Mark number ∷ []) (Acknowledge number ∷ []);
     marked = inr (history, number, refl);
     acknowledged = marked_now;
-    has = have_more files (lower s.table) (lowered s.table contents) history (Mark number ∷ []) quiet_mark has;
-    current = have_more files (lower s.table) (lowered s.table contents) history marks quiet_both has;
+    has = have_more files (lower s.table) (lowered s.table durable) history (Mark number ∷ []) quiet_mark has;
+    current = have_more files (lower s.table) (lowered s.table durable) history marks quiet_both has;
     lengths = lengths_more files history marks quiet_both ∙ k.lengths;
     named = k.named;
     fits = k.fits;
@@ -179,37 +175,38 @@ module _ {D : Type 0} (disk : Ghosts D) (files : List File) (history : List Even
 
   pub keeps_commit : (next : LogFilesState D)
       → ((device : D) (c : List ℕ) → disk.left_since device (disk.moment device) c → disk.may_leave device c)
-      → IsLogCommitted disk s next → KeepsLog disk files (history ++ marks) next
+      → IsLogCommitted disk s next
+      → KeepsLog disk files (history ++ marks) next (contents_put contents s.pager.staged)
   keeps_commit next since_now commit =
       let first = first_stays disk since_now (log_super_text s.table) _ true s.pager.device next.pager.device
       (commit_behind s.pager.store _ _) k.first commit.calls.did in
-      subst (KeepsLog disk files (history ++ marks)) (sym commit.made.rest)
-      (keeps_durable (contents_put k.contents s.pager.staged) next.pager.store next.pager.device k.current
-      (subst (λ (n : LogFilesState D). IsPagerOver disk n.pager (contents_put k.contents s.pager.staged))
-      commit.made.rest (commit.over k.contents k.over))
+      subst (λ (n : LogFilesState D). KeepsLog disk files (history ++ marks) n (contents_put contents s.pager.staged))
+      (sym commit.made.rest)
+      (keeps_durable (contents_put contents s.pager.staged) next.pager.store next.pager.device k.current
+      (subst (λ (n : LogFilesState D). IsPagerOver disk n.pager (contents_put contents s.pager.staged))
+      commit.made.rest (commit.over contents k.over))
       (ap (λ (x : TailValue). x.log) commit.made.noted.tail ∙ committing_log s.pager.store ∙ k.log) first.left)
 
-  pub keeps_mark : IsEmptyLogCommit s → KeepsLog disk files (history ++ marks) (record s { marks = number })
+  pub keeps_mark : IsEmptyLogCommit s → KeepsLog disk files (history ++ marks) (record s { marks = number }) contents
   keeps_mark commit =
       let none = commit.none in
-      let has : HaveLogFiles files s.table k.contents history =
-      subst (λ (l : Blocks). HaveLogFiles files s.table (contents_put k.contents l) history) none k.current in
-      subst (KeepsLog disk files (history ++ marks)) (λ i. record s {
+      let has : HaveLogFiles files s.table contents history =
+      subst (λ (l : Blocks). HaveLogFiles files s.table (contents_put contents l) history) none k.current in
+      subst (λ (n : LogFilesState D). KeepsLog disk files (history ++ marks) n contents) (λ i. record s {
         marks = number;
         pager = record s.pager { staged = sym none i };
       })
-      (keeps_durable k.contents s.pager.store s.pager.device has
-      (subst (λ (l : Blocks). IsPagerOver disk (record s.pager { staged = l }) k.contents) none k.over) k.log k.first)
+      (keeps_durable contents s.pager.store s.pager.device has
+      (subst (λ (l : Blocks). IsPagerOver disk (record s.pager { staged = l }) contents) none k.over) k.log k.first)
 
   -- ---- a call that adds no event
 
   keeps_still : (store : StoreValue) (device : D)
-      → IsPagerOver disk (record s.pager { store = store; device = device }) k.contents
+      → IsPagerOver disk (record s.pager { store = store; device = device }) contents
       → store.tail.log ≡ log_of s.table
       → ((c : List ℕ) → disk.may_leave device c → block_at c 0 ≡ log_super_text s.table)
-      → KeepsLog disk files history (record s { pager = record s.pager { store = store; device = device } })
+      → KeepsLog disk files history (record s { pager = record s.pager { store = store; device = device } }) contents
   keeps_still store device over log first = record {
-    contents = k.contents;
     over = over;
     earlier = k.earlier;
     rest = k.rest;
@@ -225,26 +222,26 @@ module _ {D : Type 0} (disk : Ghosts D) (files : List File) (history : List Even
     first = first;
   }
 
-  pub keeps_read : (after : D) → IsLogRead disk s after → KeepsLog disk files history (on_device s after)
-  keeps_read after read = keeps_still s.pager.store after (read.over k.contents k.over) k.log
+  pub keeps_read : (after : D) → IsLogRead disk s after → KeepsLog disk files history (on_device s after) contents
+  keeps_read after read = keeps_still s.pager.store after (read.over contents k.over) k.log
       (λ c may. k.first c (read.read.left c may))
 
-  pub keeps_refused : (next : LogFilesState D) → IsLogRefused disk s next → KeepsLog disk files history next
+  pub keeps_refused : (next : LogFilesState D) → IsLogRefused disk s next → KeepsLog disk files history next contents
   keeps_refused next refused =
       let same = refused.kept.rest in
-      subst (KeepsLog disk files history) (sym same)
+      subst (λ (n : LogFilesState D). KeepsLog disk files history n contents) (sym same)
       (keeps_still next.pager.store s.pager.device
-      (subst (λ (n : LogFilesState D). IsPagerOver disk n.pager k.contents) same (refused.over k.contents k.over))
+      (subst (λ (n : LogFilesState D). IsPagerOver disk n.pager contents) same (refused.over contents k.over))
       (ap (λ (t : TailValue). t.log) refused.kept.store.tail ∙ k.log) k.first)
 
   pub keeps_step : (progress : Progress) (next : LogFilesState D)
       → ((device : D) (c : List ℕ) → disk.left_since device (disk.moment device) c → disk.may_leave device c)
-      → IsLogStepped disk s progress next → KeepsLog disk files history next
+      → IsLogStepped disk s progress next → KeepsLog disk files history next contents
   keeps_step progress next since_now step =
       let same = step.made.rest in
       let first = first_stays disk since_now (log_super_text s.table) _ true s.pager.device next.pager.device
       (step_behind s.pager.store s.pager.store.stage step.calls.may) k.first step.calls.did in
-      subst (KeepsLog disk files history) (sym same)
+      subst (λ (n : LogFilesState D). KeepsLog disk files history n contents) (sym same)
       (keeps_still next.pager.store next.pager.device
-      (subst (λ (n : LogFilesState D). IsPagerOver disk n.pager k.contents) same (step.over k.contents k.over))
+      (subst (λ (n : LogFilesState D). IsPagerOver disk n.pager contents) same (step.over contents k.over))
       (steps_log s.pager.store s.pager.store.stage next.pager.store progress step.made.steps ∙ k.log) first.left)

@@ -46,7 +46,7 @@ free_of false false false e false other none = record { there = refl; fits = ref
 
 module _ {D : Type 0} (disk : Ghosts D) (files : List File) (history : List Event) (s : LogFilesState D)
     (file to : ℕ) (next : LogFilesState D) (resize : IsLogResize disk s file to next)
-    (k : KeepsLog disk files history s) where
+    (contents : ℕ → List ℕ) (k : KeepsLog disk files history s contents) where
   abbrev v : LogSuperValue
   v = s.table
 
@@ -63,7 +63,7 @@ module _ {D : Type 0} (disk : Ghosts D) (files : List File) (history : List Even
   event = SetLength file from to
 
   abbrev last : List ℕ
-  last = last_log_page s k.contents file
+  last = last_log_page s contents file
 
   -- what is put after it, but for the lengths, and with them
   abbrev changed : Blocks
@@ -74,10 +74,10 @@ module _ {D : Type 0} (disk : Ghosts D) (files : List File) (history : List Even
 
   -- the contents before it and after it, as in layout 3
   abbrev old : ℕ → List ℕ
-  old = lowered v (contents_put k.contents staged)
+  old = lowered v (contents_put contents staged)
 
   abbrev new : ℕ → List ℕ
-  new = lowered v (contents_put k.contents restaged)
+  new = lowered v (contents_put contents restaged)
 
   abbrev home : ℕ
   home = home_of (lower v) (end_page file from)
@@ -104,26 +104,26 @@ module _ {D : Type 0} (disk : Ghosts D) (files : List File) (history : List Even
 
   -- ---- the block of the lengths
 
-  lengths_at : contents_put k.contents restaged (first_log_home v.ring) ≡ lengths_text lengths
-  lengths_at = over_there k.contents changed (first_log_home v.ring) (lengths_text lengths) (first_log_home v.ring) refl
+  lengths_at : contents_put contents restaged (first_log_home v.ring) ≡ lengths_text lengths
+  lengths_at = over_there contents changed (first_log_home v.ring) (lengths_text lengths) (first_log_home v.ring) refl
 
-  is_lengths : IsLengths (table_of v) lengths (contents_put k.contents restaged (first_log_home v.ring))
+  is_lengths : IsLengths (table_of v) lengths (contents_put contents restaged (first_log_home v.ring))
   is_lengths =
       let are = lengths_may files (lower v) history s.lengths old k.current k.lengths in
       let set_are = are_set (lower v) s.lengths file to are fits in
       record { are = record { count = set_are.count; within = set_are.within }; spelled = lengths_at }
 
   has_lengths : HasLengths (lower v) new
-  has_lengths = has_lengths_of v ring lengths (contents_put k.contents restaged) k.fits.table is_lengths
+  has_lengths = has_lengths_of v ring lengths (contents_put contents restaged) k.fits.table is_lengths
 
   says : lengths_in (lower v) new ≡ lengths
-  says = lengths_lowered v ring (contents_put k.contents restaged)
-      ∙ lengths_say v ring lengths (contents_put k.contents restaged) k.fits.table is_lengths
+  says = lengths_lowered v ring (contents_put contents restaged)
+      ∙ lengths_say v ring lengths (contents_put contents restaged) k.fits.table is_lengths
 
   -- ---- the other blocks
 
-  elsewhere : (b : ℕ) → first_file_home Three 0 ≤ b → new b ≡ lowered v (contents_put k.contents changed) b
-  elsewhere b low = over_elsewhere k.contents changed (first_log_home v.ring) (lengths_text lengths) (b + depth v)
+  elsewhere : (b : ℕ) → first_file_home Three 0 ≤ b → new b ≡ lowered v (contents_put contents changed) b
+  elsewhere b low = over_elsewhere contents changed (first_log_home v.ring) (lengths_text lengths) (b + depth v)
       (λ e. omega (arith, e, low, ring))
 
   -- ---- a growth
@@ -139,24 +139,24 @@ module _ {D : Type 0} (disk : Ghosts D) (files : List File) (history : List Even
     page = cut_to (from % 4096) last
 
     grown_at : (b : ℕ) → first_file_home Three 0 ≤ b → new b
-        ≡ contents_put k.contents (log_grown v file from to last staged) (b + depth v)
-    grown_at b low = elsewhere b low ∙ ap (λ (l : Blocks). contents_put k.contents l (b + depth v))
+        ≡ contents_put contents (log_grown v file from to last staged) (b + depth v)
+    grown_at b low = elsewhere b low ∙ ap (λ (l : Blocks). contents_put contents l (b + depth v))
         (cond-true (ltb from to) (log_grown v file from to last staged) (log_shrunk v file from to staged)
         (lt-ltb from to grows))
 
     grows_to : Grows (lower v) s.lengths file to old new
     grows_to = record {
       more = grows;
-      last = grown_at home (omega arith) ∙ over_there k.contents more log_home page (home + depth v) place
-          ∙ ap (λ b. cut_to (from % 4096) (contents_put k.contents staged b)) (sym place);
+      last = grown_at home (omega arith) ∙ over_there contents more log_home page (home + depth v) place
+          ∙ ap (λ b. cut_to (from % 4096) (contents_put contents staged b)) (sym place);
       added = λ b low past high. grown_at b low
-          ∙ over_elsewhere k.contents more log_home page (b + depth v) (λ e. omega (arith, e, past, place))
-          ∙ zeros_there k.contents staged (log_home + 1) many (b + depth v) (omega (arith, past, place))
+          ∙ over_elsewhere contents more log_home page (b + depth v) (λ e. omega (arith, e, past, place))
+          ∙ zeros_there contents staged (log_home + 1) many (b + depth v) (omega (arith, past, place))
           (omega (arith, past, high, place));
       others = λ b low out. grown_at b low
-          ∙ over_elsewhere k.contents more log_home page (b + depth v)
+          ∙ over_elsewhere contents more log_home page (b + depth v)
           (λ e. out (omega (arith, e, place)) (omega (arith, e, grows, place)))
-          ∙ zeros_elsewhere k.contents staged (log_home + 1) many (b + depth v)
+          ∙ zeros_elsewhere contents staged (log_home + 1) many (b + depth v)
           (λ past high. out (omega (arith, past, place)) (omega (arith, high, grows, place)));
     }
 
@@ -173,8 +173,8 @@ module _ {D : Type 0} (disk : Ghosts D) (files : List File) (history : List Even
     cut_home = log_home_of v (end_page file to)
 
     shrunk_at : (b : ℕ) → first_file_home Three 0 ≤ b → new b
-        ≡ contents_put k.contents (log_shrunk v file from to staged) (b + depth v)
-    shrunk_at b low = elsewhere b low ∙ ap (λ (l : Blocks). contents_put k.contents l (b + depth v))
+        ≡ contents_put contents (log_shrunk v file from to staged) (b + depth v)
+    shrunk_at b low = elsewhere b low ∙ ap (λ (l : Blocks). contents_put contents l (b + depth v))
         (cond-false (ltb from to) (log_grown v file from to last staged) (log_shrunk v file from to staged)
         (let test : ltb from to ≡ false = grind (arith, nat_tests, shrinks) in test))
 
@@ -189,14 +189,14 @@ module _ {D : Type 0} (disk : Ghosts D) (files : List File) (history : List Even
     shrinks_to : Shrinks (lower v) s.lengths file to old new
     shrinks_to = record {
       less = shrinks;
-      kept = λ b low outside. elim (fewer_kept k.contents staged low_end high_end cut_home (to % 4096) (b + depth v)
+      kept = λ b low outside. elim (fewer_kept contents staged low_end high_end cut_home (to % 4096) (b + depth v)
           (sym (stays_moved b) ∙ outside)) [
             | inl same ↦ inl (shrunk_at b low ∙ same)
             | inr cut_bytes ↦ inr (shrunk_at b low ∙ cut_bytes
                 ∙ ap (λ t. if t then cut_to (to % 4096) (old b) else old b) (cut_moved b))
           ];
       past = λ b low high gone. ap length (shrunk_at b low
-          ∙ fewer_gone k.contents staged low_end high_end cut_home (to % 4096) (b + depth v)
+          ∙ fewer_gone contents staged low_end high_end cut_home (to % 4096) (b + depth v)
           (sym (stays_moved b) ∙ gone))
           ∙ k.has.blocks b low high;
     }
@@ -213,17 +213,19 @@ module _ {D : Type 0} (disk : Ghosts D) (files : List File) (history : List Even
   lengths_now = lengths_resized files (lower v) history s.lengths old k.current k.lengths file to new there fits
       has_lengths says
 
-  has_now : HaveLogFiles files v (contents_put k.contents restaged) (history ++ event ∷ [])
+  has_now : HaveLogFiles files v (contents_put contents restaged) (history ++ event ∷ [])
   has_now = resized_has files (lower v) history s.lengths old k.current k.lengths file to new there fits has_lengths
       says changes
 
   -- the state after it
   pub next_is : next ≡ log_resized_to s file to last next.pager.device
-  next_is = resize.resized k.contents k.over
+  next_is = resize.resized contents k.over
       ∙ cond-false (eqb to from) s (log_resized_to s file to last next.pager.device) (ne_eqb to from resize.other)
 
   pub keeps_resize : KeepsLog disk files (history ++ SetLength file (file_length s.lengths file) to ∷ []) next
-  keeps_resize = subst (KeepsLog disk files (history ++ event ∷ [])) (sym next_is)
-      (keeps_event disk files history s k event lengths restaged next.pager.device (λ n e. cc)
-      (subst (λ (n : LogFilesState D). IsPagerOver disk n.pager k.contents) next_is (resize.over k.contents k.over))
+      contents
+  keeps_resize =
+      subst (λ (n : LogFilesState D). KeepsLog disk files (history ++ event ∷ []) n contents) (sym next_is)
+      (keeps_event disk files history s contents k event lengths restaged next.pager.device (λ n e. cc)
+      (subst (λ (n : LogFilesState D). IsPagerOver disk n.pager contents) next_is (resize.over contents k.over))
       has_now lengths_now (λ c may. resize.read.left c may))

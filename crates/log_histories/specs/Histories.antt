@@ -1,5 +1,5 @@
 -- Histories of the calls of the files of a volume with a log.
-use Rattle.std.specs.Prelude.{ℕ, ◌≡◌, ◌≢◌, ◌⊎◌, ◌+◌, ◌*◌, List, [], ◌∷◌, ◌++◌, Bool, true, length, None}
+use Rattle.std.specs.Prelude.{ℕ, ◌≡◌, ◌≢◌, ◌+◌, ◌*◌, List, [], ◌∷◌, ◌++◌, Bool, true, length, None}
 use Rattle.page_entry.specs.declared.numbers.FilePage.{FilePage}
 use Rattle.device.specs.Device.{LeavesOnly}
 use Rattle.device.specs.declared.device.Device.{Ghosts}
@@ -7,36 +7,35 @@ use Rattle.volume_codec.specs.Files.{File}
 use Rattle.volume_codec.specs.Layout.{block_at}
 use Rattle.recovery.specs.Reading.{IsOnlyRead}
 use Rattle.history.specs.History.{Event, Store, SetLength, Mark, Acknowledge, files_after, IsDurablePrefix}
-use Rattle.kept_blocks.specs.Blocks.{homes_in}
+use Rattle.kept_blocks.specs.Blocks.{AreWholeBlocks, homes_in}
 use Rattle.pager.specs.State.{file_length}
-use Rattle.log_codec.specs.Chain.{LogRecovers}
+use Rattle.log_codec.specs.Commit.{LogDescriptor}
 use Rattle.log_recovery.specs.Reading.{ReadsAlone}
 use Rattle.log_volume.specs.Files.{RecoversToLog, log_files_in}
 use Rattle.log_opening.specs.Volume.{HasOpenedVolume}
-use Rattle.log_commits.specs.Commit.{TellsTorn}
+use Rattle.log_commits.specs.Told.{TellsTorn, IsThis}
+use Rattle.log_commits.specs.Commit.{next_logged}
+use Rattle.log_commits.specs.Behind.{LeftUnchanged}
 use Rattle.log_store.specs.declared.fault.Progress.{Progress}
-use Rattle.log_store.specs.Store.{MayStepBy, TrustsBy, committing_tail}
-use Rattle.log_pager.specs.Pager.{IsPagerOver, contents_put, records_put}
+use Rattle.log_store.specs.Store.{MayStepBy}
+use Rattle.log_pager.specs.Pager.{IsPagerOver, LeftByPut, contents_put, records_put}
 use Rattle.log_files.specs.State.{LogFilesState, fresh_log_files, on_device}
 use Rattle.log_files.specs.Calls.{log_put_refusal, after_page_put, log_commit_refusal, MayCommitPut, DidCommit, DidStep}
 use Rattle.log_files.specs.Calls.{IsLogFilesCommit, IsLogFilesStep, KeepsLogFiles, log_length_refusal, last_log_page}
 use Rattle.log_files.specs.Calls.{after_log_length}
 
--- ---- what a digest is trusted with, of bytes that a crash left or that a read gives: nothing, where a byte seals
+-- ---- commits, and what is trusted of bytes that a crash left
 
--- in a commit of what was put
-abbrev pub TellsCommit : {D : Type 0} → LogFilesState D → List ℕ → Type 0
-TellsCommit s c = TellsTorn (committing_tail s.pager.store) (homes_in s.pager.staged) (records_put s.pager.staged) c
+-- the commit of what was put, with its records
+abbrev pub IsCommitPut : {D : Type 0} → LogFilesState D → LogDescriptor → List ℕ → Type 0
+IsCommitPut s = IsThis (next_logged s.pager.store.tail (homes_in s.pager.staged)) (records_put s.pager.staged)
 
--- in the next step, which may select the start of the log
-abbrev pub TrustsStep : {D : Type 0} → LogFilesState D → List ℕ → Type 0
-TrustsStep s c = TrustsBy s.pager.store s.pager.store.stage c
+-- each commit with the number of this state's next one or a later number that can be read from these bytes was made;
+-- where a byte seals, nothing is trusted
+abbrev pub TellsSince : {D : Type 0} → LogFilesState D → (LogDescriptor → List ℕ → Type 0) → List ℕ → Type 0
+TellsSince s Made c = TellsTorn Made s.pager.store.tail.log s.pager.store.tail.number c
 
 -- ---- calls
-
--- these contents are recovered
-abbrev pub RecoversIn : {D : Type 0} → LogFilesState D → (ℕ → List ℕ) → List ℕ → Type 0
-RecoversIn s contents c = LogRecovers s.pager.store.tail.log contents c
 
 -- the home blocks keep the contents that the commits left
 abbrev pub KeepsContents : {D : Type 0} → Ghosts D → LogFilesState D → LogFilesState D → Type 0
@@ -60,22 +59,22 @@ pub record IsLogRefused {D : Type 0} (disk : Ghosts D) (s next : LogFilesState D
   pub kept : KeepsLogFiles s next
   pub over : KeepsContents disk s next
 
--- The device calls of a commit of what was put, all of them or up to one that failed, over an honest device. A crash
--- within them leaves the contents before the commit or those after it.
+-- The device calls of a commit of what was put, all of them or up to one that failed, over an honest device, and what a
+-- crash within them leaves.
 pub record IsLogCommitting {D : Type 0} (disk : Ghosts D) (s : LogFilesState D) (done : Bool) (after : D)
     : Type 0 where
   pub honest : disk.is_honest s.pager.device
   pub may : MayCommitPut s.pager
+  pub whole : AreWholeBlocks s.pager.staged
   pub did : DidCommit disk s.pager done after
   pub leaves : (contents : ℕ → List ℕ) → IsPagerOver disk s.pager contents
       → LeavesOnly disk.moment disk.left_since s.pager.device after
-      (λ c. TellsCommit s c → RecoversIn s contents c ⊎ RecoversIn s (contents_put contents s.pager.staged) c)
+      (LeftByPut s.pager.store.tail contents s.pager.staged)
 
--- What was put is committed: what `commit` ensures, and the premise on the bytes that a read gives then.
+-- what was put is committed: what `commit` ensures
 pub record IsLogCommitted {D : Type 0} (disk : Ghosts D) (s next : LogFilesState D) : Type 0 where
   pub calls : IsLogCommitting disk s true next.pager.device
   pub made : IsLogFilesCommit disk s next
-  pub told : TellsCommit s (disk.seen next.pager.device)
   pub over : (contents : ℕ → List ℕ) → IsPagerOver disk s.pager contents
       → IsPagerOver disk next.pager (contents_put contents s.pager.staged)
 
@@ -84,22 +83,20 @@ pub record IsEmptyLogCommit {D : Type 0} (s : LogFilesState D) : Type 0 where
   pub admitted : log_commit_refusal s ≡ None
   pub none : s.pager.staged ≡ []
 
--- The device calls of a step, all of them or up to one that failed, over an honest device. A crash within them leaves
--- the same contents.
+-- The device calls of a step, all of them or up to one that failed, over an honest device. They change no contents.
 pub record IsLogStepping {D : Type 0} (disk : Ghosts D) (s : LogFilesState D) (done : Bool) (after : D)
     : Type 0 where
   pub honest : disk.is_honest s.pager.device
   pub may : MayStepBy s.pager.store s.pager.store.stage
   pub did : DidStep disk s.pager done after
   pub leaves : (contents : ℕ → List ℕ) → IsPagerOver disk s.pager contents
-      → LeavesOnly disk.moment disk.left_since s.pager.device after (λ c. TrustsStep s c → RecoversIn s contents c)
+      → LeavesOnly disk.moment disk.left_since s.pager.device after (LeftUnchanged s.pager.store.tail contents)
 
--- That step is made: what `step` ensures, and the premise on the bytes that a read gives then.
+-- that step is made: what `step` ensures
 pub record IsLogStepped {D : Type 0} (disk : Ghosts D) (s : LogFilesState D) (progress : Progress)
     (next : LogFilesState D) : Type 0 where
   pub calls : IsLogStepping disk s true next.pager.device
   pub made : IsLogFilesStep disk s progress next
-  pub trusted : TrustsStep s (disk.seen next.pager.device)
   pub over : KeepsContents disk s next
 
 -- a file's length becomes another: what `set_length` ensures

@@ -1,23 +1,39 @@
 -- What a crash leaves since an earlier state of the files of a volume with a log.
-use Rattle.std.specs.Prelude.{⊤, ℕ, List, ◌++◌, take}
+use Rattle.std.specs.Prelude.{◌⊎◌, ℕ, List, ◌++◌, take}
 use Rattle.device.specs.declared.device.Device.{Ghosts}
 use Rattle.volume_codec.specs.Files.{File}
 use Rattle.history.specs.History.{Event}
+use Rattle.log_codec.specs.Commit.{LogDescriptor}
 use Rattle.log_files.specs.State.{LogFilesState}
 use Rattle.log_histories.specs.Histories.{HasGoneLog, LogStays, LogPut, LogCommitted, LogMarked, LogStepped, LogRead}
-use Rattle.log_histories.specs.Histories.{LogRefused, LogResized, ReadsBackLog, TellsCommit, TrustsStep}
+use Rattle.log_histories.specs.Histories.{LogRefused, LogResized, IsCommitPut, ReadsBackLog, TellsSince}
 
--- what a digest is trusted with in a run, of bytes that a crash left: each commit of it is told, and each step trusted
+-- a commit that was made in a run, with its records
+abbrev pub IsMadeIn : {D : Type 0} {disk : Ghosts D} {start : LogFilesState D} {events : List Event}
+    {s : LogFilesState D} → HasGoneLog disk start events s → LogDescriptor → List ℕ → Type 0
+IsMadeIn LogStays d records = ⊥
+IsMadeIn (LogPut events s owner bytes put gone) d records = IsMadeIn gone d records
+IsMadeIn (LogCommitted events s next commit gone) d records = IsMadeIn gone d records ⊎ IsCommitPut s d records
+IsMadeIn (LogMarked events s commit gone) d records = IsMadeIn gone d records
+IsMadeIn (LogStepped events s progress next step gone) d records = IsMadeIn gone d records
+IsMadeIn (LogRead events s after read gone) d records = IsMadeIn gone d records
+IsMadeIn (LogRefused events s next keeps gone) d records = IsMadeIn gone d records
+IsMadeIn (LogResized events s file to next resize gone) d records = IsMadeIn gone d records
+
+-- or the commit of what was put since
+abbrev pub IsMadeOrNext : {D : Type 0} {disk : Ghosts D} {start : LogFilesState D} {events : List Event}
+    {s : LogFilesState D} → HasGoneLog disk start events s → LogDescriptor → List ℕ → Type 0
+IsMadeOrNext {s = s} gone d records = IsMadeIn gone d records ⊎ IsCommitPut s d records
+
+-- the premise on bytes that a crash left after a run: each commit since its first state that can be read was made in it
 abbrev pub TellsRun : {D : Type 0} {disk : Ghosts D} {start : LogFilesState D} {events : List Event}
     {s : LogFilesState D} → HasGoneLog disk start events s → List ℕ → Type 0
-TellsRun LogStays c = ⊤
-TellsRun (LogPut events s owner bytes put gone) c = TellsRun gone c
-TellsRun (LogCommitted events s next commit gone) c = TellsRun gone c × TellsCommit s c
-TellsRun (LogMarked events s commit gone) c = TellsRun gone c
-TellsRun (LogStepped events s progress next step gone) c = TellsRun gone c × TrustsStep s c
-TellsRun (LogRead events s after read gone) c = TellsRun gone c
-TellsRun (LogRefused events s next keeps gone) c = TellsRun gone c
-TellsRun (LogResized events s file to next resize gone) c = TellsRun gone c
+TellsRun {start = start} gone c = TellsSince start (IsMadeIn gone) c
+
+-- and on bytes that one left in the next commit: or is that commit
+abbrev pub TellsNext : {D : Type 0} {disk : Ghosts D} {start : LogFilesState D} {events : List Event}
+    {s : LogFilesState D} → HasGoneLog disk start events s → List ℕ → Type 0
+TellsNext {start = start} gone c = TellsSince start (IsMadeOrNext gone) c
 
 -- these bytes read back as the files after a durable prefix of the history and of some of the later events
 pub record ReadsBackAmongLog (files : List File) (history events : List Event) (c : List ℕ) : Type 0 where

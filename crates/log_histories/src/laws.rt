@@ -1,5 +1,5 @@
 // What follows of the calls.
-ghost use Rattle.std.specs.Prelude.{◌≡◌, ◌+◌, ℕ, List, [], ◌∷◌, ◌++◌, Bool, None};
+ghost use Rattle.std.specs.Prelude.{◌≡◌, ◌⊎◌, ◌↔◌, ◌+◌, ℕ, List, [], ◌∷◌, ◌++◌, Bool, None};
 ghost use Rattle.page_entry.specs.declared.numbers.FilePage.{FilePage};
 ghost use Rattle.device.specs.Device.{LeavesOnly};
 ghost use Rattle.volume_codec.specs.Files.{File};
@@ -7,40 +7,45 @@ ghost use Rattle.history.specs.History.{Event, Mark, memory_of, after};
 ghost use Rattle.pager.specs.State.{up_to_end};
 ghost use Rattle.pager.specs.Calls.{page_refusal};
 ghost use Rattle.log_codec.specs.declared.sealing.Sealing.TheVariants.{ByByte};
+ghost use Rattle.log_codec.specs.Commit.{LogDescriptor};
+ghost use Rattle.log_commits.specs.Told.{IsNone};
 ghost use Rattle.log_pager.specs.Pager.{IsPagerOver, contents_put};
 ghost use Rattle.log_files.specs.State.{LogFilesState, log_home_of};
-ghost use Rattle.log_histories.specs.Histories.{HasComeLog, HasGoneLog, IsLogCommitting, IsLogStepping};
-ghost use Rattle.log_histories.specs.Histories.{ReadsBackLog, TellsCommit, TrustsStep};
-ghost use Rattle.log_histories.specs.Runs.{ReadsBackAmongLog, TellsRun};
+ghost use Rattle.log_histories.specs.Histories.{HasComeLog, HasGoneLog, IsCommitPut, IsLogCommitting, IsLogStepping};
+ghost use Rattle.log_histories.specs.Histories.{ReadsBackLog, TellsSince};
+ghost use Rattle.log_histories.specs.Runs.{IsMadeIn, ReadsBackAmongLog, TellsRun, TellsNext};
 
 use device::Device;
-use log_codec::one_log;
+use log_commits::one_held;
 
 /// What a crash leaves of a volume with a log, whatever calls were made since it was opened. It had these files then.
+///
+/// In layout 6, where a digest seals commits, the bytes that are left have a premise (`TellsSince`): from the number of
+/// the next commit on, they contain no commit that can be read but the commit under way. In layout 5, where a byte
+/// seals, all bytes fulfil it (`by_byte`).
 ///
 /// - `left`: After the calls a crash leaves what recovers to the files after a durable prefix of their history. That
 ///   prefix is empty or ends with a mark, and has every mark that was acknowledged.
 /// - `commit`: So it does at any moment within the next commit, whose own mark may be there. A device call of it may
 ///   fail.
 /// - `step`: So it does at any moment within the next step.
-/// - `by_byte`: In layout 6 a commit and a step need a premise on the bytes that are left. In layout 5, where a byte
-///   seals, all bytes fulfil it.
 /// - `over`: The home blocks have some contents.
-/// - `reads`: With any such contents, callers see of each page the bytes that were put last.
+/// - `reads`: With any such contents, callers see of each page the bytes that were put last. This has no premise.
 pub fn what_log_files_leave<D: Device>(device: &D)
     ensures left { (files : List File) (history : List Event) (s : LogFilesState D)
-        → HasComeLog D.Device files history s → (c : List ℕ) → D.may_leave s.pager.device c
+        → HasComeLog D.Device files history s → (c : List ℕ) → D.may_leave s.pager.device c → TellsSince s IsNone c
         → ReadsBackLog files history c }
     ensures commit { (files : List File) (history : List Event) (s : LogFilesState D) (done : Bool) (next : D)
         → HasComeLog D.Device files history s → IsLogCommitting D.Device s done next
         → LeavesOnly D.moment D.left_since s.pager.device next
-        (λ c. TellsCommit s c → ReadsBackLog files (history ++ Mark (s.marks + 1) ∷ []) c) }
+        (λ c. TellsSince s (IsCommitPut s) c → ReadsBackLog files (history ++ Mark (s.marks + 1) ∷ []) c) }
     ensures step { (files : List File) (history : List Event) (s : LogFilesState D) (done : Bool) (next : D)
         → HasComeLog D.Device files history s → IsLogStepping D.Device s done next
-        → LeavesOnly D.moment D.left_since s.pager.device next (λ c. TrustsStep s c → ReadsBackLog files history c) }
+        → LeavesOnly D.moment D.left_since s.pager.device next
+        (λ c. TellsSince s IsNone c → ReadsBackLog files history c) }
     ensures by_byte { (files : List File) (history : List Event) (s : LogFilesState D)
-        → HasComeLog D.Device files history s → s.table.sealing ≡ ByByte → (c : List ℕ)
-        → TellsCommit s c × TrustsStep s c }
+        → HasComeLog D.Device files history s → s.table.sealing ≡ ByByte
+        → (c : List ℕ) → TellsSince s IsNone c × TellsSince s (IsCommitPut s) c }
     ensures over { (files : List File) (history : List Event) (s : LogFilesState D)
         → HasComeLog D.Device files history s → (contents : ℕ → List ℕ) × IsPagerOver D.Device s.pager contents }
     ensures reads { (files : List File) (history : List Event) (s : LogFilesState D) (contents : ℕ → List ℕ)
@@ -49,27 +54,29 @@ pub fn what_log_files_leave<D: Device>(device: &D)
         → up_to_end s.lengths owner (contents_put contents s.pager.staged (log_home_of s.table owner))
         ≡ up_to_end s.lengths owner (after (memory_of files) history owner.file owner.page) }
 {
-    one_log();
+    one_held();
 }
 
 /// What a crash leaves between two states, where calls led from the one to the other: a run.
 ///
+/// In layout 6 the bytes that are left have a premise: each commit that can be read from them, with the number of the
+/// first state's next commit or a later one, was made in the run (`TellsRun`), or is the commit that follows it
+/// (`TellsNext`). In layout 5 all bytes fulfil both (`by_byte`).
+///
 /// - `come`: A run adds its events to the history of the calls before it.
-/// - `on`: Two runs, one after the other, are one, with the same premises on the bytes that are left.
+/// - `on`: Two runs, one after the other, are one, with the commits of both.
 /// - `since`: A crash between the run's first state and its last one leaves what recovers to the files after a durable
 ///   prefix of the history and of some of the run's events.
 /// - `within_commit`, `within_step`: So it does up to any moment within the commit or the step that follows the run. A
 ///   device call of it may fail.
-/// - `by_byte`: In layout 6 the run's commits and steps need a premise on the bytes that are left. In layout 5 all
-///   bytes fulfil it.
 pub fn what_log_runs_leave<D: Device>(device: &D)
     ensures come { (files : List File) (history events : List Event) (s t : LogFilesState D)
         → HasComeLog D.Device files history s → HasGoneLog D.Device s events t
         → HasComeLog D.Device files (history ++ events) t }
     ensures on { (a b c : LogFilesState D) (events more : List Event)
         → (first : HasGoneLog D.Device a events b) → (next : HasGoneLog D.Device b more c)
-        → (all : HasGoneLog D.Device a (events ++ more) c)
-        × ((bytes : List ℕ) → TellsRun first bytes → TellsRun next bytes → TellsRun all bytes) }
+        → (all : HasGoneLog D.Device a (events ++ more) c) × ((d : LogDescriptor) (records : List ℕ)
+        → IsMadeIn all d records ↔ (IsMadeIn first d records ⊎ IsMadeIn next d records)) }
     ensures since { (files : List File) (history events : List Event) (s t : LogFilesState D)
         → HasComeLog D.Device files history s → (gone : HasGoneLog D.Device s events t)
         → LeavesOnly D.moment D.left_since s.pager.device t.pager.device
@@ -77,13 +84,12 @@ pub fn what_log_runs_leave<D: Device>(device: &D)
     ensures within_commit { (files : List File) (history events : List Event) (s t : LogFilesState D) (done : Bool)
         (next : D) → HasComeLog D.Device files history s → (gone : HasGoneLog D.Device s events t)
         → IsLogCommitting D.Device t done next → LeavesOnly D.moment D.left_since s.pager.device next
-        (λ c. TellsRun gone c → TellsCommit t c
-        → ReadsBackAmongLog files history (events ++ Mark (t.marks + 1) ∷ []) c) }
+        (λ c. TellsNext gone c → ReadsBackAmongLog files history (events ++ Mark (t.marks + 1) ∷ []) c) }
     ensures within_step { (files : List File) (history events : List Event) (s t : LogFilesState D) (done : Bool)
         (next : D) → HasComeLog D.Device files history s → (gone : HasGoneLog D.Device s events t)
         → IsLogStepping D.Device t done next → LeavesOnly D.moment D.left_since s.pager.device next
-        (λ c. TellsRun gone c → TrustsStep t c → ReadsBackAmongLog files history events c) }
+        (λ c. TellsRun gone c → ReadsBackAmongLog files history events c) }
     ensures by_byte { (files : List File) (history events : List Event) (s t : LogFilesState D)
         → HasComeLog D.Device files history s → s.table.sealing ≡ ByByte → (gone : HasGoneLog D.Device s events t)
-        → (c : List ℕ) → TellsRun gone c }
+        → (c : List ℕ) → TellsRun gone c × TellsNext gone c }
 {}

@@ -7,7 +7,8 @@ use Rattle.std.proofs.lemmas.Bool.{cases_eq, false≢true}
 use Rattle.std.proofs.lemmas.Bool.Decides.{nat_tests}
 use Rattle.log_codec.specs.Log.{LogValue, ring_block, log_descriptor_blocks, log_commit_blocks}
 use Rattle.log_codec.specs.Commit.{LogDescriptor}
-use Rattle.log_codec.specs.Chain.{IsChain, logged_or, newest_or, records_position, position_after, chain_end}
+use Rattle.log_codec.specs.Chain.{logged_or, newest_or, records_position, position_after, chain_end}
+use Rattle.log_commits.specs.Tail.{AreRead}
 use Rattle.log_commits.specs.Homes.{IsLoggedHome}
 use Rattle.log_home.specs.declared.index.Newest.{Newest}
 use Rattle.log_home.specs.Index.{recorded_or, newest_of_chain}
@@ -136,7 +137,7 @@ AreNumbered number [] = ⊤
 AreNumbered number (d ∷ ds) = (d.number ≡ number) × AreNumbered (number + 1) ds
 
 pub numbered : (g : LogValue) (epoch p number left : ℕ) (ds : List LogDescriptor) (bytes : List ℕ)
-    → IsChain g epoch p number left ds bytes → AreNumbered number ds
+    → AreRead g epoch p number left ds bytes → AreNumbered number ds
 numbered g epoch p number left [] bytes is = tt
 numbered g epoch p number left (d ∷ ds) bytes is = (
   is.0.number_is,

@@ -1,24 +1,28 @@
 -- A pager that is over its device stays so.
-use Rattle.std.proofs.Common.{◌≡◌, ◌⊎◌, ℕ, ◌+◌, ◌-◌, ◌*◌, ◌<◌, ◌≤◌, List, [], ◌++◌, length, inl, inr, refl, sym, ap}
+use Rattle.std.proofs.Common.{◌≡◌, ℕ, ◌+◌, ◌-◌, ◌*◌, ◌<◌, ◌≤◌, List, [], ◌++◌, length, inl, inr, refl, sym, ap}
 use Rattle.std.proofs.Common.{subst, ◌∙◌, arith, Bool}
-use Rattle.std.specs.Prelude.{Result, Ok, Err, OnOk, OnErr}
+use Rattle.std.specs.Prelude.{Result, Ok, Err, OnOk, OnErr, Option, Some, None}
 use Rattle.device.specs.declared.device.Device.{Ghosts}
+use Rattle.device.specs.Device.{LeavesOnly}
+use Rattle.device.proofs.Public.{leaves_at_start}
 use Rattle.volume_codec.specs.Descriptor.{RiseWithin}
 use Rattle.log_codec.specs.Log.{LogValue, first_log_home}
 use Rattle.log_codec.specs.Commit.{LogDescriptor}
 use Rattle.log_codec.specs.Chain.{IsLogHome, LogRecovers}
 use Rattle.log_commits.specs.Tail.{TailValue}
-use Rattle.log_commits.specs.Commit.{LeftByCommit, TellsTorn}
+use Rattle.log_commits.proofs.Public.{left_before}
+use Rattle.log_commits.specs.Commit.{LeftByCommit, committed_to}
 use Rattle.log_commits.specs.Behind.{HoldsCommits}
 use Rattle.log_commits.specs.declared.behind.OldCommits.{OldCommits}
 use Rattle.log_store.specs.declared.stage.HomeStage.{HomeStage}
 use Rattle.log_store.specs.declared.stage.HomeStage.TheVariants.{Resting, Copying, Written, Sure}
 use Rattle.log_store.specs.declared.fault.Progress.{Progress}
 use Rattle.log_store.specs.Store.{StoreValue, IsStoreOver, IsStageOver, IsStartWritten, StepsBy, committing_tail}
-use Rattle.log_store.proofs.Public.{committing_log, step_cases}
+use Rattle.log_store.specs.Store.{selection, tail_by}
+use Rattle.log_store.proofs.Public.{step_cases}
 use Rattle.kept_blocks.specs.Blocks.{Blocks, AreWholeBlocks, homes_in, with_home, with_zeros, without_run, cut_in}
 use Rattle.kept_blocks.proofs.Public.{rising_put, rising_zeros, rising_without, homes_cut}
-use Rattle.log_pager.specs.Pager.{LogPagerValue, IsPagerOver, contents_put, records_put}
+use Rattle.log_pager.specs.Pager.{LogPagerValue, IsPagerOver, LeftByPut, contents_put, records_put}
 use Rattle.log_pager.proofs.Blocks.{contents_none, committed_is}
 
 module _ {D : Type 0} (disk : Ghosts D) (f h : ℕ → List ℕ) (same : (b : ℕ) → h b ≡ f b) where
@@ -28,6 +32,7 @@ module _ {D : Type 0} (disk : Ghosts D) (f h : ℕ → List ℕ) (same : (b : �
     held = record {
       chain = is.held.chain;
       log = is.held.log;
+      next = is.held.next;
       position_is = is.held.position_is;
       number_is = is.held.number_is;
       used_is = is.held.used_is;
@@ -79,23 +84,63 @@ module _ {D : Type 0} (disk : Ghosts D) (f h : ℕ → List ℕ) (same : (b : �
     work = stage_as s s.stage is.chain device is.work;
   }
 
--- what a crash within a commit of the blocks leaves
+-- what a crash within a commit of the blocks leaves, by the tail of the store
 pub left_as : (s : StoreValue) (contents : ℕ → List ℕ) (es : Blocks) → AreWholeBlocks es → (c : List ℕ)
-    → LeftByCommit (committing_tail s) contents (homes_in es) (records_put es) c
-    → TellsTorn (committing_tail s) (homes_in es) (records_put es) c
-    → LogRecovers s.tail.log contents c ⊎ LogRecovers s.tail.log (contents_put contents es) c
-left_as s contents es whole c left tells =
-    let t : TailValue = committing_tail s in
-    let P : LogValue → Type 0 = λ g. LogRecovers g contents c ⊎ LogRecovers g (contents_put contents es) c in
-    subst P (committing_log s) (elim (left tells) [
-      | inl before ↦ inl before
-      | inr after ↦ inr (record {
-        start = after.start;
-        chain = after.chain;
-        log = after.log;
-        contents_are = λ b home. sym (committed_is contents es whole b) ∙ after.contents_are b home;
-      })
-    ])
+    → LeftByCommit (committing_tail s) contents (homes_in es) (records_put es) c → LeftByPut s.tail contents es c
+left_as s contents es whole c left = by (selection s) left
+  where
+    with_blocks : LogRecovers s.tail.log (committed_to contents (homes_in es) (records_put es)) c
+        → LogRecovers s.tail.log (contents_put contents es) c
+    with_blocks after = record {
+      start = after.start;
+      chain = after.chain;
+      log = after.log;
+      contents_are = λ b home. sym (committed_is contents es whole b) ∙ after.contents_are b home;
+    }
+
+    by : (o : Option OldCommits) → LeftByCommit (tail_by s.tail o) contents (homes_in es) (records_put es) c
+        → LeftByPut s.tail contents es c
+    by None is = record {
+      up_to = is.up_to;
+      recovers = λ tells. elim (is.recovers tells) [ inl before ↦ inl before | inr after ↦ inr (with_blocks after) ];
+    }
+    by (Some oldest) is = record {
+      up_to = is.up_to;
+      recovers = λ tells. elim (is.recovers tells) [ inl before ↦ inl before | inr after ↦ inr (with_blocks after) ];
+    }
+
+-- what one leaves before any device call
+pub put_refused : {D : Type 0} (disk : Ghosts D) (s : LogPagerValue D) (contents : ℕ → List ℕ)
+    → AreWholeBlocks s.staged
+    → ((c : List ℕ) → disk.left_since s.device (disk.moment s.device) c → disk.may_leave s.device c)
+    → IsPagerOver disk s contents
+    → LeavesOnly disk.moment disk.left_since s.device s.device (LeftByPut s.store.tail contents s.staged)
+put_refused disk s contents whole now over =
+    leaves_at_start {P = LeftByPut s.store.tail contents s.staged} (λ c left.
+    let t : TailValue = s.store.tail in
+    let is = left_before t contents (homes_in s.staged) (records_put s.staged) c (over.store.holds c (now c left)).held
+    in record {
+      up_to = is.up_to;
+      recovers = λ tells. elim (is.recovers tells) [
+        | inl before ↦ inl before
+        | inr after ↦ inr (record {
+          start = after.start;
+          chain = after.chain;
+          log = after.log;
+          contents_are = λ b home. sym (committed_is contents s.staged whole b) ∙ after.contents_are b home;
+        })
+      ];
+    })
+
+-- the same, by the parts of the pager
+pub refused_in : {D : Type 0} (disk : Ghosts D) {inside self : LogPagerValue D} → inside ≡ self
+    → AreWholeBlocks inside.staged
+    → ((device : D) (c : List ℕ) → disk.left_since device (disk.moment device) c → disk.may_leave device c)
+    → (contents : ℕ → List ℕ) → IsPagerOver disk self contents
+    → LeavesOnly disk.moment disk.left_since self.device self.device (LeftByPut self.store.tail contents self.staged)
+refused_in {D} disk {inside} {self} is whole now contents over =
+    let P : LogPagerValue D → Type 0 = λ v. AreWholeBlocks v.staged in
+    put_refused disk self contents (subst P is whole) (now self.device) over
 
 -- a step keeps the geometry
 pub steps_log : (old : StoreValue) (stage : HomeStage) (new : StoreValue) (progress : Progress)

@@ -1,11 +1,14 @@
 -- A pager over a log: blocks that were put since the last commit, and the store of the commits.
-use Rattle.std.specs.Prelude.{⊤, ◌≡◌, ℕ, ◌+◌, ◌*◌, ◌<◌, ◌≤◌, ◌||◌, nat_lt, if◌then◌else◌, List, length, is_some}
+use Rattle.std.specs.Prelude.{⊤, ◌≡◌, ◌⊎◌, ℕ, ◌+◌, ◌*◌, ◌<◌, ◌≤◌, ◌||◌, nat_lt, if◌then◌else◌, List, length, is_some}
 use Rattle.std.specs.Prelude.{None, unwrap_or}
 use Rattle.volume_codec.specs.Descriptor.{RiseWithin}
 use Rattle.device.specs.declared.device.Device.{Ghosts}
 use Rattle.kept_blocks.specs.Blocks.{Blocks, homes_in, bytes_in, all_bytes}
 use Rattle.log_codec.specs.Log.{IsCommitSize, first_log_home, log_commit_blocks}
-use Rattle.log_codec.specs.Chain.{IsLogHome}
+use Rattle.log_codec.specs.Chain.{IsLogHome, LogRecovers}
+use Rattle.log_commits.specs.Tail.{TailValue, HoldsUpTo}
+use Rattle.log_commits.specs.Told.{TellsTorn, IsThis}
+use Rattle.log_commits.specs.Commit.{next_logged}
 use Rattle.log_store.specs.declared.fault.StoreFault.TheVariants.{Range, OutOfMemory}
 use Rattle.log_store.specs.Store.{StoreValue, IsStoreOver, RefusesEnd, RefusesRead, RefusesStoreCommit, RefusesStepBy}
 use Rattle.log_store.specs.Store.{store_read_calls}
@@ -31,6 +34,13 @@ pub record IsPagerOver {D : Type 0} (disk : Ghosts D) (s : LogPagerValue D) (con
   pub store : IsStoreOver disk s.store contents s.device
   pub long : 4096 * s.store.tail.log.blocks ≤ length (disk.seen s.device)
   pub rising : RiseWithin (first_log_home s.store.tail.log.ring) s.store.tail.log.blocks (homes_in s.staged)
+
+-- What a crash within a commit of blocks leaves: the commits before it. With all of the blocks, or with none, that is
+-- all, if the digest tells a torn commit from a whole one.
+pub record LeftByPut (t : TailValue) (contents : ℕ → List ℕ) (blocks : Blocks) (bytes : List ℕ) : Type 0 where
+  pub up_to : HoldsUpTo t.log t.number contents bytes
+  pub recovers : TellsTorn (IsThis (next_logged t (homes_in blocks)) (records_put blocks)) t.log t.number bytes
+      → LogRecovers t.log contents bytes ⊎ LogRecovers t.log (contents_put contents blocks) bytes
 
 -- the device is shorter than the volume
 abbrev pub IsShort : {D : Type 0} → Ghosts D → LogPagerValue D → Type 0

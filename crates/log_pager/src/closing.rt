@@ -2,7 +2,7 @@
 ghost use Rattle.std.specs.Prelude.{◌≡◌, ◌↔◌, IsTrue, IfOk, IfErr, Ok, true, false, length};
 ghost use Rattle.log_codec.specs.declared.sealing.Sealing.TheVariants.{ByByte};
 ghost use Rattle.log_recovery.specs.Reading.{ReadsAlone};
-ghost use Rattle.log_store.specs.Store.{EndsAtTail};
+ghost use Rattle.log_commits.specs.Tail.{EndsAtTail};
 ghost use Rattle.log_pager.specs.Pager.{IsPagerOver, IsShort, RefusesPagerEnd};
 
 use crate::fault::PagerFault;
@@ -17,6 +17,8 @@ impl<D: Device, A: Allocator + Copy> LogPager<D, A> {
         ensures state { self.new ≡ record self.old { device = self.new.device } }
         ensures ends { D.is_honest self.old.device
             → IfOk result (λ ends. IsTrue ends → EndsAtTail self.old.store.tail (D.seen self.old.device)) }
+        ensures goes_on { D.is_honest self.old.device
+            → IfOk result (λ ends. EndsAtTail self.old.store.tail (D.seen self.old.device) → IsTrue ends) }
         ensures byte { self.old.store.tail.log.sealing ≡ ByByte → (result ≡ Ok true) × (self.new ≡ self.old) }
         ensures refused { IfErr result (RefusesPagerEnd D.Device self.old) }
         ensures read { ReadsAlone D.Device self.old.device self.new.device }

@@ -1,17 +1,18 @@
 // The pager.
 ghost use Rattle.std.specs.Prelude.{◌≡◌, ◌≢◌, ◌↔◌, ◌⊎◌, ◌<◌, ◌≤◌, ◌+◌, ◌-◌, ◌*◌, ◌^◌, ℕ, List, [], None, Ok, true};
 ghost use Rattle.std.specs.Prelude.{false, length, IsTrue, IfErr, OnOk, OnErr, IfOk};
-ghost use Rattle.device.specs.Device.{LeavesOnly};
-ghost use Rattle.kept_blocks.specs.Blocks.{homes_in, bytes_in};
+ghost use Rattle.device.specs.Device.{LeavesOnly, Only};
+ghost use Rattle.kept_blocks.specs.Blocks.{AreWholeBlocks, homes_in, bytes_in};
 ghost use Rattle.log_codec.specs.Log.{log_commit_blocks};
-ghost use Rattle.log_codec.specs.Chain.{IsLogHome, LogRecovers};
+ghost use Rattle.log_codec.specs.Chain.{IsLogHome};
 ghost use Rattle.log_recovery.specs.Reading.{ReadsAlone};
 ghost use Rattle.log_commits.specs.Calls.{DidAll};
-ghost use Rattle.log_commits.specs.Commit.{EndsBehind, MayCommit, TellsTorn};
-ghost use Rattle.log_store.specs.Store.{committing_tail, store_commit_works};
-ghost use Rattle.log_store.specs.Store.{HasNoted, KeepsStore, IsStoreOver, MayStepBy, StepsBy, TrustsBy, step_works};
+ghost use Rattle.log_commits.specs.Behind.{LeftUnchanged};
+ghost use Rattle.log_commits.specs.Commit.{MayCommit};
+ghost use Rattle.log_store.specs.Store.{HasNoted, KeepsStore, IsStoreOver, MayStepBy, StepsBy};
+ghost use Rattle.log_store.specs.Store.{step_works, store_commit_works};
 ghost use Rattle.log_pager.specs.Pager.{IsPagerOver, IsShort, RefusesPagerRead, RefusesPagerCommit, RefusesPagerStep};
-ghost use Rattle.log_pager.specs.Pager.{contents_put, records_put, pager_read_calls};
+ghost use Rattle.log_pager.specs.Pager.{LeftByPut, contents_put, records_put, pager_read_calls};
 
 use crate::fault::PagerFault;
 use crate::spelling::spell;
@@ -60,6 +61,13 @@ impl<D: Device, A: Allocator + Copy> LogPager<D, A> {
         ensures { IsTrue result ↔ IsShort D.Device self.now }
     {
         self.device.len() < 4096 * u64::from(self.store.log().block_count())
+    }
+
+    /// States that each block that was put has 4,096 bytes.
+    pub fn are_whole(&self)
+        ensures { AreWholeBlocks self.now.staged }
+    {
+        self.staged.are_whole();
     }
 
     /// Copies a home block: the bytes that were put last, else those of the commits, which takes a device call.
@@ -116,9 +124,7 @@ impl<D: Device, A: Allocator + Copy> LogPager<D, A> {
         ensures honest { D.is_honest self.new.device ↔ D.is_honest self.old.device }
         ensures over { (contents : ℕ → List ℕ) → D.is_honest self.old.device
             → IsPagerOver D.Device self.old contents
-            → OnOk result (EndsBehind (committing_tail self.old.store) (homes_in self.old.staged)
-            (D.seen self.new.device)
-            → IsPagerOver D.Device self.new (contents_put contents self.old.staged)) }
+            → OnOk result (IsPagerOver D.Device self.new (contents_put contents self.old.staged)) }
         ensures stays { (contents : ℕ → List ℕ) → D.is_honest self.old.device
             → IsPagerOver D.Device self.old contents
             → IfErr result (λ fault. fault ≢ PagerFault.Store (StoreFault.Commit CommitFault.Device)
@@ -126,10 +132,12 @@ impl<D: Device, A: Allocator + Copy> LogPager<D, A> {
         ensures leaves { (contents : ℕ → List ℕ) → D.is_honest self.old.device
             → IsPagerOver D.Device self.old contents
             → LeavesOnly D.moment D.left_since self.old.device self.new.device
-            (λ c. TellsTorn (committing_tail self.old.store) (homes_in self.old.staged) (records_put self.old.staged) c
-            → LogRecovers self.old.store.tail.log contents c
-            ⊎ LogRecovers self.old.store.tail.log (contents_put contents self.old.staged) c) }
+            (LeftByPut self.old.store.tail contents self.old.staged) }
+        ensures sure { (contents : ℕ → List ℕ) → D.is_honest self.old.device
+            → IsPagerOver D.Device self.old contents → self.old.staged ≢ []
+            → OnOk result (Only (D.may_leave self.new.device) (D.seen self.new.device)) }
     {
+        self.staged.are_whole();
         let count = self.staged.len();
         if count == 0 {
             return Ok(());
@@ -173,12 +181,11 @@ impl<D: Device, A: Allocator + Copy> LogPager<D, A> {
         ensures honest { D.is_honest self.new.device ↔ D.is_honest self.old.device }
         ensures over { (contents : ℕ → List ℕ) → D.is_honest self.old.device
             → IsPagerOver D.Device self.old contents
-            → OnOk result (TrustsBy self.old.store self.old.store.stage (D.seen self.new.device)
-            → IsPagerOver D.Device self.new contents) }
+            → OnOk result (IsPagerOver D.Device self.new contents) }
         ensures leaves { (contents : ℕ → List ℕ) → D.is_honest self.old.device
             → IsPagerOver D.Device self.old contents
             → LeavesOnly D.moment D.left_since self.old.device self.new.device
-            (λ c. TrustsBy self.old.store self.old.store.stage c → LogRecovers self.old.store.tail.log contents c) }
+            (LeftUnchanged self.old.store.tail contents) }
     {
         if self.is_short() {
             return Err(PagerFault::Short);

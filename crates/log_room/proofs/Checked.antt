@@ -1,37 +1,25 @@
--- A step or a commit, after which the log is read behind its tail.
-use Rattle.std.proofs.Common.{◌≡◌, ◌⊎◌, ℕ, List, [], ◌∷◌, refl, sym, ap, subst, ◌∙◌, length, inl, inr, arith}
+-- A commit, after which the log is read behind its tail.
+use Rattle.std.proofs.Common.{◌≡◌, ◌≢◌, ◌⊎◌, ◌≤◌, ℕ, ◌+◌, List, [], ◌∷◌, refl, sym, ap, subst, ◌∙◌, length, inl, inr}
+use Rattle.std.proofs.Common.{arith}
 use Rattle.std.specs.Prelude.{⊤, Result, Ok, Err}
 use Rattle.device.specs.declared.device.Device.{Ghosts}
 use Rattle.device.specs.Device.{LeavesOnly}
 use Rattle.device.proofs.Public.{leaves_then, leaves_weaker}
-use Rattle.kept_blocks.specs.Blocks.{Blocks, homes_in}
+use Rattle.kept_blocks.specs.Blocks.{Blocks}
 use Rattle.log_codec.specs.declared.sealing.Sealing.TheVariants.{ByByte}
 use Rattle.log_codec.specs.Log.{LogValue}
 use Rattle.log_codec.specs.Chain.{LogRecovers}
-use Rattle.log_commits.specs.Tail.{TailValue}
-use Rattle.log_commits.proofs.Public.{ended_behind, ended_moving}
-use Rattle.log_store.specs.declared.stage.HomeStage.{HomeStage}
-use Rattle.log_store.specs.declared.stage.HomeStage.TheVariants.{Resting, Copying, Written, Sure}
-use Rattle.log_store.specs.declared.fault.Progress.{Progress}
-use Rattle.log_store.specs.declared.fault.Progress.TheVariants.{Moved}
-use Rattle.log_store.specs.Store.{EndsAtTail, IsStoreOver, StepsBy, StoreValue, TrustsBy, committing_tail}
+use Rattle.log_commits.specs.Tail.{EndsAtTail}
+use Rattle.log_store.specs.Store.{IsStoreOver, StoreValue}
 use Rattle.log_store.proofs.Public.{read_only}
 use Rattle.log_pager.specs.declared.fault.PagerFault.{PagerFault}
 use Rattle.log_pager.specs.Pager.{LogPagerValue, IsPagerOver, contents_put}
 use Rattle.log_pager.proofs.Public.{none_put, pager_kept}
-use Rattle.log_room.specs.inside.Leading.{ChecksEnd, Commits, CommitsPut, HasStepped}
-use Rattle.log_room.specs.inside.Leading.{Leads, MakesStep, MakesSteps}
+use Rattle.log_room.specs.Room.{commits_of}
+use Rattle.log_room.specs.inside.Leading.{ChecksEnd, Commits, CommitsPut, HasStepped, Leads}
 
--- a step that moves the start trusts digests
-trusted_moved : (s new : StoreValue) (stage : HomeStage) → StepsBy s stage new Moved → (c : List ℕ)
-    → EndsAtTail new.tail c → TrustsBy s stage c
-trusted_moved s new Resting steps c ends = tt
-trusted_moved s new Copying steps c ends = tt
-trusted_moved s new Written steps c ends = tt
-trusted_moved s new Sure steps c ends =
-    ended_moving s.tail s.work.oldest c (subst (λ (t : TailValue). EndsAtTail t c) steps.tail ends)
-
-module _ {D : Type 0} (disk : Ghosts D) where
+module _ {D : Type 0} (disk : Ghosts D)
+    (now_is_since : (d : D) (r : ℕ) (c : List ℕ) → r ≤ disk.moment d → disk.may_leave d c → disk.left_since d r c) where
   -- a pager that was only read
   pub over_read : (result : Result ⊤ PagerFault) (b c : LogPagerValue D) → ChecksEnd disk b result c
       → (contents : ℕ → List ℕ) → IsPagerOver disk b contents → IsPagerOver disk c contents
@@ -52,6 +40,9 @@ module _ {D : Type 0} (disk : Ghosts D) where
       λ well. check.read.honest.1 (leads.honest.1 well),
     );
     later = omega (arith, leads.later, check.read.time.later);
+    held = λ contents is.
+        leaves_then (leads.held contents is) (leaves_weaker check.read.time (λ x left.
+        (leads.held contents is).each x (now_is_since b.device (disk.moment a.device) x leads.later left)));
     leaves = λ contents is byte.
         let sealed = ap (λ (g : LogValue). g.sealing) leads.log ∙ byte in
         subst (λ (p : LogPagerValue D). LeavesOnly disk.moment disk.left_since a.device p.device
@@ -66,31 +57,19 @@ module _ {D : Type 0} (disk : Ghosts D) where
         };
   }
 
-  -- ---- a step
-
-  module _ {progress : Progress} {a b c : LogPagerValue D} (moved : progress ≡ Moved)
-      (made : MakesStep disk a (Ok progress) b) where
-    staged_checked : {result : Result ⊤ PagerFault} → ChecksEnd disk b result c → c.staged ≡ a.staged
-    staged_checked check = ap (λ (p : LogPagerValue D). p.staged) check.state ∙ made.staged
-
-    pub step_checked : ChecksEnd disk b (Ok tt) c → MakesSteps disk a (Ok progress) c
-    step_checked check = record {
-      leads = leads_checked (Ok tt) a b c made.leads check;
-      staged = staged_checked check;
-      keeps = λ contents is.
-          let honest = made.leads.honest.1 is.honest in
-          let trusts = trusted_moved a.store b.store a.store.stage
-          (subst (StepsBy a.store a.store.stage b.store) moved made.steps) (disk.seen b.device)
-          (check.ends honest) in
-          over_read (Ok tt) b c check contents (made.keeps trusts contents is);
-      stays = tt;
-    }
-
   -- ---- a commit
 
   none_there : (blocks : Blocks) → length blocks ≡ 0 → blocks ≡ []
   none_there [] none = refl
   none_there (block ∷ blocks) none = absurd (omega (arith, none))
+
+  none_more : (n : ℕ) (blocks : Blocks) → length blocks ≡ 0 → n ≡ n + commits_of blocks
+  none_more n [] none = omega arith
+  none_more n (block ∷ blocks) none = absurd (omega (arith, none))
+
+  one_more : (n m : ℕ) (blocks : Blocks) → blocks ≢ [] → m ≡ n + 1 → m ≡ n + commits_of blocks
+  one_more n m [] some is = absurd (some refl)
+  one_more n m (block ∷ blocks) some is = is
 
   pub commit_none : (a : LogPagerValue D) → HasStepped disk a a → length a.staged ≡ 0
       → Commits disk a (Ok tt) a
@@ -99,7 +78,10 @@ module _ {D : Type 0} (disk : Ghosts D) where
     value = none_there a.staged none;
     kept = tt;
     puts = λ contents is. none_put disk a contents none is.over;
+    numbers = none_more a.store.tail.number a.staged none;
+    ends = λ contents is ended. ended;
     stays = tt;
+    end = tt;
   }
 
   pub commit_failed : {fault : PagerFault} {a b : LogPagerValue D} → CommitsPut disk a (Err fault) b
@@ -109,7 +91,10 @@ module _ {D : Type 0} (disk : Ghosts D) where
     value = tt;
     kept = λ other. made.kept;
     puts = tt;
+    numbers = tt;
+    ends = tt;
     stays = made.stays;
+    end = made.end;
   }
 
   module _ {a b c : LogPagerValue D} (made : CommitsPut disk a (Ok tt) b) where
@@ -119,13 +104,17 @@ module _ {D : Type 0} (disk : Ghosts D) where
       value = ap (λ (p : LogPagerValue D). p.staged) check.state ∙ made.value;
       kept = tt;
       puts = λ contents is.
-          let honest = made.leads.honest.1 is.honest in
-          let t : TailValue = committing_tail a.store in
-          let seen : List ℕ = disk.seen b.device in
-          let ends = ended_behind t (homes_in a.staged) seen
-          (subst (λ (v : TailValue). EndsAtTail v seen) made.tail (check.ends honest)) in
-          over_read (Ok tt) b c check (contents_put contents a.staged) (made.puts ends contents is);
+          over_read (Ok tt) b c check (contents_put contents a.staged) (made.puts contents is);
+      numbers =
+          let same = ap (λ (p : LogPagerValue D). p.store.tail.number) check.state in
+          one_more a.store.tail.number c.store.tail.number a.staged made.some (same ∙ made.number);
+      ends = λ contents is ended x left.
+          let seen = made.sure contents is x (check.read.left x left) in
+          let there = check.ends (made.leads.honest.1 is.honest) in
+          let at_b : EndsAtTail b.store.tail x = subst (EndsAtTail b.store.tail) (sym seen) there in
+          subst (λ (p : LogPagerValue D). EndsAtTail p.store.tail x) (sym check.state) at_b;
       stays = tt;
+      end = tt;
     }
 
     pub commit_unchecked : {fault : PagerFault} → ChecksEnd disk b (Err fault) c → Commits disk a (Err fault) c
@@ -137,7 +126,10 @@ module _ {D : Type 0} (disk : Ghosts D) where
         | inr byte ↦ absurd (sealed_fails check (ap (λ (g : LogValue). g.sealing) made.leads.log ∙ byte))
       ];
       puts = tt;
+      numbers = tt;
+      ends = tt;
       stays = λ not_commit not_move. absurd (not_commit check.failed);
+      end = λ not_commit. absurd (not_commit check.failed);
     }
       where
         sealed_fails : {fault : PagerFault} → ChecksEnd disk b (Err fault) c → b.store.tail.log.sealing ≡ ByByte → ⊥

@@ -8,14 +8,16 @@ use Rattle.kept_blocks.specs.Blocks.{Blocks}
 use Rattle.log_codec.specs.Chain.{LogRecovers}
 use Rattle.log_codec.specs.declared.sealing.Sealing.TheVariants.{ByByte}
 use Rattle.log_codec.specs.Log.{LogValue}
-use Rattle.log_commits.proofs.Public.{recovers}
+use Rattle.log_commits.specs.Tail.{HoldsUpTo}
+use Rattle.log_commits.proofs.Public.{recovers_by_byte, up_to}
 use Rattle.log_commits.specs.declared.fault.CommitFault.TheVariants as commits
 use Rattle.log_store.specs.declared.fault.StoreFault.TheVariants.{Commit}
 use Rattle.log_pager.specs.declared.fault.PagerFault.{PagerFault}
 use Rattle.log_pager.specs.declared.fault.PagerFault.TheVariants.{Store}
 use Rattle.log_pager.specs.Pager.{LogPagerValue, IsPagerOver, contents_put}
-use Rattle.log_room.specs.inside.Leading.{Commits, HasStepped, IsHonestOver, Leads, MakesSteps, PutsContents}
-use Rattle.log_room.specs.inside.Leading.{StaysOver}
+use Rattle.log_room.specs.Room.{commits_of}
+use Rattle.log_room.specs.inside.Leading.{Commits, HasStepped, IsHonestOver, KeepsEnd, KeepsEndBy, Leads, MakesSteps}
+use Rattle.log_room.specs.inside.Leading.{PutsContents, StaysOver}
 
 module _ {D : Type 0} (disk : Ghosts D) where
   pub nothing_stepped : ((device : D) (c : List ℕ) → disk.left_since device (disk.moment device) c
@@ -26,11 +28,15 @@ module _ {D : Type 0} (disk : Ghosts D) where
       len = refl;
       honest = (λ well. well, λ well. well);
       later = omega arith;
-      leaves = λ contents is byte. leaves_at_start (λ c left. inl (recovers s.store.tail contents c
+      held = λ contents is.
+          leaves_at_start (λ c left. up_to s.store.tail contents c
+          (is.over.store.holds c (since_now s.device c left)).held);
+      leaves = λ contents is byte. leaves_at_start (λ c left. inl (recovers_by_byte s.store.tail contents c byte
           (is.over.store.holds c (since_now s.device c left)).held));
       first = λ text has. record { crash = leaves_at_start (λ c left. has c (since_now s.device c left)); left = has };
     };
     staged = refl;
+    end = record { number = refl; ends = λ ended. ended };
     keeps = λ contents is. is.over;
   }
 
@@ -50,6 +56,12 @@ module _ {D : Type 0} (disk : Ghosts D) where
         λ well. next.honest.1 (stepped.leads.honest.1 well),
       );
       later = omega (arith, stepped.leads.later, next.later);
+      held = λ contents is.
+          let P : LogValue → ℕ → List ℕ → Type 0 = λ g n x. HoldsUpTo g n contents x in
+          leaves_then (stepped.leads.held contents is)
+          (leaves_weaker (next.held contents (over_then contents is)) (λ x has.
+          subst (λ (g : LogValue). P g a.store.tail.number x) stepped.leads.log
+          (subst (λ n. P b.store.tail.log n x) stepped.end.number has)));
       leaves = λ contents is byte.
           let P : LogValue → Blocks → List ℕ → Type 0 = λ g put x.
           LogRecovers g contents x ⊎ LogRecovers g (contents_put contents put) x in
@@ -69,6 +81,12 @@ module _ {D : Type 0} (disk : Ghosts D) where
         subst (λ (put : Blocks). IsPagerOver disk c (contents_put contents put)) stepped.staged
         (puts contents (over_then contents is))
 
+    end_then : (c : LogPagerValue D) → KeepsEnd disk b c → KeepsEnd disk a c
+    end_then c next = record {
+      number = next.number ∙ stepped.end.number;
+      ends = λ ended. next.ends (stepped.end.ends ended);
+    }
+
     stays_then : (c : LogPagerValue D) (fault : PagerFault) → StaysOver disk b c fault → StaysOver disk a c fault
     stays_then c fault stays not_commit not_move contents is =
         stays not_commit not_move contents (over_then contents is)
@@ -82,6 +100,7 @@ module _ {D : Type 0} (disk : Ghosts D) where
     steps_then result c next = record {
       leads = leads_then c next.leads;
       staged = next.staged ∙ stepped.staged;
+      end = end_then c next.end;
       keeps = ok_map result (λ keeps contents is. keeps contents (over_then contents is)) next.keeps;
       stays = IfErr-weaker result (StaysOver disk b c) (StaysOver disk a c) (stays_then c) next.stays;
     }
@@ -98,7 +117,14 @@ module _ {D : Type 0} (disk : Ghosts D) where
             | inr byte ↦ inr (ap (λ (g : LogValue). g.sealing) stepped.leads.log ∙ byte)
           ]) ∙ stepped.staged) next.kept;
       puts = ok_map result (λ puts contents is. puts_then c puts contents is) next.puts;
+      numbers = ok_map result (λ is.
+          let put : commits_of b.staged ≡ commits_of a.staged = ap commits_of stepped.staged in
+          omega (arith, is, stepped.end.number, put)) next.numbers;
+      ends = ok_map result (λ ends contents is ended.
+          ends contents (over_then contents is) (stepped.end.ends ended)) next.ends;
       stays = IfErr-weaker result (StaysOver disk b c) (StaysOver disk a c) (stays_then c) next.stays;
+      end = IfErr-weaker result (KeepsEndBy disk b c) (KeepsEndBy disk a c)
+          (λ fault keeps not_commit. end_then c (keeps not_commit)) next.end;
     }
 
 -- steps that were made
@@ -106,14 +132,19 @@ pub as_stepped : {D X : Type 0} {disk : Ghosts D} {old new : LogPagerValue D} {r
     → result ≡ Ok x → MakesSteps disk old result new → HasStepped disk old new
 as_stepped {X = X} {disk} {old} {new} is made =
     let ok = subst (λ (r : Result X PagerFault). MakesSteps disk old r new) is made in
-    record { leads = ok.leads; staged = ok.staged; keeps = ok.keeps }
+    record { leads = ok.leads; staged = ok.staged; end = ok.end; keeps = ok.keeps }
 
 -- a commit for which the log had no room changed nothing
 pub busy_stepped : {D : Type 0} {disk : Ghosts D} {old new : LogPagerValue D} {result : Result ⊤ PagerFault}
     → result ≡ Err (Store (Commit commits.Busy)) → Commits disk old result new → HasStepped disk old new
 busy_stepped {disk = disk} {old} {new} is made =
     let busy = subst (λ (r : Result ⊤ PagerFault). Commits disk old r new) is made in
-    record { leads = busy.leads; staged = busy.kept (inl (λ same. cc)); keeps = busy.stays (λ same. cc) (λ same. cc) }
+    record {
+      leads = busy.leads;
+      staged = busy.kept (inl (λ same. cc));
+      end = busy.end (λ same. cc);
+      keeps = busy.stays (λ same. cc) (λ same. cc);
+    }
 
 -- steps that failed
 pub steps_stopped : {D X Y : Type 0} {disk : Ghosts D} {old new : LogPagerValue D} {result : Result X PagerFault}
@@ -121,7 +152,7 @@ pub steps_stopped : {D X Y : Type 0} {disk : Ghosts D} {old new : LogPagerValue 
     → MakesSteps {X = Y} disk old (Err fault) new
 steps_stopped {X = X} {disk = disk} {old} {new} is made =
     let failed = subst (λ (r : Result X PagerFault). MakesSteps disk old r new) is made in
-    record { leads = failed.leads; staged = failed.staged; keeps = tt; stays = failed.stays }
+    record { leads = failed.leads; staged = failed.staged; end = failed.end; keeps = tt; stays = failed.stays }
 
 -- steps that stopped since each commit is home
 pub idle_steps : {D X : Type 0} {disk : Ghosts D} {old new : LogPagerValue D} (fault : PagerFault)
@@ -129,6 +160,7 @@ pub idle_steps : {D X : Type 0} {disk : Ghosts D} {old new : LogPagerValue D} (f
 idle_steps fault stepped = record {
   leads = stepped.leads;
   staged = stepped.staged;
+  end = stepped.end;
   keeps = tt;
   stays = λ not_commit not_step. stepped.keeps;
 }
@@ -136,4 +168,10 @@ idle_steps fault stepped = record {
 -- steps of which the last moved the start
 pub moved_steps : {D : Type 0} {disk : Ghosts D} {old new : LogPagerValue D} → HasStepped disk old new
     → MakesSteps {X = ⊤} disk old (Ok tt) new
-moved_steps stepped = record { leads = stepped.leads; staged = stepped.staged; keeps = stepped.keeps; stays = tt }
+moved_steps stepped = record {
+  leads = stepped.leads;
+  staged = stepped.staged;
+  end = stepped.end;
+  keeps = stepped.keeps;
+  stays = tt;
+}

@@ -1,13 +1,14 @@
 // A commit, with the rounds of steps that it needs.
-ghost use Rattle.std.specs.Prelude.{◌≡◌, ◌≢◌, ◌↔◌, ◌⊎◌, ◌≤◌, ℕ, List, [], Ok, length, Err, IsTrue, IfOk, IfErr, OnOk};
+ghost use Rattle.std.specs.Prelude.{◌≡◌, ◌≢◌, ◌↔◌, ◌⊎◌, ◌≤◌, ◌+◌, ℕ, List, [], Ok, length, Err, IsTrue, IfOk, IfErr, OnOk};
 ghost use Rattle.device.specs.Device.{LeavesOnly};
 ghost use Rattle.volume_codec.specs.Layout.{block_at};
 ghost use Rattle.log_codec.specs.declared.sealing.Sealing.TheVariants.{ByByte};
 ghost use Rattle.log_codec.specs.Chain.{LogRecovers};
+ghost use Rattle.log_commits.specs.Tail.{HoldsUpTo};
 ghost use Rattle.log_store.specs.Store.{StepsBy};
 ghost use Rattle.log_pager.specs.Pager.{IsPagerOver, contents_put};
-ghost use Rattle.log_room.specs.Room.{KeepsFirst};
-ghost use Rattle.log_room.specs.inside.Leading.{ChecksEnd, Commits, CommitsPut, MakesStep, MakesSteps};
+ghost use Rattle.log_room.specs.Room.{IsEnded, KeepsFirst, commits_of};
+ghost use Rattle.log_room.specs.inside.Leading.{ChecksEnd, Commits, CommitsPut, MakesSteps};
 
 use device::Device;
 use log_commits::{CommitFault, MoveFault};
@@ -46,10 +47,11 @@ fn is_busy(made: &Result<(), PagerFault>) -> bool
 }
 
 // The next step of the pager.
-fn pager_step<D: Device, A: Allocator + Copy>(
+fn make_step<D: Device, A: Allocator + Copy>(
     pager: &mut LogPager<D, A>,
 ) -> Result<Progress, PagerFault>
-    ensures { MakesStep D.Device pager.old result pager.new }
+    ensures steps { MakesSteps D.Device pager.old result pager.new }
+    ensures value { IfOk result (StepsBy pager.old.store pager.old.store.stage pager.new.store) }
 {
     pager.step()
 }
@@ -62,26 +64,6 @@ fn check_end<D: Device, A: Allocator + Copy>(pager: &mut LogPager<D, A>) -> Resu
     match pager.ends() {
         Ok(true) => Ok(()),
         _ => Err(FAILED),
-    }
-}
-
-// The next step. After one that moves the start, the log ends at its tail.
-fn make_step<D: Device, A: Allocator + Copy>(
-    pager: &mut LogPager<D, A>,
-) -> Result<Progress, PagerFault>
-    ensures steps { MakesSteps D.Device pager.old result pager.new }
-    ensures value { IfOk result (StepsBy pager.old.store pager.old.store.stage pager.new.store) }
-{
-    let progress = match pager_step(pager) {
-        Ok(progress) => progress,
-        Err(fault) => return Err(fault),
-    };
-    if !has_moved(progress) {
-        return Ok(progress);
-    }
-    match check_end(pager) {
-        Ok(()) => Ok(progress),
-        Err(fault) => Err(fault),
     }
 }
 
@@ -162,9 +144,9 @@ fn commit_in_rounds<D: Device, A: Allocator + Copy>(
 /// Commits what was put. While the log has no room for it, the commits so far are written home and the start moves
 /// behind them. If nothing was put, no device call is made.
 ///
-/// If a digest seals commits, the log is read behind each commit and each move of the start. The call fails with a
-/// commit's `Device` if a read fails there, or if bytes there could be taken for the next commit. Other errors keep
-/// what was put; if a byte seals, each error does.
+/// If a digest seals commits, the log is read behind the commit. The call fails with a commit's `Device` if a read
+/// fails there, or if bytes there could be taken for the next commit. Other errors keep what was put; if a byte seals,
+/// each error does.
 pub fn commit_with_room<D: Device, A: Allocator + Copy>(
     pager: &mut LogPager<D, A>,
 ) -> Result<(), PagerFault>
@@ -181,6 +163,15 @@ pub fn commit_with_room<D: Device, A: Allocator + Copy>(
     ensures stays { (contents : ℕ → List ℕ) → D.is_honest pager.old.device → IsPagerOver D.Device pager.old contents
         → IfErr result (λ fault. fault ≢ PagerFault.Store (StoreFault.Commit CommitFault.Device)
         → fault ≢ PagerFault.Store (StoreFault.Move MoveFault.Device) → IsPagerOver D.Device pager.new contents) }
+
+    // A crash within the call leaves the commits before it, whatever seals commits.
+    ensures held { (contents : ℕ → List ℕ) → D.is_honest pager.old.device → IsPagerOver D.Device pager.old contents
+        → LeavesOnly D.moment D.left_since pager.old.device pager.new.device
+        (HoldsUpTo pager.old.store.tail.log pager.old.store.tail.number contents) }
+    ensures number { OnOk result
+        (pager.new.store.tail.number ≡ pager.old.store.tail.number + commits_of pager.old.staged) }
+    ensures ended { (contents : ℕ → List ℕ) → D.is_honest pager.old.device → IsPagerOver D.Device pager.old contents
+        → IsEnded D.Device pager.old → OnOk result (IsEnded D.Device pager.new) }
 
     // Where a byte seals.
     ensures leaves { (contents : ℕ → List ℕ) → D.is_honest pager.old.device

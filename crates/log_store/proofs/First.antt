@@ -1,13 +1,12 @@
 -- Commits and steps write no byte of the first block of a volume.
 use Rattle.std.proofs.Common.{◌≡◌, ℕ, ◌+◌, ◌-◌, ◌*◌, ◌%◌, ◌≤◌, ◌==◌, Bool, true, false, List, [], ◌∷◌, ◌++◌, length}
-use Rattle.std.proofs.Common.{take, cond, drop, ap, sym, ◌∙◌, subst, arith, inl, inr}
+use Rattle.std.proofs.Common.{take, cond, drop, ap, sym, ◌∙◌, arith}
 use Rattle.std.specs.Prelude.{⊤, Option, Some, None, MatchBool, nat_le, not, slice_range}
 use Rattle.std.proofs.lemmas.List.{take-take}
-use Rattle.device.specs.Device.{LeavesOnly, Torn}
-use Rattle.device.specs.Did.{Did}
+use Rattle.std.specs.List.{AllByRecursion}
+use Rattle.device.specs.Device.{Torn}
 use Rattle.device.specs.Work.{Work, WriteAt, CopyBlock, Sync, Nothing, TornFromWork}
 use Rattle.device.specs.declared.device.Device.{Ghosts}
-use Rattle.device.proofs.Public.{leaves_at_start, leaves_weaker, leaves_then}
 use Rattle.volume_codec.specs.Layout.{block_at}
 use Rattle.log_codec.specs.declared.sealing.Sealing.{Sealing}
 use Rattle.log_codec.specs.declared.sealing.Sealing.TheVariants.{ByByte, ByDigest}
@@ -24,6 +23,7 @@ use Rattle.log_home.specs.declared.index.Newest.{Newest}
 use Rattle.log_store.specs.declared.stage.HomeStage.{HomeStage}
 use Rattle.log_store.specs.declared.stage.HomeStage.TheVariants.{Resting, Copying, Written, Sure}
 use Rattle.log_store.specs.Store.{StoreValue, MayStepBy, selection, step_works, store_commit_works, works_selecting}
+use Rattle.log_store.proofs.Staying.{Stays, all_stay}
 
 -- the work writes none of the first 4096 bytes
 abbrev pub IsBehind : Work → Type 0
@@ -33,8 +33,7 @@ IsBehind Sync = ⊤
 IsBehind Nothing = ⊤
 
 abbrev pub AreBehind : List Work → Type 0
-AreBehind [] = ⊤
-AreBehind (work ∷ more) = IsBehind work × AreBehind more
+AreBehind = AllByRecursion IsBehind
 
 behind_append : (first second : List Work) → AreBehind first → AreBehind second → AreBehind (first ++ second)
 behind_append [] second is more = more
@@ -107,45 +106,23 @@ torn_first : (at n : ℕ) (old new : List ℕ) → 4096 ≤ at → Torn at n old
 torn_first at n old new low torn =
     sym (take-take 4096 at new low) ∙ ap (take 4096) torn.before ∙ take-take 4096 at old low
 
-module _ {D : Type 0} (disk : Ghosts D)
-    (since_now : (device : D) (c : List ℕ) → disk.left_since device (disk.moment device) c → disk.may_leave device c)
-    (text : List ℕ) where
-  -- the first block has this text
-  abbrev pub HasFirst : List ℕ → Type 0
-  HasFirst c = block_at c 0 ≡ text
+-- the first block has this text
+abbrev pub HasFirst : List ℕ → List ℕ → Type 0
+HasFirst text c = block_at c 0 ≡ text
 
-  first_torn : (work : Work) (lists : List ℕ → Type 0) → IsBehind work → ((c : List ℕ) → lists c → HasFirst c)
-      → (c : List ℕ) → TornFromWork work lists c → HasFirst c
-  first_torn (WriteAt at bytes) lists behind has c from =
-      torn_first at (length bytes) from.0 c behind from.2 ∙ has from.0 from.1
-  first_torn (CopyBlock source to) lists behind has c from =
-      torn_first (4096 * to) 4096 from.0 c (omega (arith, behind)) from.2 ∙ has from.0 from.1
-  first_torn Sync lists behind has c from = has c from
-  first_torn Nothing lists behind has c from = has c from
+first_torn : (text : List ℕ) (work : Work) (lists : List ℕ → Type 0) → IsBehind work
+    → ((c : List ℕ) → lists c → HasFirst text c) → (c : List ℕ) → TornFromWork work lists c → HasFirst text c
+first_torn text (WriteAt at bytes) lists behind has c from =
+    torn_first at (length bytes) from.0 c behind from.2 ∙ has from.0 from.1
+first_torn text (CopyBlock source to) lists behind has c from =
+    torn_first (4096 * to) 4096 from.0 c (omega (arith, behind)) from.2 ∙ has from.0 from.1
+first_torn text Sync lists behind has c from = has c from
+first_torn text Nothing lists behind has c from = has c from
 
-  -- whichever of the calls were made, the first block has it at each moment and from then on
-  pub record FirstStays (old new : D) : Type 0 where
-    pub crash : LeavesOnly disk.moment disk.left_since old new HasFirst
-    pub left : (c : List ℕ) → disk.may_leave new c → HasFirst c
-
-  one_first : (work : Work) (done : Bool) (old new : D) → IsBehind work
-      → ((c : List ℕ) → disk.may_leave old c → HasFirst c) → Did disk old work done new → FirstStays old new
-  one_first work done old new behind has did = record {
-    crash = leaves_weaker did.time (first_torn work (disk.may_leave old) behind has);
-    left = λ c may. first_torn work (disk.may_leave old) behind has c (did.left c may);
-  }
-
-  pub first_stays : (works : List Work) (done : Bool) (old new : D) → AreBehind works
-      → ((c : List ℕ) → disk.may_leave old c → HasFirst c) → DidAll disk old works done new → FirstStays old new
-  first_stays [] done old new behind has did =
-      let same : FirstStays old old = record {
-        crash = leaves_at_start (λ c left. has c (since_now old c left));
-        left = has;
-      } in
-      subst (FirstStays old) (sym did.0) same
-  first_stays (work ∷ more) done old new behind has (inl failed) =
-      one_first work false old new behind.0 has failed.0
-  first_stays (work ∷ more) done old new behind has (inr both) =
-      let one = one_first work true old both.0 behind.0 has both.1 in
-      let rest = first_stays more done both.0 new behind.1 one.left both.2 in
-      record { crash = leaves_then one.crash rest.crash; left = rest.left }
+pub first_stays : {D : Type 0} (disk : Ghosts D)
+    → ((device : D) (c : List ℕ) → disk.left_since device (disk.moment device) c → disk.may_leave device c)
+    → (text : List ℕ) (works : List Work) (done : Bool) (old new : D) → AreBehind works
+    → ((c : List ℕ) → disk.may_leave old c → HasFirst text c) → DidAll disk old works done new
+    → Stays disk (HasFirst text) old new
+first_stays disk since_now text works done old new behind has did =
+    all_stay disk since_now (HasFirst text) IsBehind (first_torn text) works done old new behind has did

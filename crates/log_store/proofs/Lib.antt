@@ -2,7 +2,8 @@ mod Stores
 mod Cases
 mod Steps
 mod Sound
+mod Staying
 mod First
-mod ByByte
+mod Ended
 mod Ending
 pub mod Public

@@ -8,12 +8,13 @@ use Rattle.device.specs.declared.device.Device.{Ghosts}
 use Rattle.device.specs.Device.{Only, LeavesOnly}
 use Rattle.device.proofs.Public.{leaves_at_start, leaves_weaker}
 use Rattle.log_codec.specs.Commit.{LogDescriptor}
-use Rattle.log_codec.specs.Chain.{LogRecovers, chain_blocks}
+use Rattle.log_codec.specs.Chain.{chain_blocks}
 use Rattle.log_commits.specs.declared.behind.OldCommits.{OldCommits}
 use Rattle.log_commits.specs.Tail.{TailValue}
 use Rattle.log_commits.specs.Homes.{AreWrittenHome}
-use Rattle.log_commits.specs.Behind.{HoldsCommits, AreOldest, IsReadyToMove, LeavesCommits, MoveLeaves, tail_behind}
-use Rattle.log_commits.proofs.Public.{recovers}
+use Rattle.log_commits.specs.Behind.{HoldsCommits, AreOldest, IsReadyToMove, LeavesCommits, LeftUnchanged}
+use Rattle.log_commits.specs.Behind.{MoveLeaves, tail_behind}
+use Rattle.log_commits.proofs.Public.{left_unchanged}
 use Rattle.log_home.specs.Index.{IsIndexOf}
 use Rattle.log_home.specs.Work.{HomeWorkValue, AreHome, stepped}
 use Rattle.log_home.proofs.Public.{newest_some, home_in, index_forgot}
@@ -23,7 +24,7 @@ use Rattle.log_store.specs.declared.fault.Progress.{Progress}
 use Rattle.log_store.specs.declared.fault.Progress.TheVariants.{Idle, Began, Copied, Wrote, Synced, Moved}
 use Rattle.log_store.specs.declared.fault.StoreFault.{StoreFault}
 use Rattle.log_store.specs.Store.{StoreValue, IsStoreOver, IsStageOver, IsStartWritten, IsWritingHome, HasMovedStart}
-use Rattle.log_store.specs.Store.{StepsBy, TrustsBy, begun_work, working}
+use Rattle.log_store.specs.Store.{StepsBy, begun_work, working}
 use Rattle.log_store.specs.Step.{MakesStoreStep, StaysOver}
 use Rattle.log_store.proofs.Stores.{start_seen, start_kept}
 
@@ -72,11 +73,11 @@ module _ {D : Type 0} (disk : Ghosts D) where
   begun_any s after Moved contents device is over seen = absurd is
 
   begun_result : (r : Result Progress StoreFault) (s after : StoreValue) (contents : ℕ → List ℕ) (device : D)
-      (Q : Type 0) → IfOk r (StepsBy s Resting after) → IsStoreOver disk s contents device
-      → disk.may_leave device (disk.seen device) → OnOk r (Q → IsStoreOver disk after contents device)
-  begun_result (Ok progress) s after contents device Q is over seen =
-      λ q. begun_any s after progress contents device is over seen
-  begun_result (Err fault) s after contents device Q is over seen = tt
+      → IfOk r (StepsBy s Resting after) → IsStoreOver disk s contents device
+      → disk.may_leave device (disk.seen device) → OnOk r (IsStoreOver disk after contents device)
+  begun_result (Ok progress) s after contents device is over seen =
+      begun_any s after progress contents device is over seen
+  begun_result (Err fault) s after contents device is over seen = tt
 
   -- it makes no call
   pub stays_begun : (r : Result Progress StoreFault) (s after : StoreValue) (device : D)
@@ -86,10 +87,9 @@ module _ {D : Type 0} (disk : Ghosts D) where
       → StaysOver disk s Resting r after device device
   stays_begun r s after device is now seen = record {
     leaves = λ contents honest over.
-        leaves_at_start {P = λ c. TrustsBy s Resting c → LogRecovers s.tail.log contents c}
-        (λ c left trust. recovers s.tail contents c (over.holds c (now c left)).held);
-    store = λ contents honest over.
-        begun_result r s after contents device (TrustsBy s Resting (disk.seen device)) is over (seen honest);
+        leaves_at_start {P = LeftUnchanged s.tail contents}
+        (λ c left. left_unchanged s.tail contents c (over.holds c (now c left)).held);
+    store = λ contents honest over. begun_result r s after contents device is over (seen honest);
   }
 
   -- ---- a step at its stage
@@ -147,19 +147,19 @@ module _ {D : Type 0} (disk : Ghosts D) where
       → MoveLeaves disk s.second s.tail oldest contents younger done old new
 
   -- what a crash within such a call leaves
-  trusting : (s : StoreValue) (stage : HomeStage) (old new : D) → Leaves s old new → (contents : ℕ → List ℕ)
+  unchanged : (s : StoreValue) (old new : D) → Leaves s old new → (contents : ℕ → List ℕ)
       → disk.is_honest old → IsStoreOver disk s contents old
-      → LeavesOnly disk.moment disk.left_since old new (λ c. TrustsBy s stage c → LogRecovers s.tail.log contents c)
-  trusting s stage old new leaves contents honest over =
+      → LeavesOnly disk.moment disk.left_since old new (LeftUnchanged s.tail contents)
+  unchanged s old new leaves contents honest over =
       leaves_weaker (leaves contents over.chain honest over.index over.holds).crash
-      (λ c is trust. recovers s.tail contents c is.held)
+      (λ c is. left_unchanged s.tail contents c is.held)
 
   -- A step that fails in it. The store `b` is `s` by its parts.
   pub stays_failed : {b s after : StoreValue} {stage : HomeStage} {fault : StoreFault} {old new : D} → b ≡ s
       → Leaves b old new → StaysOver disk s stage (Err fault) after old new
   stays_failed {b} {s} {after} {stage} {fault} {old} {new} is leaves =
       subst (λ (v : StoreValue). StaysOver disk v stage (Err fault) after old new) is (record {
-        leaves = trusting b stage old new leaves;
+        leaves = unchanged b old new leaves;
         store = λ contents honest over. tt;
       })
 
@@ -172,8 +172,8 @@ module _ {D : Type 0} (disk : Ghosts D) where
   stays_made {b} {s} {after} {stage} {progress} {old} {new} next is ends leaves store =
       subst (λ (v : StoreValue). StaysOver disk v stage (Ok progress) after old new) is
       (subst (λ (v : StoreValue). StaysOver disk b stage (Ok progress) v old new) (sym ends) (record {
-        leaves = trusting b stage old new leaves;
-        store = λ contents honest over trust. store contents honest over;
+        leaves = unchanged b old new leaves;
+        store = store;
       }))
 
   -- ---- home blocks are copied, and the start is written
@@ -297,11 +297,11 @@ module _ {D : Type 0} (disk : Ghosts D) where
       (over : IsStoreOver disk s contents old) → disk.may_leave old (disk.seen old)
       → (is : IsStartWritten disk s s.work.oldest contents over.chain old)
       → MoveLeaves disk s.second s.tail s.work.oldest contents is.younger true old new
-      → TrustsBy s Sure (disk.seen new) → HasMovedStart s after s.work.oldest → IsStoreOver disk after contents new
-  moved_store s after contents old new over seen is leaves last has =
+      → HasMovedStart s after s.work.oldest → IsStoreOver disk after contents new
+  moved_store s after contents old new over seen is leaves has =
       let oldest : OldCommits = s.work.oldest in
       let younger : List LogDescriptor = is.younger in
-      let moved = leaves.moved refl last in
+      let moved = leaves.moved refl in
       let P : TailValue → Type 0 = λ t. HoldsCommits after.second t contents younger (disk.seen new) in
       let Q : Bool → Type 0 = λ v. HoldsCommits v (tail_behind s.tail oldest) contents younger (disk.seen new) in
       let there : P after.tail = subst P (sym has.tail) (subst Q (sym has.second) moved) in
@@ -321,7 +321,7 @@ module _ {D : Type 0} (disk : Ghosts D) where
 
   select_leaves : (s : StoreValue) (done : Bool) (old new : D) → s.stage ≡ Sure → Selects s s.work.oldest done old new
       → (contents : ℕ → List ℕ) → disk.is_honest old → IsStoreOver disk s contents old
-      → LeavesOnly disk.moment disk.left_since old new (λ c. TrustsBy s Sure c → LogRecovers s.tail.log contents c)
+      → LeavesOnly disk.moment disk.left_since old new (LeftUnchanged s.tail contents)
   select_leaves s done old new stage selects contents honest over =
       let at = at_stage s Sure contents old stage over in
       (selects contents at.0.ds at.0.younger honest at.1 at.0.ready).crash
@@ -346,8 +346,8 @@ module _ {D : Type 0} (disk : Ghosts D) where
       let moved = subst (λ (o : OldCommits). HasMovedStart b after o) oldest_is has in
       subst (λ (v : StoreValue). StaysOver disk v Sure (Ok Moved) after old new) is (record {
         leaves = select_leaves b true old new at own;
-        store = λ contents honest over last.
+        store = λ contents honest over.
             let sure = at_stage b Sure contents old at over in
             moved_store b after contents old new over (seen honest) sure.0
-            (own contents sure.0.ds sure.0.younger honest sure.1 sure.0.ready) last moved;
+            (own contents sure.0.ds sure.0.younger honest sure.1 sure.0.ready) moved;
       })

@@ -1,6 +1,6 @@
 -- A store that is over a device stays so.
 use Rattle.std.proofs.Common.{◌≡◌, ℕ, ◌+◌, ◌%◌, List, [], ◌∷◌, ◌++◌, Bool, true, false}
-use Rattle.std.proofs.Common.{length, take, get_or, inl, inr, refl, sym, ap, subst, ◌∙◌, arith, append_assoc}
+use Rattle.std.proofs.Common.{length, take, get_or, inl, inr, refl, sym, ap, subst, ◌∙◌, append_assoc}
 use Rattle.std.specs.Prelude.{Option, Some, None, not}
 use Rattle.std.proofs.lemmas.Bool.{false≢true}
 use Rattle.volume_codec.specs.Layout.{block_at}
@@ -16,11 +16,11 @@ use Rattle.log_codec.specs.Commit.{LogDescriptor}
 use Rattle.log_codec.specs.Chain.{HasLog, IsLogHome, newest_or, chain_end}
 use Rattle.log_commits.specs.declared.behind.OldCommits.{OldCommits}
 use Rattle.log_commits.specs.Tail.{TailValue, tail_at}
-use Rattle.log_commits.specs.Commit.{CommitLeaves, EndsBehind, LeftByCommit, committed_to, next_logged, tail_after}
+use Rattle.log_commits.specs.Commit.{CommitLeaves, LeftByCommit, committed_to, next_logged, tail_after}
 use Rattle.log_commits.specs.Behind.{HoldsCommits, AreOldest, IsReadyToMove, IsSameOutside}
 use Rattle.log_commits.specs.Behind.{tail_behind}
 use Rattle.log_commits.specs.Selecting.{IsSureBy}
-use Rattle.log_commits.proofs.Public.{newest_cases, recovers, ready_kept}
+use Rattle.log_commits.proofs.Public.{held_at_start, left_before, newest_cases, ready_kept}
 use Rattle.log_home.specs.declared.index.Newest.{Newest}
 use Rattle.log_home.specs.Index.{Entries, find_in, recorded_or, newest_of_chain, IsIndexOf}
 use Rattle.log_home.specs.Work.{HomeWorkValue, AreHome}
@@ -43,16 +43,8 @@ module _ {D : Type 0} (disk : Ghosts D) where
       let t : TailValue = tail_at g start spent in
       let contents : ℕ → List ℕ = block_at (disk.seen device) in
       let P : List ℕ → Type 0 = λ l. HoldsCommits second t contents [] l in
-      let place : start.position + 0 ≡ start.position = omega arith in
       let there : P (disk.seen device) = record {
-        held = record {
-          chain = [];
-          log = has;
-          position_is = ap (λ p. p % g.ring) place;
-          number_is = omega arith;
-          used_is = refl;
-          contents_are = λ b home. refl;
-        };
+        held = held_at_start g start spent (disk.seen device) has;
         chain_is = refl;
         selected = selected;
       } in
@@ -438,8 +430,7 @@ module _ {D : Type 0} (disk : Ghosts D) where
   abbrev pub Then : Bool → TailValue → Option OldCommits → List ℕ → List ℕ → (ℕ → List ℕ) → List LogDescriptor → D
       → Type 0
   Then second t o homes records contents younger new =
-      EndsBehind (tail_by t o) homes (disk.seen new)
-      → HoldsCommits (second_by second o) (tail_after (tail_by t o) homes) (committed_to contents homes records)
+      HoldsCommits (second_by second o) (tail_after (tail_by t o) homes) (committed_to contents homes records)
       (younger ++ next_logged t homes ∷ []) (disk.seen new)
 
   abbrev pub Holds : Bool → TailValue → Option OldCommits → List ℕ → List ℕ → D → D → Type 0
@@ -476,16 +467,14 @@ module _ {D : Type 0} (disk : Ghosts D) where
       → Commits b.second b.tail o homes records true old new → Holds b.second b.tail o homes records old new
       → (contents : ℕ → List ℕ)
       → disk.is_honest old → IsStoreOver disk s contents old
-      → EndsBehind (committing_tail s) homes (disk.seen new)
       → IsStoreOver disk after (committed_to contents homes records) new
   commit_over {b} {s} {after} {noted} {o} {homes} {records} {old} {new} is chosen seen made outside commits holds
-      contents honest over ends =
+      contents honest over =
       let Q : StoreValue → Type 0 = λ v. IsStoreOver disk v contents old
-      → EndsBehind (committing_tail v) homes (disk.seen new)
       → IsStoreOver disk after (committed_to contents homes records) new in
       let O : Option OldCommits → Type 0 = λ v. v ≡ None
       → IsSameOutside b.tail.log (disk.seen old) (disk.seen new) in
-      subst Q is (λ whole ending.
+      subst Q is (λ whole.
       let parts = parts_of b contents old whole in
       let held = both_hold b contents old whole parts in
       let own =
@@ -495,7 +484,7 @@ module _ {D : Type 0} (disk : Ghosts D) where
       ((own contents parts.ds parts.younger honest held parts.may).durable refl) parts
       (subst (λ (v : Option OldCommits). Committed b after noted homes v) chosen made)
       (subst O chosen (λ none. outside none honest))
-      (then contents parts.ds parts.younger honest held parts.may ending)) over ends
+      (then contents parts.ds parts.younger honest held parts.may)) over
 
   -- the commit is noted
   pub has_noted : {b after : StoreValue} {noted : Entries} {o : Option OldCommits} {homes : List ℕ}
@@ -521,7 +510,7 @@ module _ {D : Type 0} (disk : Ghosts D) where
           let P : List ℕ → Type 0 = LeftByCommit s.tail contents homes records in
           record {
             crash = leaves_at_start {P = P}
-                (λ c left tells. inl (recovers s.tail contents c (over.holds c (now c left)).held));
+                (λ c left. left_before s.tail contents homes records c (over.holds c (now c left)).held);
             durable = λ made. absurd (false≢true made);
             committed = λ made. absurd (false≢true made);
           }
@@ -529,7 +518,9 @@ module _ {D : Type 0} (disk : Ghosts D) where
           let P : List ℕ → Type 0 = LeftByCommit (tail_behind s.tail oldest) contents homes records in
           record {
             crash = leaves_at_start {P = P}
-                (λ c left tells. inl (recovers s.tail contents c (over.holds c (now c left)).held));
+                (λ c left.
+                let is = left_before s.tail contents homes records c (over.holds c (now c left)).held in
+                record { up_to = is.up_to; recovers = is.recovers });
             durable = λ made. absurd (false≢true made);
             committed = λ made. absurd (false≢true made);
           }

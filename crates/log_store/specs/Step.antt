@@ -2,14 +2,14 @@
 use Rattle.std.specs.Prelude.{◌≡◌, ◌≢◌, ◌↔◌, ℕ, true, List, length, Result, is_ok, IfOk, IfErr, OnOk}
 use Rattle.device.specs.declared.device.Device.{Ghosts}
 use Rattle.device.specs.Device.{LeavesOnly}
-use Rattle.log_codec.specs.Chain.{LogRecovers}
+use Rattle.log_commits.specs.Behind.{LeftUnchanged}
 use Rattle.log_commits.specs.Calls.{DidAll}
 use Rattle.log_commits.specs.declared.behind.MoveFault.TheVariants.{Device}
 use Rattle.log_store.specs.declared.stage.HomeStage.{HomeStage}
 use Rattle.log_store.specs.declared.fault.Progress.{Progress}
 use Rattle.log_store.specs.declared.fault.StoreFault.{StoreFault}
 use Rattle.log_store.specs.declared.fault.StoreFault.TheVariants.{Move, OutOfMemory}
-use Rattle.log_store.specs.Store.{StoreValue, IsStoreOver, StepsBy, MayStepBy, RefusesStepBy, TrustsBy, step_works}
+use Rattle.log_store.specs.Store.{StoreValue, IsStoreOver, StepsBy, MayStepBy, RefusesStepBy, step_works}
 
 -- The step of a store at a stage. A step that is refused changes nothing. If a device call fails, the tail takes no
 -- further call.
@@ -25,10 +25,10 @@ pub record MakesStoreStep {D : Type 0} (disk : Ghosts D) (s : StoreValue) (stage
   pub len : length (disk.seen new) ≡ length (disk.seen old)
   pub honest : disk.is_honest new ↔ disk.is_honest old
 
--- Where the store is over the device, a crash within the step leaves the same contents, and the store stays over it.
+-- Where the store is over the device, a crash within the step leaves the commits so far, and the store stays over it.
 pub record StaysOver {D : Type 0} (disk : Ghosts D) (s : StoreValue) (stage : HomeStage)
     (result : Result Progress StoreFault) (after : StoreValue) (old new : D) : Type 0 where
   pub leaves : (contents : ℕ → List ℕ) → disk.is_honest old → IsStoreOver disk s contents old
-      → LeavesOnly disk.moment disk.left_since old new (λ c. TrustsBy s stage c → LogRecovers s.tail.log contents c)
+      → LeavesOnly disk.moment disk.left_since old new (LeftUnchanged s.tail contents)
   pub store : (contents : ℕ → List ℕ) → disk.is_honest old → IsStoreOver disk s contents old
-      → OnOk result (TrustsBy s stage (disk.seen new) → IsStoreOver disk after contents new)
+      → OnOk result (IsStoreOver disk after contents new)

@@ -12,9 +12,9 @@ use Rattle.log_codec.specs.Log.{log_descriptor_blocks}
 use Rattle.log_codec.specs.Commit.{LogDescriptor}
 use Rattle.log_commits.specs.Tail.{TailValue}
 use Rattle.log_commits.specs.Commit.{RefusesTailCommit, commit_works, tail_after}
-use Rattle.log_commits.specs.Homes.{IsLoggedHome, StaysLastBy}
+use Rattle.log_commits.specs.Homes.{IsLoggedHome}
 use Rattle.log_commits.specs.declared.behind.OldCommits.{OldCommits}
-use Rattle.log_commits.specs.Behind.{HoldsCommits, AreOldest, IsReadyToMove, StaysLast, MayMove, RefusesMove}
+use Rattle.log_commits.specs.Behind.{HoldsCommits, AreOldest, IsReadyToMove, MayMove, RefusesMove}
 use Rattle.log_commits.specs.Behind.{RefusesSure, start_work, select_works, tail_behind}
 use Rattle.log_commits.specs.Selecting.{IsSureBy, selecting_works}
 use Rattle.log_home.specs.declared.index.Newest.{Newest}
@@ -164,10 +164,6 @@ block_by home (Some newest) = newest.block
 abbrev pub store_block : StoreValue → ℕ → ℕ
 store_block s home = block_by home (find_in s.entries home)
 
--- The log of these bytes ends at this tail, also in blocks that get free later. Where a byte seals, this is no premise.
-abbrev pub EndsAtTail : TailValue → List ℕ → Type 0
-EndsAtTail t bytes = StaysLastBy t.log.sealing t t.log.ring bytes
-
 -- why nobody knows whether the log ends
 abbrev pub RefusesEnd : StoreFault → Type 0
 RefusesEnd Device = ⊤
@@ -225,13 +221,6 @@ RefusesStepBy s Copying (Move fault) =
 RefusesStepBy s Written (Move fault) = RefusesSure s.tail fault
 RefusesStepBy s Sure (Move fault) = RefusesMove s.tail s.work.oldest fault
 RefusesStepBy s stage other = ⊥
-
--- what a digest is trusted with, where the step selects the start
-abbrev pub TrustsBy : StoreValue → HomeStage → List ℕ → Type 0
-TrustsBy s Resting c = ⊤
-TrustsBy s Copying c = ⊤
-TrustsBy s Written c = ⊤
-TrustsBy s Sure c = StaysLast s.tail s.work.oldest c
 
 -- the step may be made
 abbrev pub MayStepBy : StoreValue → HomeStage → Type 0

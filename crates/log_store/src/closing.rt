@@ -2,7 +2,8 @@
 ghost use Rattle.std.specs.Prelude.{◌≡◌, ◌≤◌, ◌*◌, IsTrue, IfOk, IfErr, Ok, true, length};
 ghost use Rattle.log_codec.specs.declared.sealing.Sealing.TheVariants.{ByByte};
 ghost use Rattle.log_recovery.specs.Reading.{ReadsAlone};
-ghost use Rattle.log_store.specs.Store.{EndsAtTail, RefusesEnd};
+ghost use Rattle.log_commits.specs.Tail.{EndsAtTail};
+ghost use Rattle.log_store.specs.Store.{RefusesEnd};
 
 use crate::fault::StoreFault;
 use crate::store::LogStore;
@@ -20,6 +21,8 @@ impl<A: Allocator + Copy> LogStore<A> {
         requires long { 4096 * self.now.tail.log.blocks ≤ length (D.seen device.old) }
         ensures ends { D.is_honest device.old
             → IfOk result (λ ends. IsTrue ends → EndsAtTail self.now.tail (D.seen device.old)) }
+        ensures goes_on { D.is_honest device.old
+            → IfOk result (λ ends. EndsAtTail self.now.tail (D.seen device.old) → IsTrue ends) }
         ensures byte { self.now.tail.log.sealing ≡ ByByte → (result ≡ Ok true) × (device.new ≡ device.old) }
         ensures refused { IfErr result RefusesEnd }
         ensures read { ReadsAlone D.Device device.old device.new }

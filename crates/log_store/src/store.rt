@@ -6,7 +6,7 @@ ghost use Rattle.log_codec.specs.Chain.{IsLogHome};
 ghost use Rattle.log_recovery.specs.Reading.{ReadsAlone};
 ghost use Rattle.log_commits.specs.Calls.{DidAll};
 ghost use Rattle.log_codec.specs.Commit.{LogDescriptor};
-ghost use Rattle.log_commits.specs.Commit.{CommitLeaves, EndsBehind, MayCommit, RefusesTailCommit, committed_to};
+ghost use Rattle.log_commits.specs.Commit.{CommitLeaves, MayCommit, RefusesTailCommit, committed_to};
 ghost use Rattle.log_commits.specs.Commit.{next_logged, records_in, tail_after};
 ghost use Rattle.log_home.specs.Index.{find_in};
 ghost use Rattle.log_home.specs.Work.{next_copy};
@@ -105,8 +105,7 @@ fn make<D: Device>(
     ensures commits { (contents : ℕ → List ℕ) (ds younger : List LogDescriptor) → D.is_honest device.old
         → HasCommits D.Device second tail.old contents (ds ++ younger) device.old
         → IsSelectable D.Device second tail.old contents ds younger select device.old
-        → OnOk result (EndsBehind (tail_by tail.old select) homes.now (D.seen device.new)
-        → HoldsCommits (second_by second select) (tail_after (tail_by tail.old select) homes.now)
+        → OnOk result (HoldsCommits (second_by second select) (tail_after (tail_by tail.old select) homes.now)
         (committed_to contents homes.now (records_in homes.now room.old))
         (younger ++ next_logged tail.old homes.now ∷ []) (D.seen device.new)) }
     ensures outside { select ≡ None → D.is_honest device.old
@@ -313,9 +312,8 @@ impl<A: Allocator + Copy> LogStore<A> {
             → IsStoreOver D.Device self.new contents device.new) }
         ensures store { (contents : ℕ → List ℕ) → D.is_honest device.old
             → IsStoreOver D.Device self.old contents device.old
-            → OnOk result (EndsBehind (committing_tail self.old) homes.now (D.seen device.new)
-            → IsStoreOver D.Device self.new (committed_to contents homes.now (records_in homes.now room.old))
-            device.new) }
+            → OnOk result (IsStoreOver D.Device self.new
+            (committed_to contents homes.now (records_in homes.now room.old)) device.new) }
     {
         let log = self.tail.log();
         let Some(head) = head_of(&log, homes.len()) else {

@@ -8,8 +8,9 @@ use Rattle.volume_codec.specs.Recovery.{Batch}
 use Rattle.kept_blocks.specs.Blocks.{Blocks, bytes_in}
 use Rattle.log_codec.specs.declared.sealing.Sealing.TheVariants.{ByByte}
 use Rattle.log_codec.specs.Chain.{LogRecovers}
+use Rattle.log_commits.specs.Tail.{HoldsUpTo}
 use Rattle.log_pager.specs.Pager.{LogPagerValue, IsPagerOver}
-use Rattle.log_room.specs.Room.{KeepsFirst}
+use Rattle.log_room.specs.Room.{IsEnded, KeepsFirst}
 use Rattle.shown_volume.specs.Shown.{ShownValue, OpensShown}
 
 -- the home block of the volume, whose first one is this, for one of the disk, whose first one is that
@@ -43,22 +44,29 @@ pub record HasPut (shown : ShownValue) (batch : Batch) (low first : ℕ) (old ne
 abbrev pub with_batch : ShownValue → Batch → ShownValue
 with_batch shown batch = record shown { opened = batch ∷ shown.opened }
 
--- The records of a batch were committed to the log, and its gate is open; or a fault came before that, or within it.
+-- The records of a batch were put, its gate is open, and they were committed to the log, or a fault came within the
+-- commit. Then contents have the records.
 pub record CommitsBatch {D : Type 0} (disk : Ghosts D) (old : LogPagerValue D) (shown : ShownValue) (batch : Batch)
     (low first : ℕ) (done : Bool) (new : LogPagerValue D) (opened : ShownValue) : Type 0 where
   pub log : new.store.tail.log ≡ old.store.tail.log
   pub honest : disk.is_honest new.device ↔ disk.is_honest old.device
   pub later : disk.moment old.device ≤ disk.moment new.device
   pub none_put : done ≡ true → new.staged ≡ []
-  pub opens : done ≡ true → OpensShown shown batch opened
-  pub opened_is : done ≡ true → opened ≡ with_batch shown batch
+  pub number : done ≡ true → new.store.tail.number ≡ old.store.tail.number + 1
+  pub opens : OpensShown shown batch opened
+  pub opened_is : opened ≡ with_batch shown batch
+  pub after : (ℕ → List ℕ) → ℕ → List ℕ
+  pub put : (contents : ℕ → List ℕ) → HasPut shown batch low first contents (after contents)
   pub over : done ≡ true → (contents : ℕ → List ℕ) → disk.is_honest old.device → IsPagerOver disk old contents
-      → (after : ℕ → List ℕ) × HasPut shown batch low first contents after × IsPagerOver disk new after
+      → IsPagerOver disk new (after contents)
+  pub ended : done ≡ true → (contents : ℕ → List ℕ) → disk.is_honest old.device → IsPagerOver disk old contents
+      → IsEnded disk old → IsEnded disk new
+  pub held : (contents : ℕ → List ℕ) → disk.is_honest old.device → IsPagerOver disk old contents
+      → LeavesOnly disk.moment disk.left_since old.device new.device
+      (HoldsUpTo old.store.tail.log old.store.tail.number contents)
   pub leaves : (contents : ℕ → List ℕ) → disk.is_honest old.device
       → old.store.tail.log.sealing ≡ ByByte → IsPagerOver disk old contents
       → LeavesOnly disk.moment disk.left_since old.device new.device
-      (λ c. LogRecovers old.store.tail.log contents c
-      ⊎ ((after : ℕ → List ℕ) × HasPut shown batch low first contents after
-      × OpensShown shown batch (with_batch shown batch) × LogRecovers old.store.tail.log after c))
+      (λ c. LogRecovers old.store.tail.log contents c ⊎ LogRecovers old.store.tail.log (after contents) c)
   pub stays : (text : List ℕ) → ((c : List ℕ) → disk.may_leave old.device c → block_at c 0 ≡ text)
       → KeepsFirst disk text old.device new.device

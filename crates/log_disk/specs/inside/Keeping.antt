@@ -1,20 +1,25 @@
 -- What a disk over a volume with a log keeps.
-use Rattle.std.specs.Prelude.{◌≡◌, ℕ, ◌*◌, ◌≤◌, ◌↔◌, Bool, false, List, [], ◌∷◌, length}
+use Rattle.std.specs.Prelude.{⊤, ◌≡◌, ℕ, ◌+◌, ◌*◌, ◌≤◌, ◌↔◌, MatchBool, Bool, false, List, [], ◌∷◌, ◌++◌, length}
 use Rattle.std.specs.List.{AllByRecursion}
 use Rattle.device.specs.declared.device.Device.{Ghosts}
-use Rattle.device.specs.Memory.{DiskChange, Recorded, left_since_of, moment_of, seen_of}
+use Rattle.device.specs.Memory.{DiskChange, Recorded, content_after, left_since_of, moment_of, seen_of}
 use Rattle.device.specs.inside.Replay.{AreWithin}
 use Rattle.volume_codec.specs.Layout.{block_at}
-use Rattle.volume_codec.specs.Super.{SuperValue, block_count}
-use Rattle.volume_codec.specs.Recovery.{Recovers}
+use Rattle.volume_codec.specs.Super.{SuperValue, block_count, geometry_of}
+use Rattle.volume_codec.specs.Recovery.{Batch, IsOpenBatch, Recovers}
 use Rattle.journal.specs.Recovered.{RecoversBy}
 use Rattle.shown_volume.specs.Shown.{ShownValue, HasShown}
 use Rattle.log_codec.specs.declared.sealing.Sealing.TheVariants.{ByByte}
+use Rattle.log_codec.specs.declared.start.LogStart.{LogStart}
 use Rattle.log_codec.specs.Chain.{LogRecovers}
 use Rattle.log_volume.specs.Super.{LogSuperValue, FitsLog, log_of, log_super_text}
+use Rattle.log_commits.specs.Tail.{HoldsUpTo}
+use Rattle.log_commits.specs.Commit.{committed_to}
 use Rattle.log_pager.specs.Pager.{LogPagerValue, IsPagerOver}
+use Rattle.log_room.specs.Room.{IsEnded}
 use Rattle.log_disk.specs.Serving.{IsShownTable, volume_home}
 use Rattle.log_disk.specs.Disk.{LogDiskValue}
+use Rattle.log_disk.specs.Made.{batch_homes, batch_records, gate_write, gates_opened, opens_gate}
 
 -- contents of the volume, as the disk shows them
 abbrev pub shown_contents : LogSuperValue → SuperValue → (ℕ → List ℕ) → ℕ → List ℕ
@@ -27,11 +32,52 @@ pub record RecoverAlike (v : LogSuperValue) (t : SuperValue) (c w : List ℕ) : 
   pub volume : LogRecovers (log_of v) contents c
   pub disk : Recovers t (shown_contents v t contents) w
 
--- each list that a crash of the device left since a moment so far is alike to one that a crash of the disk might have
--- left since its moment then
+-- each list c that a crash of the device left since a moment so far has one w beside it that a crash of the disk might
+-- have left since its moment then; so they are by R, with that moment
+abbrev pub AreBackedBy : {D : Type 0} → (ℕ → List ℕ → List ℕ → Type 0) → Ghosts D → D → Recorded → List (ℕ × ℕ)
+    → Type 0
+AreBackedBy R disk device memory moments = AllByRecursion (λ m. (c : List ℕ) → disk.left_since device m.1 c
+    → (w : List ℕ) × left_since_of memory m.0 w × R m.0 c w) moments
+
+-- these recover alike
 abbrev pub AreBacked : {D : Type 0} → Ghosts D → D → LogSuperValue → SuperValue → Recorded → List (ℕ × ℕ) → Type 0
-AreBacked disk device v t memory moments = AllByRecursion (λ m. (c : List ℕ) → disk.left_since device m.1 c
-    → (w : List ℕ) × left_since_of memory m.0 w × RecoverAlike v t c w) moments
+AreBacked disk device v t memory moments = AreBackedBy (λ u c w. RecoverAlike v t c w) disk device memory moments
+
+-- The disk had bytes w after its older changes, at a moment that isn't before the one that is asked for, or just before
+-- that. Bytes c of the device hold the commits that the disk had made then, and recover to the same contents by these.
+pub record IsHeld (v : LogSuperValue) (t : SuperValue) (start : LogStart) (first : List ℕ) (changes : List DiskChange)
+    (moment : ℕ) (c w : List ℕ) : Type 0 where
+  pub newer : List DiskChange
+  pub older : List DiskChange
+  pub parts : changes ≡ newer ++ older
+  pub late : moment ≤ length older + 1
+  pub seen : w ≡ content_after first older
+  pub contents : ℕ → List ℕ
+  pub text : block_at c 0 ≡ log_super_text v
+  pub recovers : Recovers t (shown_contents v t contents) w
+  pub holds : HoldsUpTo (log_of v) (start.number + gates_opened older) contents c
+
+-- a write opened the gate of a batch: then the bytes recover to the contents with its records
+pub record OpensGate (v : LogSuperValue) (t : SuperValue) (first : List ℕ) (change : DiskChange)
+    (older : List DiskChange) : Type 0 where
+  pub batch : Batch
+  pub change_is : change ≡ gate_write t batch
+  pub says : IsOpenBatch (geometry_of t) (content_after first (change ∷ older)) batch
+  pub recovers : (contents : ℕ → List ℕ) → Recovers t (shown_contents v t contents) (content_after first older)
+      → Recovers t (shown_contents v t (committed_to contents (batch_homes v t batch)
+      (batch_records t batch (content_after first (change ∷ older))))) (content_after first (change ∷ older))
+
+-- another change leaves the contents
+abbrev pub StaysAlike : LogSuperValue → SuperValue → List ℕ → DiskChange → List DiskChange → Type 0
+StaysAlike v t first change older =
+    (contents : ℕ → List ℕ) → Recovers t (shown_contents v t contents) (content_after first older)
+    → Recovers t (shown_contents v t contents) (content_after first (change ∷ older))
+
+abbrev pub AreFollowed : LogSuperValue → SuperValue → List ℕ → List DiskChange → Type 0
+AreFollowed v t first [] = ⊤
+AreFollowed v t first (change ∷ older) =
+    MatchBool (opens_gate change) (OpensGate v t first change older) (StaysAlike v t first change older)
+    × AreFollowed v t first older
 
 -- the newest pair of moments is this one, and none is later
 pub record AreMoments (u r : ℕ) (moments : List (ℕ × ℕ)) : Type 0 where
@@ -43,11 +89,13 @@ pub record AreMoments (u r : ℕ) (moments : List (ℕ × ℕ)) : Type 0 where
 abbrev pub changed : List ℕ → List DiskChange → Recorded
 changed first changes = record { first = first; changes = changes; start = 0; calls = 0; faults = 0 }
 
--- The log of the device has the contents that the disk shows, and the device has the super block of the volume.
+-- The log of the device ends at the pager's tail and has the contents that the disk shows, and the device has the super
+-- block of the volume.
 pub record IsOverLog {D : Type 0} (disk : Ghosts D) (v : LogSuperValue) (t : SuperValue) (pager : LogPagerValue D)
     (shown : ShownValue) (seen : List ℕ) : Type 0 where
   pub contents : ℕ → List ℕ
   pub over : IsPagerOver disk pager contents
+  pub ended : IsEnded disk pager
   pub first : (c : List ℕ) → disk.may_leave pager.device c → block_at c 0 ≡ log_super_text v
   pub recovers : RecoversBy t shown.opened (shown_contents v t contents) seen
 
@@ -57,12 +105,13 @@ IsHonestBelow disk v pager = disk.is_honest pager.device × (v.sealing ≡ ByByt
 
 -- A disk that has failed takes no further call. Until then what its users see is the volume that it keeps, and nothing
 -- is put without a commit.
-pub record IsKeptDisk {D : Type 0} (disk : Ghosts D) (v : LogSuperValue) (t : SuperValue) (first : List ℕ)
-    (changes : List DiskChange) (moments : List (ℕ × ℕ)) (pager : LogPagerValue D) (shown : ShownValue)
+pub record IsKeptDisk {D : Type 0} (disk : Ghosts D) (v : LogSuperValue) (t : SuperValue) (start : LogStart)
+    (first : List ℕ) (changes : List DiskChange) (moments : List (ℕ × ℕ)) (pager : LogPagerValue D) (shown : ShownValue)
     (failed : Bool) : Type 0 where
   pub fits : FitsLog v
   pub table : IsShownTable v t
   pub log : pager.store.tail.log ≡ log_of v
+  pub number : failed ≡ false → pager.store.tail.number ≡ start.number + gates_opened changes
   pub long : length first ≡ 4096 * block_count t
   pub within : AreWithin (length first) changes
   pub moments_are : AreMoments (moment_of (changed first changes)) (disk.moment pager.device) moments
@@ -71,6 +120,9 @@ pub record IsKeptDisk {D : Type 0} (disk : Ghosts D) (v : LogSuperValue) (t : Su
   pub over : disk.is_honest pager.device → failed ≡ false
       → IsOverLog disk v t pager shown (seen_of (changed first changes))
   pub backed : IsHonestBelow disk v pager → AreBacked disk pager.device v t (changed first changes) moments
+  pub followed : AreFollowed v t first changes
+  pub held : disk.is_honest pager.device
+      → AreBackedBy (IsHeld v t start first changes) disk pager.device (changed first changes) moments
 
 -- ---- what calls do
 
@@ -79,6 +131,7 @@ pub record ReadsOn {D : Type 0} (disk : Ghosts D) (old new : LogDiskValue D) : T
   pub memory : new.memory ≡ old.memory
   pub volume : new.volume ≡ old.volume
   pub table : new.table ≡ old.table
+  pub log_start : new.log_start ≡ old.log_start
   pub moments : new.moments ≡ (moment_of old.memory, disk.moment new.device) ∷ old.moments
   pub later : disk.moment old.device ≤ disk.moment new.device
   pub honest : disk.is_honest new.device ↔ disk.is_honest old.device
@@ -89,6 +142,7 @@ pub record WritesOn {D : Type 0} (disk : Ghosts D) (old : LogDiskValue D) (chang
   pub memory : new.memory ≡ record old.memory { changes = change ∷ old.memory.changes }
   pub volume : new.volume ≡ old.volume
   pub table : new.table ≡ old.table
+  pub log_start : new.log_start ≡ old.log_start
   pub moments : new.moments ≡ (moment_of new.memory, disk.moment new.device) ∷ old.moments
   pub later : disk.moment old.device ≤ disk.moment new.device
   pub honest : disk.is_honest new.device ↔ disk.is_honest old.device

@@ -1,19 +1,16 @@
 -- Disks over a volume with a log, of which a crash leaves what stands for bytes of the disk.
-use Rattle.std.specs.Prelude.{ℕ, ◌≡◌, List, [], ◌∷◌}
+use Rattle.std.specs.Prelude.{◌≡◌, List, [], ◌∷◌}
 use Rattle.device.specs.declared.device.Device.{Ghosts}
-use Rattle.device.specs.Memory.{may_leave_of}
 use Rattle.machine.specs.declared.act.Reply.{Reply}
 use Rattle.machine.specs.declared.act.Step.{Step}
 use Rattle.machine.specs.Runs.{StepTaken}
 use Rattle.machine.specs.State.{Whole}
-use Rattle.log_disk.specs.Disk.{LogDiskValue, IsHonestLog, shown_by}
-use Rattle.log_disk.specs.Laws.{StandsForOne, StandsSince}
+use Rattle.log_disk.specs.Disk.{LogDiskValue, shown_by}
+use Rattle.log_disk.specs.Laws.{StandsSince}
 
--- what a crash leaves of the device, now and since any earlier state
-pub record Stands {D : Type 0} (disk : Ghosts D) (d : LogDiskValue D) : Type 0 where
-  pub now : IsHonestLog disk.is_honest d → (c : List ℕ) → disk.may_leave d.device c
-      → StandsForOne (may_leave_of d.memory) c
-  pub since : IsHonestLog disk.is_honest d → (old : LogDiskValue D) → StandsSince disk old d
+-- what a crash leaves of the device since any earlier state
+abbrev pub Stands : {D : Type 0} → Ghosts D → LogDiskValue D → Type 0
+Stands {D} disk d = disk.is_honest d.device → (old : LogDiskValue D) → StandsSince disk old d
 
 -- a step was made, and the disk after it is one of these
 pub record StepStands {D : Type 0} (disk : Ghosts D) (old : Whole (LogDiskValue D)) (step : Step) (reply : Reply)

@@ -1,22 +1,19 @@
 -- What private calls do to a pager over a log.
-use Rattle.std.specs.Prelude.{⊤, ◌≤◌, ◌≡◌, ◌≢◌, ◌↔◌, ◌⊎◌, ℕ, List, [], length, Result, Ok, OnOk, IfOk, IfErr}
+use Rattle.std.specs.Prelude.{⊤, ◌≤◌, ◌+◌, ◌≡◌, ◌≢◌, ◌↔◌, ◌⊎◌, ℕ, List, [], length, Result, Ok, OnOk, IfErr}
 use Rattle.device.specs.declared.device.Device.{Ghosts}
-use Rattle.device.specs.Device.{LeavesOnly}
+use Rattle.device.specs.Device.{LeavesOnly, Only}
 use Rattle.volume_codec.specs.Layout.{block_at}
 use Rattle.log_codec.specs.declared.sealing.Sealing.TheVariants.{ByByte}
 use Rattle.log_codec.specs.Chain.{LogRecovers}
-use Rattle.kept_blocks.specs.Blocks.{homes_in}
-use Rattle.log_commits.specs.Commit.{EndsBehind, tail_after}
+use Rattle.log_commits.specs.Tail.{EndsAtTail, HoldsUpTo}
 use Rattle.log_commits.specs.declared.behind.MoveFault.TheVariants as moves
 use Rattle.log_commits.specs.declared.fault.CommitFault.TheVariants as commits
 use Rattle.log_recovery.specs.Reading.{ReadsAlone}
-use Rattle.log_store.specs.declared.fault.Progress.{Progress}
 use Rattle.log_store.specs.declared.fault.StoreFault.TheVariants.{Commit, Move}
-use Rattle.log_store.specs.Store.{EndsAtTail, StepsBy, TrustsBy, committing_tail}
 use Rattle.log_pager.specs.declared.fault.PagerFault.{PagerFault}
 use Rattle.log_pager.specs.declared.fault.PagerFault.TheVariants.{Store}
 use Rattle.log_pager.specs.Pager.{LogPagerValue, IsPagerOver, contents_put}
-use Rattle.log_room.specs.Room.{KeepsFirst}
+use Rattle.log_room.specs.Room.{IsEnded, KeepsFirst, commits_of}
 
 -- the pager is over its device, which is honest
 pub record IsHonestOver {D : Type 0} (disk : Ghosts D) (s : LogPagerValue D) (contents : ℕ → List ℕ) : Type 0 where
@@ -29,6 +26,10 @@ pub record Leads {D : Type 0} (disk : Ghosts D) (old new : LogPagerValue D) : Ty
   pub len : length (disk.seen new.device) ≡ length (disk.seen old.device)
   pub honest : disk.is_honest new.device ↔ disk.is_honest old.device
   pub later : disk.moment old.device ≤ disk.moment new.device
+  -- a crash leaves the commits so far
+  pub held : (contents : ℕ → List ℕ) → IsHonestOver disk old contents
+      → LeavesOnly disk.moment disk.left_since old.device new.device
+      (HoldsUpTo old.store.tail.log old.store.tail.number contents)
   -- where a byte seals
   pub leaves : (contents : ℕ → List ℕ) → IsHonestOver disk old contents → old.store.tail.log.sealing ≡ ByByte
       → LeavesOnly disk.moment disk.left_since old.device new.device
@@ -53,10 +54,20 @@ abbrev pub StaysOver : {D : Type 0} → Ghosts D → LogPagerValue D → LogPage
 StaysOver disk old new fault =
     fault ≢ Store (Commit commits.Device) → fault ≢ Store (Move moves.Device) → KeepsContents disk old new
 
+-- no commit was made, and the log ends where it did
+pub record KeepsEnd {D : Type 0} (disk : Ghosts D) (old new : LogPagerValue D) : Type 0 where
+  pub number : new.store.tail.number ≡ old.store.tail.number
+  pub ends : IsEnded disk old → IsEnded disk new
+
+-- unless a commit's device call failed
+abbrev pub KeepsEndBy : {D : Type 0} → Ghosts D → LogPagerValue D → LogPagerValue D → PagerFault → Type 0
+KeepsEndBy disk old new fault = fault ≢ Store (Commit commits.Device) → KeepsEnd disk old new
+
 -- steps were made, or calls that changed nothing
 pub record HasStepped {D : Type 0} (disk : Ghosts D) (old new : LogPagerValue D) : Type 0 where
   pub leads : Leads disk old new
   pub staged : new.staged ≡ old.staged
+  pub end : KeepsEnd disk old new
   pub keeps : KeepsContents disk old new
 
 -- a call that makes steps
@@ -64,16 +75,8 @@ pub record MakesSteps {D X : Type 0} (disk : Ghosts D) (old : LogPagerValue D) (
     (new : LogPagerValue D) : Type 0 where
   pub leads : Leads disk old new
   pub staged : new.staged ≡ old.staged
+  pub end : KeepsEnd disk old new
   pub keeps : OnOk result (KeepsContents disk old new)
-  pub stays : IfErr result (StaysOver disk old new)
-
--- a step, where bytes that a read gives after it end at the tail
-pub record MakesStep {D : Type 0} (disk : Ghosts D) (old : LogPagerValue D) (result : Result Progress PagerFault)
-    (new : LogPagerValue D) : Type 0 where
-  pub leads : Leads disk old new
-  pub staged : new.staged ≡ old.staged
-  pub steps : IfOk result (StepsBy old.store old.store.stage new.store)
-  pub keeps : OnOk result (TrustsBy old.store old.store.stage (disk.seen new.device) → KeepsContents disk old new)
   pub stays : IfErr result (StaysOver disk old new)
 
 -- The pager is only read. Where that succeeds, the log ends at the tail. Where a byte seals, nothing is read.
@@ -95,15 +98,22 @@ pub record Commits {D : Type 0} (disk : Ghosts D) (old : LogPagerValue D) (resul
   pub kept : IfErr result (λ fault. (fault ≢ Store (Commit commits.Device)) ⊎ (old.store.tail.log.sealing ≡ ByByte)
       → new.staged ≡ old.staged)
   pub puts : OnOk result (PutsContents disk old new)
+  pub numbers : OnOk result (new.store.tail.number ≡ old.store.tail.number + commits_of old.staged)
+  pub ends : OnOk result ((contents : ℕ → List ℕ) → IsHonestOver disk old contents → IsEnded disk old
+      → IsEnded disk new)
   pub stays : IfErr result (StaysOver disk old new)
+  pub end : IfErr result (KeepsEndBy disk old new)
 
--- a commit of blocks, where bytes that a read gives after it end behind it
+-- a commit of blocks, before the end of the log is read
 pub record CommitsPut {D : Type 0} (disk : Ghosts D) (old : LogPagerValue D) (result : Result ⊤ PagerFault)
     (new : LogPagerValue D) : Type 0 where
   pub leads : Leads disk old new
+  pub some : old.staged ≢ []
   pub value : OnOk result (new.staged ≡ [])
   pub kept : IfErr result (λ fault. new.staged ≡ old.staged)
-  pub tail : OnOk result (new.store.tail ≡ tail_after (committing_tail old.store) (homes_in old.staged))
-  pub puts : OnOk result (EndsBehind (committing_tail old.store) (homes_in old.staged) (disk.seen new.device)
-      → PutsContents disk old new)
+  pub puts : OnOk result (PutsContents disk old new)
+  pub number : OnOk result (new.store.tail.number ≡ old.store.tail.number + 1)
+  pub sure : OnOk result ((contents : ℕ → List ℕ) → IsHonestOver disk old contents
+      → Only (disk.may_leave new.device) (disk.seen new.device))
   pub stays : IfErr result (StaysOver disk old new)
+  pub end : IfErr result (KeepsEndBy disk old new)

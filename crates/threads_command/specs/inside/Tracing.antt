@@ -6,8 +6,9 @@ use Rattle.machine.specs.declared.act.Reply.{Reply}
 use Rattle.machine.specs.declared.act.Shape.{Shape}
 use Rattle.machine.specs.declared.act.Step.{Step}
 use Rattle.engine.specs.Engine.{HasRun}
-use Rattle.log_disk.specs.Disk.{LogDiskValue, IsHonestLog, shown_by}
+use Rattle.log_disk.specs.Disk.{LogDiskValue, shown_by}
 use Rattle.log_disk.specs.Laws.{StandsForOne, StandsSince}
+use Rattle.log_disk.specs.Made.{IsTold}
 use Rattle.log_disk.specs.Opening.{HasShown}
 
 -- A run over the disk that shows the volume with a log of a device: these steps were made and answered so. Then the
@@ -19,8 +20,8 @@ pub record HasRunOnShown {D : Type 0} (disk : Ghosts D) (before : D) (shape : Sh
   pub is_shown : HasShown disk before shown
   pub ran : HasRun (shown_by disk) shown shape steps replies last
   pub ended : after ≡ last.device
-  -- Where a byte seals commits, a crash of the device leaves what one of the disk might have left: within the run, and
-  -- after it.
-  pub within : IsHonestLog disk.is_honest last → StandsSince disk shown last
-  pub later : IsHonestLog disk.is_honest last → (c : List ℕ) → disk.may_leave after c
+  -- A crash of the device leaves what one of the disk might have left, within the run and after it, if only commits
+  -- can be read from these bytes that the disk made.
+  pub within : disk.is_honest last.device → StandsSince disk shown last
+  pub later : disk.is_honest last.device → (c : List ℕ) → disk.may_leave after c → IsTold last c
       → StandsForOne (may_leave_of last.memory) c

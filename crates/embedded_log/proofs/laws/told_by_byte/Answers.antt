@@ -1,4 +1,4 @@
-use Rattle.embedded_log.proofs.Byte.{told_mark}
+use Rattle.embedded_log.proofs.Left.{told_mark}
 use Rattle.embedded_log.proofs.laws.told_by_byte.Goals as goal
 
 pub returns : goal.returns

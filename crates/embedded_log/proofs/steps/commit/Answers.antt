@@ -1,6 +1,5 @@
-use Rattle.embedded_log.specs.Steps.{WithRoom, WithoutRoom}
-use Rattle.embedded_log.specs.inside.Leading.{HasAcknowledgedMark}
-use Rattle.embedded_log.proofs.Leading.{leads_on, runs_on}
+use Rattle.embedded_log.specs.Steps.{WithoutRoom}
+use Rattle.embedded_log.proofs.Leading.{leads_on}
 use Rattle.embedded_log.proofs.Stepping.{acknowledges_on, stops_with_room}
 use Rattle.embedded_log.proofs.steps.commit.Goals as goal
 

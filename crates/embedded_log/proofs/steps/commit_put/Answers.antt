@@ -8,8 +8,8 @@ returns-in-Some-clause-leads g c = leads_nowhere c.args.files.now
 
 pub returns-in-Ok-clause-acknowledges : goal.returns-in-Ok-clause-acknowledges
 returns-in-Ok-clause-acknowledges g c = runs_commit c.args.files.now c.commit.new.self c.in-Ok.mark
-    c.in-Ok.ensures.ok c.in-Ok.ensures.mark c.commit.ensures.honest.0 c.in-Ok.ensures.nothing
-    c.in-Ok.ensures.committed (λ well contents held told. c.in-Ok.ensures.over contents well held told)
+    c.in-Ok.ensures.ok c.in-Ok.ensures.mark c.commit.ensures.whole c.commit.ensures.honest.0 c.in-Ok.ensures.nothing
+    c.in-Ok.ensures.committed (λ well contents held. c.in-Ok.ensures.over contents well held)
     (λ well contents held. c.commit.ensures.leaves contents well held)
 
 pub returns-in-Ok-clause-leads : goal.returns-in-Ok-clause-leads
@@ -21,5 +21,5 @@ returns-in-Ok-clause-leads g c =
 pub returns-in-Err-clause-leads : goal.returns-in-Err-clause-leads
 returns-in-Err-clause-leads g c = leads_stopped_commit c.args.files.now c.commit.new.self c.in-Err.why
     c.in-Err.ensures.kept (λ other well contents held. c.in-Err.ensures.stays contents well held other)
-    c.in-Err.ensures.failed c.commit.ensures.honest.0
+    c.in-Err.ensures.failed c.commit.ensures.whole c.commit.ensures.honest.0
     (λ well contents held. c.commit.ensures.leaves contents well held)

@@ -7,7 +7,7 @@ returns-in-Some-clause-leads g c = leads_nowhere c.args.files.now
 
 pub returns-in-Ok-clause-leads : goal.returns-in-Ok-clause-leads
 returns-in-Ok-clause-leads g c = leads_step c.args.files.now c.step.new.self c.in-Ok.progress c.in-Ok.ensures.stepped
-    c.step.ensures.honest.0 (λ well contents held trusted. c.in-Ok.ensures.over contents well held trusted)
+    c.step.ensures.honest.0 (λ well contents held. c.in-Ok.ensures.over contents well held)
     (λ well contents held. c.step.ensures.leaves contents well held)
 
 pub returns-in-Err-clause-leads : goal.returns-in-Err-clause-leads

@@ -5,6 +5,5 @@ use Rattle.log_engine.proofs.running.make_step.Goals as goal
 pub returns : goal.returns
 returns g c = record {
   taken = c.enter-reply.ensures.taken;
-  stands = subst (Stands g.D.Device) c.device.ensures
-      (record { now = c.crashes_alike.ensures.now; since = c.crashes_alike.ensures.since });
+  stands = subst (Stands g.D.Device) c.device.ensures c.crashes_alike.ensures.since;
 }

@@ -1,8 +1,16 @@
 use Rattle.std.proofs.Common.{subst, true, false}
 use Rattle.std.specs.Prelude.{is_ok}
 use Rattle.log_commits.specs.Tail.{IsTail}
+use Rattle.log_commits.specs.Commit.{records_in}
+use Rattle.log_commits.proofs.Left.{commit_refused}
 use Rattle.log_commits.proofs.InRoom.{by_answer, room_commits, room_leaves, room_outside}
 use Rattle.log_commits.proofs.tail.LogTail.commit.Goals as goal
+
+pub returns-in_err-blocks-clause-leaves : goal.returns-in_err-blocks-clause-leaves
+returns-in_err-blocks-clause-leaves g c = λ contents honest held.
+    by_answer g.D.Device c.from_residual.result c.from_residual.ensures.0 (commit_refused g.D.Device c.args.self.now
+    contents c.args.homes.now (records_in c.args.homes.now c.args.room.now) c.args.device.now
+    (g.met.D.Device.since_now c.args.device.now) held)
 
 pub returns-in_err-write_next-clause-outside : goal.returns-in_err-write_next-clause-outside
 returns-in_err-write_next-clause-outside g c =

@@ -9,7 +9,8 @@ pub returns-in_err-blocks-clause-leaves : goal.returns-in_err-blocks-clause-leav
 returns-in_err-blocks-clause-leaves g c = λ contents ds younger honest held ready sure.
     by_answer g.D.Device c.from_residual.result c.from_residual.ensures.0 (selecting_refused g.D.Device
     c.args.self.now contents c.args.homes.now (records_in c.args.homes.now c.args.room.now) c.args.oldest
-    c.args.second (ds ++ younger) c.args.device.now (g.met.D.Device.since_now c.args.device.now) held)
+    c.args.second (ds ++ younger) c.args.device.now
+    (g.met.D.Device.since_now c.args.device.now) held)
 
 pub returns-in-Err-clause-leaves : goal.returns-in-Err-clause-leaves
 returns-in-Err-clause-leaves g c = λ contents ds younger honest held ready sure.

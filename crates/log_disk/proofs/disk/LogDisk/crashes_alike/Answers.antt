@@ -1,29 +1,27 @@
-use Rattle.std.proofs.Common.{subst}
-use Rattle.log_disk.specs.Disk.{LogDiskValue, IsHonestLog}
-use Rattle.log_disk.specs.Laws.{StandsForOne, StandsSince}
-use Rattle.log_disk.specs.inside.Keeping.{changed}
+use Rattle.std.proofs.Common.{ℕ, List, subst, sym, arith}
 use Rattle.device.specs.Memory.{may_leave_of}
-use Rattle.log_disk.proofs.Crashing.{stands_now, stands_since}
+use Rattle.log_codec.specs.declared.sealing.Sealing.{Sealing}
+use Rattle.log_volume.specs.Super.{log_of}
+use Rattle.log_commits.specs.Told.{TellsTornBy}
+use Rattle.log_disk.specs.Disk.{LogDiskValue}
+use Rattle.log_disk.specs.Laws.{StandsForOne}
+use Rattle.log_disk.specs.Made.{IsCommitOf, IsTold}
+use Rattle.log_disk.specs.inside.Times.{since_now}
 use Rattle.log_disk.proofs.disk.LogDisk.crashes_alike.Goals as goal
 
-pub returns : goal.returns
-returns g c =
-    let d = c.self.inside in
-    let value : LogDiskValue _ = record {
-      device = d.pager.device;
-      volume = d.volume;
-      table = d.table;
-      memory = record (changed d.past.first d.past.changes) { calls = d.calls; faults = d.faults };
-      moments = d.past.moments;
-    } in
-    let k = c.self.invariant in
-    record {
-      now = subst (λ (d : LogDiskValue _). IsHonestLog g.D.Device.is_honest d → (c : _)
-          → g.D.Device.may_leave d.device c → StandsForOne (may_leave_of d.memory) c) c.self.view_is
-          (λ honest. stands_now g.D.Device g.met.D.Device.now_is_since c.one_reading.ensures.contents
-          c.one_reading.ensures.files value k.fits k.table k.moments_are (k.backed honest));
-      since = subst (λ (d : LogDiskValue _). IsHonestLog g.D.Device.is_honest d → (old : _)
-          → StandsSince g.D.Device old d) c.self.view_is
-          (λ honest. stands_since g.D.Device g.met.D.Device.now_is_since c.one_reading.ensures.contents
-          c.one_reading.ensures.files value k.fits k.table k.moments_are (k.backed honest));
-    }
+pub returns-clause-now : goal.returns-clause-now
+returns-clause-now g c =
+    let below = g.D.Device in
+    subst (λ (d : LogDiskValue _). below.is_honest d.device → (list : List ℕ) → below.may_leave d.device list
+    → IsTold d list → StandsForOne (may_leave_of d.memory) list) c.self.view_is
+    (λ honest list left told.
+    let disk = c.self.inside.disk in
+    let since = g.met.D.Device.now_is_since disk.device (below.moment disk.device) list (omega arith) left in
+    let stood = c.crashes_alike.ensures honest disk list since told in
+    (stood.0, since_now below.moment disk stood.0 stood.1, stood.2))
+
+pub returns-clause-byte : goal.returns-clause-byte
+returns-clause-byte g c = λ byte list.
+    let disk = c.args.self.now in
+    subst (λ (s : Sealing). TellsTornBy s (IsCommitOf disk) (log_of disk.volume) disk.log_start.number list) (sym byte)
+    tt

@@ -23,7 +23,6 @@ returns-clause-opened g c = λ honest.
     (sym c.over.ensures.value)
     (record {
       lengths = c.in-Ok.opened.lengths.items;
-      next = c.in-Ok.opened.start;
       opened = c.in-Ok.ensures.opened honest;
     })
 

@@ -1,13 +1,10 @@
-use Rattle.std.proofs.Common.{◌≡◌, ◌≢◌, ◌⊎◌, ℕ, List, [], None, inl, inr, subst, sym, ap, ◌∙◌}
+use Rattle.std.proofs.Common.{◌≡◌, ◌≢◌, ℕ, List, [], None, inl, inr, subst, sym, ap, ◌∙◌}
 use Rattle.device.specs.Device.{LeavesOnly}
 use Rattle.device.specs.declared.device.Device.{Ghosts}
-use Rattle.kept_blocks.specs.Blocks.{homes_in}
-use Rattle.log_codec.specs.Chain.{LogRecovers}
-use Rattle.log_commits.specs.Commit.{TellsTorn}
-use Rattle.log_commits.proofs.Public.{told_ends}
-use Rattle.log_store.specs.Store.{committing_tail}
+use Rattle.kept_blocks.specs.Blocks.{AreWholeBlocks}
 use Rattle.log_pager.specs.declared.fault.PagerFault.{PagerFault}
-use Rattle.log_pager.specs.Pager.{IsPagerOver, LogPagerValue, RefusesPagerCommit, contents_put, records_put}
+use Rattle.log_pager.proofs.Public.{put_refused}
+use Rattle.log_pager.specs.Pager.{IsPagerOver, LeftByPut, LogPagerValue, RefusesPagerCommit, contents_put}
 use Rattle.log_files.specs.State.{LogFilesState}
 use Rattle.log_files.specs.Calls.{IsFailedLogCommit, log_commit_refusal}
 use Rattle.log_files.specs.inside.Faults.{refusal_by}
@@ -20,30 +17,21 @@ use Rattle.log_files.proofs.files.LogFiles.commit.Goals as goal
 abbrev LeavesPut : {D : Type 0} → Ghosts D → (ℕ → List ℕ) → D → LogFilesState D → Type 0
 LeavesPut disk contents new s = disk.is_honest s.pager.device → IsPagerOver disk s.pager contents
     → LeavesOnly disk.moment disk.left_since s.pager.device new
-    (λ x. TellsTorn (committing_tail s.pager.store) (homes_in s.pager.staged) (records_put s.pager.staged) x
-    → LogRecovers s.pager.store.tail.log contents x
-    ⊎ LogRecovers s.pager.store.tail.log (contents_put contents s.pager.staged) x)
+    (LeftByPut s.pager.store.tail contents s.pager.staged)
 
 leaves_put : (g : _) (c : After-commit g) (contents : ℕ → List ℕ)
     → LeavesPut g.D.Device contents c.commit.new.self.device c.args.self.now
 leaves_put g c contents =
     subst (LeavesPut g.D.Device contents c.commit.new.self.device) c.self.view_is (c.commit.ensures.leaves contents)
 
--- what was committed, where the premise on a crash covers that on a read
+-- what was committed
 abbrev PutsOver : {D : Type 0} → Ghosts D → (ℕ → List ℕ) → LogPagerValue D → LogFilesState D → Type 0
 PutsOver disk contents new s = disk.is_honest s.pager.device → IsPagerOver disk s.pager contents
-    → TellsTorn (committing_tail s.pager.store) (homes_in s.pager.staged) (records_put s.pager.staged)
-    (disk.seen new.device)
     → IsPagerOver disk new (contents_put contents s.pager.staged)
 
 pub returns-in-Ok-clause-over : goal.returns-in-Ok-clause-over
 returns-in-Ok-clause-over g c = λ contents.
-    let s : LogFilesState g.row.D.Denot = files_state_of c.self.inside in
-    let new = c.commit.new.self in
-    let over : PutsOver g.D.Device contents new s = λ honest over tells.
-    c.in-Ok.ensures.over contents honest over (told_ends (committing_tail s.pager.store) (homes_in s.pager.staged)
-    (records_put s.pager.staged) (g.D.Device.seen new.device) tells) in
-    subst (PutsOver g.D.Device contents new) c.self.view_is over
+    subst (PutsOver g.D.Device contents c.commit.new.self) c.self.view_is (c.in-Ok.ensures.over contents)
 
 pub returns-in-Ok-clause-leaves : goal.returns-in-Ok-clause-leaves
 returns-in-Ok-clause-leaves g c = leaves_put g (goal.at.returns-in-Ok-clause-leaves g c).After-commit
@@ -77,3 +65,9 @@ returns-in-Err-clause-failed g c = λ is.
         };
       }
     ])
+
+pub returns-in_err-judge_commit-clause-leaves : goal.returns-in_err-judge_commit-clause-leaves
+returns-in_err-judge_commit-clause-leaves g c = λ contents honest over.
+    let W : LogFilesState g.row.D.Denot → Type 0 = λ s. AreWholeBlocks s.pager.staged in
+    put_refused g.D.Device c.args.self.now.pager contents (subst W c.self.view_is c.are_whole.ensures)
+    (g.met.D.Device.since_now c.args.self.now.pager.device) over

@@ -1,12 +1,13 @@
 use Rattle.std.proofs.Common.{◌≡◌, inl, inr, Result, subst, sym, ap, ◌∙◌}
 use Rattle.std.specs.Prelude.{IfErr}
 use Rattle.device.specs.Device.{LeavesOnly}
+use Rattle.device.proofs.Public.{leaves_at_start}
+use Rattle.log_commits.proofs.Public.{left_unchanged}
 use Rattle.page_entry.specs.declared.refusal.Refusal.{Refusal}
 use Rattle.page_entry.specs.declared.refusal.Refusal.TheVariants as refusals
-use Rattle.log_codec.specs.Chain.{LogRecovers}
+use Rattle.log_commits.specs.Behind.{LeftUnchanged}
 use Rattle.log_store.specs.declared.fault.Progress.{Progress}
 use Rattle.log_store.specs.declared.fault.StoreFault.{StoreFault}
-use Rattle.log_store.specs.Store.{TrustsBy}
 use Rattle.log_pager.specs.declared.fault.PagerFault.TheVariants.{Store}
 use Rattle.log_pager.specs.Pager.{IsPagerOver}
 use Rattle.log_files.specs.State.{LogFilesState}
@@ -57,5 +58,11 @@ returns-clause-leaves g c = λ contents honest over.
     let Q : LogFilesState g.row.D.Denot → Type 0 = λ v. disk.is_honest v.pager.device
     → IsPagerOver disk v.pager contents
     → LeavesOnly disk.moment disk.left_since v.pager.device c.step.new.self.device
-    (λ x. TrustsBy v.pager.store v.pager.store.stage x → LogRecovers v.pager.store.tail.log contents x) in
+    (LeftUnchanged v.pager.store.tail contents) in
     subst Q c.self.view_is (c.step.ensures.leaves contents) honest over
+
+pub returns-then-is_spent-clause-leaves : goal.returns-then-is_spent-clause-leaves
+returns-then-is_spent-clause-leaves g c = λ contents honest over.
+    let p = c.args.self.now.pager in
+    leaves_at_start (λ x left. left_unchanged p.store.tail contents x
+    (over.store.holds x (g.met.D.Device.since_now p.device x left)).held)

@@ -1,21 +1,20 @@
-use Rattle.std.proofs.Common.{◌≡◌, ◌≢◌, ◌⊎◌, ◌↔◌, ℕ, ◌+◌, ◌*◌, List, length, true, false, refl, subst, sym, ap}
+use Rattle.std.proofs.Common.{◌≡◌, ◌≢◌, ◌↔◌, ℕ, ◌+◌, ◌*◌, List, length, true, false, refl, subst, sym, ap}
 use Rattle.std.proofs.Common.{◌∙◌}
-use Rattle.device.specs.Device.{LeavesOnly}
+use Rattle.device.specs.Device.{LeavesOnly, Only}
 use Rattle.device.proofs.Public.{leaves_weaker}
 use Rattle.kept_blocks.specs.Blocks.{homes_in}
 use Rattle.log_codec.specs.Log.{log_commit_blocks}
-use Rattle.log_codec.specs.Chain.{LogRecovers}
 use Rattle.log_commits.specs.Calls.{DidAll}
 use Rattle.log_commits.specs.declared.fault.CommitFault.TheVariants.{Device}
 use Rattle.log_commits.specs.Tail.{TailValue}
-use Rattle.log_commits.specs.Commit.{EndsBehind, LeftByCommit, MayCommit, TellsTorn, committed_to, records_in}
+use Rattle.log_commits.specs.Commit.{LeftByCommit, MayCommit, committed_to, records_in}
 use Rattle.log_store.specs.declared.fault.StoreFault.TheVariants.{Commit, OutOfMemory}
 use Rattle.log_store.specs.Store.{IsStoreOver, KeepsStore, RefusesStoreCommit, committing_tail, store_commit_works}
 use Rattle.log_store.proofs.Public.{committing_log}
 use Rattle.log_pager.specs.declared.fault.PagerFault.TheVariants.{Store}
-use Rattle.log_pager.specs.Pager.{LogPagerValue, IsPagerOver, contents_put, records_put}
+use Rattle.log_pager.specs.Pager.{LogPagerValue, IsPagerOver, LeftByPut, contents_put, records_put}
 use Rattle.log_pager.proofs.Blocks.{committed_is}
-use Rattle.log_pager.proofs.Over.{store_as, pager_emptied, pager_kept, left_as, none_put}
+use Rattle.log_pager.proofs.Over.{store_as, pager_emptied, pager_kept, left_as, none_put, refused_in}
 use Rattle.log_pager.proofs.Seen.{pager_value_of}
 use Rattle.log_pager.proofs.pager.LogPager.commit.Goals.{After-commit}
 use Rattle.log_pager.proofs.pager.LogPager.commit.Goals as goal
@@ -49,9 +48,7 @@ module _ (g : _) (c : After-commit g) where
       (LeftByCommit (committing_tail before.store) contents c.deref.result.now
       (records_in c.deref.result.now c.deref_mut.result.now))
       → LeavesOnly g.D.Device.moment g.D.Device.left_since before.device c.commit.new.device
-      (λ x. TellsTorn (committing_tail before.store) (homes_in before.staged) (records_put before.staged) x
-      → LogRecovers before.store.tail.log contents x
-      ⊎ LogRecovers before.store.tail.log (contents_put contents before.staged) x)
+      (LeftByPut before.store.tail contents before.staged)
   leaves contents honest left =
       leaves_weaker (of_blocks (λ hs rs n. LeavesOnly g.D.Device.moment g.D.Device.left_since before.device
       c.commit.new.device (LeftByCommit (committing_tail before.store) contents hs rs)) left)
@@ -64,14 +61,11 @@ module _ (g : _) (c : After-commit g) where
       (records_in c.deref.result.now c.deref_mut.result.now)))
       → (let old = c.args.self.now in g.D.Device.is_honest old.device → IsPagerOver g.D.Device old contents
       → LeavesOnly g.D.Device.moment g.D.Device.left_since old.device c.commit.new.device
-      (λ x. TellsTorn (committing_tail old.store) (homes_in old.staged) (records_put old.staged) x
-      → LogRecovers old.store.tail.log contents x
-      ⊎ LogRecovers old.store.tail.log (contents_put contents old.staged) x))
+      (LeftByPut old.store.tail contents old.staged))
   pager_leaves contents left =
       of_pager (λ v. g.D.Device.is_honest v.device → IsPagerOver g.D.Device v contents
       → LeavesOnly g.D.Device.moment g.D.Device.left_since v.device c.commit.new.device
-      (λ x. TellsTorn (committing_tail v.store) (homes_in v.staged) (records_put v.staged) x
-      → LogRecovers v.store.tail.log contents x ⊎ LogRecovers v.store.tail.log (contents_put contents v.staged) x))
+      (LeftByPut v.store.tail contents v.staged))
       (λ honest over. leaves contents honest (left honest over.store))
 
 pub returns-in-Ok-commit-clause-may : goal.returns-in-Ok-commit-clause-may
@@ -95,7 +89,7 @@ returns-in-Ok-commit-clause-honest g c =
     (λ v. g.D.Device.is_honest c.commit.new.device ↔ g.D.Device.is_honest v.device) c.commit.ensures.honest
 
 pub returns-in-Ok-commit-clause-over : goal.returns-in-Ok-commit-clause-over
-returns-in-Ok-commit-clause-over g c = λ contents honest over ends.
+returns-in-Ok-commit-clause-over g c = λ contents honest over.
     let disk = g.D.Device in
     let a = (goal.at.returns-in-Ok-commit-clause-over g c).After-commit in
     let old : LogPagerValue g.row.D.Denot = before g a in
@@ -103,18 +97,23 @@ returns-in-Ok-commit-clause-over g c = λ contents honest over ends.
     record { store = c.commit.new.self; staged = c.clear.new.self; device = c.commit.new.device } in
     let newer : ℕ → List ℕ = contents_put contents old.staged in
     of_pager g a (λ v. disk.is_honest v.device → IsPagerOver disk v contents
-    → EndsBehind (committing_tail v.store) (homes_in v.staged) (disk.seen after.device)
     → IsPagerOver disk after (contents_put contents v.staged))
-    (λ honest over ends.
-    let there = of_blocks g a (λ hs rs n. EndsBehind (committing_tail old.store) hs (disk.seen after.device)
-    → IsStoreOver disk after.store (committed_to contents hs rs) after.device)
-    (c.in-Ok-commit.ensures.store contents honest over.store) ends in
+    (λ honest over.
+    let there = of_blocks g a (λ hs rs n. IsStoreOver disk after.store (committed_to contents hs rs) after.device)
+    (c.in-Ok-commit.ensures.store contents honest over.store) in
     let log = ap (λ (t : TailValue). t.log) c.in-Ok-commit.ensures.noted.tail ∙ committing_log old.store in
     pager_emptied disk old after contents log
     c.commit.ensures.len newer c.clear.ensures
     (store_as disk (committed_to contents (homes_in old.staged) (records_put old.staged)) newer
     (λ b. sym (committed_is contents old.staged c.in-Ok.ensures.whole b)) after.store after.device there) over)
-    honest over ends
+    honest over
+
+pub returns-in-Ok-commit-clause-sure : goal.returns-in-Ok-commit-clause-sure
+returns-in-Ok-commit-clause-sure g c = λ contents honest over some.
+    of_pager g (goal.at.returns-in-Ok-commit-clause-sure g c).After-commit
+    (λ v. g.D.Device.is_honest v.device → IsPagerOver g.D.Device v contents
+    → Only (g.D.Device.may_leave c.commit.new.device) (g.D.Device.seen c.commit.new.device))
+    (λ honest over. (c.in-Ok-commit.ensures.leaves contents honest over.store).durable refl) honest over
 
 pub returns-in-Ok-commit-clause-leaves : goal.returns-in-Ok-commit-clause-leaves
 returns-in-Ok-commit-clause-leaves g c = λ contents.
@@ -176,7 +175,19 @@ returns-clause-stays g c = λ contents honest over other.
     (c.in-Err-commit.ensures.kept contents honest over.store not_device) over) honest over
 
 pub returns-then-count-eq0-clause-over : goal.returns-then-count-eq0-clause-over
-returns-then-count-eq0-clause-over g c = λ contents honest over ends.
+returns-then-count-eq0-clause-over g c = λ contents honest over.
     let P : LogPagerValue g.row.D.Denot → Type 0 = λ v. length v.staged ≡ 0 in
     let none : length c.self.inside.staged ≡ 0 = sym c.len-count.ensures ∙ c.if-count-eq0.true in
     none_put g.D.Device c.args.self.now contents (subst P c.self.view_is none) over
+
+pub returns-then-count-eq0-clause-leaves : goal.returns-then-count-eq0-clause-leaves
+returns-then-count-eq0-clause-leaves g c = λ contents honest over.
+    refused_in g.D.Device c.self.view_is c.are_whole.ensures g.met.D.Device.since_now contents over
+
+pub returns-then-count-gt65535-clause-leaves : goal.returns-then-count-gt65535-clause-leaves
+returns-then-count-gt65535-clause-leaves g c = λ contents honest over.
+    refused_in g.D.Device c.self.view_is c.are_whole.ensures g.met.D.Device.since_now contents over
+
+pub returns-in-Err-clause-leaves : goal.returns-in-Err-clause-leaves
+returns-in-Err-clause-leaves g c = λ contents honest over.
+    refused_in g.D.Device c.self.view_is c.are_whole.ensures g.met.D.Device.since_now contents over
