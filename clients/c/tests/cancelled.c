@@ -52,7 +52,8 @@ static void *load(void *argument)
 static void *begin(void *argument)
 {
     (void)argument;
-    code = famsync_open(other, NULL, &second);
+    /* No thread of the library makes the writes that the call of famsync_close is held in. */
+    code = famsync_open(other, &(struct famsync_options){.foreground = 1}, &second);
     pthread_testcancel();
     return NULL;
 }
