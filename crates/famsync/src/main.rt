@@ -1,7 +1,7 @@
 //! `famsync`: makes volumes, runs scripts and programs on a machine that maps their files, and prints the files.
 #![tactic(auto)]
 
-use console::perform;
+use all_commands::perform;
 use std::io::{BufWriter, ErrorKind, Stdout};
 use std::process::ExitCode;
 use std::{env, io};

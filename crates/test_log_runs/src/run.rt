@@ -1,11 +1,11 @@
 // A run: an opening and steps, which can be made again and again from the same beginning.
 use crate::step::{Answer, Calls, Said, Step, make};
 use device::Device;
-use log_crashes::{Disk, Tape, taped};
 use log_files::LogFiles;
 use page_entry::Refusal;
 use run_files::{Ended, Failure, compare_count, compare_refusal};
 use std::alloc::Global;
+use test_log_crashes::{Disk, Tape, taped};
 
 /// A run, as a file says it.
 #[derive(Drop)]

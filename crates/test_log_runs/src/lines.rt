@@ -3,13 +3,13 @@ use crate::ending::{Ending, Trial};
 use crate::run::Run;
 use crate::step::{Calls, read_calls, read_said};
 use crate::sweep::Sweep;
-use log_crashes::{Volume, crashed, read_kept, read_volume};
 use run_files::{
     Counts, Ended, Failure, Judge, compare_part, list_of, member, number_of, number_or, only,
     read_puts, take_disk,
 };
 use serde_json::{Map, Value};
 use std::alloc::Global;
+use test_log_crashes::{Volume, crashed, read_kept, read_volume};
 
 /// A file that is read as far as some line.
 #[derive(Drop)]

@@ -1,9 +1,9 @@
 // A crash after each device call of a run. What is found has the acknowledged commits, and maybe the one under way.
 use crate::ending::Trial;
-use log_crashes::{Found, Kept, State, crashed, find, read_all_kept, read_state};
 use run_files::{Failure, File, list_of};
 use serde_json::Value;
 use std::alloc::Global;
+use test_log_crashes::{Found, Kept, State, crashed, find, read_all_kept, read_state};
 
 /// What crashes leave, and the files after each number of commits. If `then` isn't empty, each opening is stopped, too,
 /// by crashes that leave these.

@@ -1,5 +1,4 @@
 // A step of a run over the files of a volume with a log: a call of `LogFiles`.
-use log_crashes::Disk;
 use log_files::LogFiles;
 use log_store::Progress;
 use page_entry::{FileNumber, FilePage, Refusal};
@@ -9,6 +8,7 @@ use run_files::{
 use serde_json::Value;
 use std::alloc::Global;
 use taped_disk::Call;
+use test_log_crashes::Disk;
 
 /// A step.
 #[derive(Drop)]

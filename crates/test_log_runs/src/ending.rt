@@ -1,9 +1,9 @@
 // Where a run is stopped, what a crash leaves then, and what is opened.
 use crate::run::{Made, Run};
-use log_crashes::{Kept, Tape, crashed, find, read_all_kept};
 use run_files::{Failure, File, Span, Wanted, list_of, read_wanted, span_of};
 use serde_json::Value;
 use std::alloc::Global;
+use test_log_crashes::{Kept, Tape, crashed, find, read_all_kept};
 
 /// The bytes and the files of a disk, and the last run on them.
 #[derive(Drop)]
