@@ -9,7 +9,6 @@ import weakref
 from types import TracebackType
 from typing import TYPE_CHECKING, Any, NoReturn, Optional, SupportsIndex, Type, overload
 
-from . import _buffers
 from ._errors import Argument, Forked, ReadOnly, check
 from ._library import library, words
 from ._session import Once
@@ -44,21 +43,27 @@ class Lent:
         self.give_back()
 
 
-class Memory:
-    """A file as memory of this process: a writable buffer, as `mmap.mmap` is one.
+class _Byte(ctypes.Union):
+    """A byte of an array of ctypes. A memoryview of such an array has the format "B", which supports indexes. The
+    format of c_ubyte, "<B", doesn't."""
 
-    Whole numbers and slices read and store bytes. A commit takes all pages that were stored to. `Volume.memory` makes
-    one.
+    _fields_ = [("byte", ctypes.c_ubyte)]
+
+
+class Memory:
+    """A file as memory of this process. `Volume.memory` opens it.
+
+    Indexes and slices read and store bytes. `view` returns all bytes as a memoryview. From Python 3.12 on, the object
+    itself is a writable buffer, like `mmap.mmap`. A commit writes all pages that were stored to.
     """
 
     name: str
     _bytes: memoryview
-    __hash__ = object.__hash__  # arrays of ctypes have none
 
-    def _begin(self, lent: Lent, address: int, length: int, readonly: bool) -> None:
-        # All buffers that are given out are of this array, and have it; nothing else does. So when it goes, nobody
-        # uses the memory any more, and what it has goes with it.
-        array = _buffers.array_at(address, length)
+    def __init__(self, lent: Lent, address: int, length: int, readonly: bool) -> None:
+        # Every buffer refers to this array, and nothing else does. So the array is freed once no buffer is in use.
+        # Then `lent` is freed, too, and closes the memory.
+        array = (_Byte * length).from_address(address)
         array.lent = lent  # type: ignore[attr-defined]
         self.name, self._pointer, self._owner = lent.name, lent.pointer, lent.owner
         self._array = weakref.ref(array)
@@ -78,11 +83,15 @@ class Memory:
         return self._bytes
 
     def view(self) -> memoryview:
-        """All of its bytes. Until it is released, and whatever was made of it is, the memory can't be closed."""
+        """Returns all bytes as a memoryview. The memory can't be closed before this view is released, and each object
+        made from it is gone."""
         return memoryview(self._opened())
 
     def __buffer__(self, flags: int) -> memoryview:
         return self.view()
+
+    def __bytes__(self) -> bytes:
+        return bytes(self._opened())
 
     def __len__(self) -> int:
         return len(self._opened())
@@ -109,8 +118,8 @@ class Memory:
 
     @property
     def dirty(self) -> int:
-        """How many pages of 4,096 bytes were stored to since the last commit; one that has the bytes that it had may
-        count or not. One commit can have `Volume.frames` of them."""
+        """The number of pages of 4,096 bytes that were stored to since the last commit. A page whose bytes are the
+        same as before may count or not. One commit can have at most `Volume.frames` pages."""
         with self.view():  # so it isn't closed meanwhile
             if os.getpid() != self._owner:
                 raise Forked(words(Forked.code))
@@ -118,27 +127,25 @@ class Memory:
             return pages
 
     def touch(self, offset: int = 0, count: Optional[int] = None) -> None:
-        """Opens the pages of `count` bytes from `offset` on, without a count up to the end, as a store to each of them
-        would. Until the next commit the kernel can store to them: `readinto` works."""
+        """Makes the pages of `count` bytes from `offset` on writable, as a store to each of them does. Without `count`
+        these are all pages up to the end. Then the kernel can store to them until the next commit, for `readinto`."""
         with self.view() as view:  # so it isn't closed meanwhile
             begin = _place(offset, len(view), "offset")
             end = len(view) if count is None else _place(begin + operator.index(count), len(view), "count")
             check(library.famsync_memory_touch(self._pointer, begin, end - begin))
 
     def close(self) -> None:
-        """Gives the memory back; stores since the last commit are gone. BufferError where somebody has a buffer of it:
-        a view that isn't released, or an array that was made of one."""
+        """Closes the memory. Stores since the last commit are lost. Raises BufferError if somebody has a buffer of the
+        memory: a view that isn't released, or an object made from a view."""
         if self._is_closed:
             return
-        if not _buffers.is_lent(self):
-            self._bytes.release()
-            if self._is_closed:
-                _buffers.let_go(self, Memory)
-                return
+        self._bytes.release()
+        if not self._is_closed:
             self._take_again()
-        raise BufferError(f"the memory of {self.name!r} can't be closed while somebody has a buffer of it")
+            raise BufferError(f"the memory of {self.name!r} can't be closed while somebody has a buffer of it")
 
     def _take_again(self) -> None:
+        # In `close`, the traceback of its error would keep a variable for the array, and so the array.
         array = self._array()
         if array is not None:
             self._bytes = self._all_of(array)
@@ -181,9 +188,7 @@ def open_memory(handle: ctypes.c_void_p, lent: Lent, address: int, readonly: boo
         else:
             check(library.famsync_memory_open_at(handle, encoded, address, pointer))
         address, length = library.famsync_memory_at(lent.pointer), library.famsync_memory_length(lent.pointer)
-        memory = _buffers.new(Memory, address, length)
-        memory._begin(lent, address, length, readonly)
-        return memory
+        return Memory(lent, address, length, readonly)
     except BaseException:
         lent.give_back()
         raise

@@ -48,7 +48,7 @@ class Ranges(InAFolder):
             self.assertEqual(volume.read("a", 0, 5), b"1234\0")
         volume.write("a", 8, array.array("q", [1, -1]))
         self.assertEqual(volume.read("a", 8, 16), (1).to_bytes(8, "little") + b"\xff" * 8)
-        volume.write("a", 5000, memory)
+        volume.write("a", 5000, memory.view())
         self.assertEqual(volume.read("a", 5000, 5), b"1234\0")
         for value in ("1", 1, None):
             self.assertRaises(TypeError, volume.write, "a", 0, value)
