@@ -2,38 +2,41 @@
  * libfamsync: a library for the files of a volume. A volume is one disk file that contains up to 64
  * files. Changes to these files become durable together. The library runs in the caller's process.
  *
- * A handle is a session with one volume. famsync_format and the command `famsync format` make
- * volumes. The library opens the volume's file and locks it. At any time a volume has at most one
- * session that writes, or any number of sessions that only read. This limit includes sessions of
- * the program `famsync`.
+ * famsync_format and the command `famsync format` make volumes. famsync_open opens and locks a
+ * volume's file, begins a session with the volume, and returns a handle for this session. At any
+ * time a volume has at most one session that writes, or any number of sessions that only read.
+ * Sessions of the program `famsync` count, too.
  *
- * A program can access the bytes of a file in two ways. Both may be used in one session, even for
- * the same file:
+ * A program can access the bytes of a file in two ways:
  *
  *   read and write   famsync_read, famsync_write, famsync_msync: any offset and any count, as with
  *                    pread and pwrite
  *   plain memory     famsync_memory_open, famsync_memory_at, famsync_msync: loads and stores
  *                    through a pointer
  *
+ * One session may use both ways, even for the same file.
+ *
  * famsync_msync commits all changes of a session. The commit is acknowledged when the call returns
  * FAMSYNC_OK. If this process is killed or the system crashes, the next session finds the files of
- * one commit. These files have all changes before this commit, and no later changes. This commit is
- * the last acknowledged commit, or a later commit that wasn't acknowledged.
+ * one commit. These files have the changes of this commit and of all earlier commits, and no later
+ * changes. This commit is the last acknowledged commit, or a later commit that wasn't acknowledged.
  *
  * A page is 4,096 bytes of a file. The place of a page is a block of the volume's file. A commit
- * first writes its pages to a journal or a log of the volume. Later the library writes them to
- * their places.
+ * first writes its pages to a journal or to the log. These are other parts of the volume's file.
+ * Later the library writes the pages to their places.
  *
  * Each call of type int returns FAMSYNC_OK or one of the negative codes below. famsync_strerror
  * describes a code. Any number of threads may use one handle at the same time: their calls take
- * turns. No call is a cancellation point: if a thread is cancelled within a call, the call still
+ * turns. No call is a cancellation point: if a thread is canceled within a call, the call still
  * completes.
  *
- * A forked process has a copy of the handle, but the session belongs to the process that began it.
- * With this copy, each call of type int returns FAMSYNC_FORKED, except famsync_close, which does
- * nothing. The copy uses memory until the forked process ends or calls exec. The forked process
- * doesn't keep the volume locked. A child of vfork shares the memory of its parent. Stores of the
- * child to plain memory count as stores of the parent. The child must not call the library.
+ * A forked process has a copy of the handle, but the session belongs to the process that called
+ * famsync_open. In the forked process, each call of type int that takes the handle or its plain
+ * memory returns FAMSYNC_FORKED. But famsync_close does nothing there, famsync_memory_close frees
+ * the copied memory, and both return FAMSYNC_OK. The copied handle uses memory until the forked
+ * process ends or calls exec. The forked process doesn't keep the volume locked. A child of vfork
+ * shares the memory of its parent. Stores of the child to plain memory count as stores of the
+ * parent. The child must not call the library.
  *
  * A file can't grow past its capacity, which is set when the volume is made. A layout is one of six
  * formats of a volume (see struct famsync_plan). In layouts 1 and 2 the length of a file never
@@ -60,23 +63,23 @@ enum famsync_code {
 
     FAMSYNC_ARGUMENT = -1, /* an argument is invalid */
     FAMSYNC_NOMEMORY = -2, /* the system refused memory */
-    FAMSYNC_SYSTEM = -3,   /* a system call failed, and errno has the cause; EPROTO means a fault of
+    FAMSYNC_SYSTEM = -3,   /* a system call failed, and errno has the cause; EPROTO means a bug in
                               the library */
-    FAMSYNC_INUSE = -6,    /* the volume is already open, in another process or in this one */
-    FAMSYNC_SUSPECT = -7,  /* an earlier sync of the volume failed; see the option `trust` */
-    FAMSYNC_FORKED = -11,  /* the handle belongs to the process from which this one was forked */
+    FAMSYNC_INUSE = -6,    /* the volume is already open, in this process or in another process */
+    FAMSYNC_SUSPECT = -7,  /* the volume has the suspect flag, because an earlier sync failed; see
+                              famsync_msync, and the option `trust` */
+    FAMSYNC_FORKED = -11,  /* a forked process used the handle of an earlier process */
     FAMSYNC_TORN = -12,    /* plain memory was closed after a failed msync, or a rollback failed
-                              halfway: call famsync_rollback first */
+                              halfway: call famsync_rollback before the next commit */
 
     /* why a volume isn't opened */
     FAMSYNC_NOTREGULAR = -13, /* the path names a folder, a device, a pipe or a socket */
-    FAMSYNC_NAMES = -14,      /* the file has several names (hard links), so others could open it by
-                                 another name */
-    FAMSYNC_REPLACED = -15,   /* each time that the library had locked a file, the path named
-                                 another file */
+    FAMSYNC_NAMES = -14,      /* the file has several names (hard links), so another process could
+                                 use it under another name */
+    FAMSYNC_REPLACED = -15,   /* after each attempt to lock the file, the path named another file */
     FAMSYNC_NOTAVOLUME = -16, /* the file doesn't begin like a volume */
     FAMSYNC_DAMAGED = -17,    /* the file begins like a volume, but its bytes or its length break
-                                 the format */
+                                 the rules of the format */
     FAMSYNC_SHAPE = -18,      /* the option `frames` is above the limit of the volume */
 
     /* why an access or a commit is refused */
@@ -87,8 +90,9 @@ enum famsync_code {
     FAMSYNC_EINVAL = -30,  /* bytes past the file's end, or a length that the file can't have */
     FAMSYNC_OVERLAP = -33, /* plain memory of the file is already open */
     FAMSYNC_NOFILE = -34,  /* the volume has no such file */
-    FAMSYNC_BUSY = -35,    /* another backup is being made; or a thread stored during a commit, with
-                              FAMSYNC_TRACK_KERNEL; or the session has made 2^32 - 1 commits */
+    FAMSYNC_BUSY = -35,    /* another backup is being made; or, with FAMSYNC_TRACK_KERNEL, a thread
+                              stored during a commit; or the session has no number left for a
+                              commit, after 2^32 - 1 commits */
 
     /* suspect flags that can't be made, and sessions that only read */
     FAMSYNC_UNMARKED = -39,     /* a sync failed, and the library couldn't make the suspect flag */
@@ -104,19 +108,21 @@ enum famsync_code {
 typedef struct famsync famsync;
 typedef struct famsync_memory famsync_memory;
 
-/* The size of the longest message of famsync_open. This message contains two paths. */
+/* A buffer of this size has room for each message of famsync_open. The longest message contains two
+   paths. */
 #define FAMSYNC_MESSAGE_SIZE 9000
 
 /* The options of famsync_open. A null pointer means the defaults, which are all zero.
 
-   Set `size` to the size of this structure. Later versions of the library add fields at the end,
-   and know from `size` which fields a program has. If `size` is 0, the structure ends with
-   `readonly`. If `size` is larger than this structure, all bytes after the fields below must be 0
-   (otherwise FAMSYNC_ARGUMENT). */
+   Set `size` to the size of this structure. Later versions of the library add fields at the end.
+   From `size` the library knows which fields a program has. If `size` is 0, the library uses only
+   the fields up to `readonly`. If `size` is larger than this structure, all bytes after the fields
+   below must be 0 (otherwise FAMSYNC_ARGUMENT). */
 struct famsync_options {
     size_t size;
     int trust;           /* not 0: open a volume that is flagged as suspect, and remove the flag */
-    unsigned frames;     /* the most pages of one commit; 0 means the limit of the volume */
+    unsigned frames;     /* the most pages that one commit may have; 0 means the limit of the
+                            volume */
     unsigned copies;     /* ignored; it only keeps the offsets of later fields */
     int foreground;      /* not 0: the library starts no thread (see famsync_msync) */
     char *message;       /* a buffer for one line that explains why the volume wasn't opened */
@@ -125,21 +131,21 @@ struct famsync_options {
     int readonly;        /* not 0: the session only reads */
     int resident;        /* not 0: famsync_memory_open reads the whole file, instead of mapping the
                             volume's file */
-    size_t budget;       /* the most bytes that plain memory keeps for committed pages and their
-                            copies; 0 means 64 MB */
+    size_t budget;       /* the number of bytes that committed pages of plain memory and their
+                            copies may use; 0 means 64 MB */
     int tracking;        /* FAMSYNC_TRACK_SIGNALS or FAMSYNC_TRACK_KERNEL; see
                             famsync_memory_open */
 };
 
-/* How the library notices stores to plain memory. */
+/* How the library notices stores to plain memory: by a handler of SIGSEGV, or by the kernel. */
 enum famsync_tracking { FAMSYNC_TRACK_SIGNALS = 0, FAMSYNC_TRACK_KERNEL = 1 };
 
-/* The version of the library that this program runs with. */
+/* Returns the version of the library that this program runs with. */
 const char *famsync_version(void);
 
 /* A file of a new volume. `name` has 1 to 32 characters from '!' to '~'. `length` is in bytes.
    `capacity` is the greatest length that the file may have; 0 means `length`. In layouts 1 and 2
-   it has to be 0 or equal to `length`. */
+   `capacity` has to be 0 or equal to `length`. */
 struct famsync_new_file {
     const char *name;
     uint64_t length;
@@ -151,41 +157,43 @@ struct famsync_new_file {
 struct famsync_plan {
     size_t size;
     unsigned layout; /* 1 to 6; 0 means 4 */
-    /* The number of record slots of each journal: 1 to 1,020 in layouts 1 and 2, 2 to 1,020 in
-       layout 3, 2 to 65,535 in layout 4. 0 means 1,020, or 1,024 in layout 4. Layouts 5 and 6 have
-       no journals, so `slots` has to be 0. */
+    /* The number of slots of each journal: 1 to 1,020 in layouts 1 and 2, 2 to 1,020 in layout 3, 2
+       to 65,535 in layout 4. A slot has room for one page. 0 means 1,024 in layout 4, and 1,020 in
+       layouts 1 to 3. Layouts 5 and 6 have no journals, so `slots` has to be 0. */
     unsigned slots;
     unsigned files;                      /* the number of files, 1 to 64 */
     const struct famsync_new_file *file; /* the files */
     int preallocate;                     /* not 0: allocate all disk blocks now; 0: allocate a block
                                             when it is first written */
-    char *message;                       /* a buffer for one line: why the volume wasn't made */
+    char *message;                       /* a buffer for one line that explains why the volume
+                                            wasn't made */
     size_t message_size;                 /* the buffer's size in bytes; a longer line is cut off */
     unsigned log;                        /* layouts 5 and 6: the number of blocks of the log, 4 to
                                             2^24; 0 means 16,384 (64 MB) */
-    uint64_t key;                        /* layout 6: the key of the digests; 0 means random */
+    uint64_t key;                        /* layout 6: the key of the digests (see famsync_format); 0
+                                            means a random key */
 };
 
 /* Makes a volume in a new file. The volume's files contain zeros. When the call succeeds, the
    volume is durable. The volume has the same bytes as a volume that `famsync format` makes with the
    same layout, slots, files, log and key. If the call fails or the process is killed, there is
-   either the whole volume or no new file with the name `volume`. If the file system has no unnamed
-   files (O_TMPFILE), the library first makes the volume in a file whose name ends in `.new`. A
-   crash may leave that file.
+   either the whole volume or no new file with the name `volume`. If unnamed files (O_TMPFILE) or
+   /proc are missing, the library first makes the volume in the file VOLUME.new (VOLUME is this
+   name). A crash may leave that file.
 
    A commit has at most `slots` pages in layouts 1 and 2, and at most `slots` - 1 pages in layouts 3
-   and 4. In layouts 5 and 6 a commit and its descriptor (the list of its pages) have to fit into
-   the log, with one block left free. A log of 16,384 blocks has room for a commit of 16,366 pages.
-   Without `preallocate`, the first write to a block fails if the disk is full. Then the session is
-   over (FAMSYNC_DEVICE).
+   and 4. In layouts 5 and 6 a commit has to fit into the log, together with a list of its pages,
+   one block for the lengths, and one free block. So with a log of 16,384 blocks a commit has at
+   most 16,366 pages. In all layouts a commit has at most 65,534 pages. Without `preallocate`, the
+   first write to a block fails if the disk is full. Then the session is over (FAMSYNC_DEVICE).
 
    In layouts 5 and 6 a commit writes its pages only to the log. Later the library writes the pages
    of many commits to their places together. A commit makes two syncs in layout 5, and one in layout
    6. Layout 6 needs an assumption that layouts 1 to 5 don't need: a commit that a crash has torn
    (written only partly) never matches its digest (checksum).
 
-   FAMSYNC_ARGUMENT: the plan is invalid; `message` has the reason. FAMSYNC_SYSTEM: errno has the
-   cause. EEXIST means that this file, or the one whose name ends in `.new`, already exists. */
+   FAMSYNC_ARGUMENT: the plan is invalid; `message` has the reason. FAMSYNC_SYSTEM with EEXIST:
+   VOLUME or VOLUME.new already exists. */
 int famsync_format(const char *volume, const struct famsync_plan *plan);
 
 /* Begins a session with a volume. The volume's file must be a regular file with only one name. If
@@ -195,26 +203,24 @@ int famsync_format(const char *volume, const struct famsync_plan *plan);
 
    FAMSYNC_INUSE: another session still has the volume open after `wait_ms` milliseconds.
    FAMSYNC_SYSTEM with ENAMETOOLONG: the name of the volume's file has more than 247 bytes, so the
-   name of the suspect flag would be too long. FAMSYNC_UNMARKED: a sync failed, and the library
-   couldn't make the suspect flag (the file VOLUME.suspect); `message` has the reason.
+   name of the suspect flag (VOLUME.suspect) would be too long.
 
    With `readonly` any number of sessions can share a volume. The library opens the file only for
-   reading, and writes nothing. While such sessions last, no session that writes can begin. In such
-   a session `trust` has no effect. FAMSYNC_NEEDSOPENING, only with `readonly`: a crash left a
-   commit whose pages aren't yet in their places, or the volume is flagged as suspect. In both cases
-   open the volume for writing once, and close it. In a session with `readonly`, famsync_write,
-   famsync_setlength, famsync_msync, famsync_rollback and famsync_memory_touch return
-   FAMSYNC_READONLY. A store to plain memory of such a session raises SIGSEGV, which the library
-   doesn't handle. */
+   reading, and writes nothing. During these sessions no session that writes can begin. With
+   `readonly` the option `trust` has no effect. FAMSYNC_NEEDSOPENING, only with `readonly`: a crash
+   left a commit whose pages aren't yet in their places, or the volume is flagged as suspect. In
+   both cases open the volume for writing once (with `trust` if it is flagged), and close it. In a
+   session with `readonly`, famsync_write, famsync_setlength, famsync_msync, famsync_rollback and
+   famsync_memory_touch return FAMSYNC_READONLY. A store to plain memory of such a session raises
+   SIGSEGV, which the library doesn't handle. */
 int famsync_open(const char *volume, const struct famsync_options *options, famsync **handle);
 
 /* Ends a session and frees the handle. Changes since the last commit are lost. Before the call,
    close all plain memory of the handle (otherwise FAMSYNC_ARGUMENT). No other call with the handle
    may be in progress. The call writes committed pages to their places before the session ends.
    FAMSYNC_DEVICE: a read failed in this call, or a write or a sync failed in this call or earlier.
-   FAMSYNC_UNMARKED: a sync failed, and the library couldn't make the suspect flag.
-   FAMSYNC_NOMEMORY: the system refused memory. After each of these three codes all acknowledged
-   commits are durable. */
+   With this code, FAMSYNC_UNMARKED and FAMSYNC_NOMEMORY, the handle is freed, too, and all
+   acknowledged commits are durable. */
 int famsync_close(famsync *handle);
 
 /* famsync_files returns the number of files of the volume. Files are numbered from 0.
@@ -225,13 +231,13 @@ unsigned famsync_files(const famsync *handle);
 const char *famsync_file_name(const famsync *handle, unsigned file);
 uint64_t famsync_file_length(const famsync *handle, unsigned file);
 
-/* The most pages that a commit of this session can have. */
+/* Returns the greatest number of pages that one commit of this session can have. */
 unsigned famsync_frames(const famsync *handle);
 
 /* Sets the length of a file, as ftruncate does. FAMSYNC_EINVAL: the length is more than the file's
    capacity, or the volume has layout 1 or 2. Bytes past a new end are lost. If the file grows, the
    added bytes are zeros. Like a write, the new length becomes durable with the next famsync_msync.
-   It is lost if the session ends before that.
+   The new length is lost if the session ends before that.
 
    All pages that are added to a file count as written. If the file ended within a page, this page
    counts as written, too. FAMSYNC_NOFRAME: together with the pages that already wait for a commit,
@@ -242,11 +248,11 @@ unsigned famsync_frames(const famsync *handle);
    longer use bytes past the new end. FAMSYNC_SYSTEM: the system refused to change the memory. */
 int famsync_setlength(famsync *handle, const char *file, uint64_t length);
 
-/* Reads `count` bytes of a file from `offset` on, including changes of this session that aren't
-   committed. `*done` is set to the number of bytes read; `done` may be a null pointer. If the file
-   ends before `offset` + `count`, the call reads only the bytes up to the file's end, and returns
-   FAMSYNC_OK. If a read of the volume fails, `*done` is the number of bytes read before the
-   failure. */
+/* Reads `count` bytes of a file from `offset` on. The bytes include changes of this session that
+   aren't committed yet. `*done` is set to the number of bytes read; `done` may be a null pointer.
+   If the file ends before `offset` + `count`, the call reads only the bytes up to the file's end,
+   and returns FAMSYNC_OK. If a read of the volume fails, `*done` is the number of bytes read before
+   the failure. */
 int famsync_read(famsync *handle, unsigned file, uint64_t offset, void *bytes, size_t count, size_t *done);
 
 /* Writes `count` bytes to a file from `offset` on. `*done` is set to the number of bytes written;
@@ -256,40 +262,39 @@ int famsync_read(famsync *handle, unsigned file, uint64_t offset, void *bytes, s
    FAMSYNC_EINVAL: a byte would be past the file's end; famsync_setlength makes a file longer.
    FAMSYNC_NOFRAME: together with the pages that already wait for a commit, the pages of this write
    are more than one commit can have. In both cases nothing is written. FAMSYNC_DEVICE: the call
-   writes only a part of some page, and the library failed to read the rest of the page. After
+   writes only a part of a page, and the library failed to read the rest of this page. After
    FAMSYNC_DEVICE and FAMSYNC_NOMEMORY, `*done` is the number of bytes written before the failure.
 
    If plain memory of the file is open, famsync_read and famsync_write use this memory. A write is
-   then a store to this memory. Such a write makes the stored pages writable, as
-   famsync_memory_touch does. */
+   then a store to this memory. Such a write makes its pages writable, as famsync_memory_touch
+   does. */
 int famsync_write(famsync *handle, unsigned file, uint64_t offset, const void *bytes, size_t count, size_t *done);
 
 /* Commits all changes of this session: writes, stores to plain memory, and lengths. A commit makes
-   all of these changes durable, or none. The call returns when they are durable. `*mark` is set to
-   the commit's number, counted from 1 in each session; `mark` may be a null pointer. Threads that
-   call famsync_msync during a commit share the next commit. If the call fails and the session
-   continues, all changes wait for the next call.
+   all of these changes durable, or none. The call returns FAMSYNC_OK when the changes are durable.
+   `*mark` is set to the commit's number, counted from 1 in each session; `mark` may be a null
+   pointer. Threads that call famsync_msync during a commit share the next commit. If the call fails
+   and the session continues, all changes wait for the next call.
 
-   FAMSYNC_NOFRAME: the pages changed by famsync_write and in plain memory, together, are more than
+   FAMSYNC_NOFRAME: famsync_write and stores to plain memory have together changed more pages than
    one commit can have. Nothing is committed, and no later call can commit all these changes. If you
    close the plain memory of a file, the stores to this memory are lost. The next call can then
-   commit the writes of famsync_write to other files.
+   commit the other changes, if one commit can have their pages.
 
-   FAMSYNC_DEVICE: a read, a write or a sync failed, and nothing is acknowledged. errno has the
-   cause. ENOMEM means that the system refused memory; the disk didn't fail. After a failed read the
-   session continues, and you may call again. The session is over after a failed write or sync, or
-   if there was no memory to record a write or a sync. Then later calls with the handle, except
+   FAMSYNC_DEVICE: a read, a write or a sync failed, and nothing is acknowledged. If errno is
+   ENOMEM, the system refused memory, and the disk didn't fail. After a failed read the session
+   continues, and you may call again. The session is over after a failed write or sync, or if there
+   was no memory to record a write or a sync. Then later calls with the handle, except
    famsync_close, return FAMSYNC_BROKEN.
 
    After a failed sync the library flags the volume as suspect: like the program `famsync`, it makes
    the file VOLUME.suspect beside the volume's file. FAMSYNC_UNMARKED: a sync failed, and the
-   library couldn't make a durable suspect flag. So the next session might not notice the failed
-   sync.
+   library couldn't make this flag durable. So the next session might not notice the failed sync.
 
-   A commit makes some of its writes after its acknowledgement. A thread of the library makes these
+   Some writes of a commit come after its acknowledgement. A thread of the library makes these
    writes while no call is in progress, or the next commit makes them. In layouts 4 to 6 the thread
-   first waits until no commit has come for 10 ms. But in layouts 5 and 6 the thread doesn't wait
-   once half of the log is in use. With `foreground` there is no such thread. */
+   first waits until no commit has come for 10 ms. But in layouts 5 and 6 it doesn't wait once half
+   of the log is in use. With `foreground` there is no such thread. */
 int famsync_msync(famsync *handle, uint64_t *mark);
 
 /* Undoes all changes of this session since the last commit: writes, lengths and stores to plain
@@ -297,20 +302,20 @@ int famsync_msync(famsync *handle, uint64_t *mark);
    undoes exactly the stores before one moment within the call. If the length of a file is undone,
    plain memory of this file grows or shrinks in place, as with famsync_setlength.
 
-   The call first writes the pages of earlier commits to their places. If a write or a length waits
-   for a commit, the library also opens the volume a second time. During the call the second opening
-   needs as much memory as another session.
+   In most cases the call first writes the pages of earlier commits to their places. If a write or a
+   length waits for a commit, the library also opens the volume a second time. During the call this
+   second opening needs as much memory as another session.
 
    A call that fails undoes nothing, with two exceptions. FAMSYNC_DEVICE: a read, a write or a sync
    failed, as with famsync_msync. If this failure came after the undoing, all changes are undone,
    and the session is over. FAMSYNC_SYSTEM: the system refused to change memory. If a part of the
-   changes was already undone, commits fail with FAMSYNC_TORN until a rollback succeeds. */
+   changes may already be undone, commits fail with FAMSYNC_TORN until a rollback succeeds. */
 int famsync_rollback(famsync *handle);
 
-/* The number of the last acknowledged commit of this session; 0 if there is none. */
+/* Returns the number of the last acknowledged commit of this session, or 0 if there is none. */
 uint64_t famsync_acknowledged(famsync *handle);
 
-/* A description of a code. */
+/* Returns a description of a code. */
 const char *famsync_strerror(int code);
 
 /* Statistics of a session. Set `size` to the size of this structure; with a smaller size
@@ -333,35 +338,35 @@ struct famsync_stat {
 
 int famsync_stat(famsync *handle, struct famsync_stat *stat);
 
-/* Makes a backup: writes a clean volume, with the files of the last acknowledged commit, to the
-   file that has the file descriptor `descriptor`. Opening the backup needs no recovery. The file
-   must be a regular file other than the volume's file, and open for reading and writing, without
-   O_APPEND (otherwise FAMSYNC_ARGUMENT). The call first empties this file. Blocks of zeros become
-   holes. When the call succeeds, the backup is synced. If you created the file for the backup, sync
-   its folder, too.
+/* Makes a backup: a volume with the files of the last commit acknowledged before the backup began.
+   Opening the backup needs no recovery. The call writes the backup to the file that `descriptor`
+   refers to. This file must be a regular file other than the volume's file. It must be open for
+   reading and writing, without O_APPEND (otherwise FAMSYNC_ARGUMENT). The call first empties this
+   file. Blocks of zeros become holes. When the call succeeds, the backup is synced. If you created
+   the file for the backup, sync its folder, too.
 
    Other threads may use the handle during the backup, even for famsync_msync. A handle makes only
    one backup at a time (otherwise FAMSYNC_BUSY). The library locks the backup's file like a volume
-   until the call returns. FAMSYNC_INUSE: somebody else has locked this file.
+   until the call returns. FAMSYNC_INUSE: this file is already locked.
 
-   FAMSYNC_SYSTEM: the library couldn't write the backup's file; errno has the cause.
-   FAMSYNC_DEVICE: the library couldn't read the volume (the session continues), or couldn't write
-   to it (the session is over). After a failure the backup's file is unchanged, isn't a volume, or
-   is a whole backup that might not be durable. A failed backup doesn't make any commit fail. */
+   FAMSYNC_SYSTEM: the library couldn't write the backup's file. FAMSYNC_DEVICE: the library
+   couldn't read the volume (the session continues), or couldn't write to the volume (the session is
+   over). After a failure the backup's file is unchanged, isn't a volume, or is a whole backup that
+   might not be durable. A failed backup doesn't make any commit fail. */
 int famsync_backup(famsync *handle, int descriptor);
 
 /*
  * Opens plain memory: a whole file of the volume as memory of this process. The memory is a private
  * mapping of the volume's file, so the call reads almost nothing. At first all pages of the memory
- * are read-only. The first store to a page raises SIGSEGV. Then the library's handler notes the
- * store, and makes the page writable. The handler passes other faults to the handler that was
- * installed before it.
+ * are read-only. The first store to a page raises SIGSEGV. The library's handler of this signal
+ * notes the store, and makes the page writable. It passes other faults to the handler that was
+ * installed earlier.
  *
  * A page that was stored to uses memory of this process. Once the page is committed and written to
- * its place, the library can return the page's memory to the system. It does so when the committed
- * pages in memory, with a copy of each, use more than `budget` bytes. In layouts 5 and 6 the pages
- * in the log aren't yet in their places. So the memory can exceed the budget by up to twice the
- * log's length.
+ * its place, the library can return the page's memory to the system. The library does this when the
+ * committed pages in memory and their copies use more than `budget` bytes. In layouts 5 and 6 the
+ * pages in the log aren't yet in their places, so they stay in memory. The memory can then exceed
+ * the budget by up to twice the log's length.
  *
  * As with any mapped file, a load raises SIGBUS if the volume's file can't be read or was
  * truncated. In a forked process, a page that wasn't stored to before the fork may have the bytes
@@ -376,41 +381,39 @@ int famsync_backup(famsync *handle, int descriptor);
  * stored to. A store during the copying waits until the copying ends, but never for the disk. If
  * stores of several threads belong together, make them all before a commit begins.
  *
- * The handler doesn't serve every store:
+ * Some stores don't reach the library's handler:
  *
- * - The kernel doesn't use the handler: read(2) and similar calls fail with EFAULT if they store to
- *   a page that isn't writable yet.
- * - A thread that blocks SIGSEGV can't store to such a page, either.
- * - If the program later installs another handler of SIGSEGV, that handler gets the faults meant
- *   for the library. It should pass them to the previous handler.
+ * - A store by the kernel raises no signal: read(2) and similar calls fail with EFAULT if they
+ *   store to a page that isn't writable yet.
+ * - If a thread blocks SIGSEGV, a store to such a page kills the process.
+ * - If the program later installs another handler of SIGSEGV, the new handler gets the library's
+ *   faults. The new handler should pass them to the previous handler.
  *
- * In all three cases the program can make pages writable in advance by famsync_memory_touch. If
- * another handler has replaced the library's, the next famsync_memory_open installs the library's
- * handler again. The library's handler then passes faults that aren't its own to that other
- * handler.
+ * In all three cases the program can make pages writable in advance with famsync_memory_touch. If
+ * another handler has replaced the library's handler, the next famsync_memory_open installs the
+ * library's handler again.
  *
  * With FAMSYNC_TRACK_KERNEL there is no handler: the kernel tracks stores, including those of
  * read(2) and similar calls. Each commit asks the kernel which pages were stored to. Other threads
- * must not store during famsync_msync, famsync_rollback and famsync_setlength. If a commit finds
- * such a store while it copies pages, it copies all stored pages again. After four such attempts
+ * must not store during famsync_msync, famsync_rollback and famsync_setlength. If another thread
+ * stores while a commit copies pages, the commit repeats the copying. After four attempts
  * famsync_msync returns FAMSYNC_BUSY, and nothing is committed. At its end a commit may return
- * committed pages to the system (`budget`). If another thread stores to them at that time, the
- * store may be lost. FAMSYNC_TRACKING, from famsync_open or famsync_memory_open: the system can't
- * track stores (Linux can from 6.7 on). FAMSYNC_ARGUMENT, from famsync_open: the options have both
- * FAMSYNC_TRACK_KERNEL and `resident`.
+ * committed pages to the system (see `budget`). If another thread stores to these pages at that
+ * time, the store may be lost. FAMSYNC_TRACKING, from famsync_open or famsync_memory_open: the
+ * system can't track stores (Linux can from 6.7 on). FAMSYNC_ARGUMENT, from famsync_open: the
+ * options have both FAMSYNC_TRACK_KERNEL and `resident`.
  *
  * If the file ends within its last page, stores to the rest of this page are never committed. The
  * addresses after the last page, up to the file's capacity, are reserved: the program must not use
- * them. While memory of a file is open, famsync_read and famsync_write use that memory.
- * FAMSYNC_ARGUMENT, from famsync_memory_open: the file is empty.
+ * them. FAMSYNC_ARGUMENT, from famsync_memory_open: the file is empty.
  */
 int famsync_memory_open(famsync *handle, const char *file, famsync_memory **memory);
 
 /* Opens plain memory at a given address, so that the file can contain pointers into itself. A null
    pointer means any address. The memory occupies addresses for the file's capacity, for one page
-   before the file, and for one page after it. FAMSYNC_ADDRESS: the address isn't a multiple of the
-   page size. Or the occupied addresses begin below 65,536, end above the highest address, or
-   contain other memory. */
+   before the file, and for one page after it. FAMSYNC_ADDRESS has four possible reasons: the
+   address isn't a multiple of the page size; the occupied addresses begin below 65,536; they end
+   above the highest address; they contain other memory. */
 int famsync_memory_open_at(famsync *handle, const char *file, void *address, famsync_memory **memory);
 
 /* famsync_memory_at returns the address of the memory. This address never changes.
@@ -418,20 +421,20 @@ int famsync_memory_open_at(famsync *handle, const char *file, void *address, fam
 void *famsync_memory_at(const famsync_memory *memory);
 size_t famsync_memory_length(const famsync_memory *memory);
 
-/* The number of pages of 4,096 bytes that were stored to since the last commit. A page may count
-   even if its bytes didn't change. One commit can have at most famsync_frames of these pages. */
+/* Returns the number of pages of 4,096 bytes that were stored to since the last commit. A page may
+   count even if its bytes didn't change. */
 size_t famsync_memory_dirty(const famsync_memory *memory);
 
-/* Makes pages writable, as a store to each of them would: all pages that contain one of the `count`
-   bytes that begin at `offset`. Until a thread calls famsync_msync or famsync_rollback, stores to
-   these pages raise no SIGSEGV, and the kernel can store to them. With FAMSYNC_TRACK_SIGNALS the
-   pages count as stored to. FAMSYNC_ARGUMENT: the range isn't within the file. FAMSYNC_NOFRAME: the
-   range has more pages than one commit can have. In both cases nothing changes. */
+/* Makes all pages of a range writable, as a store to each page would. The range has `count` bytes,
+   and begins at `offset`. Until a thread calls famsync_msync or famsync_rollback, stores to these
+   pages raise no SIGSEGV, and the kernel can store to them. With FAMSYNC_TRACK_SIGNALS the pages
+   count as stored to. FAMSYNC_ARGUMENT: the range isn't within the file. FAMSYNC_NOFRAME: the range
+   has more pages than one commit can have. In both cases nothing changes. */
 int famsync_memory_touch(famsync_memory *memory, size_t offset, size_t count);
 
 /* Closes the memory. Stores since the last commit are lost. After the call begins, no thread may
-   use the memory. An earlier famsync_msync may have failed after it had prepared some of these
-   stores for its commit. In this case commits fail with FAMSYNC_TORN until a rollback succeeds. */
+   use the memory. If an earlier famsync_msync failed after it had prepared some of these stores for
+   its commit, commits fail with FAMSYNC_TORN until a rollback succeeds. */
 int famsync_memory_close(famsync_memory *memory);
 
 #ifdef __cplusplus

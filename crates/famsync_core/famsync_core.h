@@ -1,15 +1,16 @@
 /*
- * famsync_core, the core: a library for sessions with volumes. It makes no system call.
+ * famsync_core (the core) is a library for sessions with volumes. It is proved, and makes no system
+ * call.
  *
- * A volume is a disk file that contains files. The core keeps the pages that wait for a commit, and
- * records the writes and syncs that make the commit durable. The program that uses the core is its
- * host. The host reads blocks of the volume, and supplies them to the core. A recorded call is a
- * write or a sync of the volume's file. The host makes these calls in order, and reports to the
- * core that they are made. Until then a recorded call waits. The host decides how to make a call.
- * The core decides which bytes are written, and where. The core is proved.
+ * A volume is a disk file that contains files. The program that uses the core is its host. The host
+ * reads blocks of the volume, and supplies them to the core. The core keeps in memory the pages
+ * that wait for a commit. To make a commit durable, the core records calls. A recorded call is a
+ * write or a sync of the volume's file. The host makes these calls in order, and then reports them
+ * to the core as made. A recorded call waits until the host has reported it. The host decides how
+ * to make a call. The core decides which bytes are written, and where.
  *
  * This program writes the first page of the first file, and commits. `tests/lint/core_header`
- * compiles and runs it.
+ * compiles and runs the program.
  *
  *   static void supply(famsync_core *core, int file, uint32_t block)
  *   {
@@ -43,7 +44,7 @@
  *           return 1;
  *       while (famsync_core_open(core, 0, &wanted, &core.at) == FAMSYNC_CORE_WANTED)
  *           supply(&core, file, wanted);
- *       make_calls(&core, file); // what a crash left of commits
+ *       make_calls(&core, file); // finishes commits that a crash left
  *       while (famsync_core_read(core, 0, 0, page, 4096, &wanted, &core.at) == FAMSYNC_CORE_WANTED)
  *           supply(&core, file, wanted);
  *       memcpy(page, "hello", 5);
@@ -62,21 +63,21 @@
  *       return close(file);
  *   }
  *
- * A function takes the handle by value, and returns it through the last argument: pass `&core.at`
- * of the same handle. No function checks its handle. Pass the handle that the previous function
- * call returned. This handle must not be null or closed. Only one function at a time may use a
- * handle. A pointer with a count has to point to this number of bytes. If the count is 0, the
- * pointer may be any pointer except null. The bytes that famsync_core_call returns are valid until
- * another function is called with the same handle.
+ * A function takes the handle by value, and returns it through its last argument, `&core.at` of the
+ * same handle. No function checks its handle. Pass the handle that the previous function call
+ * returned. This handle must not be null or closed. Only one function at a time may use a handle. A
+ * pointer with a count must point to this number of bytes. If the count is 0, the pointer may be
+ * any pointer except null. The bytes that famsync_core_call returns are valid until another
+ * function is called with the same handle.
  *
- * The core requests memory by three functions that the host defines: rattle_alloc, rattle_realloc
- * and rattle_dealloc (below).
+ * The core requests memory through three functions that the host defines: rattle_alloc,
+ * rattle_realloc and rattle_dealloc (below).
  *
  * A block is 4,096 bytes of the volume's file. A block is known if the core has its bytes. The home
  * block of a page is the page's place in the volume's file. A page is home once it is written to
  * its home block. A commit is home once all its pages are home.
  *
- * A function of type int64_t returns a number that isn't negative, or one of the negative codes.
+ * A function of type int64_t returns a number that is 0 or more, or one of the negative codes.
  * The comment of each function lists the codes that the function can return, without the prefix
  * FAMSYNC_CORE_.
  */
@@ -132,9 +133,9 @@ enum famsync_core_kind { FAMSYNC_CORE_CALL_WRITE = 1, FAMSYNC_CORE_CALL_SYNC = 2
    Codes: OK, ARGUMENT (0 blocks), NOMEMORY. */
 int32_t famsync_core_begin(uint32_t blocks, uint8_t **at);
 
-/* Supplies a block that the host has read. `bytes` are the 4,096 bytes of the block in the volume's
-   file, as they are after all recorded calls that the host has made. If the block is already known,
-   nothing changes. You may call this function at any time, also before the volume is open.
+/* Supplies a block that the host has read. `bytes` are the block's 4,096 bytes in the volume's
+   file, after all recorded calls that the host has made. If the block is already known, nothing
+   changes. You may call this function at any time, also before the volume is open.
 
    Codes: OK, ARGUMENT (no such block, or `count` isn't 4,096), NOMEMORY. */
 int32_t famsync_core_supply(famsync_core core, uint32_t block, const uint8_t *bytes, size_t count, uint8_t **at);
@@ -143,22 +144,26 @@ int32_t famsync_core_supply(famsync_core core, uint32_t block, const uint8_t *by
    before the volume is open. */
 int32_t famsync_core_is_known(famsync_core core, uint32_t block, uint8_t **at);
 
-/* Opens the volume, of any layout. A commit then has at most `pages` pages. If `pages` is 0, or
-   above the limit of the volume's journals or log, that limit holds. Opening always records calls.
-   If a crash left commits that aren't home, some of these calls write them home.
+/* Opens the volume, which may have any layout. From then on a commit has at most `pages` pages. If
+   `pages` is 0, or above the limit of the volume's journals or log, that limit holds. Opening
+   always records calls. If a crash left commits that aren't home, some of the recorded calls write
+   these commits home.
 
    Codes: OK, WANTED, NOTAVOLUME, DAMAGED, NOMEMORY or DEVICE (after either, close the handle, and
    begin again), BUSY (the epochs of the log are used up), ORDER.
 
-   WANTED: a block isn't known. Nothing is open, and no call was recorded. Opening wants one block
-   after the other, beginning with block 0. From layout 3 on it wants the block of the lengths. Of a
-   volume with journals it wants the gates and open journals. Of a volume with a log it wants the
-   start of the log and the commits after the start. */
+   WANTED: a block isn't known. The volume isn't open, and no call was recorded. Opening wants block
+   0 first, and then these blocks, one at a time, not always in this order:
+
+   - from layout 3 on, the block of the lengths;
+   - in a volume with journals, the gates and the open journals;
+   - in a volume with a log, the start of the log and the commits after the start. */
 int32_t famsync_core_open(famsync_core core, uint32_t pages, uint32_t *wanted, uint8_t **at);
 
-/* famsync_core_files returns the number of files of the volume; files are numbered from 0.
-   famsync_core_frames returns the most pages of one commit. famsync_core_head returns the number of
-   blocks before the first file, including those of the journals or the log. Codes: ORDER. */
+/* famsync_core_files returns the number of files of the volume. Files are numbered from 0.
+   famsync_core_frames returns the greatest number of pages of one commit. famsync_core_head returns
+   the number of blocks before the first file, including the blocks of the journals or the log.
+   Codes: ORDER. */
 int64_t famsync_core_files(famsync_core core, uint8_t **at);
 int64_t famsync_core_frames(famsync_core core, uint8_t **at);
 int64_t famsync_core_head(famsync_core core, uint8_t **at);
@@ -167,8 +172,8 @@ int64_t famsync_core_head(famsync_core core, uint8_t **at);
    volumes with a log. Codes: ORDER. */
 int32_t famsync_core_shares_syncs(famsync_core core, uint8_t **at);
 
-/* `*length` is set to the length of a file in bytes, committed or not. `*pages` is set to the most
-   pages that the file can have. Codes: OK, ARGUMENT (no such file), ORDER. */
+/* Sets `*length` to the length of a file in bytes, committed or not. Sets `*pages` to the greatest
+   number of pages that the file can have. Codes: OK, ARGUMENT (no such file), ORDER. */
 int32_t famsync_core_file(famsync_core core, uint32_t file, uint64_t *length, uint64_t *pages, uint8_t **at);
 
 /* Copies the name of a file to `name`, which has room for `count` bytes. A name has 1 to 32 bytes
@@ -197,15 +202,15 @@ int32_t famsync_core_is_staged(famsync_core core, uint32_t file, uint64_t page, 
 
 /* Makes a commit of all waiting pages and lengths. Records the calls that make this commit durable,
    and may also record calls of earlier commits. If nothing waits, the commit needs no calls of its
-   own. `*mark` is set to the commit's number, counted from 1 in each session. The commit is durable
+   own. Sets `*mark` to the commit's number, counted from 1 in each session. The commit is durable
    once famsync_core_acknowledged returns this number or a higher one.
 
    Codes: OK, WANTED, NOMEMORY (make the same call again), BROKEN, DEVICE, BUSY, ORDER.
 
    WANTED and NOMEMORY are returned only for volumes with a log. If the log has no room for the
    commit, the function first makes steps that write older commits home. A step or the commit may
-   need a block that isn't known. After WANTED and NOMEMORY the steps already made are kept, and the
-   pages still wait for the commit. */
+   need a block that isn't known. After either code no step is undone, and the pages still wait
+   for the commit. */
 int32_t famsync_core_commit(famsync_core core, uint32_t *mark, uint32_t *wanted, uint8_t **at);
 
 /* Returns the number of the last acknowledged commit, or 0 if there is none. A commit is
@@ -220,23 +225,23 @@ int64_t famsync_core_acknowledged(famsync_core core, uint8_t **at);
    Codes: OK (steps remain), NONE (no step remains), WANTED, NOMEMORY (make the same call again),
    BROKEN, DEVICE, ORDER.
 
-   WANTED and NOMEMORY are returned only for volumes with a log. After these two codes the steps
-   already made are kept. */
+   WANTED and NOMEMORY are returned only for volumes with a log. After either code no step
+   is undone. */
 int32_t famsync_core_write_out(famsync_core core, uint32_t most, uint32_t *wanted, uint8_t **at);
 
-/* Returns the number of committed pages that aren't home. For a volume with a log, it returns the
-   number of blocks of the log that are in use: `*used` of famsync_core_log. Codes: ORDER. */
+/* Returns the number of committed pages that aren't home. For a volume with a log, the function
+   returns the number of log blocks in use instead, as famsync_core_log does. Codes: ORDER. */
 int64_t famsync_core_unwritten(famsync_core core, uint8_t **at);
 
-/* For a volume with a log: `*blocks` is set to the number of blocks of the log, and `*used` to the
-   number of those in use. `*commits` is set to the number of commits in the blocks in use. A block
-   is in use until the start of the log moves past it. Codes: OK, NONE (the volume has journals, and
-   nothing is set), ORDER. */
+/* For a volume with a log, sets `*blocks` to the number of blocks of the log, and `*used` to the
+   number of its blocks in use. Sets `*commits` to the number of commits in the blocks in use. A
+   block is in use until the start of the log moves past it. Codes: OK, NONE (the volume has
+   journals, and nothing is set), ORDER. */
 int32_t famsync_core_log(famsync_core core, uint64_t *blocks, uint64_t *used, uint64_t *commits, uint8_t **at);
 
 /* Sets the length of a file, up to its capacity. The length becomes durable with the next commit.
-   The pages that are added to the file count as written. If the file ended within a page, this page
-   counts as written, too. If the function fails, nothing changes.
+   If the file grows, the added pages count as written. If the file ended within a page before it
+   grew, this page counts as written, too. If the function fails, nothing changes.
 
    Codes: OK, WANTED (the page in which the file ended isn't known), NOFILE, EINVAL (also if the
    volume has layout 1 or 2), BROKEN, NOFRAME, NOMEMORY, ORDER. */
@@ -246,11 +251,11 @@ int32_t famsync_core_set_length(famsync_core core, uint32_t file, uint64_t lengt
    may call this function at any time, also before the volume is open. */
 int64_t famsync_core_waiting(famsync_core core, uint8_t **at);
 
-/* Returns a waiting call. Index 0 is the oldest one. The host makes the calls in the order of their
-   index. `*kind` is set to one of two values:
+/* Returns a waiting call. The oldest call has index 0. The host makes the calls in the order of
+   their indexes. Sets `*kind` to one of two values:
 
-   - FAMSYNC_CORE_CALL_WRITE: write the `*length` bytes at `*bytes` to `*offset` of the volume's
-     file.
+   - FAMSYNC_CORE_CALL_WRITE: write the `*length` bytes at `*bytes` to the volume's file, at offset
+     `*offset`.
    - FAMSYNC_CORE_CALL_SYNC: sync the volume's file.
 
    Codes: OK, NONE (no call with this index waits). You may call this function at any time, also
@@ -275,11 +280,10 @@ int32_t famsync_core_forget(famsync_core core, uint32_t block, uint8_t **at);
 void famsync_core_close(famsync_core core);
 
 /* The host defines these three functions with malloc, realloc and free of one allocator. If the
-   allocator has memory, `ok` is true, and `p` points to this memory. Otherwise `ok` is false, and
-   `p` points to any byte of the program, because `p` must never be null. `align` is at most 16.
-   rattle_realloc keeps the first `kept` bytes of the memory at `old`. If `size` is 0, request at
-   least one byte from the allocator. If rattle_realloc fails, the memory at `old` stays
-   unchanged. */
+   allocator returns memory, `ok` is true, and `p` points to this memory. Otherwise `ok` is false,
+   and `p` points to any byte of the program, because `p` must never be null. `align` is at most 16.
+   rattle_realloc keeps the first `kept` bytes of the memory at `old`. If rattle_realloc fails, the
+   memory at `old` stays unchanged. If `size` is 0, request at least one byte from the allocator. */
 struct rattle_tried {
     bool ok;
     uint8_t *p;
