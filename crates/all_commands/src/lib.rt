@@ -1,5 +1,6 @@
-//! What the program `famsync` does, from its words to its status: it makes volumes, runs scripts and programs on a
-//! machine that maps their files, prints the files, says how a volume is, and copies files out of it.
+//! Runs the program `famsync`: reads its command line, runs the command, and returns the exit status. The commands make
+//! volumes, run scripts and programs on a machine that maps their files, print and check volumes, and copy files out of
+//! them.
 #![tactic(auto)]
 
 mod program;

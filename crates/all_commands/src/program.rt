@@ -1,4 +1,4 @@
-// What the program does, from its words to its status.
+// Runs the program, from its command line to its exit status.
 ghost use Rattle.std.specs.Prelude.{◌≤◌, IfOk};
 
 use crate::reporting::{asks_for_json, report_failure};
@@ -20,16 +20,21 @@ use threads_command::threads;
 use volume_commands::{look, make};
 use volume_files::SyncNote;
 
-/// Does what the words ask for, of which the first is the program's name. What it prints goes to `out`, and where
-/// something is wrong, one line to `err`. Where that is a terminal, it also shows how much of a long copy is done.
+/// Runs the command that `words` ask for, and returns the program's exit status. The first word is the program's name.
+/// Output is written to `out`, and a failure is reported in one line on `err`. If `err` is a terminal, the progress of
+/// a long copy is shown there.
 ///
-/// The status is 0; 1 where a script or a trace is refused, a trace that is run again is answered otherwise, or a
-/// volume that is checked needs opening; 2 where the words aren't of the forms that the help shows; and 3 where a
-/// volume or a machine is refused, a step is answered that the device failed, a thread waited for others in vain, a
-/// file can't be made, opened or read, `out` can't be written, or memory is refused. Where the status is 1 or 2, no
-/// file was changed.
+/// The exit status is:
 ///
-/// For the command `threads` it holds if the call returns, since its threads wait for one another.
+/// - 0 on success.
+/// - 1 if a script or a trace is refused, a replayed trace gets a different reply, or a checked volume needs opening.
+/// - 2 if the words don't have a form that the help shows.
+/// - 3 if a volume or a machine is refused, a reply is that the device failed, or a thread waits in vain for others.
+///   Also if a file can't be made, opened or read, `out` can't be written, or memory can't be allocated.
+///
+/// With status 1 or 2, no file was changed.
+///
+/// For the command `threads`, the contract holds if the call returns, since its threads wait for one another.
 pub fn perform<R, A, S, O, E>(rt: &R, alloc: A, words: &[S], out: &mut O, err: &mut E) -> u8
 where
     R: Files<File = File> + Input + AllocGlobal + Threads + Wait + Sync,
@@ -45,7 +50,7 @@ where
     match once_flushed(done, out.flush()) {
         Ok(status) => status,
         Err(failure) => {
-            // Where this can't be written either, the status is all that is left to say.
+            // If the report can't be written either, only the status shows the failure.
             let _ = report_failure(rt.alloc(), asks_for_json(words), &failure, &note, err);
             let _ = err.flush();
             failure.status()
@@ -53,7 +58,7 @@ where
     }
 }
 
-// What was printed comes out also where there is a failure, which then counts.
+// `out` is flushed even after a failure. That failure takes precedence over a failure of the flush.
 fn once_flushed<'a>(
     done: Result<u8, Failure<'a>>,
     flushed: io::Result<()>,
@@ -66,7 +71,7 @@ fn once_flushed<'a>(
     Ok(status)
 }
 
-// Does what was asked for, where the words are of a form that the help shows.
+// Runs the requested command. Fails if the words were refused.
 fn obey<'a, R, A, O, E>(
     rt: &R,
     alloc: A,

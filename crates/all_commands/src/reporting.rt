@@ -1,4 +1,4 @@
-// What is said of a command that failed, as text or as JSON.
+// Reports why a command failed, as text or as JSON.
 use command_parts::Failure;
 use serde_json::{Value, json};
 use std::alloc::{AllocError, Global};
@@ -14,7 +14,8 @@ pub fn asks_for_json<S: AsStr>(words: &[S]) -> bool {
     words.iter().any(|word| word.as_str() == JSON)
 }
 
-/// Says why a command failed. Where memory is refused for JSON it is said as text.
+/// Writes one line to `err` that states why a command failed, as JSON or as text. If no memory can be allocated for the
+/// JSON, the line is text.
 pub fn report_failure<W: io::Write>(
     global: Global,
     json: bool,

@@ -1,4 +1,4 @@
-//! A volume in any layout, with journals or with a log, is found on a device and read as it recovers.
+//! Finds a volume in any layout on a device, with journals or with a log, and reads its recovered files.
 #![tactic(auto)]
 
 mod listing;

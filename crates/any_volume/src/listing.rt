@@ -1,4 +1,4 @@
-// The files of a volume in any layout.
+// Prints the files of a volume in any layout.
 ghost use Rattle.std.specs.Prelude.{List, IfOk, IfErr, OnOk};
 ghost use Rattle.std.specs.Io.KnownBytes.{Appends};
 ghost use Rattle.volume_codec.specs.Files.{File};
@@ -14,8 +14,9 @@ use page_entry::Refusal;
 use std::alloc::Allocator;
 use std::io;
 
-/// Writes the files of the volume of a device, as it recovers, in the table's order: of each its head, and its rows of
-/// 16 bytes that aren't all zero. The volume is refused as `AnyVolume::find` refuses it. The device is only read.
+/// Writes the recovered files of the volume on a device to `out`, in the order of the table. For each file it writes
+/// the head, and each row of 16 bytes that aren't all zero. The device is only read. The outer error is that of
+/// `AnyVolume::find`, and the inner one is a fault while the files are listed.
 pub fn list_any<D: Device, A: Allocator + Copy, F: Form, W: io::Write>(
     alloc: A,
     device: &mut D,

@@ -13,16 +13,21 @@ use std::alloc::Allocator;
 /// A volume that was found on a device.
 #[derive(Drop)]
 pub enum AnyVolume<A: Allocator + Copy> {
-    /// In layouts 1 to 4.
+    /// A volume with journals, in layouts 1 to 4.
     Journals(Recovered<A>),
-    /// In layout 5 or 6.
+    /// A volume with a log, in layout 5 or 6.
     Log(LoggedVolume<A>),
 }
 
 impl<A: Allocator + Copy> AnyVolume<A> {
-    /// Finds the volume of a device, with journals or with a log. `NotAVolume` if the bytes are no volume of either
-    /// kind, `Damaged` if they are a damaged one, `Device` if a device call failed. `OutOfMemory` may come in the place
-    /// of any. The device is only read.
+    /// Finds the volume on a device, with journals or with a log. The device is only read.
+    ///
+    /// Fails with:
+    ///
+    /// - `NotAVolume` if the bytes are no volume of either kind.
+    /// - `Damaged` if they are a damaged volume.
+    /// - `Device` if a device call failed.
+    /// - `OutOfMemory` if memory can't be allocated. It may come in place of any other result.
     pub fn find<D: Device>(alloc: A, device: &mut D) -> Result<Self, Refusal>
         ensures found { D.is_honest device.old → IfOk result (λ volume. IsAny volume (D.seen device.old)) }
         ensures sound { IfOk result IsSoundAny }
@@ -39,7 +44,7 @@ impl<A: Allocator + Copy> AnyVolume<A> {
     }
 }
 
-// Finds the volume with a log of a device that is none with journals.
+// Finds a volume with a log on a device that contains no volume with journals.
 fn find_log<D: Device, A: Allocator + Copy>(
     alloc: A,
     device: &mut D,

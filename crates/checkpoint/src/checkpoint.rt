@@ -23,15 +23,16 @@ use spaces::Spaces;
 use std::alloc::{AllocError, Allocator, Global};
 use std::marker::Model;
 
-/// Which pages are dirty beyond what entries of page tables say, and which are frozen until their records are written.
+/// The frames that are noted as dirty although no page-table entry shows it, and the frozen pages. A frozen page's
+/// record isn't written yet.
 #[derive(Drop)]
 pub struct Checkpoint<A: Allocator + Copy = Global> {
-    // For each frame, whether since the last mark a dirty entry of it was taken away, or a growth of its file touched
-    // it.
+    // For each frame, whether it is noted. A frame is noted if, since the last mark, a dirty entry of it was cleared,
+    // or a growth of its file touched it.
     notes: Vec<bool, A>,
     // The pages that the last mark gathered, in the order of their home blocks.
     pages: Vec<FilePage, A>,
-    // How many of them aren't frozen any more.
+    // The number of these pages that are no longer frozen.
     released: usize,
 }
 
@@ -49,8 +50,8 @@ impl<A: Allocator + Copy> Model for Checkpoint<A> {
 }
 
 impl<A: Allocator + Copy> Checkpoint<A> {
-    /// Of so many frames none is noted, and no page is frozen. No other call takes memory. Fails where memory is
-    /// refused.
+    /// Returns a checkpoint for `frames` frames, in which no frame is noted and no page is frozen. Fails if memory
+    /// can't be allocated. No other call allocates memory.
     pub fn new(alloc: A, frames: FrameNumber) -> Result<Self, AllocError>
         ensures { IfOk result (λ made. made ≡ fresh_checkpoint frames) }
     {
@@ -61,22 +62,23 @@ impl<A: Allocator + Copy> Checkpoint<A> {
         })
     }
 
-    /// Whether it is as `new` leaves it.
+    /// Whether no frame is noted and no page is frozen, as `new` leaves it.
     pub fn is_fresh(&self) -> bool
         ensures { IsTrue result ↔ (self.now ≡ fresh_checkpoint (length self.now.notes)) }
     {
         self.frozen().is_empty() && !has_note(&self.notes)
     }
 
-    /// Gathers the dirty pages in the order of their home blocks and answers how many there are. Their frames are
-    /// noted, and no other; the pages are frozen if `freezes` says so, which it does unless the machine is broken.
+    /// Gathers the dirty pages in the order of their home blocks, and returns their number. Afterwards the frames of
+    /// these pages are noted, and no others. If `freezes` is true, the pages are frozen. It is true unless the machine
+    /// is broken.
     pub fn gather(&mut self, spaces: &Spaces<A>, frames: &Frames<A>, freezes: bool) -> usize
         requires sized { length self.old.notes ≡ length frames.now.frames }
         requires backed { AreBacked frames.now self.old spaces.now.map }
         ensures gathered { (pages : List FilePage) × (length pages ≡ result)
             × Gathers spaces.now.map frames.now self.old self.new freezes pages }
 
-        // Where nothing is frozen any more when it is called, no copy is left, and so it stays.
+        // If no page is frozen before the call, no copy exists, and none exists afterwards.
         ensures copies { self.old.frozen ≡ [] → AreCopiesOfFrozen frames.now self.old
             → AreCopiesOfFrozen frames.now self.new }
     {
@@ -87,14 +89,14 @@ impl<A: Allocator + Copy> Checkpoint<A> {
         count
     }
 
-    /// Takes the right to write and the dirty bit from every entry of a noted frame, dirty or not, in every space;
-    /// then no frame is noted.
+    /// Clears the writable and the dirty bit of every entry of a noted frame in every space, even of entries that
+    /// aren't dirty. Then no frame is noted.
     pub fn protect_all(&mut self, spaces: &mut Spaces<A>)
         ensures protected { ProtectsNoted self.old spaces.old.map spaces.new.map }
         ensures prepared { spaces.new.prepared ≡ spaces.old.prepared }
         ensures notes { self.new ≡ without_notes self.old }
 
-        // After gathering, no entry of a page that is newly frozen is writable any more.
+        // After `gather`, no entry of a newly frozen page stays writable.
         ensures backed { (memory : FramesState) (before : CheckpointState) (freezes : Bool) (pages : List FilePage)
             → Gathers spaces.old.map memory before self.old freezes pages → HoldsEachOnce memory
             → AreBacked memory before spaces.old.map → AreBacked memory self.new spaces.new.map }
@@ -103,7 +105,7 @@ impl<A: Allocator + Copy> Checkpoint<A> {
         self.notes.fill(false);
     }
 
-    /// The frozen pages, in the order of their home blocks.
+    /// Returns the frozen pages, in the order of their home blocks.
     pub fn frozen(&self) -> &[FilePage]
         ensures frozen { result.now ≡ self.now.frozen }
         ensures rising { AreRising result.now }
@@ -118,21 +120,21 @@ impl<A: Allocator + Copy> Checkpoint<A> {
         self.frozen().binary_search(&page).is_ok()
     }
 
-    /// Whether a copy frame keeps the page's bytes.
+    /// Whether a copy frame contains the page's bytes.
     pub fn copied(&self, frames: &Frames<A>, page: FilePage) -> bool
         ensures { result ≡ is_copied frames.now page }
     {
         has_copy(frames, page)
     }
 
-    /// Whether a store to the page has to wait: it is frozen, and its bytes aren't copied.
+    /// Whether a store to the page has to wait, because the page is frozen and its bytes aren't copied.
     pub fn is_held(&self, frames: &Frames<A>, page: FilePage) -> bool
         ensures { result ≡ is_held frames.now self.now page }
     {
         self.is_frozen(page) && !has_copy(frames, page)
     }
 
-    // The first frozen page, which isn't frozen any more.
+    // Returns the first frozen page, which is no longer frozen afterwards.
     fn take_first(&mut self) -> FilePage
         requires { 0 < length self.old.frozen }
         ensures first { (page : FilePage) → result ≡ slice_index_or self.old.frozen 0 page }
@@ -144,8 +146,8 @@ impl<A: Allocator + Copy> Checkpoint<A> {
         page
     }
 
-    /// The first frozen page's record is written: the page isn't frozen any more, and the copy frame with its bytes
-    /// is free.
+    /// Unfreezes the first frozen page, whose record is now written. Frees the copy frame that contains its bytes, if
+    /// there is one.
     pub fn release(&mut self, frames: &mut Frames<A>)
         requires { 0 < length self.old.frozen }
         ensures released { self.new ≡ released self.old }
@@ -159,7 +161,7 @@ impl<A: Allocator + Copy> Checkpoint<A> {
         free_copy(frames, page);
     }
 
-    /// No page is frozen any more, and the copy frames with their bytes are free.
+    /// Unfreezes all pages, and frees the copy frames that contain their bytes.
     pub fn release_all(&mut self, frames: &mut Frames<A>)
         ensures thawed { self.new ≡ thawed self.old }
         ensures freed { frames.new ≡ without_frozen_copies frames.old self.old }
@@ -199,15 +201,15 @@ impl<A: Allocator + Copy> Checkpoint<A> {
         spaces.remove(pcid);
     }
 
-    /// Takes away the entries of every page that maps this page of a file, in every space, and notes the frames of
-    /// those that were dirty.
+    /// Clears the entries of every page that maps `page`, in every space. Notes the frames of the entries that were
+    /// dirty.
     pub fn clear(&mut self, spaces: &mut Spaces<A>, page: FilePage)
         requires { HasNotes spaces.old.map (length self.old.notes) }
         ensures cleared { EditsEntries (without_entries_of page spaces.old.map) spaces.old.map spaces.new.map }
         ensures prepared { spaces.new.prepared ≡ spaces.old.prepared }
         ensures noted { NotesTaken spaces.old.map (IsMappingOf spaces.old.map page) self.old self.new }
 
-        // Where the page is clean, nothing is noted.
+        // If the page is clean, nothing is noted.
         ensures clean { (memory : FramesState) (frame : ℕ)
             → AreBacked memory self.old spaces.old.map → HoldsEachOnce memory → Holds memory frame page
             → (IsDirty spaces.old.map self.old frame → ⊥) → self.new ≡ self.old }
@@ -218,10 +220,13 @@ impl<A: Allocator + Copy> Checkpoint<A> {
         spaces.clear_entries_of(page);
     }
 
-    /// The length of a file becomes another, both in bytes. The entries of pages that begin at or past the new end are
-    /// taken away and their frames become free, with no note. The bytes past the smaller length become zeros. Each page
-    /// that a growth adds gets a free frame of zeros, and the pages that it touches are noted: those that it adds, and
-    /// the one in which the file ended (POSIX.1-2024, `ftruncate`). Which free frames the added pages get stays open.
+    /// Changes the length of a file from `old` to `to`, both in bytes, as `ftruncate` does (POSIX.1-2024):
+    ///
+    /// - Pages that begin at or past the new end leave memory. Their entries are cleared and their frames become free,
+    ///   without a note.
+    /// - The bytes past the smaller length become zeros.
+    /// - Each page that a growth adds gets a free frame of zeros. The contract leaves open which frame.
+    /// - A growth notes the pages that it touches: those that it adds, and the page in which the file ended.
     pub fn resize(
         &mut self,
         spaces: &mut Spaces<A>,
@@ -244,7 +249,7 @@ impl<A: Allocator + Copy> Checkpoint<A> {
         resize_pages(&mut self.notes, spaces, frames, file, old, to);
     }
 
-    /// Whether the page in a frame is dirty: it got a store since the last mark.
+    /// Whether the page in a frame is dirty: a store to it was made since the last mark.
     pub fn is_dirty(&self, spaces: &Spaces<A>, frames: &Frames<A>, frame: FrameNumber) -> bool
         requires { AreBacked frames.now self.now spaces.now.map }
         ensures { IsTrue result ↔ IsDirty spaces.now.map self.now frame }

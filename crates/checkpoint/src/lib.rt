@@ -1,5 +1,5 @@
-//! Which pages are dirty, which are frozen until their records are written, and the calls that take entries of page
-//! tables away and note what was dirty (Park, Kelly and Shen 2013, failure-atomic msync).
+//! Tracks which pages are dirty, and which are frozen until their records are written. The calls that clear page-table
+//! entries note the dirty pages first (Park, Kelly and Shen 2013, failure-atomic msync).
 #![tactic(auto)]
 
 mod checkpoint;

@@ -1,4 +1,4 @@
-// Noting the frames of dirty entries, and the pages of the frames that are noted.
+// Notes the frames of dirty entries, and lists the pages in noted frames.
 ghost use Rattle.std.specs.Prelude.{◌≡◌, ◌≤◌, ◌<◌, ◌+◌, ◌^◌, ◌++◌, true, length, ℕ, slice_set, IsTrue, ◌↔◌};
 ghost use Rattle.std.specs.List.{list_any};
 ghost use Rattle.std.specs.Option.{option_to_list};
@@ -23,7 +23,7 @@ fn note(notes: &mut [bool], entry: Entry)
     notes[entry.frame() as usize] = true;
 }
 
-/// Whether a frame is noted.
+/// Whether any frame is noted.
 pub(crate) fn has_note(notes: &[bool]) -> bool
     ensures { result ≡ list_any (λ noted. noted) notes.now }
 {
@@ -47,7 +47,7 @@ pub(crate) fn note_range<A: Allocator + Copy>(
     }
 }
 
-/// Notes the frame of each dirty entry of a space, if it is there.
+/// Notes the frame of each dirty entry of a space, if the space exists.
 pub(crate) fn note_space<A: Allocator + Copy>(notes: &mut [bool], spaces: &Spaces<A>, pcid: Pcid)
     requires { HasNotes spaces.now.map (length notes.old) }
     ensures { AreNoted spaces.now.map (IsInSpace pcid) notes.old notes.new }
@@ -78,7 +78,7 @@ pub(crate) fn note_page<A: Allocator + Copy>(notes: &mut [bool], spaces: &Spaces
     }
 }
 
-/// Whether a page that maps this page of a file has a dirty entry, in some space.
+/// Whether some space has a dirty entry for a page that maps this page of a file.
 pub(crate) fn has_dirty_entry<A: Allocator + Copy>(spaces: &Spaces<A>, page: FilePage) -> bool
     ensures { IsTrue result
         ↔ ((frame : ℕ) × HasDirtyEntry spaces.now.map (IsMappingOf spaces.now.map page) frame) }
@@ -91,7 +91,7 @@ pub(crate) fn has_dirty_entry<A: Allocator + Copy>(spaces: &Spaces<A>, page: Fil
     false
 }
 
-// Lists the page in a frame behind those that are listed, if the frame is noted.
+// Appends the page in a frame to the list, if the frame is noted.
 fn list_page<A: Allocator + Copy>(
     pages: &mut Vec<FilePage, A>,
     notes: &[bool],
@@ -110,13 +110,15 @@ fn list_page<A: Allocator + Copy>(
     }
 }
 
-// Where fewer than one in so many of the frames in use are noted, their pages are sorted.
+// If fewer than one in `SHARE` of the frames in use are noted, `list_noted` sorts their pages.
 const SHARE: usize = 8;
 
-/// Lists the pages of the frames in use that are noted, in the order of their home blocks. There is room for a page of
-/// each frame, so that no memory is taken. Few pages are sorted, so that a commit of few costs little, however many
-/// frames are in use; many are taken as they come in the order of all frames in use, so that a page costs as much among
-/// many as among few.
+/// Lists the pages of the noted frames in use, in the order of their home blocks. `pages` has room for a page of each
+/// frame, so no memory is allocated.
+///
+/// If few frames are noted, their pages are sorted. So a small commit costs little even if many frames are in use. If
+/// many are noted, their pages are taken from the order of all frames in use. So a page of a large commit costs no more
+/// than a page of a small one.
 pub(crate) fn list_noted<A: Allocator + Copy>(
     pages: &mut Vec<FilePage, A>,
     notes: &[bool],

@@ -6,10 +6,10 @@ use std::alloc::{AllocError, Allocator, Global};
 use std::collections::VecDeque;
 use std::marker::Model;
 
-// How many numbers a full chunk has.
+// The length of a full chunk.
 pub(crate) const CHUNK: usize = 1024;
 
-// At most so many numbers; one may be put in or taken out at either end in the time of one.
+// At most `CHUNK` numbers. A push or a pop at either end takes constant time.
 #[derive(Drop)]
 pub(crate) struct Chunk<A: Allocator = Global> {
     numbers: VecDeque<u32, A>,
@@ -44,7 +44,7 @@ impl<A: Allocator> Chunk<A> {
         self.numbers[place]
     }
 
-    // Puts a number in at a place.
+    // Inserts a number at a place.
     pub(crate) fn insert(&mut self, place: usize, value: u32)
         requires within { place ≤ length self.old }
         requires room { length self.old < 1024 }
@@ -55,7 +55,7 @@ impl<A: Allocator> Chunk<A> {
         };
     }
 
-    // Takes out the number at a place.
+    // Removes the number at a place.
     pub(crate) fn remove(&mut self, place: usize)
         requires { place < length self.old }
         ensures { self.new ≡ remove self.old place }
@@ -65,7 +65,7 @@ impl<A: Allocator> Chunk<A> {
         };
     }
 
-    // Puts a number in before all others.
+    // Inserts a number before all others.
     pub(crate) fn push_first(&mut self, value: u32)
         requires { length self.old < 1024 }
         ensures { self.new ≡ value ∷ self.old }
@@ -73,7 +73,7 @@ impl<A: Allocator> Chunk<A> {
         self.numbers.push_front_reserved(value);
     }
 
-    // Puts a number in after all others.
+    // Appends a number.
     pub(crate) fn push_last(&mut self, value: u32)
         requires { length self.old < 1024 }
         ensures { self.new ≡ self.old ++ value ∷ [] }
@@ -81,7 +81,7 @@ impl<A: Allocator> Chunk<A> {
         self.numbers.push_back_reserved(value);
     }
 
-    // Takes out the first number.
+    // Removes the first number, and returns it.
     pub(crate) fn pop_first(&mut self) -> u32
         requires { 0 < length self.old }
         ensures { self.old ≡ result ∷ self.new }
@@ -89,7 +89,7 @@ impl<A: Allocator> Chunk<A> {
         self.numbers.pop_front().unwrap()
     }
 
-    // Takes out the last number.
+    // Removes the last number, and returns it.
     pub(crate) fn pop_last(&mut self) -> u32
         requires { 0 < length self.old }
         ensures { self.old ≡ self.new ++ result ∷ [] }

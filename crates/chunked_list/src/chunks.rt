@@ -1,4 +1,4 @@
-// The chunks of a list: each is full but the last one that isn't empty.
+// The chunks of a list. Every chunk before the last non-empty one is full.
 ghost use Rattle.std.specs.Prelude.{◌≡◌, ◌+◌, ◌<◌, ◌≤◌, ◌*◌, ◌/◌, [], length, replicate, IfOk};
 ghost use Rattle.std.specs.List.{concat};
 ghost use Rattle.chunked_list.specs.inside.Chunks.{HasHole};
@@ -6,7 +6,7 @@ ghost use Rattle.chunked_list.specs.inside.Chunks.{HasHole};
 use crate::chunk::{CHUNK, Chunk};
 use std::alloc::{AllocError, Allocator};
 
-// So many empty chunks.
+// Returns `count` empty chunks.
 pub(crate) fn empty_chunks<A: Allocator + Copy>(
     alloc: A,
     count: usize,
@@ -20,8 +20,8 @@ pub(crate) fn empty_chunks<A: Allocator + Copy>(
     Ok(chunks)
 }
 
-// Makes room for one number in this chunk: the last number of each full chunk from it on goes to the front of the next
-// chunk. There are `count` numbers.
+// Makes room for one number in the chunk `first`. The last number of each full chunk from there on moves to the front
+// of the next chunk. `count` is the length of the list.
 pub(crate) fn open_at<A: Allocator>(chunks: &mut Vec<Chunk<A>, A>, count: usize, first: usize)
     requires hole { HasHole chunks.old.items (count + 1) (count / 1024) }
     requires within { count < 1024 * length chunks.old.items }
@@ -36,8 +36,8 @@ pub(crate) fn open_at<A: Allocator>(chunks: &mut Vec<Chunk<A>, A>, count: usize,
     }
 }
 
-// Fills this chunk, in which one number is missing: the first number of each chunk after it goes to the end of the one
-// before. There are `count` numbers.
+// Fills the chunk `first`, in which one number is missing. The first number of each later chunk moves to the end of the
+// chunk before it. `count` is the length of the list.
 pub(crate) fn close_at<A: Allocator>(chunks: &mut Vec<Chunk<A>, A>, count: usize, first: usize)
     requires hole { HasHole chunks.old.items (count + 1) first }
     requires within { count < 1024 * length chunks.old.items }

@@ -1,6 +1,5 @@
-//! A list of numbers in chunks: a number is put in or taken out at a place by moving the numbers of one chunk, and one
-//! number of each later chunk. All memory is taken when the list is made, so that no later call can fail for want of
-//! it.
+//! A list of numbers, stored in chunks. An insertion or a removal moves numbers of one chunk, and one number of each
+//! later chunk. All memory is allocated when the list is made, so no later call can run out of memory.
 #![tactic(auto)]
 
 ghost use Rattle.std.specs.Prelude.{◌≡◌, ◌==◌, ◌<◌, ◌≤◌, [], length, IfOk, slice_index_or};
@@ -14,11 +13,11 @@ use chunks::{close_at, empty_chunks, open_at};
 use std::alloc::{AllocError, Allocator, Global};
 use std::marker::Model;
 
-/// A list of numbers of 32 bits, with room for so many. A change moves at most the numbers of one chunk of 1,024, and
-/// one number of each chunk after it.
+/// A list of 32-bit numbers with a fixed capacity. A change moves at most the numbers of one chunk of 1,024, and one
+/// number of each later chunk.
 #[derive(Drop)]
 pub struct ChunkedList<A: Allocator + Copy = Global> {
-    // Each is full but the last one that isn't empty.
+    // Every chunk before the last non-empty one is full.
     chunks: Vec<Chunk<A>, A>,
     count: usize,
     capacity: usize,
@@ -37,7 +36,7 @@ impl<A: Allocator + Copy> Model for ChunkedList<A> {
 }
 
 impl<A: Allocator + Copy> ChunkedList<A> {
-    /// An empty list with room for so many numbers. Fails where memory is refused.
+    /// Returns an empty list with room for `capacity` numbers. Fails if memory can't be allocated.
     pub fn new(alloc: A, capacity: u32) -> Result<Self, AllocError>
         ensures { IfOk result (λ list. list ≡ record { items = []; room = capacity }) }
     {
@@ -49,7 +48,7 @@ impl<A: Allocator + Copy> ChunkedList<A> {
         })
     }
 
-    /// How many numbers it has.
+    /// Returns the length of the list.
     pub fn len(&self) -> usize
         ensures count { result ≡ length self.now.items }
         ensures room { result ≤ self.now.room }
@@ -57,14 +56,14 @@ impl<A: Allocator + Copy> ChunkedList<A> {
         self.count
     }
 
-    /// Whether it has no number.
+    /// Whether the list is empty.
     pub fn is_empty(&self) -> bool
         ensures { result ≡ length self.now.items == 0 }
     {
         self.count == 0
     }
 
-    /// The number at a place, counted from 0.
+    /// Returns the number at a place, counted from 0.
     pub fn get(&self, place: usize) -> u32
         requires { place < length self.now.items }
         ensures { result ≡ slice_index_or self.now.items place 0 }
@@ -72,7 +71,7 @@ impl<A: Allocator + Copy> ChunkedList<A> {
         self.chunks[place / CHUNK].get(place % CHUNK)
     }
 
-    /// Puts a number in at a place; those from there on move up by one. It takes no memory.
+    /// Inserts a number at a place. The numbers from there on move up by one. Allocates no memory.
     pub fn insert(&mut self, place: usize, value: u32)
         requires within { place ≤ length self.old.items }
         requires room { length self.old.items < self.old.room }
@@ -84,7 +83,7 @@ impl<A: Allocator + Copy> ChunkedList<A> {
         self.count += 1;
     }
 
-    /// Takes out the number at a place; those after it move down by one.
+    /// Removes the number at a place. The numbers after it move down by one.
     pub fn remove(&mut self, place: usize)
         requires { place < length self.old.items }
         ensures { self.new ≡ record { items = remove self.old.items place; room = self.old.room } }

@@ -1,4 +1,4 @@
-// The command line: what the words ask for.
+// Reads the command line.
 ghost use Rattle.std.specs.Prelude.{◌≡◌, ◌↔◌, ◌<◌, IsTrue};
 ghost use Rattle.volume_codec.specs.Layout.{number_of, lengths_blocks};
 ghost use Rattle.command_line.specs.Logs.{seal_in};
@@ -16,10 +16,11 @@ use std::alloc::{AllocError, Allocator, Global};
 use std::convert::AsStr;
 use volume_codec::{FileSpec, Layout};
 
-/// The number of blocks of a log where none is given: 64 MiB.
+/// The default number of a log's blocks: 64 MiB.
 const LOG_BLOCKS: u64 = 16_384;
 
-/// Reads the words of a command line, of which the first is the program's name.
+/// Returns the job that the words of a command line ask for. The first word is the program's name. Fails with a
+/// `WordFault` if the words are refused, or memory can't be allocated.
 pub fn read_words<'a, A: Allocator + Copy, S: AsStr>(
     global: Global,
     alloc: A,
@@ -56,7 +57,7 @@ fn job_of<'a, A: Allocator + Copy>(
     }
 }
 
-// A volume, and the file of this name that says what is run on it.
+// A volume, and the script or trace to run on it. `script` is the name of that word.
 fn scripted<'a>(words: &ArgMatches<'a>, script: &str) -> Scripted<'a> {
     Scripted {
         disk: text(words, "DISK"),
@@ -91,7 +92,7 @@ fn look_job<'a, A: Allocator + Copy>(name: &str, words: &ArgMatches<'a>) -> Job<
     })
 }
 
-// What the command of this name looks at.
+// The view that the command of this name prints.
 fn sight_of(name: &str) -> Sight {
     match name {
         "info" => Sight::Bytes,
@@ -100,7 +101,7 @@ fn sight_of(name: &str) -> Sight {
     }
 }
 
-// Whether files may grow in the layout of this number, so that a capacity may be given for one.
+// Whether files may grow in the layout of this number. Then a file may have a capacity larger than its length.
 fn may_grow(layout: u64) -> bool
     ensures { IsTrue result ↔ (l : AnyLayout) × (number_of l ≡ layout) × (0 < lengths_blocks l) }
 {
@@ -110,7 +111,7 @@ fn may_grow(layout: u64) -> bool
     }
 }
 
-// The layout of this number as one with a log, if it is one: 5 seals commits by a byte, and 6 by a digest.
+// How the layout of this number seals commits, if it has a log.
 fn log_layout(layout: u64, key: Option<u64>) -> Option<Seal>
     ensures { result ≡ seal_in layout key }
 {
@@ -156,7 +157,7 @@ fn journals_job<'a, A: Allocator + Copy>(
     }))
 }
 
-// A volume with a log. Its files follow DISK at once.
+// A volume with a log. It has no SLOTS, so that word is its first file.
 fn log_job<'a, A: Allocator + Copy>(
     alloc: A,
     words: &ArgMatches<'a>,
@@ -178,7 +179,7 @@ fn log_job<'a, A: Allocator + Copy>(
     })))
 }
 
-// The words for files, as files.
+// Appends the files that the words FILE describe.
 fn more_files<'a, A: Allocator + Copy>(
     words: &ArgMatches<'a>,
     grows: bool,
@@ -194,7 +195,7 @@ fn file_of<'a>(word: &'a str, grows: bool) -> Result<FileSpec<'a>, WordFault<'a>
     file_spec(word, grows).ok_or(WordFault::FileSpec(word))
 }
 
-// These files, if there are any.
+// Refuses an empty list of files.
 fn some_files<'a, A: Allocator + Copy>(
     files: Vec<FileSpec<'a>, A>,
 ) -> Result<Vec<FileSpec<'a>, A>, WordFault<'a>> {
@@ -212,7 +213,7 @@ fn log_blocks<'a>(words: &ArgMatches<'a>) -> Result<u64, WordFault<'a>> {
     }
 }
 
-// The key that is given for the digests of a log, which only layout 6 has.
+// The key for a log's digests, if the words contain one. Only layout 6 has a key.
 fn key_of<'a>(words: &ArgMatches<'a>, layout: u64) -> Result<Option<u64>, WordFault<'a>> {
     let Some(word) = words.get_str("key") else {
         return Ok(None);
@@ -249,7 +250,7 @@ fn migrate_job<'a, A: Allocator + Copy>(
     })))
 }
 
-// The log of a volume that is made of another. It has no record slots.
+// The log of a volume that is made from another. It has no record slots, so SLOTS is refused.
 fn new_log<'a>(
     words: &ArgMatches<'a>,
     layout: u64,
@@ -266,7 +267,7 @@ fn new_log<'a>(
     Ok(NewLayout::Log { seal, blocks })
 }
 
-// The journals of a volume that is made of another.
+// The journals of a volume that is made from another.
 fn new_journals<'a>(words: &ArgMatches<'a>, layout: u64) -> Result<NewLayout, WordFault<'a>> {
     no_log(words, layout)?;
     let Some(slots) = words.get_str("SLOTS") else {
@@ -276,7 +277,7 @@ fn new_journals<'a>(words: &ArgMatches<'a>, layout: u64) -> Result<NewLayout, Wo
     Ok(NewLayout::Journals { layout, slots })
 }
 
-// Refuses the blocks of a log in a layout that has none.
+// Refuses `--log` in a layout without a log.
 fn no_log<'a>(words: &ArgMatches<'a>, layout: u64) -> Result<(), WordFault<'a>> {
     if words.contains_id("log") {
         return Err(WordFault::OtherLayout {
@@ -315,7 +316,7 @@ fn text<'a>(words: &ArgMatches<'a>, name: &str) -> &'a str {
     words.get_str(name).unwrap_or("")
 }
 
-// Help and the version are no faults.
+// The parser reports help and the version as errors, but they are jobs.
 fn no_job<'a, A: Allocator + Copy>(
     global: Global,
     error: &Error,
@@ -329,7 +330,7 @@ fn no_job<'a, A: Allocator + Copy>(
     }
 }
 
-// What an error says before its hints and its usage, as one line.
+// The text of an error before its hints and its usage, as one line.
 fn first_paragraph(alloc: Global, error: &Error) -> Result<String, AllocError> {
     let text = error.to_string(alloc)?;
     let text = text.as_str();

@@ -1,4 +1,4 @@
-// The commands, with their options and words, and what help says of them.
+// The commands, with their options, their words and their help.
 use clap::{Arg, ArgAction, Command};
 use std::alloc::{AllocError, Global};
 
@@ -16,8 +16,8 @@ enum Choice {
     Html,
 }
 
-// A command: its name, what it does, its line of use where that isn't made of the rest, its options, its words, those
-// that may be left out, and the word that may come more than once after them. A word has its name and its help.
+// A command. `usage` is its usage text, if that isn't derived from the rest. `words` are required, and `optional` words
+// may be left out. `last` is a word that may be repeated after them. Each word has its name and its help.
 #[derive(Clone, Copy)]
 struct Shape {
     name: &'static str,
@@ -33,7 +33,7 @@ const DISK: (&str, &str) = ("DISK", "The file that holds the volume");
 
 const SCRIPT: (&str, &str) = ("SCRIPT", "The file that holds the script, a JSON object");
 
-// What a command has that says nothing else of it.
+// The defaults of a command's fields.
 const PLAIN: Shape = Shape {
     name: "",
     about: "",
@@ -167,7 +167,7 @@ const COMMANDS: &[Shape] = &[
     },
 ];
 
-/// The program with its commands.
+/// Returns the program with its commands. Fails if memory can't be allocated.
 pub fn program<'a>(alloc: Global) -> Result<Command<'a>, AllocError> {
     let mut program = Command::new(alloc, "famsync")
         .version("0.3.0")

@@ -1,14 +1,14 @@
-// What is asked for.
+// The job that a command line asks for.
 
 use std::alloc::Allocator;
 use volume_codec::FileSpec;
 
-/// What the words of a command line ask for.
+/// The job that the words of a command line ask for.
 #[derive(Drop)]
 pub enum Job<'a, A: Allocator + Copy> {
     /// Make a volume, or copy a file out of one, and print how much was made.
     Make(Make<'a, A>),
-    /// Print what is to be seen of a volume.
+    /// Print a view of a volume.
     Look(Look<'a>),
     /// Run a script on a volume.
     Run(Scripted<'a>),
@@ -18,16 +18,17 @@ pub enum Job<'a, A: Allocator + Copy> {
     Replay(Scripted<'a>),
     /// Print what a crash within each device call of a script leaves.
     Crashes(Scripted<'a>, Form),
-    /// Answer requests on a volume, also on one that is marked as suspect where it is trusted.
+    /// Answer requests on a volume. With `trust`, the volume may be marked as suspect.
     Serve { disk: &'a str, trust: bool },
     /// Print this text: help, or the version.
     Show(String),
 }
 
-/// What is made, and whether what is printed is JSON.
+/// What to make. `json` asks for output in JSON.
 #[derive(Drop)]
 pub enum Make<'a, A: Allocator + Copy> {
-    /// A volume in the layout of this number, with these files, whose blocks may be taken on the disk at once.
+    /// A volume in the layout `layout`, with these files. `preallocate` asks to allocate all its blocks on the disk at
+    /// once.
     Volume {
         layout: u64,
         disk: &'a str,
@@ -38,22 +39,22 @@ pub enum Make<'a, A: Allocator + Copy> {
     },
     /// A volume with a log.
     Logged(Logged<'a, A>),
-    /// A volume whose files can grow, of another.
+    /// A volume whose files can grow, made from another volume.
     Migration(Migration<'a>),
     /// A copy of a file of a volume.
     Copy(Export<'a>),
 }
 
-/// How a volume with a log seals its commits: by a byte in layout 5, and by a digest in layout 6, under this key, or
-/// under one that is drawn.
+/// How a volume with a log seals its commits: by a byte in layout 5, and by a digest in layout 6. `Digest` contains the
+/// key. If it is `None`, the key is drawn at random.
 #[derive(Clone, Copy, Debug, PartialEq, Eq)]
 pub enum Seal {
     Byte,
     Digest(Option<u64>),
 }
 
-/// A volume with a log that is made: how it seals its commits, the path of its file, the blocks of its log, its files,
-/// whether its blocks are taken on the disk at once, and whether what is printed is JSON.
+/// A volume with a log to make. `disk` is the path of its file, and `log` the number of its log's blocks. `preallocate`
+/// asks to allocate all its blocks on the disk at once, and `json` for output in JSON.
 #[derive(Drop)]
 pub struct Logged<'a, A: Allocator + Copy> {
     pub seal: Seal,
@@ -64,8 +65,8 @@ pub struct Logged<'a, A: Allocator + Copy> {
     pub json: bool,
 }
 
-/// A volume on which what another file says is run: the paths of the volume's file and of the script or the trace, and
-/// whether the volume is trusted though it may be marked as suspect.
+/// A volume, and a script or a trace to run on it. `disk` and `script` are the paths of their files. With `trust`, the
+/// volume may be marked as suspect.
 #[derive(Clone, Copy)]
 pub struct Scripted<'a> {
     pub disk: &'a str,
@@ -73,19 +74,19 @@ pub struct Scripted<'a> {
     pub trust: bool,
 }
 
-/// What is looked at of a volume.
+/// A view of a volume.
 #[derive(Clone, Copy, PartialEq, Eq)]
 pub enum Sight {
     /// Its files.
     Files,
-    /// What its bytes say.
+    /// What can be read off its bytes: its shape, its files, its journals, and what opening would do.
     Bytes,
     /// Whether it is clean, needs opening, or is damaged.
     Health,
 }
 
-/// A volume that is looked at: what is looked at, the path of its file, whether it is trusted though it may be marked
-/// as suspect, and whether what is printed is JSON.
+/// A volume to print a view of. `disk` is the path of its file. With `trust`, it may be marked as suspect. `json` asks
+/// for output in JSON.
 #[derive(Clone, Copy)]
 pub struct Look<'a> {
     pub sight: Sight,
@@ -94,8 +95,9 @@ pub struct Look<'a> {
     pub json: bool,
 }
 
-/// A file that is copied out of a volume: the path of the volume's file, the file's name in the volume, the path of the
-/// copy, whether the volume is trusted though it may be marked as suspect, and whether what is printed is JSON.
+/// A file to copy out of a volume. `disk` is the path of the volume's file, `file` is the file's name in the volume,
+/// and `out` is the path of the copy. With `trust`, the volume may be marked as suspect. `json` asks for output in
+/// JSON.
 #[derive(Clone, Copy)]
 pub struct Export<'a> {
     pub disk: &'a str,
@@ -105,17 +107,17 @@ pub struct Export<'a> {
     pub json: bool,
 }
 
-/// What a new volume has besides its files: journals in the layout of this number, each with these record slots, or a
-/// log of these blocks, whose commits are sealed in this way.
+/// What a new volume has besides its files. It has journals with `slots` record slots each, or a log of `blocks`
+/// blocks.
 #[derive(Clone, Copy, Debug, PartialEq, Eq)]
 pub enum NewLayout {
     Journals { layout: u64, slots: u64 },
     Log { seal: Seal, blocks: u64 },
 }
 
-/// A volume that is made of another: the paths of the old one's file and of the new one's, the new one's layout,
-/// whether its blocks are taken on the disk at once, whether the old one is trusted though it may be marked as suspect,
-/// and whether what is printed is JSON.
+/// A new volume to make from an old one. `old` and `new` are the paths of their files. `preallocate` asks to allocate
+/// all blocks of the new volume on the disk at once. With `trust`, the old volume may be marked as suspect. `json` asks
+/// for output in JSON.
 #[derive(Clone, Copy)]
 pub struct Migration<'a> {
     pub old: &'a str,
@@ -131,7 +133,7 @@ pub struct Migration<'a> {
 pub enum Form {
     /// A line for each call and for each reply.
     Text,
-    /// A JSON object a line.
+    /// One JSON object per line.
     Json,
     /// An HTML page.
     Html,

@@ -1,4 +1,4 @@
-//! What the words of the command line ask for.
+//! Reads the command line: which job its words ask for.
 #![tactic(auto)]
 
 mod command;

@@ -1,20 +1,20 @@
-// Why the words ask for nothing.
+// Why the words of a command line are refused.
 ghost use Rattle.std.specs.Prelude.{◌≡◌};
 ghost use Rattle.command_line.specs.Faults.{word_status};
 
 use std::alloc::AllocError;
 use thiserror::Error;
 
-/// Why the words of a command line ask for nothing. Its text is one line.
+/// Why the words of a command line are refused. Its text is one line.
 #[derive(Debug, Drop, Error)]
 pub enum WordFault<'a> {
-    /// The words aren't of the forms that the help shows.
+    /// The words don't have a form that the help shows.
     #[error("{0}")]
     CommandLine(String),
-    /// The word for the layout is no number.
+    /// The word for the layout isn't a number.
     #[error("LAYOUT is {0:?}, which isn't a decimal number up to 2^64 - 1")]
     Layout(&'a str),
-    /// The word for the number of record slots is no number.
+    /// The word for the number of record slots isn't a number.
     #[error("SLOTS is {0:?}, which isn't a decimal number up to 2^64 - 1")]
     Slots(&'a str),
     /// A word for a file isn't a name with a length.
@@ -23,26 +23,26 @@ pub enum WordFault<'a> {
     /// These words are missing.
     #[error("the following required arguments were not provided: {0}")]
     Missing(&'a str),
-    /// The word for the blocks of a log is no number.
+    /// The word for the blocks of a log isn't a number.
     #[error("BLOCKS is {0:?}, which isn't a decimal number up to 2^64 - 1")]
     Blocks(&'a str),
-    /// The word for a key is none.
+    /// The word for a key isn't a key.
     #[error("KEY is {0:?}, which isn't 16 hexadecimal digits")]
     Key(&'a str),
-    /// An option isn't for the layout of this number, but for others.
+    /// An option isn't allowed in layout `found`, but only in `layouts`.
     #[error("{option} is for {layouts}, and LAYOUT is {found}")]
     OtherLayout {
         option: &'a str,
         layouts: &'a str,
         found: u64,
     },
-    /// Memory was refused.
+    /// Memory can't be allocated.
     #[error("out of memory")]
     Memory(#[from(alloc)] AllocError),
 }
 
 impl WordFault<'_> {
-    /// The program's status: 2 for words of another form, 3 where memory is refused.
+    /// Returns the program's exit status: 3 for `Memory`, and 2 for every other fault.
     pub fn status(&self) -> u8
         ensures { result ≡ word_status self.now }
     {

@@ -1,11 +1,12 @@
-// Numbers and files, as words of the command line.
+// Reads numbers and files from words of the command line.
 ghost use Rattle.std.specs.Prelude.{◌≡◌, SomeIff, MatchOption};
 ghost use Rattle.std.specs.Str.Parse.{digits_value};
 ghost use Rattle.command_line.specs.Words.{IsDecimal, IsHexadecimal, IsKey, IsFile, IsNoFile, AreSizes, AreNoSizes};
 
 use volume_codec::FileSpec;
 
-/// The number that one or more decimal digits write, and nothing else, up to 2^64 - 1. Leading zeros are digits.
+/// Returns the number that `word` writes in decimal digits, up to 2^64 - 1. Leading zeros are allowed. Returns `None`
+/// if the word is empty, contains another character, or writes a larger number.
 pub fn decimal(word: &str) -> Option<u64>
     ensures { SomeIff result (IsDecimal word.now) (digits_value 10 word.now) }
 {
@@ -15,7 +16,7 @@ pub fn decimal(word: &str) -> Option<u64>
     word.parse().ok()
 }
 
-// The number that one or more hexadecimal digits write, and nothing else, up to 2^64 - 1.
+// Returns the number that `word` writes in hexadecimal digits, up to 2^64 - 1. Returns `None` for any other word.
 fn hexadecimal(word: &str) -> Option<u64>
     ensures { SomeIff result (IsHexadecimal word.now) (digits_value 16 word.now) }
 {
@@ -25,7 +26,7 @@ fn hexadecimal(word: &str) -> Option<u64>
     u64::from_str_radix(word, 16).ok()
 }
 
-/// The number that 16 hexadecimal digits write, and nothing else.
+/// Returns the number that `word` writes in exactly 16 hexadecimal digits. Returns `None` for any other word.
 pub fn key(word: &str) -> Option<u64>
     ensures { SomeIff result (IsKey word.now) (digits_value 16 word.now) }
 {
@@ -35,7 +36,8 @@ pub fn key(word: &str) -> Option<u64>
     hexadecimal(word)
 }
 
-// A length, which is the capacity too; where files may grow, or a length, `/` and a capacity.
+// Returns the length and the capacity that `word` writes. A length alone is also the capacity. If `grows`,
+// `LENGTH/CAPACITY` is accepted as well.
 fn sizes(word: &str, grows: bool) -> Option<(u64, u64)>
     ensures { MatchOption result (AreNoSizes grows word.now) (λ sizes. AreSizes grows word.now sizes.0 sizes.1) }
 {
@@ -51,8 +53,8 @@ fn sizes(word: &str, grows: bool) -> Option<(u64, u64)>
     Some((length, capacity))
 }
 
-/// The file of `name=length`, cut at the last `=`, which is as long as its capacity. Where files may grow, `/` and a
-/// capacity may follow.
+/// Returns the file that `NAME=LENGTH` describes. The word is cut at its last `=`, and the capacity is the length. If
+/// `grows`, `NAME=LENGTH/CAPACITY` is accepted as well. Returns `None` for any other word.
 pub fn file_spec(word: &str, grows: bool) -> Option<FileSpec<'_>>
     ensures { MatchOption result (IsNoFile grows word.now)
         (λ file. IsFile grows word.now file.name.now file.length file.capacity) }

@@ -1,5 +1,5 @@
-//! What the program's commands have in common: why one fails, what status that is, and why no machine was booted over a
-//! volume.
+//! What the program's commands share: their failures with the exit status, the reading of scripts, and the reasons why
+//! a machine can't be booted.
 #![tactic(auto)]
 
 mod failure;

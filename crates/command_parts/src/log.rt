@@ -1,12 +1,12 @@
-// The disk that shows a volume with a log.
+// A volume with a log as a disk.
 use crate::shape::NotBooted;
 use device::Device;
 use log_disk::LogDisk;
 use std::alloc::Allocator;
 use volume_files::refused_to_read;
 
-/// Opens the volume with a log on a device, and shows it as a disk in layout 4, on which a machine runs. A refusal says
-/// why, and hands the device back.
+/// Opens the volume with a log on a device, and returns it as a disk in layout 4, on which a machine can run. On
+/// failure, returns the cause and the device.
 pub fn show_log<'a, D: Device, A: Allocator + Copy>(
     alloc: A,
     device: D,

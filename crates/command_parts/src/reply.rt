@@ -5,7 +5,7 @@ ghost use Rattle.command_parts.specs.Replies.{reports_failure};
 use machine::Reply;
 use page_entry::Refusal;
 
-/// Whether a reply says that the device failed.
+/// Whether a reply is that the device failed.
 pub fn is_failure(reply: &Reply) -> bool
     ensures { result ≡ reports_failure reply.now }
 {

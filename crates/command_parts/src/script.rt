@@ -6,7 +6,8 @@ use std::fs::File;
 use std::rt::Files;
 use volume_files::read_file;
 
-/// The script in a file.
+/// Returns the script in the file `path`. Fails if the file can't be read, the script is refused, or memory can't be
+/// allocated.
 pub fn read_script<'a, R, A>(rt: &R, alloc: A, path: &'a str) -> Result<Script<A>, Failure<'a>>
 where
     R: Files<File = File> + AllocGlobal,

@@ -1,12 +1,12 @@
-//! An allocator for tests: it passes requests for memory on to another allocator, counts them and their bytes, and
-//! refuses those that a test has chosen.
+//! An allocator for tests. It passes requests on to another allocator, counts them and their bytes, and refuses the
+//! requests that a test chooses.
 #![tactic(auto)]
 
 use std::alloc::{AllocError, Allocator};
 use std::sync::atomic::{AtomicU64, Ordering};
 
-/// What was asked of an allocator, and which requests it refuses. Every number is read and set through a `&`, by one
-/// step of the processor each, from several threads too.
+/// The counts of an allocator's requests, and the range of requests that it refuses. Each number is atomic, so several
+/// threads may use it through a `&`.
 #[derive(Drop)]
 struct Counts {
     requests: AtomicU64,
@@ -18,7 +18,7 @@ struct Counts {
     last_refused: AtomicU64,
 }
 
-/// Counts a request for `size` bytes, and says whether it is to be granted.
+/// Counts a request for `size` bytes, and returns whether it is granted.
 fn admits(counts: &Counts, size: usize) -> bool {
     let bytes = size as u64;
     let request = counts
@@ -40,14 +40,14 @@ fn admits(counts: &Counts, size: usize) -> bool {
     true
 }
 
-/// Counts a block of `size` bytes that is given back.
+/// Counts a block of `size` bytes that is freed.
 fn release(counts: &Counts, size: usize) {
     counts.held.fetch_sub(size as u64, Ordering::SeqCst);
 }
 
-/// An allocator over another one, `B`, which counts what is asked of it and refuses the requests that it was told to
-/// refuse. A `&` to it is an allocator too, which is `Copy`. A collection that grows asks for a whole new block, and
-/// then gives the old one back, so both are held at once. The counts wrap at 2^64.
+/// An allocator over another allocator `B`. It counts the requests, and refuses those that it was set to refuse. A `&`
+/// to it is also an allocator, and is `Copy`. A collection that grows allocates a whole new block before it frees the
+/// old one, so both are held at once. The counts wrap at 2^64.
 #[derive(Drop)]
 pub struct CountingAllocator<B: Allocator> {
     inner: B,
@@ -55,7 +55,7 @@ pub struct CountingAllocator<B: Allocator> {
 }
 
 impl<B: Allocator> CountingAllocator<B> {
-    /// An allocator over `inner` that has counted nothing, and refuses nothing that `inner` grants.
+    /// Returns an allocator over `inner` that has counted nothing, and refuses no request that `inner` grants.
     pub fn new(inner: B) -> CountingAllocator<B> {
         CountingAllocator {
             inner,
@@ -71,33 +71,34 @@ impl<B: Allocator> CountingAllocator<B> {
         }
     }
 
-    /// How many blocks were asked for since `new` or `restart`, refused ones among them.
+    /// Returns the number of blocks that were requested since `new` or `restart`, including refused ones.
     pub fn requests(&self) -> u64 {
         self.counts.requests.load(Ordering::SeqCst)
     }
 
-    /// How many of these requests were refused as it was told, and not by the inner allocator.
+    /// Returns the number of these requests that this allocator refused itself. Refusals of the inner allocator don't
+    /// count.
     pub fn refused(&self) -> u64 {
         self.counts.refused.load(Ordering::SeqCst)
     }
 
-    /// The bytes of all these requests together.
+    /// Returns the total number of bytes of these requests.
     pub fn asked(&self) -> u64 {
         self.counts.asked.load(Ordering::SeqCst)
     }
 
-    /// The bytes of the blocks that were passed on to the inner allocator, less those of the blocks that were given
-    /// back. A block that the inner allocator refused stays counted.
+    /// Returns the bytes of the blocks that were passed on to the inner allocator, less those of freed blocks. A block
+    /// that the inner allocator refused stays counted.
     pub fn held(&self) -> u64 {
         self.counts.held.load(Ordering::SeqCst)
     }
 
-    /// The most bytes that were held at once since `new` or `restart`.
+    /// Returns the largest value of `held` since `new` or `restart`.
     pub fn most_held(&self) -> u64 {
         self.counts.most_held.load(Ordering::SeqCst)
     }
 
-    /// Counts anew, with the bytes that are held now, and refuses nothing more.
+    /// Restarts the counts, with `most_held` at the bytes that are held now. Refuses nothing more.
     pub fn restart(&self) {
         self.refuse_none();
         self.counts.requests.store(0, Ordering::SeqCst);
@@ -106,7 +107,7 @@ impl<B: Allocator> CountingAllocator<B> {
         self.counts.most_held.store(self.held(), Ordering::SeqCst);
     }
 
-    /// Refuses the `n`th request from now on, where 1 is the next one, and none after it.
+    /// Refuses the `n`th request from now on, and no later one. 1 is the next request.
     pub fn refuse_nth(&self, n: u64) {
         let request = self.requests().wrapping_add(n);
         self.counts.last_refused.store(0, Ordering::SeqCst);
@@ -114,7 +115,7 @@ impl<B: Allocator> CountingAllocator<B> {
         self.counts.last_refused.store(request, Ordering::SeqCst);
     }
 
-    /// Refuses the `n`th request from now on, where 1 is the next one, and all after it.
+    /// Refuses the `n`th request from now on, and all later ones. 1 is the next request.
     pub fn refuse_from(&self, n: u64) {
         let request = self.requests().wrapping_add(n);
         self.counts.last_refused.store(0, Ordering::SeqCst);

@@ -1,4 +1,4 @@
-// What the allocator counts and refuses, seen at lists that grow.
+// Tests what the allocator counts and refuses, with lists that grow.
 use crate::CountingAllocator;
 use std::alloc::{AllocError, Allocator, Global};
 use std::process::Abort;
@@ -25,7 +25,7 @@ fn has_counted(alloc: &Counting, counts: [u64; 5]) -> bool {
     ] == counts
 }
 
-// Whether such a list can be made now.
+// Whether `nine` succeeds now.
 fn can_make_nine(alloc: &Counting) -> bool {
     nine(alloc).is_ok()
 }

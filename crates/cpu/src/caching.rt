@@ -1,4 +1,4 @@
-// What a TLB caches and drops unasked: a processor may cache a translation, or drop a cached one, at any time.
+// The fills and evictions of a TLB. A processor may cache a translation, or drop a cached one, at any time.
 ghost use Rattle.std.specs.Prelude.{◌≡◌};
 ghost use Rattle.frames.specs.Frames.{FramesState};
 ghost use Rattle.spaces.specs.Spaces.{Spaces as AddressSpaces};
@@ -12,9 +12,9 @@ use shootdown::Shootdown;
 use spaces::Spaces;
 use std::alloc::Allocator;
 
-/// Caches the entry of a page of a processor's current space, in whatever state the processor is, and notes the entry
-/// as accessed; false where the page has none, and then nothing changes. `Einval` where there is no processor with this
-/// number.
+/// Caches the entry of a page of a processor's current space, in any state of the processor, and marks the entry as
+/// accessed. Returns false if the page has no entry, and then nothing changes. Fails with `Einval` if there is no
+/// processor with this number.
 pub fn fill<A: Allocator + Copy>(
     shootdown: &mut Shootdown<A>,
     spaces: &mut Spaces<A>,
@@ -30,8 +30,8 @@ pub fn fill<A: Allocator + Copy>(
     Ok(walk(shootdown, spaces, p, page, false).is_ok())
 }
 
-/// Drops the entry in a slot of a processor's TLB, counted from 0, the oldest, in whatever state the processor is;
-/// false where there is no such slot. `Einval` where there is no processor with this number.
+/// Drops the entry in a slot of a processor's TLB, in any state of the processor. Slot 0 contains the oldest entry.
+/// Returns false if there is no such slot. Fails with `Einval` if there is no processor with this number.
 pub fn evict<A: Allocator + Copy>(
     shootdown: &mut Shootdown<A>,
     p: ProcessorNumber,

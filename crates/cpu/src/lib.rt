@@ -1,5 +1,5 @@
-//! Loads and stores of processors, through their TLBs and the page tables, and the fills and evictions that a TLB makes
-//! unasked (Intel SDM volume 3, "4-Level Paging", "Caching Translation Information").
+//! Loads and stores of processors through their TLBs and the page tables. A TLB may also fill and evict entries on its
+//! own (Intel SDM volume 3, "4-Level Paging", "Caching Translation Information").
 #![tactic(auto)]
 
 mod access;

@@ -1,4 +1,4 @@
-// From a page of a processor's current space to a frame: through the TLB, or by a walk of the page table.
+// Translates a page of a processor's current space to a frame: through the TLB, or by a walk of the page table.
 ghost use Rattle.std.specs.Prelude.{◌≡◌, Some, Ok, Err, IfOk, IfErr, IsTrue};
 ghost use Rattle.page_entry.specs.Entry.{Mapped};
 ghost use Rattle.spaces.specs.Spaces.{entry_at};
@@ -14,15 +14,15 @@ use shootdown::Shootdown;
 use spaces::Spaces;
 use std::alloc::Allocator;
 
-// The error codes of page faults (Intel SDM volume 3, "Page-Fault Exceptions"): bit 0 is set where the page is present,
-// bit 1 for a store, bit 2 for a user access.
+// The error codes of page faults (Intel SDM volume 3, "Page-Fault Exceptions"). Bit 0 is set if the page is present,
+// bit 1 for a store, and bit 2 for a user access.
 const LOAD_OF_ABSENT: u8 = 0b100;
 
 const STORE_TO_ABSENT: u8 = 0b110;
 
 const STORE_TO_READ_ONLY: u8 = 0b111;
 
-/// The frame of what is cached, where that serves the access without a look at the page table.
+/// Returns the frame of the cached entry, if it serves the access without a walk of the page table.
 pub(crate) fn served(cached: Option<CachedEntry>, write: bool) -> Option<FrameNumber>
     ensures { result ≡ frame_served write cached }
 {
@@ -32,7 +32,7 @@ pub(crate) fn served(cached: Option<CachedEntry>, write: bool) -> Option<FrameNu
     }
 }
 
-// An entry with its use noted, where it allows the access; else the error code of the page fault.
+// Returns the entry with its use noted, if it allows the access. Fails with the error code of the page fault otherwise.
 fn used(entry: Entry, write: bool) -> Result<Entry, u8>
     ensures ok { IfOk result (λ used. (now : Mapped) × (used ≡ Some now) × (walk entry write ≡ Ok now)) }
     ensures err { IfErr result (λ code. walk entry write ≡ Err code) }
@@ -50,9 +50,9 @@ fn used(entry: Entry, write: bool) -> Result<Entry, u8>
     Ok(entry.with_accessed(true).with_dirty(entry.dirty() || write))
 }
 
-/// Walks the page table of a processor's current space. An entry that allows the access is noted as accessed, and as
-/// dirty by a store, and is cached; its frame is answered. Otherwise nothing changes, and the error code of the page
-/// fault is answered.
+/// Walks the page table of a processor's current space, and returns the frame of the page. An entry that allows the
+/// access is marked as accessed, for a store also as dirty, and is cached. Otherwise nothing changes, and the call
+/// fails with the error code of the page fault.
 pub(crate) fn walk<A: Allocator + Copy>(
     shootdown: &mut Shootdown<A>,
     spaces: &mut Spaces<A>,
@@ -83,8 +83,8 @@ pub(crate) fn walk<A: Allocator + Copy>(
     Ok(entry.frame())
 }
 
-/// The frame that a processor reaches at a page of its current space: through a cached entry that serves the access, or
-/// by a walk. Where the walk faults, the processor drops what it cached of the page.
+/// Returns the frame that a processor reaches at a page of its current space. It uses a cached entry that serves the
+/// access, or else a walk. If the walk faults, the processor drops what it cached of the page.
 pub(crate) fn translate<A: Allocator + Copy>(
     shootdown: &mut Shootdown<A>,
     spaces: &mut Spaces<A>,

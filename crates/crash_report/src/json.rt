@@ -6,7 +6,7 @@ use machine::Reply;
 use std::alloc::Allocator;
 use std::{fmt, io};
 
-// A text between quotes, as JSON has it.
+// A text as a JSON string, with its quotes.
 #[derive(Clone, Copy)]
 struct Quoted<'a>(&'a str);
 
@@ -24,7 +24,7 @@ impl fmt::Display for Quoted<'_> {
     }
 }
 
-/// An object for a call, or for the end of the run.
+/// Writes an object for a call, or for the end of the run if `call` is `None`.
 pub fn json_row<A: Allocator + Copy, W: io::Write>(
     places: &VolumePlaces<A>,
     call: Option<&Call<A>>,
@@ -55,7 +55,7 @@ pub fn json_row<A: Allocator + Copy, W: io::Write>(
     writeln!(out, "]}}")
 }
 
-// The members of the call of this number: what it does, and what a read or a write touches.
+// Writes the members of a call's object: what it does, and the part that a read or a write touches.
 fn json_call<A: Allocator + Copy, W: io::Write>(
     places: &VolumePlaces<A>,
     call: &Call<A>,
@@ -95,7 +95,7 @@ fn json_call<A: Allocator + Copy, W: io::Write>(
     write!(out, ",\"at\":{at},\"bytes\":{bytes}")
 }
 
-/// The last object.
+/// Writes the last object, with the totals.
 pub fn json_end<W: io::Write>(printed: Printed, out: &mut W) -> io::Result<()> {
     let Printed { calls, states } = printed;
     writeln!(

@@ -46,12 +46,12 @@ within it</th></tr></thead>
 <tbody>
 ";
 
-/// What comes before the rows.
+/// Writes the part of the page before the rows.
 pub fn begin_page<W: io::Write>(out: &mut W) -> io::Result<()> {
     out.write_all(HEAD.as_bytes())
 }
 
-/// A row for a reply.
+/// Writes a row for a reply.
 pub fn reply_on_page<W: io::Write>(reply: &Reply, out: &mut W) -> io::Result<()> {
     let class = match reply.outcome() {
         Outcome::Marked(_) | Outcome::Committed(_) => "reply durable",
@@ -63,7 +63,7 @@ pub fn reply_on_page<W: io::Write>(reply: &Reply, out: &mut W) -> io::Result<()>
     )
 }
 
-// A text between tags.
+// A text between tags, with its markup characters escaped.
 #[derive(Clone, Copy)]
 struct Shown<'a>(&'a str);
 
@@ -81,7 +81,7 @@ impl fmt::Display for Shown<'_> {
     }
 }
 
-/// A row for a call, or for the end of the run.
+/// Writes a row for a call, or for the end of the run if `call` is `None`.
 pub fn row_on_page<A: Allocator + Copy, W: io::Write>(
     alloc: A,
     places: &VolumePlaces<A>,
@@ -119,12 +119,12 @@ pub fn row_on_page<A: Allocator + Copy, W: io::Write>(
     writeln!(out, "</td></tr>")
 }
 
-// Mark 0 has a colour of its own, and the others five in turn.
+// Mark 0 has its own colour, and the other marks use five colours in turn.
 fn color_of(mark: u32) -> u32 {
     if mark == 0 { 0 } else { 1 + (mark - 1) % 5 }
 }
 
-/// What comes after the rows.
+/// Writes the part of the page after the rows, with the totals.
 pub fn end_page<W: io::Write>(printed: Printed, out: &mut W) -> io::Result<()> {
     let Printed { calls, states } = printed;
     writeln!(

@@ -1,6 +1,6 @@
-// What is said at the end.
+// The totals of a report.
 
-/// How many device calls a run made, and how many states that crashes left were opened.
+/// The number of device calls of a run, and the number of crash states that were opened.
 #[derive(Clone, Copy, Debug, PartialEq, Eq)]
 pub struct Printed {
     pub calls: u64,

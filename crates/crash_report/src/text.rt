@@ -10,7 +10,7 @@ use machine::Reply;
 use std::alloc::Allocator;
 use std::{fmt, io};
 
-/// What a call does, in a word.
+/// Returns the word for what a call does.
 pub fn word_of(kind: CallKind) -> &'static str {
     match kind {
         CallKind::Read => "read",
@@ -19,7 +19,7 @@ pub fn word_of(kind: CallKind) -> &'static str {
     }
 }
 
-/// The part of a volume that a call touches, as text; nothing where it syncs.
+/// The part of a volume that a call touches, as text. For a sync the text is empty.
 #[derive(Clone, Copy)]
 pub struct Touched<'a, A: Allocator + Copy> {
     pub places: &'a VolumePlaces<A>,
@@ -48,7 +48,7 @@ impl<A: Allocator + Copy> fmt::Display for Touched<'_, A> {
     }
 }
 
-/// The part that a call touches, unless it syncs.
+/// Returns the part of a volume that a call touches, or `None` for a sync.
 pub fn part<A: Allocator + Copy>(places: &VolumePlaces<A>, call: &Call<A>) -> Option<Part> {
     match call.kind {
         CallKind::Sync => None,
@@ -56,12 +56,13 @@ pub fn part<A: Allocator + Copy>(places: &VolumePlaces<A>, call: &Call<A>) -> Op
     }
 }
 
-/// A line for a reply.
+/// Writes a line for a reply.
 pub fn text_reply<W: io::Write>(reply: &Reply, out: &mut W) -> io::Result<()> {
     writeln!(out, "            {reply}")
 }
 
-/// A line for a call, or for the end of the run. It ends with each mark at which crash states have the files.
+/// Writes a line for a call, or for the end of the run if `call` is `None`. The line ends with each mark whose files
+/// were found, and the number of crash states that have them.
 pub fn text_row<A: Allocator + Copy, W: io::Write>(
     alloc: A,
     places: &VolumePlaces<A>,
@@ -76,7 +77,7 @@ pub fn text_row<A: Allocator + Copy, W: io::Write>(
     text_found(row, out)
 }
 
-// What a line begins with: a call, or the end of the run.
+// Writes the beginning of a line: a call, or the end of the run.
 fn text_head<A: Allocator + Copy, W: io::Write>(
     alloc: A,
     places: &VolumePlaces<A>,
@@ -92,7 +93,7 @@ fn text_head<A: Allocator + Copy, W: io::Write>(
     }
 }
 
-// The call of this number.
+// Writes a call with its number.
 fn text_call<A: Allocator + Copy, W: io::Write>(
     alloc: A,
     places: &VolumePlaces<A>,
@@ -127,7 +128,7 @@ fn text_end_head<W: io::Write>(out: &mut W) -> io::Result<()>
     write!(out, "{end:<42} ")
 }
 
-// The end of a line: the marks at which crash states have the files, and how many states each.
+// Writes the end of a line: each mark whose files were found, and the number of its crash states.
 fn text_found<A: Allocator + Copy, W: io::Write>(row: &Row<A>, out: &mut W) -> io::Result<()>
     ensures { OnOk result (Appends (W.contents out.old) (W.contents out.new) (found_text row.now)) }
 {
@@ -135,7 +136,7 @@ fn text_found<A: Allocator + Copy, W: io::Write>(row: &Row<A>, out: &mut W) -> i
     writeln!(out)
 }
 
-// Each mark at which crash states have the files, in order.
+// Writes each mark whose files were found, in order.
 fn text_marks<A: Allocator + Copy, W: io::Write>(row: &Row<A>, out: &mut W) -> io::Result<()>
     ensures { OnOk result (Appends (W.contents out.old) (W.contents out.new)
         (marks_text row.now.found.items (newest_of row.now.found.items + 1))) }
@@ -146,7 +147,7 @@ fn text_marks<A: Allocator + Copy, W: io::Write>(row: &Row<A>, out: &mut W) -> i
     Ok(())
 }
 
-// A mark, and how many states have the files at it, if any.
+// Writes a mark and the number of its crash states, if there are any.
 fn text_mark<W: io::Write>(mark: u32, states: u64, out: &mut W) -> io::Result<()>
     ensures { OnOk result (Appends (W.contents out.old) (W.contents out.new) (mark_text mark states)) }
 {
@@ -156,7 +157,7 @@ fn text_mark<W: io::Write>(mark: u32, states: u64, out: &mut W) -> io::Result<()
     write!(out, "  mark {mark} x{states}")
 }
 
-/// The last line.
+/// Writes the last line, with the totals.
 pub fn text_end<W: io::Write>(printed: Printed, out: &mut W) -> io::Result<()> {
     let Printed { calls, states } = printed;
     writeln!(

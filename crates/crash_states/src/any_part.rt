@@ -10,14 +10,14 @@ use volume_codec::Super;
 /// Where the parts of a volume are.
 #[derive(Drop)]
 pub enum VolumePlaces<A: Allocator + Copy> {
-    /// In layouts 1 to 4.
+    /// A volume with journals, in layouts 1 to 4.
     Journals(Places<A>),
-    /// In layout 5 or 6.
+    /// A volume with a log, in layout 5 or 6.
     Log(LogPlaces<A>),
 }
 
 impl<A: Allocator + Copy> VolumePlaces<A> {
-    /// The part that has a byte.
+    /// Returns the part of the volume that contains the byte at offset `at`.
     pub fn part_of(&self, at: u64) -> Part
         ensures { IsAnyPartOf self.now (at / 4096) result }
     {
@@ -27,7 +27,7 @@ impl<A: Allocator + Copy> VolumePlaces<A> {
         }
     }
 
-    /// The table of files, which has their names.
+    /// Returns the table of files, which contains their names.
     pub fn table(&self) -> &Super<A> {
         match self {
             VolumePlaces::Journals(places) => &places.table,

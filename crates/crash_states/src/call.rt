@@ -1,4 +1,4 @@
-// Which device calls a run makes.
+// The device calls of a run.
 ghost use Rattle.std.specs.Prelude.{⊤, ◌≡◌, ◌↔◌, ℕ, ◌+◌, ◌≤◌, true, false, not, ◌||◌, if◌then◌else◌, nat_lt, min, List, ◌∷◌, [], ◌++◌, length, slice_range, OnOk, IfOk, IfErr, IsTrue, is_ok};
 ghost use Rattle.device.specs.Count.{raised};
 ghost use Rattle.device.specs.Device.{written, Torn, TornFrom, Only, LeavesOnly};
@@ -18,7 +18,8 @@ pub enum CallKind {
     Sync,
 }
 
-/// A device call: its offset, how many bytes it reads or writes, those that it writes, and whether it failed.
+/// A device call. `at` is its offset, `len` is the number of bytes that it reads or writes, and `written` contains the
+/// bytes that it writes.
 #[derive(Drop)]
 pub struct Call<A: Allocator + Copy> {
     pub kind: CallKind,
@@ -47,7 +48,7 @@ fn are_same_bytes(left: &[u8], right: &[u8]) -> bool
 }
 
 impl<A: Allocator + Copy> Call<A> {
-    // Whether this is the other call, as one that fails or as it is.
+    // Whether this is the same call as `other`. If `fails`, `other` is taken as a call that failed.
     fn is_same(&self, other: &Call<A>, fails: bool) -> bool
         ensures { IsTrue result
             ↔ (call_of self.now ≡ (if fails then failing (call_of other.now) else call_of other.now)) }
@@ -60,15 +61,15 @@ impl<A: Allocator + Copy> Call<A> {
     }
 }
 
-// How many of this many calls are made up to the one of this number, or all where there is none of this number.
+// Returns the number of calls up to the one with the number `fails`, or `all` if there is no such call.
 fn count_until(all: u64, fails: u64) -> u64
     ensures { result ≡ (if nat_lt 0 fails then min all fails else all) }
 {
     if fails > 0 { all.min(fails) } else { all }
 }
 
-/// Whether these are the calls up to the one of this number, counted from 1, which fails, or all of them where there is
-/// none of this number.
+/// Whether `made` contains the calls up to the one with the number `fails`, counted from 1, and that call failed. If
+/// there is no such call, whether `made` contains all calls.
 pub fn are_until<A: Allocator + Copy>(made: &[Call<A>], calls: &[Call<A>], fails: u64) -> bool
     ensures { IsTrue result ↔ (device_calls_of made.now ≡ calls_until (device_calls_of calls.now) fails) }
 {
@@ -83,8 +84,8 @@ pub fn are_until<A: Allocator + Copy>(made: &[Call<A>], calls: &[Call<A>], fails
     true
 }
 
-/// A disk in memory that lists the calls that are made of it, and one of which fails. A read or a write that fails is
-/// made all the same: a crash may leave what was written. A sync that fails isn't made.
+/// A disk in memory that lists its calls, and one call of which can be set to fail. A read or a write that is set to
+/// fail still takes effect, so a crash may leave the written bytes. A sync that is set to fail has no effect.
 #[derive(Drop)]
 pub struct Listing<A: Allocator + Copy> {
     alloc: A,
@@ -109,7 +110,8 @@ impl<A: Allocator + Copy> Model for Listing<A> {
 }
 
 impl<A: Allocator + Copy> Listing<A> {
-    /// A new disk in memory with these bytes, whose call of this number, counted from 1, fails. At 0 none does.
+    /// Returns a disk in memory that contains the bytes `image`. Its call with the number `fails_at`, counted from 1,
+    /// is set to fail. If `fails_at` is 0, no call is. Fails if memory can't be allocated.
     pub fn new(alloc: A, image: &[u8], fails_at: u64) -> Result<Self, AllocError>
         ensures { IfOk result (λ disk. disk ≡ listing (new_disk image.now) fails_at) }
     {
@@ -124,7 +126,8 @@ impl<A: Allocator + Copy> Listing<A> {
         })
     }
 
-    /// The disk in memory, as the calls left it, and the calls in order, unless memory was refused for one.
+    /// Returns the disk in memory, as the calls left it, and the calls in order. Fails if memory couldn't be allocated
+    /// for a call.
     pub fn into_parts(self) -> Result<(MemDisk<A>, Vec<Call<A>, A>), AllocError>
         ensures complete { is_ok result ≡ not self.refused }
         ensures inner { IfOk result (λ parts. parts.0 ≡ self.inner) }
@@ -153,7 +156,7 @@ impl<A: Allocator + Copy> Listing<A> {
     }
 }
 
-// A call that reads so many bytes from an offset on.
+// Returns a call that reads `len` bytes from an offset on.
 fn call_to_read<A: Allocator + Copy>(alloc: A, at: u64, len: u64, failed: bool) -> Call<A>
     ensures { call_of result ≡ read_call at len failed }
 {
@@ -178,7 +181,7 @@ fn call_to_sync<A: Allocator + Copy>(alloc: A, failed: bool) -> Call<A>
     }
 }
 
-// A call that writes these bytes from an offset on.
+// Returns a call that writes these bytes from an offset on.
 fn call_to_write<A: Allocator + Copy>(
     alloc: A,
     at: u64,
@@ -196,7 +199,8 @@ fn call_to_write<A: Allocator + Copy>(
     })
 }
 
-// Lists a call, and notes where memory was refused: for the call itself, or for its place in the list.
+// Appends a call to the list. Sets `refused` if memory couldn't be allocated for the call, or for its place in the
+// list, or if `is_refused`.
 fn note<A: Allocator + Copy>(
     calls: &mut Vec<Call<A>, A>,
     refused: &mut bool,
@@ -217,7 +221,7 @@ fn note<A: Allocator + Copy>(
     }
 }
 
-// Counts a call, and its failure: the call was due to fail, or memory was refused.
+// Counts a call. The call fails, and is counted as a fault, if it was due to fail or memory was refused.
 fn count(
     made: &mut u64,
     faults: &mut u64,
@@ -236,12 +240,12 @@ fn count(
     Ok(())
 }
 
-// Nothing is done: a crash leaves what it left.
+// Does nothing, so a crash can leave the same as before.
 fn still<D: Device>(disk: &D)
     ensures { LeavesOnly D.moment D.left_since disk.now disk.now (D.may_leave disk.now) }
 {}
 
-// Syncs a disk, unless the call fails. Tells whether memory was refused.
+// Syncs a disk, unless the call is to fail. Returns whether memory was refused.
 fn sync_unless<A: Allocator + Copy>(disk: &mut MemDisk<A>, fails: bool) -> bool
     ensures synced { result ≡ false → disk.new ≡ (if fails then disk.old else after_change disk.old sync) }
     ensures same { seen_of disk.new ≡ seen_of disk.old }
@@ -295,7 +299,7 @@ impl<A: Allocator + Copy> Device for Listing<A> {
         ensures left { (c : List ℕ) → may_leave_of self.new.inner c → may_leave_of self.old.inner c }
         ensures time { LeavesOnly moment_of left_since_of self.old.inner self.new.inner (may_leave_of self.old.inner) }
 
-        // It is listed, and fails exactly if it is the one that is to fail.
+        // The call is listed. It fails exactly if it is the one that is set to fail.
         ensures listed { ListsCall (read_call at (length buffer.old) (not (is_ok result))) self.old self.new }
     {
         let due = self.is_due();
@@ -317,7 +321,7 @@ impl<A: Allocator + Copy> Device for Listing<A> {
             (TornFrom at (length bytes.now) (may_leave_of self.old.inner)) }
         ensures len { length (seen_of self.new.inner) ≡ length (seen_of self.old.inner) }
 
-        // It is listed, and fails exactly if it is the one that is to fail, or memory was refused.
+        // The call is listed. It fails exactly if it is the one that is set to fail, or memory was refused.
         ensures listed { ListsCall (write_call at bytes.now (not (is_ok result))) self.old self.new }
     {
         let due = self.is_due();
@@ -333,7 +337,7 @@ impl<A: Allocator + Copy> Device for Listing<A> {
         ensures left { (c : List ℕ) → may_leave_of self.new.inner c → may_leave_of self.old.inner c }
         ensures time { LeavesOnly moment_of left_since_of self.old.inner self.new.inner (may_leave_of self.old.inner) }
 
-        // It is listed, and fails exactly if it is the one that is to fail, or memory was refused.
+        // The call is listed. It fails exactly if it is the one that is set to fail, or memory was refused.
         ensures listed { ListsCall (sync_call (not (is_ok result))) self.old self.new }
     {
         let due = self.is_due();

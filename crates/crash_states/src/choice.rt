@@ -1,4 +1,4 @@
-// What a crash may leave: bytes for all places, of which those count that were written and not synced.
+// The crash states that are tried. A choice has bytes for all places, but only unsynced places get them.
 ghost use Rattle.std.specs.Prelude.{◌≡◌, ◌+◌, ◌-◌, ◌*◌, ◌/◌, ◌^◌, ◌<◌, ◌≤◌, ◌==◌, ℕ, [], ◌∷◌, ◌++◌, length, slice_index, Some, IfOk, OnOk, Contains};
 ghost use Rattle.std.specs.List.{list_any};
 ghost use Rattle.device.specs.Device.{written};
@@ -18,45 +18,45 @@ use std::fmt;
 /// What a crash leaves in the blocks that were written since the last sync.
 #[derive(Clone, Copy)]
 pub enum Choice {
-    /// What was there at the last sync.
+    /// The bytes at the last sync.
     Old,
-    /// What was written.
+    /// The written bytes.
     New,
-    /// This byte everywhere.
+    /// This byte in every place.
     Fill(u8),
-    /// Of each block the first half as it was written, and the other as it was.
+    /// In each block, the written bytes in the first half, and the old bytes in the second half.
     Halves,
-    /// What was written of the blocks whose bits are set in the number, and of the others what was there.
+    /// The written bytes in the blocks whose bits are set in the number, and the old bytes in the others.
     Mixture(u64),
-    /// What was written of this block alone.
+    /// The written bytes in this block, and the old bytes in the others.
     OneNew(u64),
-    /// What was written of all blocks but this one.
+    /// The old bytes in this block, and the written bytes in the others.
     OneOld(u64),
 }
 
 /// The most mixtures of blocks that are opened for one device call.
 pub const MOST_MIXTURES: u64 = 30;
 
-// So many blocks have no more mixtures: 2 ^ 4 - 2 of 4 blocks.
+// The most blocks of which all mixtures are tried. 4 blocks have 2 ^ 4 - 2 mixtures.
 const FEW_BLOCKS: u64 = 4;
 
-// How far a block that is half written was written.
+// The number of bytes that were written of a half-written block.
 const HALF: u64 = PAGE / 2;
 
-/// A copy of a disk while the calls of a run are made.
+/// The contents of a disk during the calls of a run.
 #[derive(Drop)]
 pub struct Contents<A: Allocator + Copy> {
     alloc: A,
-    /// What it held at the last sync.
+    /// The bytes at the last sync.
     synced: Vec<u8, A>,
-    /// What a read gives.
+    /// The bytes that a read returns.
     seen: Vec<u8, A>,
-    /// The blocks that were written since, each once.
+    /// The blocks that were written since the last sync, each once.
     unsynced: Vec<u64, A>,
 }
 
 impl<A: Allocator + Copy> Contents<A> {
-    /// A disk with these bytes, all of them synced.
+    /// Returns a disk that contains the bytes `image`, all of them synced. Fails if memory can't be allocated.
     pub fn new(alloc: A, image: &[u8]) -> Result<Self, AllocError>
         ensures { IfOk result (λ contents. content_of contents ≡ all_synced image.now) }
     {
@@ -68,7 +68,8 @@ impl<A: Allocator + Copy> Contents<A> {
         })
     }
 
-    /// A call is made. `Otherwise` where it isn't within the disk.
+    /// Applies the beginning of a call: a write changes the bytes that a read returns. Fails with `Otherwise` if the
+    /// call isn't within the disk.
     pub fn begin(&mut self, call: &Call<A>) -> Result<(), CrashFault>
         ensures { OnOk result (content_of self.new ≡ call_begun (content_of self.old) (Some (call_of call.now))) }
     {
@@ -89,7 +90,7 @@ impl<A: Allocator + Copy> Contents<A> {
         add_blocks(&mut self.unsynced, at, end)
     }
 
-    /// A call has succeeded.
+    /// Applies the success of a call: a sync makes all bytes synced. Fails if memory can't be allocated.
     pub fn end(&mut self, call: &Call<A>) -> Result<(), AllocError>
         ensures { OnOk result (content_of self.new ≡ call_ended (content_of self.old) (Some (call_of call.now))) }
     {
@@ -107,14 +108,14 @@ impl<A: Allocator + Copy> Contents<A> {
         Ok(())
     }
 
-    /// How many blocks were written since the last sync.
+    /// Returns the number of blocks that were written since the last sync.
     pub fn unsynced(&self) -> u64
         ensures { result ≡ length (content_of self.now).unsynced }
     {
         self.unsynced.len() as u64
     }
 
-    /// What of a crash is tried.
+    /// Returns the choices that are tried for a crash at this moment.
     pub fn choices(&self) -> Result<Vec<Choice, A>, AllocError>
         ensures exact { IfOk result (λ tried. tried.items ≡ choices_of (length (content_of self.now).unsynced)) }
         ensures old { IfOk result (λ tried. Contains tried.items choices.Old) }
@@ -132,7 +133,8 @@ impl<A: Allocator + Copy> Contents<A> {
         Ok(choices)
     }
 
-    /// Bytes for all places of the disk. `Otherwise` where a call wasn't within it.
+    /// Returns the bytes of a choice for all places of the disk. Fails with `Otherwise` if a call wasn't within the
+    /// disk.
     pub fn bytes_of(&self, choice: Choice) -> Result<Vec<u8, A>, CrashFault>
         ensures { IfOk result (λ bytes. bytes.items ≡ left_by choice (content_of self.now)) }
     {
@@ -145,7 +147,7 @@ impl<A: Allocator + Copy> Contents<A> {
         self.mixed(choice)
     }
 
-    // Bytes of which those are new that a choice leaves new, block by block.
+    // Returns the synced bytes, with the written bytes in the parts that a choice leaves new.
     fn mixed(&self, choice: Choice) -> Result<Vec<u8, A>, CrashFault>
         requires { length self.now.seen.items ≡ length self.now.synced.items }
         ensures { IfOk result (λ bytes. bytes.items
@@ -158,7 +160,7 @@ impl<A: Allocator + Copy> Contents<A> {
         Ok(bytes)
     }
 
-    // Writes what a choice leaves new of the unsynced block of this index.
+    // Copies the part that a choice leaves new of the unsynced block with this index.
     fn mix_block(&self, bytes: &mut [u8], choice: Choice, i: usize) -> Result<(), CrashFault>
         requires within { i < length self.now.unsynced.items }
         requires same_length { length bytes.old ≡ length self.now.seen.items }
@@ -182,7 +184,7 @@ fn start_of(block: u64) -> Result<u64, CrashFault>
     }
 }
 
-// The end of so many bytes from an offset on, one at least, where they are within a disk of this length.
+// Returns the end of `count` bytes from an offset on. Fails if they aren't within a disk of length `len`.
 fn end_of(at: u64, count: usize, len: usize) -> Result<u64, CrashFault>
     ensures { IfOk result (λ end. (end ≡ at + count) × (end ≤ len)) }
 {
@@ -192,7 +194,7 @@ fn end_of(at: u64, count: usize, len: usize) -> Result<u64, CrashFault>
     }
 }
 
-// Adds the blocks that are touched from one offset up to another, each once.
+// Adds each block that is touched from `at` up to but not including `end`, once.
 fn add_blocks<A: Allocator + Copy>(
     blocks: &mut Vec<u64, A>,
     at: u64,
@@ -209,7 +211,7 @@ fn add_blocks<A: Allocator + Copy>(
     Ok(())
 }
 
-// Adds a block, unless it is among them.
+// Adds a block, unless the list contains it.
 fn add_block<A: Allocator + Copy>(blocks: &mut Vec<u64, A>, block: u64) -> Result<(), AllocError>
     ensures { OnOk result (blocks.new.items ≡ with_block blocks.old.items block) }
 {
@@ -226,7 +228,7 @@ fn has_block(blocks: &[u64], block: u64) -> bool
     blocks.iter().any(|other| *other == block)
 }
 
-// Adds what is neither old nor new.
+// Adds the choices that are neither old nor new.
 fn add_spoilt<A: Allocator + Copy>(tried: &mut Vec<Choice, A>) -> Result<(), AllocError>
     ensures { OnOk result (tried.new.items ≡ tried.old.items
         ++ choices.Fill 0x00 ∷ choices.Fill 0xA7 ∷ choices.Fill 0xFF ∷ choices.Halves ∷ []) }
@@ -238,7 +240,7 @@ fn add_spoilt<A: Allocator + Copy>(tried: &mut Vec<Choice, A>) -> Result<(), All
     Ok(())
 }
 
-// Adds the mixtures that are tried of this many blocks.
+// Adds the mixtures that are tried for this number of blocks.
 fn add_mixtures<A: Allocator + Copy>(
     blocks: u64,
     choices: &mut Vec<Choice, A>,
@@ -268,7 +270,7 @@ fn add_each<A: Allocator + Copy>(
     Ok(())
 }
 
-// Adds for each of the first blocks what leaves it alone new, and alone old.
+// Adds two choices for each of the first blocks: only this block is new, and only this block is old.
 fn add_ones<A: Allocator + Copy>(count: u64, choices: &mut Vec<Choice, A>) -> Result<(), AllocError>
     ensures { OnOk result (choices.new.items ≡ choices.old.items ++ first_ones count) }
 {
@@ -279,7 +281,7 @@ fn add_ones<A: Allocator + Copy>(count: u64, choices: &mut Vec<Choice, A>) -> Re
     Ok(())
 }
 
-// How many bytes of the block of this index a choice leaves as they were written.
+// Returns the number of bytes that a choice leaves new in the block with this index.
 fn new_part(choice: Choice, block: u64) -> u64
     ensures { result ≡ new_bytes choice block }
 {
@@ -300,7 +302,7 @@ fn has_bit(bits: u64, bit: u64) -> bool
     bit < 64 && (bits >> bit) % 2 == 1
 }
 
-// Writes bytes over a part of others.
+// Writes `bytes` over a part of `to`.
 fn put(to: &mut [u8], at: u64, bytes: &[u8])
     requires { at + length bytes.now ≤ length to.old }
     ensures { to.new ≡ written to.old at bytes.now }
@@ -309,7 +311,7 @@ fn put(to: &mut [u8], at: u64, bytes: &[u8])
     to[start..start + bytes.len()].copy_from_slice(bytes);
 }
 
-// Writes a part of bytes over the same part of others, as far as they reach.
+// Copies a part of `from` over the same part of `to`, as far as they reach.
 fn copy(to: &mut [u8], from: &[u8], at: u64, len: u64)
     requires { length to.old ≡ length from.now }
     ensures copied { to.new ≡ with_copied to.old from.now at len }

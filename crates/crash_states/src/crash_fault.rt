@@ -1,4 +1,4 @@
-// Why there is no table.
+// Why a run has no table of its crashes.
 use page_entry::Refusal;
 use std::alloc::AllocError;
 use thiserror::Error;
@@ -6,13 +6,13 @@ use thiserror::Error;
 /// Why a run has no table of its crashes.
 #[derive(Debug, Drop, Error)]
 pub enum CrashFault {
-    /// The volume isn't opened, or has no machine of the shape.
+    /// The volume can't be opened, or no machine of the shape can run on it.
     #[error("{0}")]
     Refused(Refusal),
-    /// The run was answered otherwise when it was made again, as where memory was refused.
+    /// When the run was made again, it got other replies, for example because memory couldn't be allocated.
     #[error("the run was answered otherwise when it was made again")]
     Otherwise,
-    /// Memory was refused.
+    /// Memory can't be allocated.
     #[error("out of memory")]
     Memory(#[from(alloc)] AllocError),
 }

@@ -1,5 +1,5 @@
-//! Device calls, the parts of a volume that they touch, what crashes within them leave of a disk's bytes, and the rows
-//! of a table of that.
+//! The device calls of a run, the parts of a volume that they touch, and the crash states that each call can leave.
+//! These make the rows of a table.
 #![tactic(auto)]
 
 mod any_part;

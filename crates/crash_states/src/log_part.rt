@@ -19,7 +19,7 @@ pub struct LogPlaces<A: Allocator + Copy> {
 }
 
 impl<A: Allocator + Copy> LogPlaces<A> {
-    /// The part that has a byte.
+    /// Returns the part of the volume that contains the byte at offset `at`.
     pub fn part_of(&self, at: u64) -> Part
         ensures { IsLogPartOf self.now.table (at / 4096) result }
     {
@@ -30,7 +30,7 @@ impl<A: Allocator + Copy> LogPlaces<A> {
         self.part_of_block(block as u32)
     }
 
-    // The part that a block of the volume is.
+    // Returns the part of the volume that contains a block.
     fn part_of_block(&self, block: u32) -> Part
         requires { block < (log_of self.now.table).blocks }
         ensures { IsLogPartOf self.now.table block result }
@@ -50,7 +50,7 @@ impl<A: Allocator + Copy> LogPlaces<A> {
         self.home_of(block)
     }
 
-    // The page of a file whose home block this is, or a home block of no file.
+    // Returns the page of a file that has this home block, or `Part::Home` if no file has it.
     fn home_of(&self, block: u32) -> Part
         requires low { first_log_home self.now.table.ring ≤ block }
         requires high { block < (log_of self.now.table).blocks }
@@ -58,7 +58,7 @@ impl<A: Allocator + Copy> LogPlaces<A> {
     {
         let log = self.table.log();
         let table = self.table.table();
-        // Home blocks lie behind those that the table says, by the blocks of the log and one for the lengths.
+        // A home block's number is that of the table, plus the blocks of the log and one for the lengths.
         let said = block - log.ring() - 1;
         for file in 0..table.file_count() {
             let first = table.first_home(file);

@@ -15,13 +15,13 @@ pub enum Part {
     Gate(u32),
     Descriptor(u32),
     Record { journal: u32, slot: u32 },
-    /// What selects the start of a log that counts.
+    /// The block that selects the start of the log that is in use.
     Selector,
     /// A start of a log.
     Start(u32),
     /// The block at a position of a log.
     Log(u32),
-    /// A home block that is of no file.
+    /// A home block that belongs to no file.
     Home(u32),
     /// The home block of a file's page.
     Page { file: usize, page: u32 },
@@ -36,7 +36,7 @@ pub struct Places<A: Allocator + Copy> {
 }
 
 impl<A: Allocator + Copy> Places<A> {
-    /// The part that has a byte.
+    /// Returns the part of the volume that contains the byte at offset `at`.
     pub fn part_of(&self, at: u64) -> Part
         ensures { IsPartOf self.now.table (at / 4096) result }
     {
@@ -47,7 +47,7 @@ impl<A: Allocator + Copy> Places<A> {
         self.part_of_block(block as u32)
     }
 
-    // The part that a block of the volume is.
+    // Returns the part of the volume that contains a block.
     fn part_of_block(&self, block: u32) -> Part
         requires { block < block_count self.now.table }
         ensures { IsPartOf self.now.table block result }
@@ -75,7 +75,7 @@ impl<A: Allocator + Copy> Places<A> {
         self.home_of(block)
     }
 
-    // The page of a file whose home block this is, or a home block of no file.
+    // Returns the page of a file that has this home block, or `Part::Home` if no file has it.
     fn home_of(&self, block: u32) -> Part
         requires low { first_home self.now.table.layout self.now.table.slots ≤ block }
         requires high { block < block_count self.now.table }

@@ -13,26 +13,26 @@ pub struct Found {
     pub mark: u32,
 }
 
-/// What crashes within a device call leave, or, after the last one, crashes at the end of the run.
+/// The crash states of one device call. The row after that of the last call contains those of the end of the run.
 #[derive(Drop)]
 pub struct Row<A: Allocator + Copy> {
     /// The number of the call, counted from 1.
     pub number: u64,
-    /// How many blocks were written since the last sync, and by the call.
+    /// The number of blocks that were written since the last sync, including those of the call.
     pub unsynced: u64,
     /// The crash states that were opened.
     pub found: Vec<Found, A>,
 }
 
 impl<A: Allocator + Copy> Row<A> {
-    /// How many crash states have the files at a mark.
+    /// Returns the number of crash states that have the files at a mark.
     pub fn count(&self, mark: u32) -> u64
         ensures { result ≡ count_by (λ found. found.mark == mark) self.now.found.items }
     {
         self.found.iter().filter(|found| found.mark == mark).count() as u64
     }
 
-    /// The newest mark whose files are found; 0 where there is no state.
+    /// Returns the newest mark whose files are found, or 0 if there is no crash state.
     pub fn newest(&self) -> u32
         ensures { result ≡ newest_of self.now.found.items }
     {

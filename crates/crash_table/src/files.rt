@@ -15,7 +15,7 @@ use std::alloc::{AllocError, Allocator};
 /// The bytes of each file, in the table's order.
 pub type Files<A> = Vec<Vec<u8, A>, A>;
 
-/// Opens a device, and reads its files whole.
+/// Opens the volume on a device, and returns the bytes of its files.
 pub fn open_files<D: Device + Drop, A: Allocator + Copy>(
     alloc: A,
     device: D,
@@ -33,7 +33,7 @@ pub fn open_files<D: Device + Drop, A: Allocator + Copy>(
     }
 }
 
-/// Why a disk in memory isn't opened: its calls fail where memory is refused, and for no other reason.
+/// Returns the fault for a disk in memory that isn't opened. Its calls fail only if memory is refused.
 pub fn fault_of(refusal: Refusal) -> CrashFault
     ensures { result ≡ cause_of refusal }
 {

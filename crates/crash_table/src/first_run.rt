@@ -20,9 +20,10 @@ pub struct FirstRun<A: Allocator + Copy> {
 }
 
 impl<A: Allocator + Copy> FirstRun<A> {
-    /// What a crash leaves on the disk of the same run, which was made again up to the device call of this number, by
-    /// this choice. The run of these steps ended with the disk `after` and with these replies. `Otherwise` if it isn't
-    /// the first run up to there, or if the choice and the disk differ in length.
+    /// Returns the disk that a crash leaves when the same run was made again, up to the device call with the number
+    /// `fails`. That run ended with the disk `after` and with `replies`. The crash leaves the bytes `choice` in the
+    /// places that were written and not synced. Fails with `Otherwise` if the run isn't the first run up to there, or
+    /// if `choice` and the disk differ in length.
     pub fn stopped(
         &self,
         fails: u64,
@@ -55,8 +56,9 @@ impl<A: Allocator + Copy> FirstRun<A> {
         Ok(disk)
     }
 
-    // Whether a run of this many calls, of which this many failed, with this many replies, was made up to the device
-    // call of this number, which failed, if there is one, and else up to its end.
+    // Whether a run was made up to the device call with the number `fails`, which failed. If there is no such call,
+    // whether the run was made up to its end. The other arguments count the steps, the calls, the failed calls and the
+    // replies of the run.
     fn is_up_to(&self, fails: u64, steps: usize, calls: u64, faults: u64, replies: usize) -> bool
         ensures failed { 0 < fails → fails ≤ length self.now.calls.items
             → (IsTrue result ↔ ((calls ≡ fails) × (faults ≡ 1))) }
@@ -80,7 +82,8 @@ impl<A: Allocator + Copy> FirstRun<A> {
     }
 }
 
-/// How many steps were answered before the device call of this number, by the numbers of calls after each step.
+/// Returns the number of steps that were answered before the device call of this number. `counts` contains the number
+/// of calls after each step.
 pub fn steps_before(counts: &[u64], call: u64) -> usize
     ensures { result ≡ steps_before counts.now call }
 {

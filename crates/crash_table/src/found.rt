@@ -1,4 +1,4 @@
-// The files at each mark of a run, and which mark's files an opening found.
+// The files at each mark of a run, and the mark whose files an opening found.
 ghost use Rattle.std.specs.Prelude.{◌≡◌, ◌<◌, ℕ, List, length, map, take, slice_get, Some, IfOk, IfSome, OnOk, IsTrue, ◌↔◌, Contains};
 ghost use Rattle.machine.specs.declared.act.Reply.TheVariants.{Marked};
 ghost use Rattle.machine.specs.declared.act.Shape.{Shape};
@@ -24,7 +24,7 @@ pub struct MarkFiles<A: Allocator + Copy> {
     pub files: Files<A>,
 }
 
-/// A run that is made on copies of a disk: what the disk holds, the shape of the machine, and the steps.
+/// A run to make on copies of a disk: the bytes of the disk, the shape of the machine, and the steps.
 #[derive(Clone, Copy)]
 pub struct Plan<'a> {
     pub image: &'a [u8],
@@ -32,9 +32,9 @@ pub struct Plan<'a> {
     pub steps: &'a [Step],
 }
 
-/// The files at the mark that the step of an index made, where these are the replies up to it and with it. The run is
-/// made on a device up to that step and written out until the mark is acknowledged: what is found then has all of the
-/// mark and no store after it.
+/// Returns the files at the mark that the step with the index `at` made. `replies` contains the replies up to and with
+/// that step. The run is made on the device up to that step, and written out until the mark is acknowledged. So the
+/// files that are found contain all of the mark, and no later store.
 pub fn files_at<D: Device + Drop, A: Allocator + Copy>(
     alloc: A,
     device: D,
@@ -60,7 +60,7 @@ pub fn files_at<D: Device + Drop, A: Allocator + Copy>(
     }
 }
 
-// Makes the steps up to the mark that the step of an index made, and writes it out until it is acknowledged.
+// Makes the steps up to the mark that the step with the index `at` made, and writes it out until it is acknowledged.
 fn write_out<D: Device, A: Allocator + Copy>(
     alloc: A,
     machine: &mut Machine<D, A>,
@@ -82,8 +82,8 @@ fn write_out<D: Device, A: Allocator + Copy>(
     acknowledge(machine, steps[at].p, number, &replies[..at])
 }
 
-// Whether there is a step of this index, and no reply before its own reports a mark of this number: a machine numbers
-// its marks one by one.
+// Whether there is a step with this index, and no earlier reply reports a mark of this number. A machine numbers its
+// marks one by one, so it uses no number twice.
 fn is_first_mark(steps: &[Step], replies: &[Reply], at: usize, number: u32) -> bool
     requires { at < length replies.now }
     ensures first { IsTrue result → (at < length steps.now)
@@ -114,7 +114,7 @@ fn is_mark(reply: &Reply, number: u32) -> bool
     reply.is_same(&Reply::Marked(number))
 }
 
-// The files that are kept of the mark that the step of an index made.
+// Returns the kept files of the mark that the step with this index made.
 fn kept_at<A: Allocator + Copy>(marks: &[MarkFiles<A>], at: usize) -> Option<&MarkFiles<A>>
     ensures { IfSome result (λ mark. Contains marks.now mark.now × (mark.now.step ≡ at)) }
 {
@@ -126,9 +126,8 @@ fn kept_at<A: Allocator + Copy>(marks: &[MarkFiles<A>], at: usize) -> Option<&Ma
     None
 }
 
-/// The newest mark among those that these replies tell whose files are the found ones, and 0 where there is none. The
-/// files that are kept are those at the marks of a run with the replies `first`, which are theirs as far as these
-/// replies are the same.
+/// Returns the newest mark in `replies` whose files are the found ones, or 0 if there is none. `marks` contains the
+/// files at the marks of a run with the replies `first`. They are used as far as both runs have the same replies.
 pub fn newest<A: Allocator + Copy>(
     marks: &[MarkFiles<A>],
     first: &[Reply],
@@ -150,8 +149,8 @@ pub fn newest<A: Allocator + Copy>(
     Ok(0)
 }
 
-// The files that are kept of the mark that the step of an index made, where the replies up to it are those of the run
-// whose files were kept.
+// Returns the kept files of the mark that the step with this index made. Fails unless the replies up to it are those of
+// the run whose files were kept.
 fn kept_of<'a, A: Allocator + Copy>(
     marks: &'a [MarkFiles<A>],
     first: &[Reply],

@@ -1,5 +1,5 @@
-//! What a crash leaves at each device call of a run: the run is made again on copies of the disk in memory, up to that
-//! call and within it, and what a crash leaves then is opened. Each opening finds the files at a mark of the run.
+//! Finds what a crash leaves at each device call of a run. The run is made again on copies of the disk in memory, up to
+//! that call and into it. Then each crash state is opened, which finds the files at a mark of the run.
 #![tactic(auto)]
 
 mod crashed_run;

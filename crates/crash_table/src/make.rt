@@ -1,4 +1,4 @@
-// Making steps, and noting what they are answered.
+// Makes steps, and notes their replies.
 ghost use Rattle.std.specs.Prelude.{◌≡◌, ℕ, List, [], length, take, true, false, IfOk, IfErr, OnOk, IsTrue, ◌↔◌};
 ghost use Rattle.device.specs.Device.{Only};
 ghost use Rattle.volume_codec.specs.Files.{File};
@@ -20,7 +20,7 @@ use page_entry::{ProcessorNumber, Refusal};
 use std::alloc::{AllocError, Allocator};
 use volume_codec::{Geometry, one_reading};
 
-/// Makes steps one at a time, up to one that is answered that the device failed.
+/// Makes steps one at a time, and returns their replies. Stops after a reply that the device failed.
 pub(crate) fn make<D: Device, A: Allocator + Copy>(
     alloc: A,
     machine: &mut Machine<D, A>,
@@ -41,15 +41,15 @@ pub(crate) fn make<D: Device, A: Allocator + Copy>(
     Ok(replies)
 }
 
-// Whether a reply says that the device failed.
+// Whether a reply is that the device failed.
 fn is_failure(reply: &Reply) -> bool
     ensures { IsTrue result ↔ (reply.now ≡ replied.Refused Refusal.Device) }
 {
     reply.is_same(&Reply::Refused(Refusal::Device))
 }
 
-/// Makes a run on a device, up to a step that is answered that the device failed. The device, and the replies; there
-/// are none where the device failed as it was opened.
+/// Makes a run on a device, and returns the device and the replies. Stops after a reply that the device failed. There
+/// are no replies if the device failed while it was opened.
 pub fn run_on<D: Device + Drop, A: Allocator + Copy>(
     alloc: A,
     device: D,
@@ -77,7 +77,7 @@ pub fn run_on<D: Device + Drop, A: Allocator + Copy>(
     }
 }
 
-/// The device, without replies, where it failed as it was opened.
+/// Returns the device without replies, if it failed while it was opened. Fails for every other refusal.
 pub fn not_opened<D: Device + Drop, A: Allocator + Copy>(
     alloc: A,
     refused: (Refusal, D),
@@ -91,16 +91,16 @@ pub fn not_opened<D: Device + Drop, A: Allocator + Copy>(
     }
 }
 
-// The most steps that come up to the one that commits a write-out of a volume.
+// Returns the largest number of steps that a write-out of a volume takes, up to and with the step that commits it.
 fn most_flushes(geometry: Geometry) -> u64
     ensures { result ≡ most_flushes geometry }
 {
     2 * u64::from(geometry.slots()) + u64::from(geometry.descriptor_blocks()) + 4
 }
 
-/// Sees to it that a mark that was just made is acknowledged, where these are the replies before it: it is at once
-/// where no store was made, and no length set, since the mark before it, and else it is written out by steps of this
-/// processor. There is an error only where that is given up.
+/// Makes sure that a mark that was just made is acknowledged. `before` contains the replies before the mark. If no
+/// store was made and no length was set since the previous mark, it is acknowledged at once. Otherwise steps of
+/// processor `p` write it out. Fails only if the write-out is given up.
 pub fn acknowledge<D: Device, A: Allocator + Copy>(
     machine: &mut Machine<D, A>,
     p: ProcessorNumber,
@@ -141,21 +141,21 @@ fn commit<D: Device, A: Allocator + Copy>(
     Err(CrashFault::Otherwise)
 }
 
-// Whether a reply says that this mark is durable.
+// Whether a reply is that this mark is durable.
 fn is_committed(reply: &Reply, number: u32) -> bool
     ensures { IsTrue result ↔ (reply.now ≡ replied.Committed number) }
 {
     reply.is_same(&Reply::Committed(number))
 }
 
-// Whether a reply says that write-outs go on, or that an older one is done.
+// Whether a reply is that write-outs go on, or that an older one is done.
 fn is_going(reply: &Reply) -> bool
     ensures { result ≡ is_under_way reply.now }
 {
     matches!(reply, Reply::Going | Reply::Done(_))
 }
 
-// Why a mark isn't written out, where a step of its write-out is answered so.
+// Returns why a mark isn't written out, from the reply to a step of its write-out.
 fn fault_in(reply: &Reply) -> CrashFault {
     if let Reply::Refused(refusal) = reply {
         fault_of(*refusal)
@@ -164,7 +164,7 @@ fn fault_in(reply: &Reply) -> CrashFault {
     }
 }
 
-// Whether a store was made, or a length set, that no mark has yet.
+// Whether a store was made, or a length was set, that no mark contains yet.
 fn has_unmarked(replies: &[Reply]) -> bool
     ensures { result ≡ unmarked_after false replies.now }
 {

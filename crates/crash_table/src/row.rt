@@ -1,4 +1,4 @@
-// The rows of the table, one after the other: what crashes within each device call leave.
+// The rows of the table: the crash states of each device call.
 ghost use Rattle.std.specs.Prelude.{◌≡◌, ◌+◌, ◌<◌, ◌≤◌, true, false, length, map, Err, IfOk, IfErr, OnOk, Contains, alloc_error};
 ghost use Rattle.crash_states.specs.declared.choice.Choice.TheVariants as choices;
 ghost use Rattle.crash_states.specs.Choices.{content_before, content_within, left_by, choices_of};
@@ -11,14 +11,14 @@ use crash_states::{Choice, Contents, CrashFault, Found, Row};
 use std::alloc::{AllocError, Allocator};
 use std::marker::Model;
 
-/// The rows, one after the other. After an `Err` there is no further one.
+/// The rows of a table, one after the other. After an `Err` there is no further row.
 #[derive(Drop)]
 pub struct Rows<'a, T: CrashedRun<A>, A: Allocator + Copy> {
     alloc: A,
     trial: &'a T,
     contents: Contents<A>,
     next: usize,
-    // A row is begun that was not finished.
+    // Whether a row was begun and not finished.
     begun: bool,
 }
 
@@ -40,7 +40,7 @@ impl<'a, T: CrashedRun<A>, A: Allocator + Copy> Model for Rows<'a, T, A> {
 }
 
 impl<'a, T: CrashedRun<A>, A: Allocator + Copy> Rows<'a, T, A> {
-    /// The rows of a run. There is an `Err` only where memory was refused.
+    /// Returns the rows of a run. Fails only if memory can't be allocated.
     pub fn new(alloc: A, trial: &'a T) -> Result<Self, CrashFault>
         ensures rows { IfOk result (λ rows. rows ≡ record { trial = trial.now; next = 0; failed = false }) }
         ensures memory { IfErr result (λ why. why ≡ CrashFault.Memory alloc_error) }
@@ -57,8 +57,9 @@ impl<'a, T: CrashedRun<A>, A: Allocator + Copy> Rows<'a, T, A> {
         }
     }
 
-    /// The next row: one for each device call of the run, in their order, and one for its end. There is an `Err` for a
-    /// cause that the run states (`CrashedRun::cause`); after it there is no row: `Otherwise`.
+    /// Returns the next row, or `None` if there is none. There is a row for each device call of the run, in order, and
+    /// one for its end. Fails with a cause that the run states (`CrashedRun::cause`). After a failure, each call fails
+    /// with `Otherwise`.
     pub fn next(&mut self) -> Result<Option<Row<A>>, CrashFault>
         ensures row { IfOk result (λ next. IsNext T.bytes T.made T.leaves self.old next self.new) }
         ensures trial { self.new.trial ≡ self.old.trial }
@@ -88,7 +89,7 @@ impl<'a, T: CrashedRun<A>, A: Allocator + Copy> Rows<'a, T, A> {
     }
 }
 
-// The row of the call of this index, or of the run's end, which makes the call of a copy of the disk.
+// Returns the row of the call with this index, or of the run's end. Applies the call to the copy of the disk.
 fn make_row<T: CrashedRun<A>, A: Allocator + Copy>(
     alloc: A,
     trial: &T,
@@ -112,7 +113,7 @@ fn make_row<T: CrashedRun<A>, A: Allocator + Copy>(
     }
 }
 
-// The row of the call of this index, or of the run's end, where a copy of the disk holds this.
+// Returns the row of the call with this index, or of the run's end, for these contents of the disk.
 fn row_of<T: CrashedRun<A>, A: Allocator + Copy>(
     alloc: A,
     trial: &T,
@@ -134,7 +135,7 @@ fn row_of<T: CrashedRun<A>, A: Allocator + Copy>(
     })
 }
 
-// Each state that is tried of a crash within the call of this number.
+// Returns each crash state that is tried for the call of this number.
 fn states<T: CrashedRun<A>, A: Allocator + Copy>(
     alloc: A,
     trial: &T,
@@ -158,7 +159,7 @@ fn states<T: CrashedRun<A>, A: Allocator + Copy>(
     Ok(states)
 }
 
-// The state that a choice leaves of a crash within the call of this number.
+// Returns the crash state that a choice leaves within the call of this number.
 fn state_of<T: CrashedRun<A>, A: Allocator + Copy>(
     trial: &T,
     contents: &Contents<A>,

@@ -59,7 +59,7 @@ impl<'a, A: Allocator + Copy> Model for Trial<'a, A> {
         (device_calls_of t.listed.calls.items) };
 }
 
-// A copy of a disk that holds these bytes.
+// Returns a disk in memory that contains these bytes.
 fn copy_of<A: Allocator + Copy>(alloc: A, image: &[u8]) -> Result<MemDisk<A>, AllocError>
     ensures { IfOk result (λ disk. disk ≡ new_disk image.now) }
 {
@@ -67,8 +67,8 @@ fn copy_of<A: Allocator + Copy>(alloc: A, image: &[u8]) -> Result<MemDisk<A>, Al
 }
 
 impl<'a, A: Allocator + Copy> Trial<'a, A> {
-    /// Makes a run on a copy of a disk that holds these bytes. `Refused` where `engine::start` refuses it for another
-    /// cause than memory, and else `Memory` alone.
+    /// Makes a run on a copy of a disk that contains the bytes `image`. Fails with `Refused` if `engine::start` refuses
+    /// it for another cause than memory, and with `Memory` in all other cases.
     pub fn new(
         alloc: A,
         image: &'a [u8],
@@ -91,8 +91,8 @@ impl<'a, A: Allocator + Copy> Trial<'a, A> {
         }
     }
 
-    /// The newest mark among those that these replies report whose files have these bytes; 0 if none has. `Otherwise`
-    /// if these replies, up to a mark that is looked at, aren't those of the run.
+    /// Returns the newest mark that these replies report whose files have the bytes `found`, or 0 if there is none.
+    /// Fails with `Otherwise` if these replies, up to a mark that is looked at, aren't those of the run.
     pub fn mark_of(&self, replies: &[Reply], found: &[Vec<u8, A>]) -> Result<u32, CrashFault>
         ensures { IfOk result (IsMarkOf self.now replies.now (map (λ v. v.items) found.now)) }
     {
@@ -100,7 +100,7 @@ impl<'a, A: Allocator + Copy> Trial<'a, A> {
         newest(&self.marks, &self.listed.replies, replies, found)
     }
 
-    // The same, with the cause for which there is no answer.
+    // Returns what `crash` returns, but fails with the precise cause.
     fn left(&self, fails: u64, choice: &[u8]) -> Result<u32, CrashFault>
         ensures { IfOk result (Leaves self.now fails choice.now) }
     {
@@ -163,9 +163,9 @@ impl<'a, A: Allocator + Copy> CrashedRun<A> for Trial<'a, A> {
         steps_before(&self.listed.counts, call)
     }
 
-    /// The files that are found are always those at a mark, and never older than the last one that was acknowledged.
-    /// `Otherwise` exactly where the choice isn't as long as the disk; and where memory was refused, `Memory` alone,
-    /// also where a run was answered otherwise of that.
+    /// The files that are found are always those at a mark, and never older than those at the last acknowledged mark.
+    /// Fails with `Otherwise` exactly if `choice` isn't as long as the disk. Every other failure is `Memory`, even if
+    /// the lack of memory only led to other replies.
     fn crash(&self, fails: u64, choice: &[u8]) -> Result<u32, CrashFault>
         ensures leaves { IfOk result (Leaves self.now fails choice.now) }
         ensures otherwise { length choice.now ≢ length self.now.image → result ≡ Err CrashFault.Otherwise }
@@ -177,18 +177,18 @@ impl<'a, A: Allocator + Copy> CrashedRun<A> for Trial<'a, A> {
         }
         match self.left(fails, choice) {
             Ok(mark) => Ok(mark),
-            // A copy of the disk is opened, and each step answered, as the first time, unless memory is refused.
+            // Unless memory is refused, the opening and each step have the same replies as the first time.
             Err(_again) => Err(CrashFault::Memory(AllocError)),
         }
     }
 
-    // Each call lies within the disk, and so does what a crash leaves: only memory can have been refused.
+    // Each call is within the disk, and so is what a crash leaves, so only memory can have been refused.
     fn cause(&self, _fault: CrashFault) -> CrashFault {
         CrashFault::Memory(AllocError)
     }
 }
 
-// A run that was made once, with the files at its marks.
+// Returns a run that was made once, with the files at its marks.
 fn with_marks<'a, A: Allocator + Copy>(
     alloc: A,
     plan: &Plan<'a>,
@@ -209,12 +209,12 @@ fn with_marks<'a, A: Allocator + Copy>(
             listed,
             marks,
         }),
-        // The steps up to a mark are answered as the first time, unless memory is refused.
+        // Unless memory is refused, the steps up to a mark have the same replies as the first time.
         Err(_) => Err(CrashFault::Memory(AllocError)),
     }
 }
 
-// Makes a run on a copy of a disk once. A machine was started on it, so its bytes recover to files.
+// Makes a run once on a copy of a disk. On success a machine was started on it, so its bytes recover to files.
 fn list<A: Allocator + Copy>(alloc: A, plan: &Plan<'_>) -> Result<FirstRun<A>, CrashFault>
     ensures files { IfOk result (λ listed. (files : List File) × RecoversTo plan.now.image.now files) }
     ensures calls { IfOk result (λ listed.
@@ -253,7 +253,7 @@ fn why_refused<A: Allocator + Copy>(refused: (Refusal, Listing<A>)) -> CrashFaul
     fault_of(refusal)
 }
 
-// Where a run isn't listed after the machine was started, memory was refused.
+// Once the machine was started, only memory can have been refused.
 fn memory_alone<A: Allocator + Copy>(
     listed: Result<FirstRun<A>, CrashFault>,
 ) -> Result<FirstRun<A>, CrashFault>
@@ -266,7 +266,7 @@ fn memory_alone<A: Allocator + Copy>(
     }
 }
 
-// The replies to the steps of a run, and the number of device calls after each.
+// Returns the replies to the steps of a run, and the number of device calls after each.
 fn note_steps<D: Device + Drop, A: Allocator + Copy>(
     alloc: A,
     machine: &mut Machine<D, A>,
@@ -284,7 +284,7 @@ fn note_steps<D: Device + Drop, A: Allocator + Copy>(
     Ok((replies, counts))
 }
 
-/// The calls that a disk lists, where none of them failed. A call fails where memory is refused.
+/// Returns the calls that a disk lists. Fails if one of them failed, since a call fails if memory is refused.
 pub fn calls_of<A: Allocator + Copy>(disk: Listing<A>) -> Result<Vec<Call<A>, A>, CrashFault>
     ensures complete { IfOk result (λ calls. (disk.refused ≡ false) × (device_calls_of calls.items ≡ disk.calls)) }
     ensures are_its { IfOk result (λ calls. ListsItsCalls disk) }
@@ -318,7 +318,7 @@ fn list_steps<A: Allocator + Copy>(
     })
 }
 
-// The files at each mark that these replies tell.
+// Returns the files at each mark that these replies report.
 fn marks_of<A: Allocator + Copy>(
     alloc: A,
     plan: &Plan<'_>,
@@ -354,7 +354,7 @@ fn add_mark<A: Allocator + Copy>(
     Ok(())
 }
 
-// The files at the mark that the step of an index made.
+// Returns the files at the mark that the step with this index made.
 fn mark_of<A: Allocator + Copy>(
     alloc: A,
     plan: &Plan<'_>,

@@ -23,9 +23,9 @@ use volume_files::{
     refused_to_read, unreadable,
 };
 
-/// Makes the run of a script on copies of the volume in a file, in memory: once for each state that a crash within one
-/// of its device calls is to leave, and prints whose mark's files an opening then finds. The file is only read. The
-/// script is read whole before the disk is opened.
+/// Prints what a crash within each device call of a script leaves of the volume in a file. The script is run on copies
+/// of the volume in memory, once for each crash state. For each state, the mark is printed whose files an opening
+/// finds. The file is only read. The script is read whole before the disk is opened.
 pub fn crashes<'a, R: Files<File = File> + AllocGlobal, A: Allocator + Copy, W: io::Write>(
     rt: &R,
     alloc: A,
@@ -59,7 +59,7 @@ pub fn crashes<'a, R: Files<File = File> + AllocGlobal, A: Allocator + Copy, W: 
     }
 }
 
-// Why there is no machine of this shape over a volume with a log of these bytes.
+// Returns why no machine of this shape can run on the volume with a log that has these bytes.
 fn refused_by_log<'a, A: Allocator + Copy>(
     alloc: A,
     refusal: Refusal,
@@ -83,8 +83,8 @@ fn copy_of<A: Allocator + Copy>(alloc: A, image: &[u8]) -> Result<MemDisk<A>, Al
     MemDisk::from_bytes(alloc, Vec::from_slice(alloc, image)?)
 }
 
-// Prints what the crashes of a run of these steps leave of a volume of these bytes. Where the run doesn't begin, it
-// says why.
+// Prints what the crashes of a run of these steps leave of a volume with these bytes. If the run can't begin, returns
+// the cause.
 fn print_crashes<'a, A: Allocator + Copy, W: io::Write>(
     alloc: A,
     script: &'a str,
@@ -160,7 +160,7 @@ fn failure_of(script: &str, fault: CrashFault) -> Failure<'_> {
 // The most bytes that are read at once.
 const PIECE: u64 = 1 << 20;
 
-// All bytes of a device, where they can be read.
+// Returns all bytes of a device, or `None` if they can't be read.
 fn read_image<D: Device, A: Allocator + Copy>(
     alloc: A,
     disk: &mut D,
@@ -175,14 +175,14 @@ fn read_image<D: Device, A: Allocator + Copy>(
     Ok(Some(image))
 }
 
-// Reads a piece of a device into the same part of its image, and tells whether it could be read.
+// Reads a piece of a device into the same part of its image, and returns whether it could be read.
 fn read_piece<D: Device>(disk: &mut D, at: u64, image: &mut [u8]) -> bool {
     let from = image.len().min(at as usize);
     let count = (image.len() - from).min(PIECE as usize);
     read_part(disk, at, &mut image[from..from + count])
 }
 
-// Reads a part of a device, and tells whether it is there and could be read.
+// Reads a part of a device, and returns whether it exists and could be read.
 fn read_part<D: Device>(disk: &mut D, at: u64, part: &mut [u8]) -> bool {
     match at.checked_add(part.len() as u64) {
         Some(end) if end <= disk.len() => disk.read(at, part).is_ok(),
@@ -190,7 +190,7 @@ fn read_part<D: Device>(disk: &mut D, at: u64, part: &mut [u8]) -> bool {
     }
 }
 
-// Where the parts of the volume of a device are.
+// Returns where the parts of the volume on a device are.
 fn read_places<'a, D: Device, A: Allocator + Copy>(
     alloc: A,
     disk: &mut D,
@@ -266,7 +266,7 @@ fn print_rows<T: CrashedRun<A>, A: Allocator + Copy, W: io::Write>(
     Ok(Ok(()))
 }
 
-// The replies from one to another.
+// The replies from `from` up to but not including `to`.
 fn between(replies: &[Reply], from: usize, to: usize) -> &[Reply] {
     replies.get(from..to).unwrap_or(&[])
 }

@@ -1,4 +1,4 @@
-//! The command that tells what a crash within each device call of a script leaves of the volume in a file.
+//! The command `crashes`, which prints what a crash within each device call of a script leaves of the volume in a file.
 #![tactic(auto)]
 
 mod crashing;

@@ -16,13 +16,13 @@ use std::hash::{BuildHasherDefault, FoldHasher};
 use std::marker::Model;
 use std::rc::Rc;
 
-// How many bytes a block has.
+// The length of a block in bytes.
 const BLOCK: usize = 4096;
 
 // The blocks that are known, by their numbers.
 type Rooms<A> = HashMap<usize, Part<A>, BuildHasherDefault<FoldHasher>, A>;
 
-// Some blocks, of which some are known. It keeps the bytes of those alone.
+// The blocks of a disk, some of which are known. Only the bytes of known blocks are stored.
 #[derive(Drop)]
 pub struct Blocks<A: Allocator + Copy> {
     alloc: A,
@@ -46,7 +46,7 @@ impl<A: Allocator + Copy> Model for Blocks<A> {
 }
 
 impl<A: Allocator + Copy> Blocks<A> {
-    // None of them known.
+    // Returns `count` blocks. None of them is known.
     pub(crate) fn new(alloc: A, count: usize) -> Self
         requires { 4096 * count < 2 ^ 64 }
         ensures flags { result.flags ≡ replicate count false }
@@ -59,7 +59,7 @@ impl<A: Allocator + Copy> Blocks<A> {
         }
     }
 
-    // The end of so many bytes from an offset on.
+    // Returns the end of `count` bytes from an offset on.
     fn end_of(&self, at: usize, count: usize) -> usize
         requires { at + count ≤ length self.now.bytes }
         ensures { result ≡ at + count }
@@ -69,7 +69,7 @@ impl<A: Allocator + Copy> Blocks<A> {
         at + count
     }
 
-    // The bytes of a block that is known.
+    // Returns the bytes of a block, or `None` if it isn't known.
     fn room(&self, block: usize) -> Option<&[u8]>
         ensures known { is_some result ≡ get_or self.now.flags block false }
         ensures bytes { IfSome result (λ bytes. bytes.now ≡ block_of self.now.bytes block) }
@@ -85,7 +85,7 @@ impl<A: Allocator + Copy> Blocks<A> {
         }
     }
 
-    // The bytes of a block, zeros where it isn't known.
+    // Returns the bytes of a block, or zeros if it isn't known.
     fn room_or_blank(&self, block: usize) -> &[u8]
         requires { block < length self.now.flags }
         ensures { result.now ≡ block_of self.now.bytes block }
@@ -102,7 +102,7 @@ impl<A: Allocator + Copy> Blocks<A> {
         self.room(block).is_some()
     }
 
-    // The first that isn't known of those from one up to another.
+    // Returns the first block that isn't known, from `from` up to but not including `to`.
     fn first_unknown(&self, from: usize, to: usize) -> Option<usize>
         ensures { result ≡ first_unknown self.now.flags from (to - from) }
     {
@@ -114,7 +114,8 @@ impl<A: Allocator + Copy> Blocks<A> {
         None
     }
 
-    // The first that isn't known of those that a write of so many bytes from an offset on covers in part.
+    // Returns the first block that isn't known among those that a write of `count` bytes from an offset on covers in
+    // part.
     pub(crate) fn lacked_by_write(&self, at: usize, count: usize) -> Option<usize>
         requires { at + count ≤ length self.now.bytes }
         ensures { result ≡ lacked_by_write self.now.flags at count }
@@ -126,7 +127,8 @@ impl<A: Allocator + Copy> Blocks<A> {
         }
     }
 
-    // Copies bytes from an offset on, or says which block is the first that isn't known of those that they reach.
+    // Copies bytes from an offset on, and returns `None`. If they reach a block that isn't known, returns the first
+    // such block.
     pub(crate) fn read(&self, at: usize, buffer: &mut [u8]) -> Option<usize>
         requires { at + length buffer.old ≤ length self.now.bytes }
         ensures lacked { result ≡ lacked_by_read self.now.flags at (length buffer.old) }
@@ -143,8 +145,8 @@ impl<A: Allocator + Copy> Blocks<A> {
         None
     }
 
-    // Puts bytes at an offset. The blocks that they reach are known then. Answers the bytes, which the blocks share. It
-    // fails where memory is refused.
+    // Puts bytes at an offset, and returns them. The blocks that they reach are known afterwards, and share the bytes.
+    // Fails if memory can't be allocated, and then changes nothing.
     pub(crate) fn put(&mut self, at: usize, bytes: &[u8]) -> Result<Part<A>, AllocError>
         requires { at + length bytes.now ≤ length self.old.bytes }
         ensures part { IfOk result (λ part. part ≡ bytes.now) }
@@ -159,7 +161,7 @@ impl<A: Allocator + Copy> Blocks<A> {
         Ok(Part::new(run, at % BLOCK, at % BLOCK + bytes.len()))
     }
 
-    // The blocks that bytes at an offset reach, with these bytes there.
+    // Returns the blocks that bytes at an offset reach, with the bytes in place.
     fn run_with(&self, at: usize, bytes: &[u8]) -> Result<Run<A>, AllocError>
         requires { at + length bytes.now ≤ length self.now.bytes }
         ensures { IfOk result (λ run. run.value.items ≡ slice_range (written self.now.bytes at bytes.now)
@@ -174,7 +176,7 @@ impl<A: Allocator + Copy> Blocks<A> {
         Ok(Rc::new(self.alloc, run)?)
     }
 
-    // The bytes of the blocks from one up to another.
+    // Returns the bytes of the blocks from `from` up to but not including `to`.
     fn run_of(&self, from: usize, to: usize) -> Result<Vec<u8, A>, AllocError>
         requires from { from ≤ to }
         requires to { to ≤ length self.now.flags }
@@ -187,7 +189,7 @@ impl<A: Allocator + Copy> Blocks<A> {
         Ok(run)
     }
 
-    // The blocks of a run are known, from this number on.
+    // Stores the blocks of a run, from the block `from` on. They are known afterwards.
     fn enter(&mut self, from: usize, run: &Run<A>) -> Result<(), AllocError>
         requires whole { length run.now.value.items ≡ 4096 * (length run.now.value.items / 4096) }
         requires fits { 4096 * from + length run.now.value.items ≤ length self.old.bytes }
@@ -206,7 +208,7 @@ impl<A: Allocator + Copy> Blocks<A> {
         Ok(())
     }
 
-    // The block with this number is known, and has the bytes of a run of one block.
+    // Stores a run of one block, which is known afterwards.
     fn enter_one(&mut self, block: usize, run: Run<A>) -> Result<(), AllocError>
         requires whole { length run.value.items ≡ 4096 }
         requires fits { 4096 * block + 4096 ≤ length self.old.bytes }
@@ -219,7 +221,7 @@ impl<A: Allocator + Copy> Blocks<A> {
         Ok(())
     }
 
-    // One isn't known any more.
+    // Forgets a block, which isn't known afterwards.
     pub(crate) fn forget(&mut self, block: usize)
         requires { block < length self.old.flags }
         ensures size { length self.new.bytes ≡ length self.old.bytes }
@@ -230,7 +232,7 @@ impl<A: Allocator + Copy> Blocks<A> {
     }
 }
 
-// Puts the blocks of a run into a map, from this number on.
+// Puts the blocks of a run into a map, from the number `from` on.
 fn enter_rooms<A: Allocator + Copy>(
     rooms: &mut Rooms<A>,
     from: usize,
@@ -251,7 +253,7 @@ fn enter_rooms<A: Allocator + Copy>(
     }
 }
 
-// Puts the block of a run of one into a map, under this number.
+// Puts a run of one block into a map, under this number.
 fn enter_room<A: Allocator + Copy>(rooms: &mut Rooms<A>, block: usize, run: Run<A>)
     requires room { 1 ≤ spare rooms.old }
     requires whole { length run.value.items ≡ 4096 }
@@ -261,7 +263,7 @@ fn enter_room<A: Allocator + Copy>(rooms: &mut Rooms<A>, block: usize, run: Run<
     drop(rooms.insert(block, Part::new(run, 0, BLOCK)));
 }
 
-// Copies what a block that begins at an offset has of the bytes from another offset on.
+// Copies the bytes that a block and a buffer share. The block begins at offset `start`, and the buffer at `at`.
 fn copy_part(bytes: &[u8], start: usize, at: usize, buffer: &mut [u8])
     requires block { length bytes.now ≡ 4096 }
     requires begins { start ≤ at + length buffer.old }

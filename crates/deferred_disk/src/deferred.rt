@@ -1,4 +1,4 @@
-// A disk whose writes and syncs somebody else makes.
+// A disk whose writes and syncs a host makes.
 ghost use Rattle.std.specs.Prelude.{◌≡◌, ℕ, ◌+◌, ◌-◌, ◌*◌, ◌^◌, ◌<◌, ◌≤◌, false, None, List, length, take, get_or, not, true, is_none, is_ok, option_map, slice_range, OnOk, OnErr, IsOk};
 ghost use Rattle.deferred_disk.specs.Carrying.{CarriedOut};
 ghost use Rattle.device.specs.Device.{written};
@@ -25,22 +25,22 @@ pub enum DeferredCall<'a> {
     Sync,
 }
 
-/// A disk whose writes and syncs are recorded, in order, for a host to make: one that makes no system call itself. It
-/// reads from the blocks of 4,096 bytes that the host supplied or that were written, and a read of another block fails
-/// as a [`DeviceFault`]; `wanted` says which block that was. A write and a sync are answered at once. So a program that
-/// is a function over this disk asks its host for blocks and for calls, and makes neither.
+/// A disk that records its writes and syncs, in order, for a host to make. It makes no system call itself, and its
+/// calls return at once. A read returns bytes of blocks of 4,096 bytes that were supplied by the host, or written. A
+/// read of another block fails with a [`DeviceFault`], and `wanted` returns that block. So a program that is a function
+/// over this disk asks its host for blocks and for calls, and makes neither.
 ///
-/// Its content is a list that only proofs know. It is honest as long as each block that was supplied is what that list
-/// has there: a host that supplies other bytes gets a disk of which no clause on content speaks.
+/// Its content is a list that only proofs know. The disk is honest as long as each supplied block is the block of that
+/// list. If the host supplies other bytes, no clause on content applies to the disk.
 ///
-/// A write or a sync that is refused memory fails and changes nothing but the counts.
+/// A write or a sync fails if memory can't be allocated, and then changes nothing but the counts.
 #[derive(Drop)]
 pub struct DeferredDisk<A: Allocator + Copy> {
     blocks: Blocks<A>,
     // The oldest call first.
     log: VecDeque<WaitingCall<A>, A>,
     past: Past,
-    // How many writes and syncs were recorded.
+    // The number of writes and syncs that were recorded.
     recorded: u64,
     len: u64,
     wanted: Option<usize>,
@@ -77,8 +77,8 @@ impl<A: Allocator + Copy> Model for DeferredDisk<A> {
 }
 
 impl<A: Allocator + Copy> DeferredDisk<A> {
-    /// A disk of this many blocks, none of which is known. What they hold only the host knows. It takes memory for the
-    /// blocks that are known, once they are.
+    /// Returns a disk of `blocks` blocks, none of which is known. Only the host knows their contents. Memory is
+    /// allocated for a block only once it is known.
     pub fn new(alloc: A, blocks: u32) -> Self
         ghost content: { List ℕ }
         requires { length content ≡ 4096 * blocks }
@@ -96,13 +96,14 @@ impl<A: Allocator + Copy> DeferredDisk<A> {
         }
     }
 
-    /// The host has read this block. One that is known keeps its bytes: what was written there, or supplied before.
+    /// Supplies a block that the host has read. A block that is known keeps its bytes, which were written or supplied
+    /// before. Fails if memory can't be allocated, and then changes nothing.
     pub fn supply(&mut self, block: u32, bytes: &[u8; 4096]) -> Result<(), AllocError>
         requires { 4096 * block + 4096 ≤ length (seen_of (as_memory self.old)) }
         ensures ok { OnOk result (self.new ≡ after_supply self.old block bytes.now) }
         ensures err { OnErr result (self.new ≡ self.old) }
 
-        // What a read gives, and what a crash may leave, stays.
+        // The bytes that a read returns, and those that a crash may leave, stay.
         ensures recorded { as_memory self.new ≡ as_memory self.old }
     {
         let place = block as usize;
@@ -114,9 +115,9 @@ impl<A: Allocator + Copy> DeferredDisk<A> {
         Ok(())
     }
 
-    /// Whether a block is known. Of one that isn't, a device that is where this disk was before its oldest waiting call
-    /// gives what this disk has there: so a host may read it of such a device, also where that call was tried and
-    /// failed.
+    /// Whether a block is known. A host may read a block that isn't known from a device on which all calls before the
+    /// oldest waiting one were made. There the block contains the same bytes as on this disk. This holds even if the
+    /// oldest waiting call was tried and failed.
     pub fn is_known(&self, block: u32) -> bool
         ensures known { result ≡ get_or self.now.known block false }
         ensures there { 4096 * block + 4096 ≤ length (seen_of (as_memory self.now)) → result ≡ false
@@ -127,8 +128,8 @@ impl<A: Allocator + Copy> DeferredDisk<A> {
         self.blocks.is_known(block as usize)
     }
 
-    /// Forgets a block, unless a waiting call writes to it: whether it isn't known any more. Where its bytes are needed
-    /// the host supplies them again.
+    /// Forgets a block, and returns true. If a waiting call writes to the block, changes nothing, and returns false. If
+    /// the bytes of a forgotten block are needed, the host supplies them again.
     pub fn forget(&mut self, block: u32) -> bool
         requires { 4096 * block + 4096 ≤ length (seen_of (as_memory self.old)) }
         ensures result { result ≡ not (one_reaches (take self.old.waiting self.old.changes) block) }
@@ -142,7 +143,8 @@ impl<A: Allocator + Copy> DeferredDisk<A> {
         true
     }
 
-    /// Copies bytes from an offset on, as a read does, or answers which block a read would lack. It counts no call.
+    /// Copies bytes from an offset on, as a read does, and returns `None`. If a read would lack a block, returns that
+    /// block. Counts no call.
     pub fn peek(&self, at: u64, buffer: &mut [u8]) -> Option<usize>
         requires { at + length buffer.old ≤ length (seen_of (as_memory self.now)) }
         ensures lacked { result ≡ lacked_by_read self.now.known at (length buffer.old) }
@@ -152,49 +154,49 @@ impl<A: Allocator + Copy> DeferredDisk<A> {
         self.blocks.read(at as usize, buffer)
     }
 
-    /// Which block the last call of `read`, `write` or `sync` lacked, where it failed for want of one.
+    /// Returns the block that the last call of `read`, `write` or `sync` lacked, if it failed because of that.
     pub fn wanted(&self) -> Option<usize>
         ensures { result ≡ self.now.wanted }
     {
         self.wanted
     }
 
-    /// How many calls wait to be carried out.
+    /// Returns the number of calls that wait for the host.
     pub fn waiting(&self) -> usize
         ensures { result ≡ self.now.waiting }
     {
         self.log.len()
     }
 
-    /// How many writes and syncs were recorded in all, those that were carried out and those that wait. A count that
-    /// has come to 2^64-1 stays there.
+    /// Returns the number of writes and syncs that were recorded, both carried out and waiting. A count of 2^64-1 stays
+    /// there.
     pub fn recorded(&self) -> u64
         ensures { result ≡ recorded_calls self.now }
     {
         self.recorded
     }
 
-    /// The call that waits behind so many older ones that wait: the host makes them in their order, and says of the
-    /// oldest that it was made by `carried_out`.
+    /// Returns the call that waits behind `others` older waiting calls, or `None` if there is none. The host makes the
+    /// calls in order, and reports each of them by `carried_out`.
     pub fn call(&self, others: usize) -> Option<DeferredCall<'_>>
         ensures { option_map change_lent result ≡ waits_behind others self.now }
     {
         lend_at(&self.log, others)
     }
 
-    /// The oldest call that waits was made.
+    /// Reports that the oldest waiting call was made. It no longer waits.
     pub fn carried_out(&mut self)
         ensures { self.new ≡ with_waiting self.old (self.old.waiting - 1) }
     {
         let _ = self.log.pop_front();
     }
 
-    /// Makes the waiting calls on a device of the same length, in order, up to the first that fails: the reference for
-    /// what a host does. The calls that are left are those that weren't made, in order.
+    /// Makes the waiting calls on a device of the same length, in order, up to the first that fails. The calls that
+    /// weren't made still wait, in order. This is the reference for what a host does.
     pub fn carry_out<D: Device>(&mut self, device: &mut D) -> Result<(), DeviceFault>
         requires { length (D.seen device.old) ≡ length (seen_of (as_memory self.old)) }
 
-        // Nothing else changes, and after an error a call is left: the one that failed.
+        // Nothing else changes. After an error a call is left, the one that failed.
         ensures taken { self.new ≡ with_waiting self.old self.new.waiting }
         ensures ok { OnOk result (self.new.waiting ≡ 0) }
         ensures err { OnErr result (1 ≤ self.new.waiting) }
@@ -230,7 +232,7 @@ impl<A: Allocator + Copy> DeferredDisk<A> {
         }
     }
 
-    // How many calls wait, each of them within the disk.
+    // Returns the number of waiting calls. Each of them is within the disk.
     fn left_to_carry(&self) -> usize
         ensures count { result ≡ self.now.waiting }
         ensures few { self.now.waiting ≤ length self.now.changes }
@@ -279,7 +281,7 @@ impl<A: Allocator + Copy> Device for DeferredDisk<A> {
         ensures bytes { IsSuppliedWell self.old → OnOk result
             (buffer.new ≡ slice_range (seen_of (as_memory self.old)) at (at + length buffer.old)) }
 
-        // It fails where a block that it reaches isn't known, and nowhere else.
+        // It fails if a block that it reaches isn't known, and in no other case.
         ensures counted { self.new
             ≡ after_read self.old (lacked_by_read self.old.known at (length buffer.old)) (is_ok result) }
         ensures lacks { is_ok result ≡ is_none (lacked_by_read self.old.known at (length buffer.old)) }
@@ -296,7 +298,7 @@ impl<A: Allocator + Copy> Device for DeferredDisk<A> {
     fn write(&mut self, at: u64, bytes: &[u8]) -> Result<(), DeviceFault>
         requires { at + length bytes.now ≤ length (seen_of (as_memory self.old)) }
 
-        // It fails where it covers in part a block that isn't known, or where memory is refused.
+        // It fails if it covers in part a block that isn't known, or if memory is refused.
         ensures lacks { IsOk result → lacked_by_write self.old.known at (length bytes.now) ≡ None }
         ensures recorded { OnOk result (self.new ≡ after_write self.old at bytes.now) }
         ensures refused { OnErr result (self.new

@@ -1,4 +1,4 @@
-//! A disk whose writes and syncs are recorded for a host to make: one that makes no system call itself.
+//! A disk that records its writes and syncs for a host to make. It makes no system call itself.
 #![tactic(auto)]
 
 mod blocks;

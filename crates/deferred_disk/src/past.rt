@@ -1,5 +1,4 @@
-// What only proofs read of a disk whose calls are made later. It takes no bytes, and its functions do nothing at run
-// time.
+// The part of a deferred disk that only proofs read. It takes no memory, and its functions do nothing at run time.
 ghost use Rattle.std.specs.Prelude.{◌≡◌, ℕ, ◌+◌, ◌*◌, List, [], ◌∷◌, slice_range};
 ghost use Rattle.std.specs.Borrow.{ftrue};
 ghost use Rattle.std.specs.Coded.{coded_list};
@@ -10,8 +9,8 @@ ghost use Rattle.device.specs.inside.Codes.{change_code};
 use std::marker::Model;
 use std::slice::from_ref;
 
-// What the disk held at first, its writes and syncs with the last one first, and each block that was supplied beside
-// what the disk had there then.
+// The first content of the disk, its writes and syncs with the last one first, and each supplied block. Beside a
+// supplied block is the content that the disk had there at that time.
 #[derive(Drop)]
 pub struct Past {
     pub ghost first: { List ℕ },
@@ -31,8 +30,8 @@ impl Past {
         Past::holding(&[], &0, &[])
     }
 
-    // A past with these parts, which the caller picks from the arguments: the past before, where there is one, and what
-    // came then.
+    // Returns a past with the parts `held`. The caller derives them from the arguments: the past before, if there is
+    // one, and the event that followed.
     fn holding(_before: &[Past], _number: &u64, _bytes: &[u8]) -> Past
         ghost held: { List ℕ × (List DiskChange × List (List ℕ × List ℕ)) }
         ensures { (result.first ≡ held.0) × (result.changes ≡ held.1.0) × (result.supplied ≡ held.1.1) }

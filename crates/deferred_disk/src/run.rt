@@ -6,11 +6,11 @@ use std::alloc::{AllocError, Allocator};
 use std::marker::Model;
 use std::rc::Rc;
 
-// The bytes of some whole blocks that lie one after another. They are kept once: for the call that writes them while it
-// waits, and for each of the blocks as long as it has them.
+// The bytes of consecutive whole blocks. They are stored once. The call that writes them shares them while it waits,
+// and each block shares them as long as it contains them.
 pub(crate) type Run<A> = Rc<Vec<u8, A>, A>;
 
-// The bytes of a run from a place up to another.
+// The bytes of a run, from a place up to but not including another.
 #[derive(Drop)]
 pub(crate) struct Part<A: Allocator + Copy> {
     run: Run<A>,
@@ -44,7 +44,7 @@ impl<A: Allocator + Copy> Part<A> {
     }
 }
 
-// As many more owners of a run.
+// Returns `count` more owners of a run.
 pub(crate) fn shares_of<A: Allocator + Copy>(
     alloc: A,
     run: &Run<A>,

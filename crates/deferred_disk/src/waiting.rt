@@ -59,7 +59,7 @@ fn writes_to<A: Allocator + Copy>(call: &WaitingCall<A>, block: u32) -> bool
     }
 }
 
-// Lends the call of a log that has this index.
+// Lends the call at an index of a log.
 pub(crate) fn lend_at<A: Allocator + Copy>(
     log: &VecDeque<WaitingCall<A>, A>,
     index: usize,
@@ -114,7 +114,7 @@ fn make_call<A: Allocator + Copy, D: Device>(
     }
 }
 
-// Records a write behind the others, and puts its bytes into its blocks, or changes nothing.
+// Records a write after the others, and puts its bytes into its blocks. A failure changes nothing.
 pub(crate) fn keep_write<A: Allocator + Copy>(
     log: &mut VecDeque<WaitingCall<A>, A>,
     blocks: &mut Blocks<A>,
@@ -135,7 +135,7 @@ pub(crate) fn keep_write<A: Allocator + Copy>(
     Ok(())
 }
 
-// Records a sync behind the others.
+// Records a sync after the others.
 pub(crate) fn keep_sync<A: Allocator + Copy>(
     log: &mut VecDeque<WaitingCall<A>, A>,
 ) -> Result<(), AllocError>
@@ -147,7 +147,7 @@ pub(crate) fn keep_sync<A: Allocator + Copy>(
     Ok(())
 }
 
-// Records a call where there is room for it.
+// Records a call. The log has room for it.
 fn keep<A: Allocator + Copy>(log: &mut VecDeque<WaitingCall<A>, A>, call: WaitingCall<A>)
     requires { deque_len log.old < deque_capacity log.old }
     ensures { log.new.items ≡ log.old.items ++ call ∷ [] }

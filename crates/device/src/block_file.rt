@@ -1,4 +1,4 @@
-// What a disk over a file asks of the file.
+// The calls of a file that a disk over it makes.
 ghost use Rattle.std.specs.Prelude.{◌≡◌, ◌↔◌, ℕ, ◌+◌, ◌≤◌, List, [], length, slice_range, Option, None, IfOk, OnOk, IsErr, is_ok};
 ghost use Rattle.device.specs.Device.{written, Torn, TornFrom, Only, LeavesOnly};
 ghost use Rattle.device.specs.File.{FileCall, IsCalledOnce};
@@ -8,35 +8,35 @@ use std::fs::File;
 use std::io;
 use std::os::unix::fs::FileExt;
 
-/// A file of fixed length that is read and written at offsets, in whole ranges, and synced: what
-/// [`FileDisk`](crate::FileDisk) asks of a file. A call that reaches past the end fails.
+/// A file of fixed length that is read and written at offsets, in whole ranges, and synced. A
+/// [`FileDisk`](crate::FileDisk) needs these calls of its file. A call that reaches past the end fails.
 ///
-/// What an honest file gives and keeps is what an honest [`Device`](crate::Device) does. Whether a real file is honest
-/// no program can see, so nothing is claimed of its content; a file in memory is honest, and can stand in for it.
+/// An honest file returns and keeps the same as an honest [`Device`]. No program can see whether a real file is honest,
+/// so nothing is claimed of its content. A file in memory is honest, and can replace it.
 pub trait BlockFile {
-    /// What a read gives now.
+    /// The bytes that a read returns now.
     ghost seen: { Self → List ℕ };
 
-    /// What a crash now may leave.
+    /// The contents that a crash now may leave.
     ghost may_leave: { Self → List ℕ → Type 0 };
 
     /// The number of writes and syncs so far.
     ghost moment: { Self → ℕ };
 
-    /// What a crash at some moment from that one on might have left, during a call or between two.
+    /// The contents that a crash at or after that moment might have left, during a call or between two calls.
     ghost left_since: { Self → ℕ → List ℕ → Type 0 };
 
-    /// The file keeps the clauses on content.
+    /// The file obeys the clauses on content.
     ghost is_honest: { Self → Type 0 };
 
-    /// The calls made so far, the last one last, where they are known. Those of a real file are not.
+    /// The calls made so far, in order, if they are known. Those of a real file aren't known.
     ghost calls_made: { Self → Option (List FileCall) };
 
-    /// The length in bytes (POSIX.1-2024, `fstat`).
+    /// Returns the length in bytes (POSIX.1-2024, `fstat`).
     fn size(&self) -> io::Result<u64>
         ensures { is_honest self.now → IfOk result (λ size. size ≡ length (seen self.now)) };
 
-    /// Reads as many bytes as the buffer has, from an offset on (POSIX.1-2024, `pread`).
+    /// Fills the buffer with the bytes from an offset on (POSIX.1-2024, `pread`).
     fn read_exact_at(&mut self, buffer: &mut [u8], at: u64) -> io::Result<()>
         ensures bytes { is_honest self.old
             → OnOk result (buffer.new ≡ slice_range (seen self.old) at (at + length buffer.old)) }
@@ -59,7 +59,7 @@ pub trait BlockFile {
         ensures len { is_honest self.old → length (seen self.new) ≡ length (seen self.old) }
         ensures called { IsCalledOnce (calls_made self.old) (calls_made self.new) (write at bytes.now (is_ok result)) };
 
-    /// Brings what was written to the disk, and all else that is known of the file (POSIX.1-2024, `fsync`).
+    /// Makes the written bytes durable, and all other data about the file (POSIX.1-2024, `fsync`).
     fn sync_all(&mut self) -> io::Result<()>
         ensures same { is_honest self.old → seen self.new ≡ seen self.old }
         ensures durable { is_honest self.old → OnOk result (Only (may_leave self.new) (seen self.old)) }
@@ -68,7 +68,7 @@ pub trait BlockFile {
         ensures honest { is_honest self.new ↔ is_honest self.old }
         ensures called { IsCalledOnce (calls_made self.old) (calls_made self.new) (sync_all (is_ok result)) };
 
-    /// Brings what was written to the disk, and of the file what is needed to read that again (POSIX.1-2024,
+    /// Makes the written bytes durable, and the data about the file that is needed to read them again (POSIX.1-2024,
     /// `fdatasync`).
     fn sync_data(&mut self) -> io::Result<()>
         ensures same { is_honest self.old → seen self.new ≡ seen self.old }
@@ -78,18 +78,18 @@ pub trait BlockFile {
         ensures honest { is_honest self.new ↔ is_honest self.old }
         ensures called { IsCalledOnce (calls_made self.old) (calls_made self.new) (sync_data (is_ok result)) };
 
-    /// What a read gives may be left.
+    /// A crash may leave the bytes that a read returns.
     ghost seen_is_left: { (file : Self) → is_honest file → may_leave file (seen file) };
 
-    /// Each list that may be left has the file's length.
+    /// Each content that a crash may leave has the file's length.
     ghost left_is_whole: { (file : Self) (c : List ℕ)
         → is_honest file → may_leave file c → length c ≡ length (seen file) };
 
-    /// A crash now is one since any moment so far.
+    /// What a crash now may leave is among what a crash since any earlier moment might have left.
     ghost now_is_since: { (file : Self) (t : ℕ) (c : List ℕ)
         → t ≤ moment file → may_leave file c → left_since file t c };
 
-    /// Since now there is nothing else.
+    /// Since the present moment, a crash can't have left anything else than a crash now may leave.
     ghost since_now: { (file : Self) (c : List ℕ) → left_since file (moment file) c → may_leave file c };
 }
 

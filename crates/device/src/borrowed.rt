@@ -1,4 +1,4 @@
-// A device behind a reference is one.
+// A mutable reference to a device is a device.
 
 use crate::{Device, DeviceFault};
 

@@ -2,7 +2,7 @@
 ghost use Rattle.std.specs.Prelude.{◌≡◌};
 ghost use Rattle.device.specs.Count.{raised};
 
-/// One more, but a count that has come to 2^64-1 stays there.
+/// Adds 1 to a count. A count of 2^64-1 stays there.
 pub fn raise(count: &mut u64)
     ensures { count.new ≡ raised count.old }
 {

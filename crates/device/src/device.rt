@@ -4,41 +4,41 @@ ghost use Rattle.device.specs.Device.{written, Torn, TornFrom, Only, LeavesOnly}
 
 use crate::DeviceFault;
 
-/// A disk: a list of bytes whose length never changes. What is written is on the disk for certain after the next sync
-/// that succeeds; until then a crash may leave any bytes in the ranges that were written.
+/// A disk: a list of bytes of fixed length. Written bytes are durable after the next successful sync. Until then a
+/// crash may leave any bytes in the ranges that were written.
 ///
-/// Time is the number of writes and syncs. The clauses on content are promised of an honest device alone; of a real
-/// disk honesty is a premise, since no program can see what lies under it.
+/// Time is the number of writes and syncs. Only an honest device obeys the clauses on content. For a real disk, honesty
+/// is a premise, since no program can see what is below it.
 pub trait Device {
-    /// What a read gives now.
+    /// The bytes that a read returns now.
     ghost seen: { Self → List ℕ };
 
-    /// What a crash now may leave.
+    /// The contents that a crash now may leave.
     ghost may_leave: { Self → List ℕ → Type 0 };
 
     /// The number of writes and syncs so far.
     ghost moment: { Self → ℕ };
 
-    /// What a crash at some moment from that one on might have left, during a call or between two.
+    /// The contents that a crash at or after that moment might have left, during a call or between two calls.
     ghost left_since: { Self → ℕ → List ℕ → Type 0 };
 
-    /// How many calls of `read`, `write` and `sync` were made.
+    /// The number of calls of `read`, `write` and `sync`.
     ghost calls_made: { Self → ℕ };
 
-    /// How many of these calls failed.
+    /// The number of these calls that failed.
     ghost faults_met: { Self → ℕ };
 
-    /// How many of its calls somebody else has made, where the device only records them. No call of it changes that.
+    /// The number of its calls that a host has made, if the device only records them. No call of the device changes it.
     ghost carried: { Self → ℕ };
 
-    /// The device keeps the clauses on content.
+    /// The device obeys the clauses on content.
     ghost is_honest: { Self → Type 0 };
 
-    /// The length in bytes.
+    /// Returns the length in bytes.
     fn len(&self) -> u64
         ensures { result ≡ length (seen self.now) };
 
-    /// Reads as many bytes as the buffer has, from an offset on. It changes nothing that a read gives.
+    /// Fills the buffer with the bytes from an offset on. Later reads return the same bytes as before.
     fn read(&mut self, at: u64, buffer: &mut [u8]) -> Result<(), DeviceFault>
         requires { at + length buffer.old ≤ length (seen self.old) }
 
@@ -59,8 +59,8 @@ pub trait Device {
         ensures faults_stay { 2 ^ 64 - 1 ≤ faults_met self.old → faults_met self.new ≡ faults_met self.old }
         ensures done { IsOk result → faults_met self.new ≡ faults_met self.old };
 
-    /// Writes bytes from an offset on. Whether it succeeds or not, a crash before the next sync that succeeds may leave
-    /// any bytes in the range; where it fails, a read too may give any bytes there. Nothing more is durable than
+    /// Writes bytes from an offset on. Whether it succeeds or not, a crash before the next successful sync may leave
+    /// any bytes in the range. If it fails, a read may return any bytes in the range, too. Nothing more is durable than
     /// before.
     fn write(&mut self, at: u64, bytes: &[u8]) -> Result<(), DeviceFault>
         requires { at + length bytes.now ≤ length (seen self.old) }
@@ -82,8 +82,8 @@ pub trait Device {
         ensures faults_stay { 2 ^ 64 - 1 ≤ faults_met self.old → faults_met self.new ≡ faults_met self.old }
         ensures done { IsOk result → faults_met self.new ≡ faults_met self.old };
 
-    /// Makes sure of what was written: where it succeeds, a crash leaves what a read gives. Where it fails, nothing is
-    /// surer than before.
+    /// Makes the written bytes durable. After a success, a crash leaves the bytes that a read returns. After a failure,
+    /// nothing more is durable than before.
     fn sync(&mut self) -> Result<(), DeviceFault>
         ensures same { is_honest self.old → seen self.new ≡ seen self.old }
         ensures durable { is_honest self.old → OnOk result (Only (may_leave self.new) (seen self.old)) }
@@ -100,25 +100,25 @@ pub trait Device {
         ensures faults_stay { 2 ^ 64 - 1 ≤ faults_met self.old → faults_met self.new ≡ faults_met self.old }
         ensures done { IsOk result → faults_met self.new ≡ faults_met self.old };
 
-    /// How many calls of `read`, `write` and `sync` were made. A count that has come to 2^64-1 stays there.
+    /// Returns the number of calls of `read`, `write` and `sync`. A count of 2^64-1 stays there.
     fn calls(&self) -> u64
         ensures { result ≡ calls_made self.now };
 
-    /// How many of these calls failed. A count that has come to 2^64-1 stays there.
+    /// Returns the number of these calls that failed. A count of 2^64-1 stays there.
     fn faults(&self) -> u64
         ensures { result ≡ faults_met self.now };
 
-    /// What a read gives may be left.
+    /// A crash may leave the bytes that a read returns.
     ghost seen_is_left: { (device : Self) → is_honest device → may_leave device (seen device) };
 
-    /// Each list that may be left has the device's length.
+    /// Each content that a crash may leave has the device's length.
     ghost left_is_whole: { (device : Self) (c : List ℕ)
         → is_honest device → may_leave device c → length c ≡ length (seen device) };
 
-    /// A crash now is one since any moment so far.
+    /// What a crash now may leave is among what a crash since any earlier moment might have left.
     ghost now_is_since: { (device : Self) (t : ℕ) (c : List ℕ)
         → t ≤ moment device → may_leave device c → left_since device t c };
 
-    /// Since now there is nothing else.
+    /// Since the present moment, a crash can't have left anything else than a crash now may leave.
     ghost since_now: { (device : Self) (c : List ℕ) → left_since device (moment device) c → may_leave device c };
 }

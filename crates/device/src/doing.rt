@@ -1,4 +1,4 @@
-// Work that is asked of a device, and what becomes of it in one clause.
+// Device calls whose effect is stated in one clause.
 ghost use Rattle.std.specs.Prelude.{◌+◌, ◌*◌, ◌≤◌, is_ok, length};
 ghost use Rattle.device.specs.Did.{Did};
 ghost use Rattle.device.specs.Work.{CopyBlock, Sync, WriteAt};
@@ -16,7 +16,7 @@ pub fn write_at<D: Device>(device: &mut D, at: u64, bytes: &[u8]) -> Result<(), 
     }
 }
 
-/// Makes durable what was written.
+/// Makes the written bytes durable.
 pub fn make_durable<D: Device>(device: &mut D) -> Result<(), DeviceFault>
     ensures { Did D.Device device.old Sync (is_ok result) device.new }
 {
@@ -26,8 +26,9 @@ pub fn make_durable<D: Device>(device: &mut D) -> Result<(), DeviceFault>
     }
 }
 
-/// Reads the block of 4,096 bytes at one place, and writes it at another: block i begins at 4,096 times i. That is two
-/// device calls, or one where the read fails; a read that fails leaves the device's bytes. It is read into `buffer`.
+/// Copies the block `from` to the block `to`. Block i has 4,096 bytes and begins at 4,096 times i. That is two device
+/// calls, a read into `buffer` and a write, or one if the read fails. A read that fails doesn't change the device's
+/// bytes.
 pub fn copy_block<D: Device>(
     device: &mut D,
     from: u32,

@@ -1,4 +1,4 @@
-// A disk one of whose calls fails, for tests of what a program makes of a fault.
+// A disk with one failing call, to test how a program handles a fault.
 ghost use Rattle.std.specs.Prelude.{◌≡◌, ◌↔◌, ℕ, ◌+◌, ◌-◌, ◌^◌, ◌<◌, ◌≤◌, List, length, slice_range, OnOk, IsTrue, IsOk, IsErr, is_ok};
 ghost use Rattle.std.specs.Int.{div_ceil};
 ghost use Rattle.device.specs.Device.{written, Torn, TornFrom, Only, LeavesOnly};
@@ -9,12 +9,13 @@ use crate::count::raise;
 use crate::{Device, DeviceFault};
 use std::marker::Model;
 
-// How many bytes one write spoils at most.
+// The most bytes that one write spoils.
 const PIECE: u64 = 4096;
 
-/// A disk over another: one of its calls of `read`, `write` and `sync` fails, and each other is the inner disk's call.
-/// Where a read fails, the buffer stays as it is; where a sync fails, nothing more is durable than before; where a
-/// write fails, each byte of its range is left as 0xEE. It takes no memory.
+/// A disk over another disk. One of its calls of `read`, `write` and `sync` fails, and each other call is passed to the
+/// inner disk. If the failing call is a read, the buffer doesn't change. If it is a sync, nothing more is durable than
+/// before. If it is a write, each byte of its range becomes 0xEE, unless the inner disk fails too. It allocates no
+/// memory.
 #[derive(Drop)]
 pub struct FailingDisk<D: Device> {
     inner: D,
@@ -40,7 +41,8 @@ impl<D: Device> Model for FailingDisk<D> {
 }
 
 impl<D: Device> FailingDisk<D> {
-    /// A disk over this one, whose call of this number, counted from 1, fails. At 0 none does.
+    /// Returns a disk over `inner`, whose call with the number `fails_at`, counted from 1, fails. If `fails_at` is 0,
+    /// all calls are passed to the inner disk.
     pub fn new(inner: D, fails_at: u64) -> Self
         ensures { result ≡ failing inner fails_at }
     {
@@ -52,7 +54,7 @@ impl<D: Device> FailingDisk<D> {
         }
     }
 
-    /// The inner disk, as the calls left it.
+    /// Returns the inner disk, as the calls left it.
     pub fn into_inner(self) -> D
         ensures { result ≡ self.inner }
     {
@@ -66,7 +68,7 @@ impl<D: Device> FailingDisk<D> {
         self.fails_at > 0 && self.calls == self.fails_at - 1
     }
 
-    // Counts a call, and passes its outcome on.
+    // Counts a call, and returns its outcome.
     fn count(&mut self, outcome: Result<(), DeviceFault>) -> Result<(), DeviceFault>
         ensures same { result ≡ outcome }
         ensures counted { self.new ≡ after_call self.old self.old.inner (is_ok outcome) }
@@ -124,17 +126,16 @@ impl<D: Device> Device for FailingDisk<D> {
 
         ensures counted { self.new ≡ after_call self.old self.new.inner (is_ok result) }
 
-        // The call that fails asks nothing of the inner disk, and leaves the buffer.
+        // The failing call isn't passed to the inner disk, and doesn't change the buffer.
         ensures fails { IsDue self.old → IsErr result }
         ensures unasked { IsDue self.old → self.new.inner ≡ self.old.inner }
         ensures buffer { IsDue self.old → buffer.new ≡ buffer.old }
 
-        // Each other call is the inner disk's.
+        // Each other call is passed to the inner disk.
         ensures passed { ¬ IsDue self.old
             → IsPassedOn D.calls_made D.faults_met self.old.inner self.new.inner result }
     {
         if self.is_due() {
-            // The inner disk isn't asked.
             return self.count(Err(DeviceFault));
         }
         let outcome = self.inner.read(at, buffer);
@@ -160,7 +161,7 @@ impl<D: Device> Device for FailingDisk<D> {
 
         ensures counted { self.new ≡ after_call self.old self.new.inner (is_ok result) }
 
-        // The call that fails leaves 0xEE in its range. Where the inner disk fails too, any bytes may be there.
+        // The failing call leaves 0xEE in its range. If the inner disk fails too, any bytes may be there.
         ensures fails { IsDue self.old → IsErr result }
         ensures spoilt { IsDue self.old → D.is_honest self.old.inner → D.faults_met self.old.inner < 2 ^ 64 - 1
             → D.faults_met self.new.inner ≡ D.faults_met self.old.inner
@@ -168,7 +169,7 @@ impl<D: Device> Device for FailingDisk<D> {
         ensures pieces { IsDue self.old
             → D.calls_made self.new.inner ≤ D.calls_made self.old.inner + div_ceil (length bytes.now) 4096 }
 
-        // Each other call is the inner disk's.
+        // Each other call is passed to the inner disk.
         ensures passed { ¬ IsDue self.old
             → IsPassedOn D.calls_made D.faults_met self.old.inner self.new.inner result }
     {
@@ -192,16 +193,16 @@ impl<D: Device> Device for FailingDisk<D> {
 
         ensures counted { self.new ≡ after_call self.old self.new.inner (is_ok result) }
 
-        // The call that fails isn't passed on.
+        // The failing call isn't passed to the inner disk.
         ensures fails { IsDue self.old → IsErr result }
         ensures unasked { IsDue self.old → self.new.inner ≡ self.old.inner }
 
-        // Each other call is the inner disk's.
+        // Each other call is passed to the inner disk.
         ensures passed { ¬ IsDue self.old
             → IsPassedOn D.calls_made D.faults_met self.old.inner self.new.inner result }
     {
         if self.is_due() {
-            // It isn't passed on.
+            // The failing sync isn't passed on.
             return self.count(Err(DeviceFault));
         }
         let outcome = self.inner.sync();
@@ -217,7 +218,7 @@ impl<D: Device> Device for FailingDisk<D> {
     }
 }
 
-// Writes 0xEE over a range, a piece at a time, up to the first piece that fails.
+// Writes 0xEE over a range, piece by piece, up to the first piece that fails.
 fn spoil<D: Device>(device: &mut D, at: u64, len: u64)
     requires { at + len ≤ length (D.seen device.old) }
 

@@ -4,7 +4,7 @@ ghost use Rattle.std.specs.Prelude.{Some, codes};
 use std::error::Error;
 use std::fmt;
 
-/// A call of a device failed. It says no more: what the call left of the content is what the call's clauses say.
+/// A call of a device failed. The call's clauses state what it left of the content.
 #[derive(Clone, Copy, Debug, PartialEq, Eq)]
 pub struct DeviceFault;
 

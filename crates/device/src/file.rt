@@ -9,14 +9,14 @@ use crate::{BlockFile, Device, DeviceFault};
 use std::io;
 use std::marker::Model;
 
-/// A disk over a file: each of its calls makes one call of the file, with the same arguments, and passes its error on
-/// as a [`DeviceFault`]. A sync is one of the file's data: its length stays, and was synced as the disk was made. It is
-/// as honest as its file, which has to keep the length that it had when the disk was made.
+/// A disk over a file. Each of its calls makes one call of the file, with the same arguments, and returns an error of
+/// the file as a [`DeviceFault`]. A sync makes only the file's data durable. The length doesn't change, and was synced
+/// when the disk was made. The disk is as honest as its file, which has to keep the length that it had when the disk
+/// was made.
 ///
-/// No contract can say what a real file gives, or what it keeps, so a real file isn't known to be honest. What is
-/// proved of devices is proved of every honest [`Device`], and so of this disk over every honest file; the step from
-/// there to a real file, that the system and the disk under it keep the rules of [`BlockFile`], is an argument outside
-/// the logic.
+/// No contract can state what a real file returns or keeps, so a real file isn't known to be honest. The proofs hold
+/// for every honest [`Device`], and so for this disk over every honest file. That the system and the disk below a real
+/// file obey the rules of [`BlockFile`] is an argument outside the logic.
 #[derive(Drop)]
 pub struct FileDisk<F: BlockFile> {
     file: F,
@@ -42,15 +42,15 @@ impl<F: BlockFile> Model for FileDisk<F> {
 }
 
 impl<F: BlockFile> FileDisk<F> {
-    /// A disk over a file that is open for reading, and for writing where the disk is to be written. The file is synced
-    /// once, so that what an earlier user of it left in the system's memory is on the disk, or an error says that it
-    /// isn't; this is no call of the disk's. With an error the file is handed back.
+    /// Returns a disk over a file. The file is open for reading, and also for writing if the disk is to be written. The
+    /// file is synced once. So anything that an earlier user left in the system's memory is on the disk, or the call
+    /// fails. This sync isn't counted as a call of the disk. On failure, returns the error and the file.
     pub fn over(mut file: F) -> Result<FileDisk<F>, (io::Error, F)>
         ensures fresh { IfOk result (λ disk. disk ≡ disk_over disk.file disk.size) }
         ensures synced { IfOk result (λ disk.
             IsCalledOnce (F.calls_made file) (F.calls_made disk.file) (sync_all true)) }
 
-        // Over an honest file.
+        // If the file is honest:
         ensures honest { F.is_honest file → IfOk result (IsOverHonest F.is_honest F.seen) }
         ensures same { F.is_honest file → IfOk result (λ disk. F.seen disk.file ≡ F.seen file) }
         ensures durable { F.is_honest file → IfOk result (λ disk. Only (F.may_leave disk.file) (F.seen file)) }
@@ -70,7 +70,7 @@ impl<F: BlockFile> FileDisk<F> {
         }
     }
 
-    /// The file, as the disk's calls left it.
+    /// Returns the file, as the disk's calls left it.
     pub fn into_file(self) -> F
         ensures { result ≡ self.file }
     {
@@ -78,7 +78,7 @@ impl<F: BlockFile> FileDisk<F> {
         file
     }
 
-    // Counts a call, and passes its outcome on.
+    // Counts a call, and returns its outcome.
     fn count(&mut self, outcome: io::Result<()>) -> Result<(), DeviceFault>
         ensures same { is_ok result ≡ is_ok outcome }
         ensures counted { self.new ≡ after_call self.old self.old.file (is_ok outcome) }
@@ -134,7 +134,7 @@ impl<F: BlockFile> Device for FileDisk<F> {
             (read at buffer.new (is_ok result)) }
         ensures counted { self.new ≡ after_call self.old self.new.file (is_ok result) }
 
-        // What the file says of its call.
+        // The clauses of the file's call.
         ensures bytes { F.is_honest self.old.file
             → OnOk result (buffer.new ≡ slice_range (F.seen self.old.file) at (at + length buffer.old)) }
         ensures same { F.seen self.new.file ≡ F.seen self.old.file }
@@ -153,7 +153,7 @@ impl<F: BlockFile> Device for FileDisk<F> {
             (write at bytes.now (is_ok result)) }
         ensures counted { self.new ≡ after_call self.old self.new.file (is_ok result) }
 
-        // What the file says of its call.
+        // The clauses of the file's call.
         ensures written { F.is_honest self.old.file
             → OnOk result (F.seen self.new.file ≡ written (F.seen self.old.file) at bytes.now) }
         ensures torn { IsErr result → F.is_honest self.old.file
@@ -176,7 +176,7 @@ impl<F: BlockFile> Device for FileDisk<F> {
             (sync_data (is_ok result)) }
         ensures counted { self.new ≡ after_call self.old self.new.file (is_ok result) }
 
-        // What the file says of its call.
+        // The clauses of the file's call.
         ensures same { F.is_honest self.old.file → F.seen self.new.file ≡ F.seen self.old.file }
         ensures durable { F.is_honest self.old.file
             → OnOk result (Only (F.may_leave self.new.file) (F.seen self.old.file)) }

@@ -1,5 +1,5 @@
-//! Disks of fixed length, as a program sees them: what their calls read and write, and what a crash at any moment may
-//! leave. Disks in memory, which can crash, disks whose calls can fail, and disks over real files.
+//! Disks of fixed length: what their calls read and write, and what a crash at any moment may leave. There are disks in
+//! memory, which can crash, disks whose calls can fail, and disks over real files.
 #![tactic(auto)]
 
 mod block_file;

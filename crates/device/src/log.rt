@@ -13,7 +13,7 @@ pub enum Logged<A: Allocator + Copy> {
     Sync,
 }
 
-/// Records a write.
+/// Records a write. Fails if memory can't be allocated, and then records nothing.
 pub fn log_write<A: Allocator + Copy>(
     alloc: A,
     log: &mut Vec<Logged<A>, A>,
@@ -27,7 +27,7 @@ pub fn log_write<A: Allocator + Copy>(
     Ok(())
 }
 
-/// Records a sync.
+/// Records a sync. Fails if memory can't be allocated, and then records nothing.
 pub fn log_sync<A: Allocator + Copy>(log: &mut Vec<Logged<A>, A>) -> Result<(), AllocError>
     ensures ok { OnOk result (changes_of log.new.items ≡ sync ∷ changes_of log.old.items) }
     ensures err { OnErr result (log.new.items ≡ log.old.items) }
@@ -36,7 +36,7 @@ pub fn log_sync<A: Allocator + Copy>(log: &mut Vec<Logged<A>, A>) -> Result<(), 
     Ok(())
 }
 
-/// Writes over a part of a content.
+/// Writes bytes over a part of a content.
 pub fn put(content: &mut [u8], at: usize, bytes: &[u8])
     requires { at + length bytes.now ≤ length content.old }
     ensures { content.new ≡ written content.old at bytes.now }

@@ -1,4 +1,4 @@
-// A disk in memory, for tests and trials: it can crash, and leaves then what the caller chooses among what a crash may
+// A disk in memory, for tests and trials. It can crash. It then contains what the caller chooses among what a crash may
 // leave.
 ghost use Rattle.std.specs.Prelude.{⊤, ◌≡◌, ℕ, ◌+◌, ◌≤◌, List, [], ◌∷◌, length, replicate, slice_range, IfOk, OnOk, OnErr, IsOk};
 ghost use Rattle.device.specs.Device.{written, TornFrom, Only, LeavesOnly};
@@ -13,8 +13,8 @@ use crate::{Device, DeviceFault};
 use std::alloc::{AllocError, Allocator};
 use std::marker::Model;
 
-/// A disk in memory. It is honest, and it records its writes and syncs, so that each content that a crash might have
-/// left since any moment is known. A write or a sync whose record is refused memory fails; no other call of it fails.
+/// A disk in memory. It is honest. It records its writes and syncs, so each content is known that a crash since any
+/// moment might have left. A write or a sync fails if memory for its record can't be allocated. No other call fails.
 #[derive(Drop)]
 pub struct MemDisk<A: Allocator + Copy> {
     alloc: A,
@@ -22,7 +22,7 @@ pub struct MemDisk<A: Allocator + Copy> {
     log: Vec<Logged<A>, A>,
     start: u64,
     content: Vec<u8, A>,
-    // Where in the log the writes since the last sync begin.
+    // The index in the log at which the writes since the last sync begin.
     synced: usize,
     calls: u64,
     faults: u64,
@@ -48,14 +48,14 @@ impl<A: Allocator + Copy> Model for MemDisk<A> {
 }
 
 impl<A: Allocator + Copy> MemDisk<A> {
-    /// A disk of zeros, as long as asked, all of it on the disk.
+    /// Returns a disk of `len` zeros, all of them durable. Fails if memory can't be allocated.
     pub fn new(alloc: A, len: u64) -> Result<Self, AllocError>
         ensures { IfOk result (λ disk. disk ≡ new_disk (replicate len 0)) }
     {
         MemDisk::from_bytes(alloc, vec![in alloc; 0; len as usize]?)
     }
 
-    /// A disk with these bytes, all of them on the disk.
+    /// Returns a disk that contains these bytes, all of them durable. Fails if memory can't be allocated.
     pub fn from_bytes(alloc: A, bytes: Vec<u8, A>) -> Result<Self, AllocError>
         ensures { IfOk result (λ disk. disk ≡ new_disk bytes.items) }
     {
@@ -71,20 +71,21 @@ impl<A: Allocator + Copy> MemDisk<A> {
         })
     }
 
-    /// What a read gives, all of it.
+    /// Returns all the bytes that reads return.
     pub fn bytes(&self) -> &[u8]
         ensures { result.now ≡ seen_of self.now }
     {
         &self.content
     }
 
-    /// A crash: places that were written since the last sync get the bytes of `choice`, which is as long as the disk,
-    /// and the others keep theirs. The disk goes on with that content, all of it on the disk. It takes no memory.
+    /// Crashes the disk. Places that were written since the last sync get the bytes of `choice`, and the other places
+    /// keep theirs. `choice` is as long as the disk. The disk continues with that content, all of it durable. Allocates
+    /// no memory.
     pub fn stop(&mut self, choice: &[u8])
         requires { length choice.now ≡ length (seen_of self.old) }
         ensures stopped { self.new ≡ after_stop self.old choice.now }
 
-        // What it leaves is what a crash may leave, and each list that a crash may leave can be chosen.
+        // The new content is one that a crash may leave, and each content that a crash may leave can be chosen.
         ensures left { may_leave_of self.old (seen_of self.new) }
         ensures chosen { may_leave_of self.old choice.now → seen_of self.new ≡ choice.now }
 
@@ -195,7 +196,7 @@ impl<A: Allocator + Copy> Device for MemDisk<A> {
 
         ensures recorded { OnOk result (self.new ≡ after_change self.old (write at bytes.now)) }
 
-        // Where its record is refused memory, it fails and changes nothing but the counts.
+        // If memory for its record can't be allocated, it fails and changes nothing but the counts.
         ensures refused { OnErr result (self.new ≡ after_refusal self.old) }
 
         // A crash may leave any bytes in the range.
@@ -213,7 +214,7 @@ impl<A: Allocator + Copy> Device for MemDisk<A> {
 
         ensures recorded { OnOk result (self.new ≡ after_change self.old sync) }
 
-        // Where its record is refused memory, it fails and changes nothing but the counts.
+        // If memory for its record can't be allocated, it fails and changes nothing but the counts.
         ensures refused { OnErr result (self.new ≡ after_refusal self.old) }
     {
         self.apply_sync()
@@ -228,7 +229,7 @@ impl<A: Allocator + Copy> Device for MemDisk<A> {
     }
 }
 
-// Puts the bytes that are chosen in the places that were written since the last sync.
+// Puts the chosen bytes in the places that were written since the last sync.
 fn choose<A: Allocator + Copy>(content: &mut [u8], log: &[Logged<A>], synced: usize, choice: &[u8])
     requires choice { length choice.now ≡ length content.old }
     requires since { synced + since_sync (changes_of log.now) ≡ length log.now }
@@ -238,7 +239,7 @@ fn choose<A: Allocator + Copy>(content: &mut [u8], log: &[Logged<A>], synced: us
     put_all(content, &log[synced..], choice);
 }
 
-// Puts the bytes that are chosen in the ranges that were written.
+// Puts the chosen bytes in the ranges that were written.
 fn put_all<A: Allocator + Copy>(content: &mut [u8], log: &[Logged<A>], choice: &[u8])
     requires choice { length choice.now ≡ length content.old }
     requires within { AreWithin (length content.old) (changes_of log.now) }

@@ -1,4 +1,4 @@
-// A disk in memory as a file: an honest one, with which a disk over a file is tried.
+// A disk in memory as an honest file, to test a disk over a file.
 ghost use Rattle.std.specs.Prelude.{⊤, ◌≡◌, ◌+◌, ◌≤◌, None, IsTrue, length};
 
 use crate::{BlockFile, Device, DeviceFault, MemDisk};
@@ -65,14 +65,14 @@ impl<A: Allocator + Copy> BlockFile for MemDisk<A> {
     }
 }
 
-// Whether this many bytes from an offset on are within a length.
+// Whether `count` bytes from an offset on are within a length.
 fn is_within(at: u64, count: u64, len: u64) -> bool
     ensures { IsTrue result → at + count ≤ len }
 {
     at <= len && count <= len - at
 }
 
-// That memory was refused is the only cause for which a disk in memory fails.
+// A disk in memory fails only if memory is refused.
 fn refused() -> io::Error {
     io::Error::from(io::ErrorKind::OutOfMemory)
 }

@@ -1,4 +1,4 @@
-// A disk over another that keeps its writes to itself.
+// A disk over another disk that keeps its writes in memory.
 ghost use Rattle.std.specs.Prelude.{◌≡◌, ◌↔◌, ℕ, ◌+◌, ◌-◌, ◌^◌, ◌<◌, ◌≤◌, ◌∷◌, [], List, length, slice_range, OnOk, OnErr, IsTrue, IsOk, IsErr, true, is_ok};
 ghost use Rattle.device.specs.Device.{written, Torn, TornFrom, Only, LeavesOnly};
 ghost use Rattle.device.specs.Failing.{IsPassedOn};
@@ -14,11 +14,12 @@ use crate::{Device, DeviceFault};
 use std::alloc::Allocator;
 use std::marker::Model;
 
-/// A disk over another that keeps its writes to itself: what was written comes from memory, and all else from the disk
-/// under it, which is only read. So it is a copy of that disk that costs memory for what is written, and not for the
-/// disk. It is as honest as the disk under it, and what that disk gives counts as synced.
+/// A disk over another disk that keeps its writes in memory. A read returns written bytes from memory, and all other
+/// bytes from the disk below, which is only read. So it is a copy of that disk that needs memory only for the written
+/// bytes. It is as honest as the disk below, whose content counts as synced.
 ///
-/// A write or a sync whose record is refused memory fails and changes nothing; no other write or sync fails.
+/// A write or a sync fails if memory for its record can't be allocated, and then the content doesn't change. No other
+/// write or sync fails.
 #[derive(Drop)]
 pub struct OverlayDisk<D: Device, A: Allocator + Copy> {
     inner: D,
@@ -53,7 +54,7 @@ impl<D: Device, A: Allocator + Copy> Model for OverlayDisk<D, A> {
 }
 
 impl<D: Device, A: Allocator + Copy> OverlayDisk<D, A> {
-    /// A disk over this one. It takes no memory until it is written or synced.
+    /// Returns a disk over `inner`. It allocates no memory until it is written or synced.
     pub fn new(alloc: A, inner: D) -> Self
         ensures { result ≡ overlaid inner }
     {
@@ -67,7 +68,7 @@ impl<D: Device, A: Allocator + Copy> OverlayDisk<D, A> {
         }
     }
 
-    /// The disk under it, which was only read.
+    /// Returns the disk below, which was only read.
     pub fn into_inner(self) -> D
         ensures { result ≡ self.inner }
     {
@@ -75,14 +76,14 @@ impl<D: Device, A: Allocator + Copy> OverlayDisk<D, A> {
         inner
     }
 
-    /// Whether a write or a sync failed because its record was refused memory.
+    /// Whether a write or a sync failed because memory for its record couldn't be allocated.
     pub fn was_refused_memory(&self) -> bool
         ensures { result ≡ self.now.refused }
     {
         self.refused
     }
 
-    // Counts a read, and passes its outcome on.
+    // Counts a read, and returns its outcome.
     fn count(&mut self, outcome: Result<(), DeviceFault>) -> Result<(), DeviceFault>
         ensures same { result ≡ outcome }
         ensures counted { self.new ≡ after_read self.old self.old.inner (is_ok outcome) }
@@ -137,10 +138,10 @@ impl<D: Device, A: Allocator + Copy> Device for OverlayDisk<D, A> {
         ensures honest { D.is_honest self.new.inner ↔ D.is_honest self.old.inner }
         ensures counted { self.new ≡ after_read self.old self.new.inner (is_ok result) }
 
-        // It is one read of the disk under it, and fails where that fails.
+        // It makes one read of the disk below, and fails if that fails.
         ensures passed { IsPassedOn D.calls_made D.faults_met self.old.inner self.new.inner result }
     {
-        // The length is below 2^64, so no end of a range within it wraps.
+        // The length is below 2^64, so the end of a range within it doesn't wrap.
         let _ = self.inner.len();
         let outcome = self.inner.read(at, buffer);
         patch_all(buffer, at, &self.log);
@@ -150,7 +151,7 @@ impl<D: Device, A: Allocator + Copy> Device for OverlayDisk<D, A> {
     fn write(&mut self, at: u64, bytes: &[u8]) -> Result<(), DeviceFault>
         requires { at + length bytes.now ≤ length (seen_of (as_recorded D.seen self.old)) }
 
-        // The disk under it isn't asked.
+        // The disk below isn't called.
         ensures recorded { OnOk result (self.new ≡ after_change self.old (write at bytes.now)) }
         ensures refused { OnErr result (self.new ≡ after_refusal self.old) }
     {
@@ -164,7 +165,7 @@ impl<D: Device, A: Allocator + Copy> Device for OverlayDisk<D, A> {
     }
 
     fn sync(&mut self) -> Result<(), DeviceFault>
-        // The disk under it isn't asked.
+        // The disk below isn't called.
         ensures recorded { OnOk result (self.new ≡ after_change self.old sync) }
         ensures refused { OnErr result (self.new ≡ after_refusal self.old) }
     {
@@ -186,7 +187,7 @@ impl<D: Device, A: Allocator + Copy> Device for OverlayDisk<D, A> {
     }
 }
 
-// Puts what these writes left into a part of a disk that begins at this offset.
+// Applies these writes to a buffer, which is the part of a disk that begins at the offset `at`.
 fn patch_all<A: Allocator + Copy>(buffer: &mut [u8], at: u64, log: &[Logged<A>])
     requires fits { at + length buffer.old < 2 ^ 64 }
     requires within { AreWithin (2 ^ 64 - 1) (changes_of log.now) }
@@ -202,7 +203,7 @@ fn patch_all<A: Allocator + Copy>(buffer: &mut [u8], at: u64, log: &[Logged<A>])
     }
 }
 
-// Puts what a write left into a part of a disk that begins at this offset.
+// Applies a write to a buffer, which is the part of a disk that begins at the offset `at`.
 fn patch(buffer: &mut [u8], at: u64, from: u64, bytes: &[u8])
     requires fits { at + length buffer.old < 2 ^ 64 }
     requires within { from + length bytes.now < 2 ^ 64 }

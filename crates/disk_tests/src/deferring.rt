@@ -1,16 +1,16 @@
-// A disk whose writes and syncs are recorded, and made later on a disk in memory.
+// Tests of a disk that records its writes and syncs, which are made later on a disk in memory.
 use crate::disks::{disk_of, read, write};
 use counting_alloc::CountingAllocator;
 use deferred_disk::{DeferredCall, DeferredDisk};
 use device::{Device, MemDisk};
 use std::alloc::{Allocator, Global};
 
-// A disk of zeros none of whose blocks is known.
+// Returns a disk of zeros. None of its blocks is known.
 fn unknown_zeros<A: Allocator + Copy>(alloc: A, blocks: u32) -> DeferredDisk<A> {
     DeferredDisk::new(alloc, blocks)
 }
 
-// Whether a read of a block that isn't there fails and wants it, and once it is supplied goes well.
+// Whether a read of a block that isn't known fails and wants it, and succeeds once the block is supplied.
 fn wants_a_block<A: Allocator + Copy>(disk: &mut DeferredDisk<A>) -> bool {
     let mut buffer = [9; 2];
     disk.len() == 8192
@@ -35,7 +35,7 @@ fn writes_both<D: Device>(disk: &mut D) -> bool {
         && write(disk, 0, &[3; 4096]).is_ok()
 }
 
-// Whether these calls are recorded.
+// Whether the calls of `writes_both` are recorded.
 fn records<A: Allocator + Copy>(disk: &mut DeferredDisk<A>) -> bool {
     disk.len() == 8192
         && disk.supply(1, &[0; 4096]).is_ok()
@@ -43,7 +43,7 @@ fn records<A: Allocator + Copy>(disk: &mut DeferredDisk<A>) -> bool {
         && disk.waiting() == 3
 }
 
-// Whether they are carried out on a device, which then has the disk's bytes.
+// Whether the recorded calls are carried out on a device, which then contains the disk's bytes.
 fn are_carried_out<A: Allocator + Copy>(
     disk: &mut DeferredDisk<A>,
     device: &mut MemDisk<A>,
@@ -82,7 +82,7 @@ fn look_at<A: Allocator + Copy>(disk: &DeferredDisk<A>) -> Shown {
     }
 }
 
-// Whether the newest of so many calls that wait writes these bytes there.
+// Whether `count` calls wait, and the newest of them writes these bytes at this place.
 fn writes_last<A: Allocator + Copy>(
     disk: &DeferredDisk<A>,
     count: usize,
@@ -108,7 +108,7 @@ enum Call {
     Sync,
 }
 
-// Makes a call: whether it succeeded.
+// Makes a call, and returns whether it succeeded.
 fn makes<A: Allocator + Copy>(disk: &mut DeferredDisk<A>, call: Call) -> bool {
     if disk.len() != 16_384 {
         return false;
@@ -122,8 +122,8 @@ fn makes<A: Allocator + Copy>(disk: &mut DeferredDisk<A>, call: Call) -> bool {
     }
 }
 
-// Makes a call with the nth request for memory refused, on a disk whose second block is known: how many requests were
-// refused, and whether a call that was refused one changed nothing.
+// Makes a call on a disk whose second block is known, with the nth request for memory refused. Returns the number of
+// refused requests, and whether a failed call changed nothing.
 fn refuses<A: Allocator + Copy>(alloc: &CountingAllocator<A>, call: Call, n: u64) -> (u64, bool) {
     let mut disk = unknown_zeros(alloc, 4);
     let is_ready = disk.len() == 16_384 && disk.supply(1, &[0; 4096]).is_ok();
@@ -140,7 +140,7 @@ fn refuses<A: Allocator + Copy>(alloc: &CountingAllocator<A>, call: Call, n: u64
     )
 }
 
-// Whether each request of a call is refused in turn, of which it makes some.
+// Whether a call makes requests for memory, and each of them can be refused.
 fn is_refused_in_turn(alloc: Global, call: Call) -> bool {
     let counting = CountingAllocator::new(alloc);
     for n in 1..20 {
@@ -164,7 +164,8 @@ fn calls_that_are_refused_memory_change_nothing(rt: HostRuntime) {
     assert!(rt; is_refused_in_turn(alloc, Call::WriteSeveral));
 }
 
-// Whether a disk of 16 TB takes no memory, and then 4,096 bytes and a little for each block that is known or waits.
+// Whether a disk of 16 TB takes no memory at first. It then takes little more than 4,096 bytes for each block that is
+// known or waits.
 fn takes_what_is_known<A: Allocator + Copy>(alloc: &CountingAllocator<A>) -> bool {
     let mut disk = unknown_zeros(alloc, u32::MAX);
     let none = alloc.held();

@@ -1,4 +1,4 @@
-// Each call once, on a disk in memory, on one that fails and on one over a file.
+// Tests of each call, on a disk in memory, on one that fails and on one over a file.
 ghost use Rattle.std.specs.Prelude.{◌≡◌, ◌+◌, ◌≤◌, ◌∷◌, [], ◌++◌, length, IsTrue, is_ok};
 
 use device::{BlockFile, Device, DeviceFault, FailingDisk, FileDisk, MemDisk};
@@ -16,7 +16,7 @@ enum Call {
     SyncData(bool),
 }
 
-// A file of 8 bytes in memory that keeps its calls, and fails those that pass its end and each one while it is broken.
+// A file of 8 bytes in memory that records its calls. A call fails if it passes the end, or if the file is broken.
 #[derive(Drop)]
 struct CountedFile<'a, R: Abort> {
     rt: &'a R,
@@ -126,23 +126,23 @@ impl<R: Abort> BlockFile for CountedFile<'_, R> {
     }
 }
 
-/// A disk of zeros.
+/// Returns a disk of zeros.
 pub fn disk_of<R: Abort + AllocGlobal>(rt: &R, len: u64) -> MemDisk<Global> {
     MemDisk::new(rt.alloc(), len).expect(rt, "memory")
 }
 
-// A disk of these bytes.
+// Returns a disk that contains these bytes.
 fn disk_with<R: Abort + AllocGlobal>(rt: &R, bytes: &[u8]) -> MemDisk<Global> {
     let bytes = bytes.to_vec(rt.alloc()).expect(rt, "memory");
     MemDisk::from_bytes(rt.alloc(), bytes).expect(rt, "memory")
 }
 
-// The length of a disk, how many calls it had, and how many of them failed.
+// Returns the length of a disk, the number of its calls, and the number of calls that failed.
 fn counts<D: Device>(disk: &D) -> (u64, u64, u64) {
     (disk.len(), disk.calls(), disk.faults())
 }
 
-/// A write within a disk.
+/// Makes a write within a disk.
 pub fn write<D: Device>(disk: &mut D, at: u64, bytes: &[u8]) -> Result<(), DeviceFault>
     requires { at + length bytes.now ≤ length (D.seen disk.old) }
     ensures { length (D.seen disk.new) ≡ length (D.seen disk.old) }
@@ -150,7 +150,7 @@ pub fn write<D: Device>(disk: &mut D, at: u64, bytes: &[u8]) -> Result<(), Devic
     disk.write(at, bytes)
 }
 
-/// A read within a disk.
+/// Makes a read within a disk.
 pub fn read<D: Device>(disk: &mut D, at: u64, buffer: &mut [u8]) -> Result<(), DeviceFault>
     requires { at + length buffer.old ≤ length (D.seen disk.old) }
     ensures disk { length (D.seen disk.new) ≡ length (D.seen disk.old) }
@@ -159,7 +159,7 @@ pub fn read<D: Device>(disk: &mut D, at: u64, buffer: &mut [u8]) -> Result<(), D
     disk.read(at, buffer)
 }
 
-// Whether a write, a sync and a read go well, through the bound.
+// Whether a write, a sync and a read succeed on a disk that is known only by its trait.
 fn goes_well<D: Device>(disk: &mut D) -> bool {
     let mut buffer = [0; 4];
     disk.len() == 8
@@ -170,12 +170,12 @@ fn goes_well<D: Device>(disk: &mut D) -> bool {
         && counts(disk) == (8, 3, 0)
 }
 
-// Whether they do where the device is a reference to one.
+// Whether they succeed on a reference to a device.
 fn goes_well_behind_a_reference<D: Device>(mut disk: &mut D) -> bool {
     goes_well(&mut disk) && counts(disk) == (8, 3, 0)
 }
 
-// Many syncs, each after a write of one byte.
+// Makes many syncs, each after a write of one byte.
 fn sync_often<D: Device>(device: &mut D, times: u32) -> Result<(), DeviceFault> {
     let len = device.len();
     for i in 0..times {
@@ -203,7 +203,7 @@ fn a_disk_that_no_memory_has_room_for_is_refused(rt: HostRuntime) {
     assert!(rt; MemDisk::new(rt.alloc(), 1 << 63).is_err());
 }
 
-// Writes two ranges that overlap after a write that is synced, and tells whether no call failed.
+// Writes two overlapping ranges after a synced write, and returns whether no call failed.
 fn write_since_a_sync<D: Device>(disk: &mut D) -> bool {
     disk.len() == 5
         && write(disk, 0, &[11]).is_ok()
@@ -212,12 +212,12 @@ fn write_since_a_sync<D: Device>(disk: &mut D) -> bool {
         && write(disk, 2, &[34, 44]).is_ok()
 }
 
-// A write of a byte and two syncs: whether no call failed.
+// Makes a write of a byte and two syncs, and returns whether no call failed.
 fn write_and_sync_twice<D: Device>(disk: &mut D) -> bool {
     disk.len() == 3 && write(disk, 0, &[9]).is_ok() && disk.sync().is_ok() && disk.sync().is_ok()
 }
 
-// Whether a crash of a disk with this choice, which is as long, leaves these bytes.
+// Whether a crash of a disk with this choice leaves these bytes. The choice must be as long as the disk.
 fn crash_leaves<A: Allocator + Copy>(disk: &mut MemDisk<A>, choice: &[u8], wanted: &[u8]) -> bool {
     if choice.len() != disk.bytes().len() {
         return false;
@@ -226,7 +226,7 @@ fn crash_leaves<A: Allocator + Copy>(disk: &mut MemDisk<A>, choice: &[u8], wante
     disk.bytes() == wanted
 }
 
-// Whether a first crash takes its choice, and a second one nothing, as all that is left is synced.
+// Whether a first crash leaves its choice, and a second crash changes nothing, since all bytes are then synced.
 fn crashes_once<A: Allocator + Copy>(disk: &mut MemDisk<A>) -> bool {
     let left = [11, 91, 92, 93, 5];
     crash_leaves(disk, &[90, 91, 92, 93, 94], &left)
@@ -246,7 +246,7 @@ fn a_crash_after_syncs_leaves_what_a_read_gives(rt: HostRuntime) {
     assert!(rt; write_and_sync_twice(&mut disk) && crash_leaves(&mut disk, &[7, 7, 7], &[9, 2, 3]));
 }
 
-// Whether a disk had 2,000 such writes and syncs, and has nothing after the last one.
+// Whether a disk had 2,000 writes and syncs of `sync_often`, and contains nothing after the last one.
 fn is_synced_often<A: Allocator + Copy>(disk: &MemDisk<A>) -> bool {
     disk.calls() == 4000
         && disk.bytes().get(2048 * 1999) == Some(&1)
@@ -259,7 +259,7 @@ fn a_large_disk_is_synced_often(rt: HostRuntime) {
     assert!(rt; sync_often(&mut disk, 2000).is_ok() && is_synced_often(&disk));
 }
 
-// Whether the second one of two writes fails and leaves its range spoilt.
+// Whether the second of two writes fails and leaves its range spoilt.
 fn second_write_fails<D: Device>(disk: &mut D) -> bool {
     let mut buffer = [0; 3];
     disk.len() == 10_000
@@ -270,7 +270,7 @@ fn second_write_fails<D: Device>(disk: &mut D) -> bool {
         && counts(disk) == (10_000, 3, 1)
 }
 
-// The bytes that it leaves.
+// The bytes that the failed write leaves.
 fn spoilt() -> [u8; 10_000] {
     let mut left = [0; 10_000];
     left[..3].copy_from_slice(&[1, 2, 3]);
@@ -278,7 +278,7 @@ fn spoilt() -> [u8; 10_000] {
     left
 }
 
-// Whether a disk has those bytes. The range of 8,000 bytes is written in two pieces.
+// Whether a disk contains those bytes. The range of 8,000 bytes is written in two pieces.
 fn is_spoilt<A: Allocator + Copy>(disk: &MemDisk<A>) -> bool {
     disk.bytes() == spoilt().as_slice() && counts(disk) == (10_000, 4, 0)
 }
@@ -298,7 +298,7 @@ fn sync_fails<D: Device>(disk: &mut D) -> bool {
         && counts(disk) == (4, 2, 1)
 }
 
-// Whether a crash of a disk that had one call leaves what was written and not synced.
+// Whether a crash of a disk that had one call can change the bytes that were written and not synced.
 fn is_not_synced<A: Allocator + Copy>(disk: &mut MemDisk<A>) -> bool {
     disk.calls() == 1 && crash_leaves(disk, &[9, 9, 9, 9], &[0, 9, 0, 0])
 }
@@ -310,7 +310,7 @@ fn a_sync_that_fails_makes_nothing_sure(rt: HostRuntime) {
     assert!(rt; is_not_synced(&mut disk.into_inner()) && fails);
 }
 
-// Whether the first one of two reads fails and leaves its buffer.
+// Whether the first of two reads fails and doesn't change its buffer.
 fn first_read_fails<D: Device>(disk: &mut D) -> bool {
     let mut buffer = [5; 2];
     disk.len() == 4
@@ -333,8 +333,8 @@ fn a_call_of_the_number_0_never_comes(rt: HostRuntime) {
     assert!(rt; goes_well(&mut FailingDisk::new(disk_of(&rt, 8), 0)));
 }
 
-// Whether a file was synced as its disk was made, had the calls of such a write, sync and read, and was synced in vain
-// as another disk was to be made.
+// Whether a file was synced when its disk was made, then had the calls of `goes_well`, and then failed to be synced for
+// another disk.
 fn are_the_calls(calls: &[Call]) -> bool {
     match calls {
         [
@@ -351,12 +351,12 @@ fn are_the_calls(calls: &[Call]) -> bool {
     }
 }
 
-// Whether a disk of 8 bytes had no calls, and goes well.
+// Whether a disk of 8 bytes had no calls, and `goes_well` succeeds on it.
 fn begins_well<D: Device>(disk: &mut D) -> bool {
     counts(disk) == (8, 0, 0) && goes_well(disk)
 }
 
-// Whether a disk over a file goes well, and the file has its calls.
+// Whether `goes_well` succeeds on a disk over a file, and the file has the right calls.
 fn is_called<R: Abort>(file: CountedFile<'_, R>) -> bool {
     match FileDisk::over(file) {
         Ok(mut disk) => {
@@ -367,7 +367,7 @@ fn is_called<R: Abort>(file: CountedFile<'_, R>) -> bool {
     }
 }
 
-// Whether a file that is broken from now on makes no disk, and is handed back with all its calls.
+// Whether a file that is broken from now on makes no disk, and is returned with all its calls.
 fn breaks<R: Abort>(mut file: CountedFile<'_, R>) -> bool {
     file.broken = true;
     match FileDisk::over(file) {
@@ -388,7 +388,7 @@ fn each_call_of_a_disk_is_one_of_its_file(rt: HostRuntime) {
     assert!(rt; is_called(file));
 }
 
-// Whether a disk has what such a write has left.
+// Whether a disk contains the bytes that `goes_well` wrote.
 fn is_written<D: Device>(disk: &mut D) -> bool {
     let mut whole = [1; 8];
     disk.len() == 8 && read(disk, 0, &mut whole).is_ok() && whole == [0, 0, 7, 8, 9, 0, 0, 0]
@@ -399,7 +399,7 @@ fn second_read_fails<D: Device>(disk: &mut D) -> bool {
     disk.len() == 8 && read(disk, 0, &mut [1; 8]).is_err() && counts(disk) == (8, 2, 1)
 }
 
-// Whether a disk over the file at a path has what was written, and a read of it fails once another hand cuts the file.
+// Whether a disk over the file at a path contains the written bytes, and a read of it fails once the file is cut.
 fn is_written_and_cut<D: Device>(rt: &HostRuntime, disk: &mut D, path: &str) -> bool {
     is_written(disk) && fs::write(rt, path, "cut").is_ok() && second_read_fails(disk)
 }
@@ -414,7 +414,7 @@ fn file_disk(rt: &HostRuntime, path: &str) -> Option<FileDisk<File>> {
     FileDisk::over(file).ok()
 }
 
-// Whether a disk over the file at a path goes well.
+// Whether `goes_well` succeeds on a disk over the file at a path.
 fn goes_well_on_a_file(rt: &HostRuntime, path: &str) -> bool {
     match file_disk(rt, path) {
         Some(mut disk) => begins_well(&mut disk),
@@ -422,7 +422,7 @@ fn goes_well_on_a_file(rt: &HostRuntime, path: &str) -> bool {
     }
 }
 
-// Whether another one has what was written, until the file is cut.
+// Whether another disk over the file contains the written bytes, until the file is cut.
 fn is_kept_until_cut(rt: &HostRuntime, path: &str) -> bool {
     match file_disk(rt, path) {
         Some(mut disk) => is_written_and_cut(rt, &mut disk, path),

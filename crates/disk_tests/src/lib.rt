@@ -1,5 +1,5 @@
-//! Small disks: each call once on a disk in memory, on one whose calls fail, on one over a file and on one that records
-//! its calls, and what a crash leaves of them.
+//! Tests of small disks: a disk in memory, one whose calls fail, one over a file, and one that records its calls. Each
+//! call is made, and crashes are tried.
 #![tactic(auto)]
 
 #[cfg(test)]

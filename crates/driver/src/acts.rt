@@ -1,4 +1,4 @@
-// One act of a processor, made again for as long as it has to wait for other processors.
+// Makes one act of a processor, again while it has to wait for other processors.
 ghost use Rattle.std.specs.Prelude.{◌≡◌, ◌↔◌, IsTrue, IfErr};
 ghost use Rattle.page_entry.specs.declared.refusal.Refusal.{Refusal};
 ghost use Rattle.machine.specs.declared.act.Reply.{Reply};
@@ -21,14 +21,14 @@ pub enum Stop {
     RanOut,
 }
 
-// What an act was answered in the end, and how many entries of the trace were progress before it.
+// The final reply to an act, and the number of entries of the trace that were progress before it.
 #[derive(Clone, Copy)]
 pub struct Answer {
     pub reply: Reply,
     pub seen: u64,
 }
 
-// Makes an act until it is answered otherwise than that it has to wait or to flush.
+// Makes an act until its reply isn't that it has to wait or to flush.
 pub fn made<D: Device, L: Origin<D>, R: Wait>(
     rt: &R,
     cpu: &mut Cpu<D, Global, L>,
@@ -45,8 +45,8 @@ pub fn made<D: Device, L: Origin<D>, R: Wait>(
     unreachable!()
 }
 
-// Makes an act once. Before it, what interrupts the processor is acknowledged, and its stalls are ended. Answers None
-// where the act is to be made again.
+// Makes an act once. Before it, acknowledges what interrupts the processor, and ends its stalls. Returns `None` if the
+// act is to be made again.
 fn attempted<D: Device, L: Origin<D>, R: Wait>(
     rt: &R,
     cpu: &mut Cpu<D, Global, L>,
@@ -68,8 +68,8 @@ fn attempted<D: Device, L: Origin<D>, R: Wait>(
     Ok(Some(Answer { reply, seen }))
 }
 
-// Waits until the processor is neither interrupted nor stalled. Answers how many entries of the trace are progress
-// then.
+// Waits until the processor is neither interrupted nor stalled. Returns the number of entries of the trace that are
+// progress then.
 fn ready<D: Device, L: Origin<D>, R: Wait>(
     rt: &R,
     cpu: &mut Cpu<D, Global, L>,
@@ -106,7 +106,7 @@ fn resumed<D: Device, L: Origin<D>, R: Wait>(
     Ok(())
 }
 
-// One call, which isn't made where the trace is full.
+// Makes one call. Fails if the trace is full, and then the call isn't made.
 fn called<D: Device, L: Origin<D>, R: Wait>(
     rt: &R,
     cpu: &mut Cpu<D, Global, L>,
@@ -122,14 +122,14 @@ fn called<D: Device, L: Origin<D>, R: Wait>(
     Ok(reply)
 }
 
-// Whether a reply says that the trace is full.
+// Whether a reply is that the trace is full.
 pub fn is_trace_full(reply: &Reply) -> bool
     ensures { IsTrue result ↔ (reply.now ≡ Reply.Refused Refusal.TraceFull) }
 {
     matches!(reply, Reply::Refused(Refusal::TraceFull))
 }
 
-// Waits until more entries of the trace are progress than were seen.
+// Waits until more entries of the trace are progress than `seen`. Fails if the wait runs out.
 pub fn waited<D: Device, L: Origin<D>, R: Wait>(
     rt: &R,
     cpu: &Cpu<D, Global, L>,

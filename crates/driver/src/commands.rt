@@ -1,4 +1,4 @@
-// The commands of a program, one after the other.
+// Carries out the commands of a program, one after the other.
 ghost use Rattle.std.specs.Prelude.{◌≡◌, ◌≤◌, ◌↔◌, IsTrue, Some, if◌then◌else◌, Option, None, true};
 ghost use Rattle.driver.specs.Programs.{IsAccessAnswer, IsAccessReply, IsLastFlush, IsOtherByte};
 ghost use Rattle.driver.specs.Programs.{FollowsProgram, GoesToSleep, Flushes, IsUpkeep, MakesChange, Obeys, ObeysAll};
@@ -16,7 +16,7 @@ use service::{Cpu, Origin};
 use std::alloc::Global;
 use std::sync::Wait;
 
-// Carries out the commands of a program, makes the steps of the write-outs that are left, and lets the processor sleep.
+// Carries out the commands of a program, makes the remaining steps of the write-outs, and puts the processor to sleep.
 pub fn worked<D: Device, L: Origin<D>, R: Wait>(
     rt: &R,
     cpu: &mut Cpu<D, Global, L>,
@@ -86,7 +86,7 @@ fn done<D: Device, L: Origin<D>, R: Wait>(
     }
 }
 
-// Makes the change that an act began, and waits until a mark that is to be durable is.
+// Makes the change that an act began. If its mark is to be durable, waits until it is.
 fn changed<D: Device, L: Origin<D>, R: Wait>(
     rt: &R,
     cpu: &mut Cpu<D, Global, L>,
@@ -109,7 +109,7 @@ fn has_begun(reply: &Reply) -> bool
     matches!(reply, Reply::Begun)
 }
 
-// The mark that an act is to make durable.
+// Returns the mark that an act is to make durable, if there is one.
 fn mark_to_sync(act: &Act, changed: &Reply) -> Option<u64>
     ensures { result ≡ mark_to_sync act.now changed.now }
 {
@@ -121,7 +121,7 @@ fn mark_to_sync(act: &Act, changed: &Reply) -> Option<u64>
     None
 }
 
-// Whether an act asks for a commit that is to be durable.
+// Whether an act asks for a durable commit.
 fn is_sync(act: &Act) -> bool
     ensures { result ≡ is_sync act.now }
 {
@@ -132,7 +132,7 @@ fn is_sync(act: &Act) -> bool
     }
 }
 
-// Makes steps of the write-outs until a mark is durable, or one is refused.
+// Makes steps of the write-outs until a mark is durable, or a step is refused.
 fn committed<D: Device, L: Origin<D>, R: Wait>(
     rt: &R,
     cpu: &mut Cpu<D, Global, L>,
@@ -149,7 +149,8 @@ fn committed<D: Device, L: Origin<D>, R: Wait>(
     unreachable!()
 }
 
-// Whether a mark is durable; where it isn't, a step of the write-outs is made, and whether that is refused.
+// Returns whether a wait for a mark ends. If the mark isn't durable, makes a step of the write-outs, whose refusal ends
+// the wait.
 fn is_written<D: Device, L: Origin<D>, R: Wait>(
     rt: &R,
     cpu: &mut Cpu<D, Global, L>,
@@ -185,7 +186,7 @@ fn is_committed<D: Device, L: Origin<D>, R: Wait>(
     committed >= mark
 }
 
-// Makes steps of the write-outs until there are none, or one is refused.
+// Makes steps of the write-outs until there are none, or a step is refused.
 fn flushed<D: Device, L: Origin<D>, R: Wait>(
     rt: &R,
     cpu: &mut Cpu<D, Global, L>,
@@ -202,14 +203,14 @@ fn flushed<D: Device, L: Origin<D>, R: Wait>(
     unreachable!()
 }
 
-// Whether there was nothing to write, or it was refused.
+// Whether there was nothing to write, or the step was refused.
 fn is_last_flush(reply: &Reply) -> bool
     ensures { IsTrue result ↔ IsLastFlush reply.now }
 {
     matches!(reply, Reply::Nothing | Reply::Refused(_))
 }
 
-// Loads the byte at an address until it is this one, or a load is refused. Between two loads it waits for progress.
+// Loads the byte at an address until it is `byte`, or a load is refused. Waits for progress between two loads.
 fn awaited<D: Device, L: Origin<D>, R: Wait>(
     rt: &R,
     cpu: &mut Cpu<D, Global, L>,
@@ -238,7 +239,8 @@ fn has_other_byte(reply: &Reply, byte: u8) -> bool
     matches!(reply, Reply::Bytes(bytes) if bytes.as_slice() != [byte].as_slice())
 }
 
-// Makes an act, and serves its faults, until it is answered otherwise. Where a fault isn't served, the answer is why.
+// Makes an act, and serves its faults, until its reply isn't a fault. If a fault can't be served, returns the reply to
+// that attempt.
 fn served<D: Device, L: Origin<D>, R: Wait>(
     rt: &R,
     cpu: &mut Cpu<D, Global, L>,
@@ -257,7 +259,7 @@ fn served<D: Device, L: Origin<D>, R: Wait>(
     unreachable!()
 }
 
-// Serves the fault of an act, and makes the act again.
+// Serves the fault of an act. If it is served, makes the act again.
 fn fixed<D: Device, L: Origin<D>, R: Wait>(
     rt: &R,
     cpu: &mut Cpu<D, Global, L>,
@@ -282,7 +284,7 @@ fn is_fixed(reply: &Reply) -> bool
     matches!(reply, Reply::Fixed)
 }
 
-// The act that serves the fault of a load or a store.
+// Returns the act that serves the fault of a load or a store.
 fn fix_for(act: &Act, reply: &Reply) -> Option<Act>
     ensures { result ≡ (if is_fault reply.now then fix_of act.now else None) }
 {

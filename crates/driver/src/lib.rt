@@ -1,6 +1,6 @@
-//! Programs for the processors of a machine, each run by a thread of its own, over any disk.
+//! Runs programs for the processors of a machine over any disk, each in a thread of its own.
 //!
-//! A call that takes `rt` may wait for another thread: what it ensures holds if it returns.
+//! A call that takes `rt` may wait for another thread. Its contract holds if it returns.
 #![tactic(auto)]
 
 mod acts;

@@ -1,4 +1,4 @@
-// Programs are run over a disk: a machine is booted over its volume and shared, and each thread has a processor of it.
+// Runs programs over a disk. A machine is booted over its volume and shared, and each thread has one of its processors.
 ghost use Rattle.std.specs.Prelude.{ℕ, ◌≡◌, ◌≢◌, ◌↔◌, ◌+◌, ◌*◌, ◌<◌, ◌++◌, ◌∷◌, [], false, length, slice_get, Some, IsTrue};
 ghost use Rattle.std.specs.Prelude.{IfOk, IfErr, map};
 ghost use Rattle.engine.specs.Engine.{HasRun};
@@ -27,7 +27,7 @@ use std::sync::atomic::{AtomicBool, Ordering};
 use std::sync::ledger::Blank;
 use std::thread::{Threads, for_each_mut};
 
-/// What is left of programs that were run: the device, and the trace of all steps that were made.
+/// The result of a run of programs: the device, the trace of all steps that were made, and how the threads ended.
 #[derive(Drop)]
 pub struct Ran<D> {
     pub device: D,
@@ -46,27 +46,30 @@ pub enum Ended {
     RanOut,
 }
 
-/// Why there is no trace.
+/// Why a run of programs has no trace.
 #[derive(Drop)]
 pub enum NotRun<D> {
-    /// The volume of the device wasn't opened, or has no machine of the shape.
+    /// The volume on the device couldn't be opened, or no machine of the shape can run on it.
     Start(Refusal, D),
-    /// The machine wasn't shared: `BadShape` where the trace can't have so many entries, else `OutOfMemory`.
+    /// The machine couldn't be shared: `BadShape` if no trace can have this capacity, else `OutOfMemory`.
     Share(Refusal, D),
-    /// The trace isn't what the processors were answered, which no run has shown. The machine that was shared has the
-    /// device, and gives it back if it is still there.
+    /// The trace isn't what the processors were answered. No run has shown this. The device is returned if the shared
+    /// machine still has it.
     Gather(Refusal, Option<D>),
 }
 
-/// Opens the volume of a device, boots a machine of the script's shape over it, and shares it with a trace of the
-/// script's capacity. Each step of the script is made by its processor, one after the other, before any thread starts;
-/// one of a processor that isn't there is left out. Then each processor gets a thread, which carries out its program. A
-/// wait of a thread looks at most `turns` times for progress; where that isn't enough, the thread ends. Where the trace
-/// is full before all steps are made, no thread starts.
+/// Runs the programs of a script over the volume on a device, and returns the device and the trace. A machine of the
+/// script's shape is booted over the volume, and shared with a trace of the script's capacity.
 ///
-/// The trace and the device are those of a run of the engine, with all that holds of one (`HasRun`). That the threads
-/// run at the same time is promised by nothing: where no thread can be made, they run one after the other, and waits
-/// run out.
+/// Before any thread starts, the processors make the steps of the script, one after the other. A step of a processor
+/// that doesn't exist is left out. If the trace is full before all steps are made, no thread starts.
+///
+/// Then each processor gets a thread, which carries out its program. A wait of a thread looks at most `turns` times for
+/// progress. If that isn't enough, the thread ends.
+///
+/// The trace and the device are those of a run of the engine, with all that holds of one (`HasRun`). The contract
+/// doesn't promise that the threads run at the same time. If no thread can be made, they run one after the other, and
+/// waits run out.
 pub fn run_programs<D: Device + Send + Drop, R: Threads + Wait + Sync>(
     rt: &R,
     alloc: Global,
@@ -92,7 +95,7 @@ pub fn run_programs<D: Device + Send + Drop, R: Threads + Wait + Sync>(
     }
 }
 
-// The service's name stands for this machine.
+// The service's name identifies this machine.
 fn named<D: Device + Send + Drop, R: Threads + Wait + Sync>(
     rt: &R,
     alloc: Global,
@@ -137,7 +140,7 @@ fn serve<D: Device + Send + Drop, L: Origin<D> + Send + Sync, R: Threads + Wait 
     }
 }
 
-// Makes the steps of a script, and then runs its programs, unless the steps fill the trace. Answers whether a wait ran
+// Makes the steps of a script, and then runs its programs, unless the steps fill the trace. Returns whether a wait ran
 // out.
 fn carried_out<D: Device + Send + Drop, L: Origin<D> + Send + Sync, R: Threads + Wait + Sync>(
     rt: &R,
@@ -156,7 +159,7 @@ fn carried_out<D: Device + Send + Drop, L: Origin<D> + Send + Sync, R: Threads +
     run_threads(rt, cpus, &script.steps, &script.programs, turns)
 }
 
-// Makes steps by their processors, one after the other, until the trace is full. Answers whether all were made.
+// Lets the processors make the steps, one after the other, until the trace is full. Returns whether all were made.
 fn make_steps<D: Device, L: Origin<D>, R: Wait>(
     rt: &R,
     cpus: &mut [Cpu<D, Global, L>],
@@ -183,7 +186,7 @@ fn make_steps<D: Device, L: Origin<D>, R: Wait>(
     true
 }
 
-// Makes an act where the trace has room for it: the first call is answered.
+// Makes an act. The trace has room for it, so the first call is answered.
 fn make_step<D: Device, L: Origin<D>, R: Wait>(
     rt: &R,
     cpu: &mut Cpu<D, Global, L>,
@@ -201,7 +204,7 @@ fn make_step<D: Device, L: Origin<D>, R: Wait>(
     unreachable!()
 }
 
-// Runs the program of each processor in a thread of its own. Answers whether a wait ran out.
+// Runs the program of each processor in a thread of its own. Returns whether a wait ran out.
 fn run_threads<D: Device + Send + Drop, L: Origin<D> + Send + Sync, R: Threads + Wait + Sync>(
     rt: &R,
     cpus: &mut [Cpu<D, Global, L>],
@@ -241,14 +244,14 @@ fn run_program<D: Device, L: Origin<D>, R: Wait>(
     }
 }
 
-// Notes whether a thread ended since a wait ran out.
+// Notes whether a thread ended because a wait ran out.
 fn note(end: &Result<(), Stop>, ran_out: &AtomicBool) {
     if matches!(end, Err(Stop::RanOut)) {
         ran_out.store(true, Ordering::SeqCst);
     }
 }
 
-// How threads ended whose trace may have this many entries and has so many.
+// Returns how the threads ended. Their trace has `entries` entries, and room for `capacity`.
 fn end_of(ran_out: bool, entries: u64, capacity: u64) -> Ended
     ensures end { IsEnd capacity entries result }
     ensures ran_out { IsTrue ran_out ↔ (result ≡ Ended.RanOut) }

@@ -1,4 +1,5 @@
-//! Programs in threads over disks in memory, with few turns for a wait: waits that run out, and disks that come back.
+//! Tests of programs in threads over disks in memory, with few turns for a wait. Some waits run out, and disks are
+//! returned.
 #![tactic(auto)]
 
 #[cfg(test)]

@@ -1,4 +1,4 @@
-// Waits that run out, a commit that is waited for, and refusals, which hand the disk back.
+// Tests of waits that run out, of a commit that a thread waits for, and of refusals, which return the disk.
 use device::{Device, MemDisk};
 use driver::{Ended, NotRun, run_programs};
 use machine::Reply;
@@ -19,15 +19,15 @@ const SPECS: [FileSpec; 1] = [FileSpec {
 
 const BYTES: u64 = 45_056;
 
-// How often a wait looks.
+// The number of times that a wait looks for progress.
 const TURNS: u64 = 1000;
 
-// A disk of zeros; without memory there is none.
+// Returns a disk of zeros, or `None` without memory.
 fn blank(alloc: Global) -> Option<MemDisk<Global>> {
     MemDisk::new(alloc, BYTES).ok()
 }
 
-// A disk with a volume of four pages of zeros.
+// Returns a disk with a volume of four pages of zeros.
 fn formatted(alloc: Global) -> Option<MemDisk<Global>> {
     let mut disk = blank(alloc)?;
     if format_as(alloc, &mut disk, 1, &SPECS, 4).is_ok() {
@@ -37,8 +37,7 @@ fn formatted(alloc: Global) -> Option<MemDisk<Global>> {
     }
 }
 
-// A script, how many entries the trace of its programs has in the end, where no thread can change that, and how they
-// end.
+// A script, the number of entries of the final trace, if no thread can change it, and how the threads end.
 #[derive(Clone, Copy)]
 struct Case {
     text: &'static str,
@@ -47,25 +46,25 @@ struct Case {
 }
 
 const CASES: [Case; 7] = [
-    // Nobody stores the byte: a fault, its service and one load are all that the program makes.
+    // No processor stores the byte. The program makes only a fault, its service and one load.
     Case {
         text: r#"{"cpus":1,"tlb":2,"frames":4,"copies":0,"trace":100,"steps":[[0,"create"],[0,"map",1,4096,4096,0,0,"rw","rw"],[0,"switch",1,"drop"]],"programs":[[["await",4096,1],["store",4096,[2]]]]}"#,
         entries: Some(6),
         ended: Ended::RanOut,
     },
-    // The same where these fill the trace: the wait sees that, and doesn't run out.
+    // The same, but these entries fill the trace. The wait sees that, and doesn't run out.
     Case {
         text: r#"{"cpus":1,"tlb":2,"frames":4,"copies":0,"trace":6,"steps":[[0,"create"],[0,"map",1,4096,4096,0,0,"rw","rw"],[0,"switch",1,"drop"]],"programs":[[["await",4096,1],["store",4096,[2]]]]}"#,
         entries: Some(6),
         ended: Ended::Full,
     },
-    // A step lets the processor sleep, and nothing wakes it: its first act is refused once.
+    // A step puts the processor to sleep, and nothing wakes it. Its first act is refused once.
     Case {
         text: r#"{"cpus":1,"tlb":2,"frames":4,"copies":0,"trace":100,"steps":[[0,"idle"]],"programs":[[["load",4096,1]]]}"#,
         entries: Some(2),
         ended: Ended::RanOut,
     },
-    // No act was refused before the wait: each thread of the two ends, and only the waiting one is told of.
+    // No act was refused before the wait. Both threads end, and only the waiting one is reported.
     Case {
         text: r#"{"cpus":2,"tlb":2,"frames":4,"copies":0,"trace":100,"steps":[[0,"create"],[0,"map",1,4096,4096,0,0,"rw","rw"],[0,"switch",1,"drop"],[1,"switch",1,"drop"]],"programs":[[],[["await",4096,1]]]}"#,
         entries: None,
@@ -89,7 +88,7 @@ const CASES: [Case; 7] = [
     },
 ];
 
-// Whether the programs of a case's script end so over a disk, whose volume is fresh.
+// Whether the programs of a case end as it states, over a disk with a fresh volume.
 fn ends<D: Device + Send + Drop, R: Threads + Wait + Sync>(
     rt: &R,
     alloc: Global,
@@ -126,7 +125,7 @@ fn holds<R: Threads + Wait + Sync>(rt: &R, alloc: Global, case: &Case) -> bool {
     }
 }
 
-// A wait that runs out ends its thread, and is told apart from a full trace.
+// A wait that runs out ends its thread, and is distinguished from a full trace.
 #[test]
 fn programs_end_as_they_should(rt: HostRuntime) {
     for case in &CASES {
@@ -138,7 +137,7 @@ fn programs_end_as_they_should(rt: HostRuntime) {
 const SYNCED: &str =
     r#"{"cpus":1,"tlb":2,"frames":4,"copies":0,"trace":100,"steps":[[0,"create"],[0,"map",1,4096,4096,0,0,"rw","rw"],[0,"switch",1,"drop"]],"programs":[[["store",4096,[2]],["msync",4096,4096,4],["load",4096,1]]]}"#;
 
-// Whether a trace has a commit, and loads only after it.
+// Whether a trace contains a commit, and loads only after it.
 fn loads_after_a_commit(trace: &[Entry]) -> bool {
     let committed = trace
         .iter()
@@ -169,13 +168,13 @@ fn waits_for_its_commit<D: Device + Send + Drop, R: Threads + Wait + Sync>(
     }
 }
 
-// A thread goes on after such an `msync` once its mark is committed.
+// After such an `msync`, a thread continues once its mark is committed.
 #[test]
 fn a_sync_is_waited_for(rt: HostRuntime) {
     assert!(rt; waits_for_its_commit(&rt, rt.alloc(), formatted(rt.alloc())));
 }
 
-// Why programs weren't run, and the length of the disk that came back.
+// Why programs weren't run, and the length of the disk that was returned.
 #[derive(Clone, Copy)]
 enum Cause {
     Start(Refusal, u64),
@@ -202,7 +201,7 @@ fn cause_of<D: Device + Send + Drop, R: Threads + Wait + Sync>(
 const EMPTY: &str =
     r#"{"cpus":1,"tlb":2,"frames":4,"copies":0,"trace":0,"steps":[],"programs":[[]]}"#;
 
-// Whether a disk without a volume comes back, and one whose script has a capacity that no trace has.
+// Whether a disk without a volume is returned, and so is one if no trace can have the script's capacity.
 fn come_back<R: Threads + Wait + Sync>(rt: &R, alloc: Global) -> bool {
     match ThreadScript::read(alloc, alloc, EMPTY.as_bytes()) {
         Ok(script) => {

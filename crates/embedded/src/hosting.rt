@@ -1,4 +1,4 @@
-// What a host does for an embedded volume: it supplies blocks, and makes the calls that wait.
+// The calls of a host for an embedded volume: it supplies blocks, and makes the waiting calls.
 ghost use Rattle.std.specs.Prelude.{◌≡◌, ◌-◌, true, false, get_or, option_map, OnOk, OnErr};
 ghost use Rattle.deferred_disk.specs.Deferred.{after_forget, waits_behind, with_waiting};
 ghost use Rattle.deferred_disk.specs.Lent.{change_lent};
@@ -12,8 +12,9 @@ use deferred_disk::DeferredCall;
 use std::alloc::{AllocError, Allocator};
 
 impl<A: Allocator + Copy> Embedded<A> {
-    /// The host has read this block. One that is known keeps its bytes: what was written there, or supplied before. One
-    /// past the end of the disk changes nothing.
+    /// Supplies a block that the host has read. A block that is known keeps its bytes, which were written or supplied
+    /// before. A block past the end of the disk changes nothing. Fails if memory can't be allocated, and then changes
+    /// nothing.
     pub fn supply(&mut self, block: u32, bytes: &[u8; 4096]) -> Result<(), AllocError>
         ensures ok { OnOk result (self.new ≡ with_pager self.old
             (over_device self.old.pager (with_supplied self.old.pager.device block bytes.now))) }
@@ -32,9 +33,9 @@ impl<A: Allocator + Copy> Embedded<A> {
         }
     }
 
-    /// Forgets a block of a file, unless a call that waits writes to it: whether it isn't known any more. Where its
-    /// bytes are wanted, the host supplies them again. Blocks before the first file's home are kept, since write-outs
-    /// read them.
+    /// Forgets a block of a file, and returns true. If a waiting call writes to the block, changes nothing, and returns
+    /// false. Blocks before the first file's home are never forgotten, since write-outs read them. If the bytes of a
+    /// forgotten block are wanted, the host supplies them again.
     pub fn forget(&mut self, block: u32) -> bool
         ensures result { result ≡ may_forget self.old.pager block }
         ensures forgotten { result ≡ true → self.new ≡ with_pager self.old
@@ -56,23 +57,23 @@ impl<A: Allocator + Copy> Embedded<A> {
         self.pager.device().is_known(block)
     }
 
-    /// How many device calls wait for the host to make them.
+    /// Returns the number of device calls that wait for the host.
     pub fn waiting(&self) -> usize
         ensures { result ≡ self.now.pager.device.waiting }
     {
         self.pager.device().waiting()
     }
 
-    /// The device call that waits behind so many older ones that wait. The host makes them in their order, and reports
-    /// each by `carried_out`.
+    /// Returns the device call that waits behind `others` older waiting calls, or `None` if there is none. The host
+    /// makes the calls in order, and reports each of them by `carried_out`.
     pub fn call(&self, others: usize) -> Option<DeferredCall<'_>>
         ensures { option_map change_lent result ≡ waits_behind others self.now.pager.device }
     {
         self.pager.device().call(others)
     }
 
-    /// The host has made the oldest device call that waited. Once it has made those that were recorded when the last
-    /// commit was reported, that commit's mark is acknowledged, though later ones may wait.
+    /// Reports that the host has made the oldest waiting device call. Once it has made those that were recorded when
+    /// the last commit was reported, that commit's mark is acknowledged, even if later calls wait.
     pub fn carried_out(&mut self)
         ensures { self.new ≡ with_call_made self.old
             (with_waiting self.old.pager.device (self.old.pager.device.waiting - 1)) }

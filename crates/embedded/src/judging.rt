@@ -22,7 +22,7 @@ use page_entry::Refusal;
 use std::alloc::Allocator;
 use volume_codec::Layout;
 
-// Whether a block begins with the magic of no layout.
+// Whether a block doesn't begin with the magic of a layout.
 fn has_no_magic(block: &[u8; 4096]) -> bool
     ensures { IsTrue result ↔ ((layout : Layout) → take 8 block.now ≢ magic_of layout) }
 {
@@ -40,18 +40,18 @@ fn peek_first<A: Allocator + Copy>(disk: &DeferredDisk<A>, block: &mut [u8; 4096
     let _ = disk.peek(0, block);
 }
 
-// What the first block of a disk says.
+// What can be read off the first block of a disk.
 #[derive(Clone, Copy)]
 enum First {
     // It isn't known.
     Unknown,
     // The disk has no volume with journals: it is shorter than a block, or begins with the magic of no layout.
     NoVolume,
-    // The disk has one, or a damaged one.
+    // The disk has a volume with journals, or a damaged one.
     Volume,
 }
 
-// Judges the first block of a disk, without a read that counts.
+// Judges the first block of a disk. Counts no read.
 fn judge_first<A: Allocator + Copy>(disk: &DeferredDisk<A>) -> First
     ensures unknown { result ≡ First.Unknown
         → (is_of_disk disk.now 0 ≡ true) × (get_or disk.now.known 0 false ≡ false) }
@@ -73,7 +73,7 @@ fn judge_first<A: Allocator + Copy>(disk: &DeferredDisk<A>) -> First
     First::Volume
 }
 
-// Tries to open the volume of a disk, to see whether a block is lacking.
+// Tries to open the volume of a disk, to see whether a block is missing.
 fn try_opening<A: Allocator + Copy>(alloc: A, disk: &DeferredDisk<A>) -> Result<(), Unread>
     ensures { IfErr result (StopsOpening disk.now) }
 {
@@ -84,7 +84,8 @@ fn try_opening<A: Allocator + Copy>(alloc: A, disk: &DeferredDisk<A>) -> Result<
     }
 }
 
-/// Why the volume of a disk isn't opened at all: a block is lacking, or it is no volume with journals. No read counts.
+/// Fails if the volume of a disk can't be opened: a block is missing, the disk has no volume with journals, or memory
+/// is refused. Counts no read.
 pub(crate) fn judge<A: Allocator + Copy>(alloc: A, disk: &DeferredDisk<A>) -> Result<(), Unread>
     ensures stops { IfErr result (StopsOpening disk.now) }
     ensures some { OnOk result (IsSuppliedWell disk.now → IsNotAVolume (seen_of (as_memory disk.now)) → ⊥) }
@@ -96,7 +97,7 @@ pub(crate) fn judge<A: Allocator + Copy>(alloc: A, disk: &DeferredDisk<A>) -> Re
     }
 }
 
-/// Hands a disk back that isn't opened for this reason, after a read of the block that is lacking.
+/// Returns a disk that isn't opened for this reason. If a block is missing, a read of it is made first.
 pub(crate) fn hand_back<A: Allocator + Copy>(
     disk: DeferredDisk<A>,
     why: Unread,

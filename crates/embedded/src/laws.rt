@@ -1,4 +1,4 @@
-// What a crash leaves of the device on which a host makes the calls.
+// What a crash leaves on the device on which a host makes the calls.
 ghost use Rattle.std.specs.Prelude.{ℕ, Bool, ◌≤◌, List, Option, Some};
 ghost use Rattle.deferred_disk.specs.Carrying.{CarriedOut};
 ghost use Rattle.deferred_disk.specs.Deferred.{Deferred, as_memory, carried_moment, IsBehind, IsSuppliedWell};
@@ -19,11 +19,15 @@ use device::Device;
 use pager::what_runs_leave;
 use std::alloc::Allocator;
 
-/// A host makes the calls that wait on a device of its own, in order. That device was behind the disk. A crash at any
-/// moment of that, within a call or between two, leaves what reads back as the files of the volume, as it was opened,
-/// after a durable prefix of a history: that of the calls up to any pager whose recorded device calls the host had made
-/// before, and of some later calls (`left`). So it keeps each mark that was acknowledged in the history of such a pager
-/// (`mark`), and the mark that an embedded volume acknowledges (`acknowledged`).
+/// States what a crash leaves on the host's own device, on which the host makes the waiting calls in order. That device
+/// was behind the disk.
+///
+/// The crash may come at any moment, within a call or between two. It leaves the files of the opened volume after a
+/// durable prefix of a history (`left`). The history contains the calls up to a pager whose recorded device calls the
+/// host had made before, and some later calls. This holds for any such pager.
+///
+/// So the crash keeps each mark that was acknowledged in the history of such a pager (`mark`). It also keeps the mark
+/// that an embedded volume acknowledges (`acknowledged`).
 pub fn crashed_on_the_host<D: Device, A: Allocator + Copy>(device: &D, disk: &DeferredDisk<A>)
     ensures left { (files : List File) (history events : List Event) (mid pager : PagerState Deferred) (old new : D)
         (done : Bool) (left : ℕ)

@@ -1,4 +1,5 @@
-//! A volume inside the user's process, without IO: requests in, and the device calls that they want out.
+//! A volume inside the user's process that makes no system calls. It takes requests, and returns the device calls that
+//! they need.
 #![tactic(auto)]
 
 mod embedded;

@@ -7,14 +7,15 @@ use page_entry::Refusal;
 /// Why a page wasn't read, a length wasn't set, or a volume wasn't opened.
 #[derive(Clone, Copy, PartialEq, Eq, Debug)]
 pub enum Unread {
-    /// A block is wanted. Once the host has supplied it, the request can be made again.
+    /// The request needs this block. Once the host has supplied it, the request can be made again.
     Wanted(u32),
-    /// The pager, or its opening, refused it.
+    /// The pager refused the request, or its opening was refused.
     Refused(Refusal),
 }
 
 impl Unread {
-    /// Why it was refused by a pager whose disk lacked this block in its last call, or none.
+    /// Returns why a pager refused a request. `wanted` is the block that its disk lacked in its last call, if there is
+    /// one.
     pub fn of(why: Refusal, wanted: Option<u32>) -> Unread
         ensures refusal { pager_refusal result ≡ why }
         ensures wanted { (disk : Option ℕ) → IfSome wanted (λ block. disk ≡ Some block)
@@ -27,7 +28,7 @@ impl Unread {
     }
 }
 
-/// The number of a block, where it has one of 32 bits.
+/// Returns the number of a block, or `None` if it has more than 32 bits.
 pub fn block_number(wanted: Option<usize>) -> Option<u32>
     ensures some { IfSome result (λ block. wanted ≡ Some block) }
     ensures none { IfNone result ((block : ℕ) → wanted ≡ Some block → 2 ^ 32 ≤ block) }

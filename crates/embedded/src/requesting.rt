@@ -1,4 +1,4 @@
-// What is asked of an embedded volume.
+// The requests to an embedded volume.
 ghost use Rattle.std.specs.Prelude.{◌≡◌, ◌⊎◌, None, Some, OnOk, OnErr, IfOk, IfErr};
 ghost use Rattle.deferred_disk.specs.Deferred.{as_memory, carried_moment, recorded_calls, IsSuppliedWell};
 ghost use Rattle.device.specs.Memory.{seen_of};
@@ -20,9 +20,10 @@ use page_entry::{FileNumber, FilePage, Refusal};
 use std::alloc::Allocator;
 
 impl<A: Allocator + Copy> Embedded<A> {
-    /// Copies a page, with zeros past its file's end, as `Pager::read` does.
+    /// Copies a page into `buffer`, with zeros past its file's end, as `Pager::read` does.
     ///
-    /// `Wanted` where its home block isn't known: once the host has supplied it, the page can be read again.
+    /// Fails with `Wanted` if the page's home block isn't known. Once the host has supplied it, the page can be read
+    /// again.
     pub fn read(&mut self, page: FilePage, buffer: &mut [u8; 4096]) -> Result<(), Unread>
         ensures there { OnOk result (page_refusal self.old.pager.lengths page ≡ None) }
         ensures bytes { IsSuppliedWell self.old.pager.device
@@ -45,8 +46,8 @@ impl<A: Allocator + Copy> Embedded<A> {
         Ok(())
     }
 
-    /// The page has these bytes from now on, up to its file's end, as `Pager::put` says. The next commit takes it. A
-    /// refusal changes nothing.
+    /// Replaces the bytes of a page, up to its file's end, as `Pager::put` does. The next commit contains the page. A
+    /// failure changes nothing.
     pub fn put(&mut self, page: FilePage, bytes: &[u8; 4096]) -> Result<(), Refusal>
         ensures ok { OnOk result (put_refusal self.old.pager page ≡ None) }
         ensures put { OnOk result (self.new ≡ with_pager self.old (after_put self.old.pager page bytes.now)) }
@@ -57,10 +58,10 @@ impl<A: Allocator + Copy> Embedded<A> {
     }
 
     /// Sets the length of a file in bytes, from 0 to its capacity, as `Pager::set_length` does (POSIX.1-2024,
-    /// `ftruncate`). The next commit takes the change. A refusal changes nothing but the disk, by a read.
+    /// `ftruncate`). The next commit contains the change. A failure changes nothing but the disk, by a read.
     ///
-    /// `Wanted` where the file grows from inside a page whose home block isn't known: once the host has supplied it,
-    /// the length can be set again.
+    /// Fails with `Wanted` if the file grows from inside a page whose home block isn't known. Once the host has
+    /// supplied it, the length can be set again.
     pub fn set_length(&mut self, file: FileNumber, length: u64) -> Result<(), Unread>
         ensures ok { OnOk result (set_length_refusal self.old.pager file length ≡ None) }
         ensures set { IsSuppliedWell self.old.pager.device → OnOk result (self.new.pager
@@ -81,13 +82,19 @@ impl<A: Allocator + Copy> Embedded<A> {
         }
     }
 
-    /// Commits what was put since the last commit. It first makes the steps of earlier commits without which no commit
-    /// begins, and then those up to its acknowledgement by the pager. Answers its mark, which is durable once the host
-    /// has made the calls that wait then; `acknowledged` says when. Where nothing was put no step follows.
+    /// Commits what was put since the last commit, and returns its mark. First makes those steps of earlier commits
+    /// without which no commit can begin, and then the steps up to the acknowledgement by the pager. If nothing was
+    /// put, no step follows. The mark is durable once the host has made the calls that wait then, as `acknowledged`
+    /// reports.
     ///
-    /// `Device` where a step failed, for want of a block or of memory, and `Broken` where one had failed earlier: no
-    /// commit succeeds any more, and the next opening finds the last acknowledged one or a later one. `Busy` where
-    /// 2^32 - 1 commits were made.
+    /// Fails with:
+    ///
+    /// - `Device` if a step failed because a block or memory was missing.
+    /// - `Broken` if a step had failed earlier.
+    /// - `Busy` if 2^32 - 1 commits were made.
+    ///
+    /// After `Device` or `Broken` no commit succeeds any more. The next opening finds the last acknowledged commit or a
+    /// later one.
     pub fn commit(&mut self) -> Result<u32, Refusal>
         ensures commits { IfOk result (λ mark. Commits self.old.pager mark self.new.pager) }
         ensures mark { IfOk result (λ mark. self.new ≡ with_mark self.old mark self.new.pager) }
@@ -105,10 +112,11 @@ impl<A: Allocator + Copy> Embedded<A> {
         Ok(mark)
     }
 
-    /// Makes at most so many further steps of the commits that aren't done, which copy their pages to the home blocks.
-    /// Answers whether a step is left.
+    /// Makes at most `most` further steps of the commits that aren't done. These steps copy their pages to the home
+    /// blocks. Returns whether a step is left.
     ///
-    /// `Device` where a step failed, for want of a block or of memory, and `Broken` where one had failed earlier.
+    /// Fails with `Device` if a step failed because a block or memory was missing, and with `Broken` if a step had
+    /// failed earlier.
     pub fn write_out(&mut self, most: u32) -> Result<bool, Refusal>
         ensures steps { IfOk result (λ left. WritesOut most self.old.pager left self.new.pager) }
         ensures refused { IfErr result (λ why. RefusesSteps most self.old.pager why self.new.pager) }
@@ -119,7 +127,7 @@ impl<A: Allocator + Copy> Embedded<A> {
     }
 }
 
-/// How many device calls the host has made.
+/// Returns the number of device calls that the host has made.
 pub fn made_calls<A: Allocator + Copy>(disk: &DeferredDisk<A>) -> u64
     ensures { result ≡ made_calls disk.now }
 {
@@ -127,7 +135,7 @@ pub fn made_calls<A: Allocator + Copy>(disk: &DeferredDisk<A>) -> u64
 }
 
 // Rule: deferred acknowledgement
-/// The mark that is acknowledged once the host has made so many calls.
+/// Returns the mark that is acknowledged once the host has made `made` calls.
 pub fn confirmed(
     made: u64,
     due: u64,

@@ -1,4 +1,4 @@
-// Steps of the write-outs that requests make.
+// Makes the steps of the write-outs that requests need.
 ghost use Rattle.std.specs.Prelude.{ℕ, ◌≡◌, ◌≢◌, ◌↔◌, ◌+◌, ◌<◌, false, true, [], Some, IsTrue, IfOk, IfErr};
 ghost use Rattle.journal.specs.declared.flushed.Flushed.TheVariants as flushed;
 ghost use Rattle.pager.specs.Calls.{commit_refusal};
@@ -13,12 +13,12 @@ use std::alloc::Allocator;
 
 type DeferredPager<A> = Pager<DeferredDisk<A>, A>;
 
-// What came of a step.
+// The outcome of a step.
 #[derive(Clone, Copy)]
 pub(crate) enum Turn {
-    // Each commit is done.
+    // Every commit is done, so there is no step.
     Idle,
-    // It answered so.
+    // The step was made, and returned this.
     Made(Flushed),
     // A device call failed.
     Failed,
@@ -38,7 +38,7 @@ fn make_step<A: Allocator + Copy>(pager: &mut DeferredPager<A>) -> Turn
     }
 }
 
-// Makes steps until a commit may begin, and begins it. Answers its mark, and whether there was something to commit.
+// Makes steps until a commit may begin, and begins it. Returns its mark, and whether there was something to commit.
 fn begin<A: Allocator + Copy>(pager: &mut DeferredPager<A>) -> Result<(u32, bool), Refusal>
     ensures begun { IfOk result (λ r. BeginsCommit pager.old r.0 r.1 pager.new) }
     ensures refused { IfErr result (λ why. RefusesCommit pager.old why pager.new) }
@@ -48,7 +48,7 @@ fn begin<A: Allocator + Copy>(pager: &mut DeferredPager<A>) -> Result<(u32, bool
             Turn::Made(_) => {}
             Turn::Failed => return Err(Refusal::Device),
             Turn::Broken => return Err(Refusal::Broken),
-            // There is a step to make while a commit can't begin.
+            // Never reached: while a commit can't begin, there is a step to make.
             Turn::Idle => return Err(Refusal::Busy),
         }
     }
@@ -66,7 +66,7 @@ fn is_committed(answer: Flushed, mark: u32) -> bool
     matches!(answer, Flushed::Committed(committed) if committed == u64::from(mark))
 }
 
-// Makes steps until one commits this mark: whether none failed.
+// Makes steps until one commits this mark. Returns whether none failed.
 fn write_until<A: Allocator + Copy>(pager: &mut DeferredPager<A>, mark: u32) -> bool
     requires whole { pager.old.write_outs.broken ≡ false }
     requires awaits { EndsAwaiting mark pager.old.write_outs.batches }
@@ -81,9 +81,9 @@ fn write_until<A: Allocator + Copy>(pager: &mut DeferredPager<A>, mark: u32) -> 
                 }
             }
             Turn::Failed => return false,
-            // None had failed before.
+            // Never reached: no call had failed before.
             Turn::Broken => return false,
-            // There is a step to make until then.
+            // Never reached: until then there is a step to make.
             Turn::Idle => return false,
         }
     }
@@ -104,7 +104,7 @@ pub(crate) fn commit<A: Allocator + Copy>(pager: &mut DeferredPager<A>) -> Resul
     Ok(mark)
 }
 
-// Makes at most so many steps: whether one is left.
+// Makes at most `most` steps. Returns whether one is left.
 pub(crate) fn write_out<A: Allocator + Copy>(
     pager: &mut DeferredPager<A>,
     most: u32,

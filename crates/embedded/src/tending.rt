@@ -1,4 +1,4 @@
-// What a host does with the disk between two requests.
+// The calls of a host on the disk between two requests.
 ghost use Rattle.std.specs.Prelude.{◌≡◌};
 ghost use Rattle.embedded.specs.Supplying.{is_of_disk};
 
@@ -7,14 +7,14 @@ use device::Device;
 use kept_blocks::Tender;
 use std::alloc::Allocator;
 
-// Whether a block lies before the end of the disk.
+// Whether a block is before the end of the disk.
 pub(crate) fn is_of_disk<A: Allocator + Copy>(disk: &DeferredDisk<A>, block: u32) -> bool
     ensures { result ≡ is_of_disk disk.now block }
 {
     4096 * u64::from(block) + 4096 <= disk.len()
 }
 
-/// A block that the host has read. `refused` says whether memory was refused for it.
+/// A block that the host has read. `refused` is set if memory was refused for it.
 #[derive(Drop)]
 pub struct Supplying<'a> {
     pub block: u32,
@@ -33,7 +33,7 @@ impl<'a, A: Allocator + Copy> Tender<DeferredDisk<A>> for Supplying<'a> {
     }
 }
 
-/// A block that the host needn't keep. `done` says whether it isn't known any more.
+/// A block that the host needn't keep. `done` is set if it isn't known any more.
 #[derive(Drop)]
 pub struct Forgetting {
     pub block: u32,

@@ -1,4 +1,4 @@
-// An opening that is tried, to see which block it lacks.
+// Tries an opening, to see which block it lacks.
 ghost use Rattle.std.specs.Prelude.{◌≡◌, ◌&&◌, false, get_or, if◌then◌else◌, not, true, IfOk, IfSome, None, Some};
 ghost use Rattle.deferred_disk.specs.Deferred.{after_read};
 ghost use Rattle.embedded.specs.Supplying.{is_of_disk};
@@ -10,11 +10,11 @@ use device::{Device, DeviceFault, raise};
 use page_entry::Refusal;
 use std::alloc::{AllocError, Allocator};
 
-/// A disk that is only read. Its writes and syncs are answered and do nothing, so it promises nothing of its content.
+/// A disk that is only read. Its writes and syncs succeed and do nothing, so it promises nothing of its content.
 #[derive(Drop)]
 pub struct Trial<'a, A: Allocator + Copy> {
     disk: &'a DeferredDisk<A>,
-    // Which block the last read lacked.
+    // The block that the last read lacked.
     lacked: Option<usize>,
     calls: u64,
     faults: u64,
@@ -82,7 +82,7 @@ impl<'a, A: Allocator + Copy> Device for Trial<'a, A> {
 }
 
 impl<'a, A: Allocator + Copy> Trial<'a, A> {
-    /// That of this disk, before its first read.
+    /// Returns a trial of this disk, before its first read.
     pub fn new(disk: &'a DeferredDisk<A>) -> Self
         ensures { result.disk.now ≡ disk.now }
     {
@@ -95,7 +95,7 @@ impl<'a, A: Allocator + Copy> Trial<'a, A> {
     }
 }
 
-// Which block an opening of a disk lacked, as far as its trial shows.
+// Returns the block that an opening of a disk lacked, as far as its trial shows.
 fn lacked_in_trial<A: Allocator + Copy, T: Drop>(
     tried: Result<T, (Refusal, Trial<'_, A>)>,
 ) -> Result<Option<usize>, AllocError> {
@@ -106,7 +106,7 @@ fn lacked_in_trial<A: Allocator + Copy, T: Drop>(
     }
 }
 
-// This block, if it is one of the disk that isn't known.
+// Returns this block, if it is a block of the disk and isn't known.
 fn if_unknown<A: Allocator + Copy>(disk: &DeferredDisk<A>, block: u32) -> Option<u32>
     ensures judged { result ≡ (if is_of_disk disk.now block && not (get_or disk.now.known block false)
         then Some block else None) }
@@ -120,8 +120,8 @@ fn if_unknown<A: Allocator + Copy>(disk: &DeferredDisk<A>, block: u32) -> Option
     }
 }
 
-/// The first block that an opening of a disk lacks, if it lacks one, by an opening that was tried. The disk isn't known
-/// to have it. It fails where memory was refused.
+/// Returns the first block that an opening of a disk lacks, if it lacks one. `tried` is the result of an opening that
+/// was tried. The block isn't known on the disk. Fails if memory was refused.
 pub fn lacked_block<A: Allocator + Copy, T: Drop>(
     disk: &DeferredDisk<A>,
     tried: Result<T, (Refusal, Trial<'_, A>)>,
@@ -135,7 +135,7 @@ pub fn lacked_block<A: Allocator + Copy, T: Drop>(
     }
 }
 
-/// A disk after a read that lacked this block.
+/// Returns a disk after a read that lacked this block.
 pub fn after_lack<A: Allocator + Copy>(disk: DeferredDisk<A>, block: u32) -> DeferredDisk<A>
     requires there { is_of_disk disk block ≡ true }
     requires unknown { get_or disk.known block false ≡ false }

@@ -13,8 +13,10 @@ use embedded::{Carrying, Forgetting, Supplying, confirmed, made_calls};
 use std::alloc::{AllocError, Allocator};
 
 impl<A: Allocator + Copy> EmbeddedLog<A> {
-    /// The host has read this block. One that is known keeps its bytes: what was written there, or supplied before. One
-    /// past the end of the disk changes nothing.
+    /// Supplies the bytes of a block that the host has read. A known block keeps its bytes, which were written or
+    /// supplied before. A block past the end of the disk changes nothing.
+    ///
+    /// Fails with `AllocError` if there is no memory; the volume is unchanged then.
     pub fn supply(&mut self, block: u32, bytes: &[u8; 4096]) -> Result<(), AllocError>
         ensures ok { OnOk result (self.new ≡ with_files self.old
             (on_device self.old.files (with_supplied self.old.files.pager.device block bytes.now))) }
@@ -33,9 +35,9 @@ impl<A: Allocator + Copy> EmbeddedLog<A> {
         }
     }
 
-    /// Forgets a block of the log or of a file, unless a call that waits writes to it: whether it isn't known any more.
-    /// Where its bytes are wanted, the host supplies them again. The four blocks before the log and the block of the
-    /// lengths are kept.
+    /// Forgets a block of the log or of a file, unless a waiting call writes to it. Returns whether the block was
+    /// forgotten. If the block is needed later, the host supplies it again. The four blocks before the log and the
+    /// block of the lengths are never forgotten.
     pub fn forget(&mut self, block: u32) -> bool
         ensures result { result ≡ may_forget_log self.old.files block }
         ensures forgotten { result ≡ true → self.new ≡ with_files self.old
@@ -50,30 +52,30 @@ impl<A: Allocator + Copy> EmbeddedLog<A> {
         forgetting.done
     }
 
-    /// Whether a block is known, so that it needn't be supplied.
+    /// Whether a block is known. A known block need not be supplied.
     pub fn is_known(&self, block: u32) -> bool
         ensures { result ≡ get_or self.now.files.pager.device.known block false }
     {
         self.files.device().is_known(block)
     }
 
-    /// How many device calls wait for the host to make them.
+    /// Returns the number of device calls that wait for the host to make them.
     pub fn waiting(&self) -> usize
         ensures { result ≡ self.now.files.pager.device.waiting }
     {
         self.files.device().waiting()
     }
 
-    /// The device call that waits behind this many older ones that wait. The host makes them in their order, and
-    /// reports each by `carried_out`.
+    /// Returns the waiting device call that has `others` older ones before it. The host makes the calls in order, and
+    /// reports each with `carried_out`.
     pub fn call(&self, others: usize) -> Option<DeferredCall<'_>>
         ensures { option_map change_lent result ≡ waits_behind others self.now.files.pager.device }
     {
         self.files.device().call(others)
     }
 
-    /// The host has made the oldest device call that waited. Once it has made those that were recorded when the last
-    /// commit was reported, that commit's mark is acknowledged, though later ones may wait.
+    /// Reports that the host has made the oldest waiting device call. The last commit's mark is acknowledged once all
+    /// calls are made that were recorded when that commit returned. Calls recorded later may still wait.
     pub fn carried_out(&mut self)
         ensures { self.new ≡ with_log_call_made self.old
             (with_waiting self.old.files.pager.device (self.old.files.pager.device.waiting - 1)) }

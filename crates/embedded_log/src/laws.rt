@@ -20,14 +20,16 @@ use device::Device;
 use log_histories::what_log_runs_leave;
 use std::alloc::Allocator;
 
-/// A host makes the calls that wait on a device of its own, in order. That device was behind the disk. A crash at any
-/// moment of that, within a call or between two, leaves what reads back as the files of the volume, as it was opened,
-/// after a durable prefix of a history: that of the calls up to any state whose recorded device calls the host had made
-/// before, and of some later calls (`left`). So it keeps each mark that was acknowledged in the history of such a state
-/// (`mark`), and the mark that an embedded volume acknowledges (`acknowledged`).
+/// States what a crash leaves while a host makes the waiting calls, in order, on its own device. The device had made a
+/// prefix of the disk's calls before. The crash may come at any moment, within a call or between two.
 ///
-/// In layout 6 all of this has one premise on the bytes that the crash leaves: each commit since that state that can be
-/// read from them was made (`TellsServed`), so the digest told each torn one.
+/// The bytes that it leaves read back as the volume's files, as opened, after a durable prefix of a history (`left`).
+/// Take any state whose recorded device calls the host had made before. The history consists of the events up to that
+/// state, and of some later ones. So the bytes keep each mark that was acknowledged by that state (`mark`), and the
+/// mark that an embedded volume acknowledges (`acknowledged`).
+///
+/// Each of these has one premise on the bytes that the crash leaves (`TellsServed`): each commit since that state that
+/// can be read from them was made. In layout 6 this means that the digest detected each torn commit.
 pub fn crashed_on_the_host<D: Device, A: Allocator + Copy>(device: &D, disk: &DeferredDisk<A>)
     ensures left { (files : List File) (history events : List Event) (mid s : LogFilesState Deferred) (old new : D)
         (done : Bool) (left : ℕ)
@@ -55,7 +57,7 @@ pub fn crashed_on_the_host<D: Device, A: Allocator + Copy>(device: &D, disk: &De
     what_log_runs_leave(disk);
 }
 
-/// In layout 5, where a byte seals, all bytes fulfil the premise of `crashed_on_the_host`.
+/// In layout 5, which seals with a byte, all bytes fulfil the premise of `crashed_on_the_host`.
 pub fn told_by_byte()
     ensures { (files : List File) (mark : ℕ) (s : LogFilesState Deferred) (reached : HasPassedLogMark files mark s)
         → reached.first.table.sealing ≡ ByByte

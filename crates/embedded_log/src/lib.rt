@@ -1,4 +1,5 @@
-//! A volume with a log inside the user's process, without IO: requests in, and the device calls that they want out.
+//! A volume with a log inside the user's process. It makes no IO itself: it takes requests, and records the device
+//! calls that its host is to make.
 #![tactic(auto)]
 
 mod hosting;

@@ -1,4 +1,4 @@
-// What is asked of a volume with a log.
+// The requests to a volume with a log.
 ghost use Rattle.std.specs.Prelude.{◌≡◌, ℕ, List, None, OnOk, OnErr, IfOk, IfErr};
 ghost use Rattle.deferred_disk.specs.Deferred.{as_memory, carried_moment, IsSuppliedWell};
 ghost use Rattle.recovery.specs.Counts.{Rises};
@@ -22,9 +22,10 @@ use page_entry::{FileNumber, FilePage, Refusal};
 use std::alloc::Allocator;
 
 impl<A: Allocator + Copy> EmbeddedLog<A> {
-    /// Copies a page, with zeros past its file's end, as `LogFiles::read` does.
+    /// Copies a page into `buffer`, with zeros past its file's end, as `LogFiles::read` does.
     ///
-    /// `Wanted` where the block with its bytes isn't known: once the host has supplied it, the page can be read again.
+    /// Fails with `Wanted` if the block with the page's bytes isn't known. The host supplies that block, and reads the
+    /// page again.
     pub fn read(&mut self, page: FilePage, buffer: &mut [u8; 4096]) -> Result<(), Unread>
         ensures there { OnOk result (page_refusal self.old.files.lengths page ≡ None) }
         ensures bytes { (contents : ℕ → List ℕ) → IsSuppliedWell self.old.files.pager.device
@@ -45,8 +46,8 @@ impl<A: Allocator + Copy> EmbeddedLog<A> {
         Ok(())
     }
 
-    /// The page has these bytes from now on, up to its file's end, as `LogFiles::put` says. The next commit takes it. A
-    /// refusal changes nothing.
+    /// Puts these bytes into a page, up to its file's end, as `LogFiles::put` does. The next commit takes the page.
+    /// After a failure nothing has changed.
     pub fn put(&mut self, page: FilePage, bytes: &[u8; 4096]) -> Result<(), Refusal>
         ensures ok { OnOk result (log_put_refusal self.old.files page ≡ None) }
         ensures put { OnOk result (self.new ≡ with_files self.old (after_page_put self.old.files page bytes.now)) }
@@ -57,10 +58,10 @@ impl<A: Allocator + Copy> EmbeddedLog<A> {
     }
 
     /// Sets the length of a file in bytes, from 0 to its capacity, as `LogFiles::set_length` does (POSIX.1-2024,
-    /// `ftruncate`). The next commit takes the change. A refusal changes nothing but the disk, by a read.
+    /// `ftruncate`). The next commit takes the change. After a failure only the disk may have changed, by a read.
     ///
-    /// `Wanted` where the file grows from inside a page and the block with its bytes isn't known: once the host has
-    /// supplied it, the length can be set again.
+    /// Fails with `Wanted` if the file grows from inside a page, and the block with that page's bytes isn't known. The
+    /// host supplies that block, and sets the length again.
     pub fn set_length(&mut self, file: FileNumber, length: u64) -> Result<(), Unread>
         ensures ok { OnOk result (log_length_refusal self.old.files file length ≡ None) }
         ensures set { (contents : ℕ → List ℕ) → IsSuppliedWell self.old.files.pager.device
@@ -84,15 +85,18 @@ impl<A: Allocator + Copy> EmbeddedLog<A> {
         Ok(())
     }
 
-    /// Commits what was put since the last commit. While the log has no room for it, this first makes steps, which
-    /// write older commits home. Answers its mark, which is durable once the host has made the calls that wait then;
-    /// `acknowledged` says when. Where nothing was put, no call is recorded.
+    /// Commits what was put since the last commit, and returns the commit's mark. If the log has no room, this first
+    /// makes steps, which write older commits home. The mark is durable once the host has made the calls that wait when
+    /// this returns (see `acknowledged`). If nothing was put, no call is recorded.
     ///
-    /// `Wanted` where a step or the commit needs a block that isn't known: once the host has supplied it, the commit
-    /// can be made again. Nothing is lost, and the steps that were made stay. `Device` where a device call failed, and
-    /// `Broken` where one had failed earlier: no commit succeeds any more, and the next opening finds the last
-    /// acknowledged one or a later one. `Busy` where a number is used up: 2^32 - 1 commits were made, or the log's
-    /// commits have come to 2^64 - 2. `OutOfMemory`: the commit can be made again.
+    /// Fails with:
+    ///
+    /// * `Wanted` if a step or the commit needs a block that isn't known. The host supplies that block, and commits
+    ///   again. Nothing is lost, and the steps that were made remain.
+    /// * `Device` if a device call failed, and `Broken` if one had failed earlier. No later commit succeeds. The next
+    ///   opening finds the last acknowledged commit or a later one.
+    /// * `Busy` if a number is used up: 2^32 - 1 commits were made, or the log's commits have reached 2^64 - 2.
+    /// * `OutOfMemory` if there is no memory. The caller can commit again.
     pub fn commit(&mut self) -> Result<u32, Unread>
         ensures commits { IfOk result (λ mark. CommitsLog self.old.files mark self.new.files) }
         ensures mark { IfOk result (λ mark. self.new ≡ with_log_mark self.old mark self.new.files) }
@@ -113,12 +117,12 @@ impl<A: Allocator + Copy> EmbeddedLog<A> {
         Ok(mark)
     }
 
-    /// Makes at most this many steps, which write commits home and then free their blocks of the log. Answers whether a
+    /// Makes at most `most` steps, which write commits home and then free their blocks of the log. Returns whether a
     /// step is left.
     ///
-    /// `Wanted` where a step needs a block that isn't known: once the host has supplied it, steps can be made again.
-    /// Those that were made stay. `Device` where a device call failed, and `Broken` where one had failed earlier.
-    /// `OutOfMemory`: steps can be made again.
+    /// Fails with `Wanted` if a step needs a block that isn't known. The host supplies that block, and calls this
+    /// again. Steps that were made remain. Fails with `Device` if a device call failed, and with `Broken` if one had
+    /// failed earlier. Fails with `OutOfMemory` if there is no memory; the caller can call this again.
     pub fn write_out(&mut self, most: u32) -> Result<bool, Unread>
         ensures steps { IfOk result (λ left. WritesCommitsHome most self.old.files left self.new.files) }
         ensures stopped { IfErr result (λ e. StopsSteps most self.old.files e self.new.files) }

@@ -1,4 +1,4 @@
-// Steps that requests make, and commits.
+// The steps that requests make, and commits.
 ghost use Rattle.std.specs.Prelude.{◌≡◌, ◌↔◌, true, None, Some, IsTrue, IfOk, IfErr, OnOk};
 ghost use Rattle.embedded.specs.Recorded.{deferred_disk};
 ghost use Rattle.log_files.specs.Calls.{IsLogFilesStep};
@@ -16,7 +16,7 @@ use std::alloc::Allocator;
 
 type DeferredFiles<A> = LogFiles<DeferredDisk<A>, A>;
 
-// This block, if it isn't known.
+// Returns the block if it isn't known.
 fn if_lacking<A: Allocator + Copy>(disk: &DeferredDisk<A>, block: u32) -> Option<u32>
     ensures { result ≡ if_lacking disk.now.known (Some block) }
 {
@@ -27,7 +27,7 @@ fn if_lacking<A: Allocator + Copy>(disk: &DeferredDisk<A>, block: u32) -> Option
     }
 }
 
-// The block that the next step needs and that isn't known.
+// Returns the block that the next step needs, if it isn't known.
 fn lacked_by_step<A: Allocator + Copy>(files: &DeferredFiles<A>) -> Option<u32>
     ensures { result ≡ lacked_by_step files.now }
 {
@@ -40,7 +40,7 @@ fn lacked_by_step<A: Allocator + Copy>(files: &DeferredFiles<A>) -> Option<u32>
     }
 }
 
-// The first block that the next commit needs and that isn't known.
+// Returns the first block that the next commit needs and that isn't known.
 fn lacked_by_commit<A: Allocator + Copy>(files: &DeferredFiles<A>) -> Option<u32>
     ensures { result ≡ lacked_by_commit files.now }
 {
@@ -101,7 +101,8 @@ fn make_round<A: Allocator + Copy>(files: &mut DeferredFiles<A>) -> Result<(), U
     Ok(())
 }
 
-// Makes steps until the log has room for what was put: those of the round under way, then those of one of all commits.
+// Makes steps until the log has room for what was put: first those of the current round, then those of a round of all
+// commits.
 fn make_room<A: Allocator + Copy>(files: &mut DeferredFiles<A>) -> Result<(), Unread>
     ensures steps { OnOk result (MakesWhileFull files.old files.new) }
     ensures room { OnOk result (has_log_room files.new ≡ true) }
@@ -153,7 +154,7 @@ pub(crate) fn commit<A: Allocator + Copy>(files: &mut DeferredFiles<A>) -> Resul
     }
 }
 
-// Makes at most this many steps: whether one is left.
+// Makes at most `most` steps. Returns whether one is left.
 pub(crate) fn write_out<A: Allocator + Copy>(
     files: &mut DeferredFiles<A>,
     most: u32,

@@ -1,4 +1,4 @@
-// What follows of a run that is made one step at a time, and of one that isn't made.
+// What follows from a run that is made one step at a time, and from a start that failed.
 ghost use Rattle.std.specs.Prelude.{ℕ, List};
 ghost use Rattle.device.specs.Device.{LeavesOnly};
 ghost use Rattle.page_entry.specs.declared.refusal.Refusal.{Refusal};
@@ -23,10 +23,11 @@ use recovery::{crashed_since_opening, opened_again};
 use std::alloc::Allocator;
 use volume_codec::one_reading;
 
-/// Steps that were made after a start are a run, whatever is known of its last machine (`run`). Over an honest device
-/// there are files to which that recovered before it was opened, and a crash since any machine of the run leaves what
-/// reads back as these files after a durable prefix of what was observed by the steps up to that one and by some of the
-/// later ones (`since`).
+/// Steps that were made after a start are a run, with any last machine (`run`).
+///
+/// Over an honest device, some files exist to which it recovered before it was opened. Take a crash since any machine
+/// of the run. The bytes that it leaves read back as these files after a durable prefix (`since`). The prefix is of
+/// what was observed by the steps up to that machine, and by some of the later ones.
 pub fn steps_are_a_run<D: Device>(device: &D)
     ensures run { (before : D) (shape : Shape) (start last : Whole D) (steps : List Step) (replies : List Reply)
         → HasStarted D.Device before shape start → StepsTaken D.Device start steps replies last
@@ -44,8 +45,8 @@ pub fn steps_are_a_run<D: Device>(device: &D)
     crashed_since_opening(device);
 }
 
-/// The steps that were taken of a machine since it was started are a run, whoever took them: with `Machine::enter`, one
-/// at a time, or with `Machine::run`.
+/// The steps that a machine has taken since its start are a run. `Machine::enter` took them one at a time, or
+/// `Machine::run` did.
 pub fn ran_since_start<D: Device, A: Allocator + Copy>(machine: &Machine<D, A>)
     ensures { (before : D) (shape : Shape) (start : Whole D) (steps : List Step) (replies : List Reply)
         → HasStarted D.Device before shape start → StepsTaken D.Device start steps replies machine.now
@@ -54,9 +55,9 @@ pub fn ran_since_start<D: Device, A: Allocator + Copy>(machine: &Machine<D, A>)
     steps_are_a_run(machine.device());
 }
 
-/// A run over a device that was made a volume with some files, by formatting or by migrating, and was opened any number
-/// of times since, each with a crash or none within it or after it, begins with exactly these files: what survives it
-/// is what it stored in them.
+/// A run begins with exactly the files with which its device was made a volume, by formatting or by migrating. In
+/// between the device may have been opened any number of times, each with a crash or none within it or after it. So
+/// what survives the run is what it stored in these files.
 pub fn ran_after_making<D: Device>(device: &D)
     ensures { (n : ℕ) (files : List File) (made before after : D) (shape : Shape) (steps : List Step)
         (replies : List Reply) → IsMade D.Device files made → IsLater D.Device n made before
@@ -68,7 +69,7 @@ pub fn ran_after_making<D: Device>(device: &D)
     one_reading();
 }
 
-/// Where nothing is run, a crash since the opening began leaves what recovers to the same files as before.
+/// If the start fails, a crash since the opening began leaves bytes that recover to the same files as before.
 pub fn crashed_since_refusal<D: Device>(device: &D)
     ensures { (before after : D) (shape : Shape) (refusal : Refusal) (files : List File)
         → HasNotStarted D.Device before shape after refusal → D.is_honest before

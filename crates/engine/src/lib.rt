@@ -1,4 +1,4 @@
-//! The main job over any disk: a volume is opened, a machine is booted over it, and steps are made one at a time.
+//! The main job over any disk: it opens a volume, boots a machine over it, and makes steps one at a time.
 #![tactic(auto)]
 
 mod laws;

@@ -1,4 +1,4 @@
-// The main job over any disk: a volume is opened, a machine is booted, and steps are made one at a time.
+// The main job over any disk: it opens a volume, boots a machine, and makes steps one at a time.
 ghost use Rattle.std.specs.Prelude.{◌↔◌, ◌≡◌, List, length, take, IfOk, IfErr, true, false};
 ghost use Rattle.machine.specs.declared.act.Reply.{Reply};
 ghost use Rattle.engine.specs.Listening.{HasListened, HasHeard, HasStopped};
@@ -12,10 +12,10 @@ use machine::{Act, Machine, Shape, Step, steps_after_steps};
 use page_entry::Refusal;
 use std::alloc::Allocator;
 
-/// Opens the volume of a device, and boots a machine of this shape over it. A refusal hands the device back.
+/// Opens the volume of a device, and boots a machine of this shape over it. A failure returns the device.
 ///
-/// `NotAVolume`, `Damaged` and `Device` as `recovery::open`, `BadShape` as `Machine::boot`, and `OutOfMemory` where
-/// memory was refused.
+/// Fails with `NotAVolume`, `Damaged` and `Device` as `recovery::open` does, with `BadShape` as `Machine::boot` does,
+/// and with `OutOfMemory` if there is no memory.
 pub fn start<D: Device, A: Allocator + Copy>(
     alloc: A,
     device: D,
@@ -35,8 +35,8 @@ pub fn start<D: Device, A: Allocator + Copy>(
     }
 }
 
-// How many steps are fetched at a time, and what stands in the room for them before the first. A step that is fetched
-// by itself, between the pages that the steps around it copy, costs a cache miss of its own.
+// The number of steps that are fetched at a time. A step that is fetched alone costs a cache miss of its own, since the
+// steps around it copy pages.
 const PORTION: usize = 32;
 
 const NO_STEP: Step = Step {
@@ -44,7 +44,8 @@ const NO_STEP: Step = Step {
     act: Act::Idle,
 };
 
-// Makes one step after the other, and tells each reply before the next step, until the listener says to stop.
+// Makes the steps in order, and passes each reply to the listener before the next step, until the listener stops the
+// run.
 fn make_steps<D: Device, A: Allocator + Copy, L: Listener>(
     machine: &mut Machine<D, A>,
     steps: &[Step],
@@ -66,7 +67,8 @@ fn make_steps<D: Device, A: Allocator + Copy, L: Listener>(
     }
 }
 
-// Makes these steps, and tells each reply before the next step. Answers whether the listener never said to stop.
+// Makes these steps, and passes each reply to the listener before the next step. Returns false if the listener stopped
+// the run.
 fn make_portion<D: Device, A: Allocator + Copy, L: Listener>(
     machine: &mut Machine<D, A>,
     portion: &[Step],
@@ -86,19 +88,25 @@ fn make_portion<D: Device, A: Allocator + Copy, L: Listener>(
     true
 }
 
-/// Opens the volume of a device, boots a machine of this shape, makes the steps one at a time, tells each reply to the
-/// listener before the next step, and hands the device back. It ends after the last step, or where the listener says to
-/// stop.
+/// Opens the volume of a device, boots a machine of this shape, and makes the steps one at a time. Passes each reply to
+/// the listener before the next step. Ends after the last step, or when the listener stops the run, and returns the
+/// device.
 ///
-/// On an honest device each reply is by the rules and the laws of the machine. Whatever the steps are, also where
-/// device calls fail, what was stored survives (`HasRun.survives`): a crash within a step leaves what recovers to the
-/// volume's files after a prefix of the stores and length changes answered before it that is empty or ends at a mark
-/// and has every mark that was acknowledged; a crash after the last step, or none, by all of them. So it is after any
-/// number of further openings, each with a crash or none within and after it; and each opening answers exactly these
-/// files, or `Device` where a device call failed, or `OutOfMemory`, and never `NotAVolume` or `Damaged`. The same can
-/// be done again on the device that comes back, and on what a crash left of it.
+/// On an honest device each reply follows the rules and the laws of the machine. Whatever the steps are, and even if
+/// device calls fail, what was stored survives (`HasRun.survives`):
 ///
-/// A refusal as of `start`; nothing was told then.
+/// * A crash within a step leaves bytes that recover to the volume's files after a prefix of earlier events. The events
+///   are the stores and length changes answered before that step. The prefix is empty or ends at a mark, and contains
+///   each acknowledged mark.
+/// * The same holds after the last step, with or without a crash. The prefix is then one of all stores and length
+///   changes.
+/// * It still holds after any number of further openings, each with a crash or none within it and after it.
+/// * Each opening returns exactly these files, or fails with `Device` if a device call failed, or with `OutOfMemory`.
+///   It never fails with `NotAVolume` or `Damaged`.
+///
+/// All this can be repeated on the returned device, and on what a crash left of it.
+///
+/// Fails as `start` does. The listener has then received nothing.
 pub fn run<D: Device, A: Allocator + Copy, L: Listener>(
     alloc: A,
     device: D,

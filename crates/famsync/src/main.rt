@@ -22,7 +22,7 @@ fn main(rt: HostRuntime) -> ExitCode {
     }
 }
 
-// A word that isn't UTF-8 is invalid data, and that memory was refused is the only other failure.
+// A word that isn't UTF-8 is invalid data. The only other failure is a lack of memory.
 fn words_and_output(rt: &HostRuntime) -> io::Result<(Vec<String>, BufWriter<Stdout>)> {
     let alloc = rt.alloc();
     let words = env::args(rt)?.collect(alloc)?;

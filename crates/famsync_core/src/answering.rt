@@ -1,4 +1,4 @@
-// What is answered to a request of an open volume, as codes.
+// The replies to requests of an open volume, as codes.
 ghost use Rattle.std.specs.Prelude.{◌≡◌};
 ghost use Rattle.deferred_disk.specs.Deferred.{carried_moment};
 ghost use Rattle.famsync_core.specs.Held.{disk_of};
@@ -9,7 +9,7 @@ use crate::codes::{ARGUMENT, NONE, OK, code_of_outcome, code_of_reading, code_of
 use crate::volume::OpenVolume;
 use page_entry::{FileNumber, FilePage};
 
-/// Reads a page, if there is room for as many bytes as a page has.
+/// Reads a page into `to`, if `to` has exactly the length of a page.
 pub(crate) fn read_page(
     volume: &mut OpenVolume,
     page: FilePage,
@@ -29,7 +29,7 @@ pub(crate) fn read_page(
     code_of_reading(&outcome, wanted)
 }
 
-/// Writes a page of these bytes, if there are as many as a page has.
+/// Writes these bytes to a page, if they have exactly the length of a page.
 pub(crate) fn write_page(volume: &mut OpenVolume, page: FilePage, bytes: &[u8]) -> i32
     ensures { AnswersWrite volume.old page bytes.now result volume.new }
 {
@@ -52,7 +52,7 @@ pub(crate) fn change_length(
     code_of_reading(&outcome, wanted)
 }
 
-/// Makes a commit, and tells its mark.
+/// Makes a commit, and stores its mark in `mark`.
 pub(crate) fn make_commit(volume: &mut OpenVolume, mark: &mut u32, wanted: &mut u32) -> i32
     ensures answers { AnswersCommit volume.old result mark.old mark.new wanted.old wanted.new volume.new }
     ensures carried { carried_moment (disk_of volume.new) ≡ carried_moment (disk_of volume.old) }
@@ -66,7 +66,7 @@ pub(crate) fn make_commit(volume: &mut OpenVolume, mark: &mut u32, wanted: &mut 
     }
 }
 
-/// Makes further steps of the commits that were made.
+/// Makes further steps of earlier commits.
 pub(crate) fn make_steps(volume: &mut OpenVolume, most: u32, wanted: &mut u32) -> i32
     ensures answers { AnswersWriteOut most volume.old result wanted.old wanted.new volume.new }
     ensures carried { carried_moment (disk_of volume.new) ≡ carried_moment (disk_of volume.old) }

@@ -1,4 +1,4 @@
-// The codes that the calls answer, as famsync_core.h has them.
+// The codes that the calls return, as famsync_core.h defines them.
 ghost use Rattle.std.specs.Prelude.{◌≡◌};
 ghost use Rattle.famsync_core.specs.Codes.{refusal_code, outcome_code, reading_code, unread_block, unread_code, wanted_block};
 
@@ -19,7 +19,7 @@ pub(crate) const ORDER: i32 = -3;
 
 const OTHER: i32 = -38;
 
-// Why a request is refused.
+// Returns the code of a refusal.
 pub(crate) fn code_of_refusal(refusal: &Refusal) -> i32
     ensures { result ≡ refusal_code refusal.now }
 {
@@ -51,7 +51,7 @@ pub(crate) fn code_of_refusal(refusal: &Refusal) -> i32
     }
 }
 
-// A request that was carried out, or why it was refused.
+// Returns the code of a request that succeeded or was refused.
 pub(crate) fn code_of_outcome(outcome: &Result<(), Refusal>) -> i32
     ensures { result ≡ outcome_code outcome.now }
 {
@@ -61,7 +61,7 @@ pub(crate) fn code_of_outcome(outcome: &Result<(), Refusal>) -> i32
     }
 }
 
-// Why a request wasn't carried out, and the block that is wanted for it.
+// Returns the code of a request that failed. Stores the wanted block, if there is one.
 pub(crate) fn code_of_unread(why: &Unread, wanted: &mut u32) -> i32
     ensures code { result ≡ unread_code why.now }
     ensures wanted { wanted.new ≡ unread_block why.now wanted.old }
@@ -75,7 +75,7 @@ pub(crate) fn code_of_unread(why: &Unread, wanted: &mut u32) -> i32
     }
 }
 
-// What a reading came to, and the block that is wanted for it.
+// Returns the code of a request that may want a block, and stores that block.
 pub(crate) fn code_of_reading(outcome: &Result<(), Unread>, wanted: &mut u32) -> i32
     ensures code { result ≡ reading_code outcome.now }
     ensures wanted { wanted.new ≡ wanted_block outcome.now wanted.old }

@@ -1,4 +1,4 @@
-// The functions that a C program calls, as famsync_core.h has them.
+// The functions that a C program calls, as famsync_core.h declares them.
 ghost use Rattle.std.specs.Prelude.{◌≡◌, ℕ, ◌*◌, List, length};
 
 use crate::codes::{ARGUMENT, NO_MEMORY, OK};

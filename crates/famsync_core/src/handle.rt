@@ -1,4 +1,4 @@
-// What a C program has of a session.
+// The handle by which a C program refers to a session.
 ghost use Rattle.std.specs.Prelude.{◌≡◌};
 ghost use Rattle.std.specs.Box.Ownership.{box_owns};
 ghost use Rattle.std.specs.contracts.impls.GlobalAllocator.TheImpl.{ghosts as global};
@@ -9,7 +9,7 @@ use crate::state::State;
 use std::alloc::Global;
 use std::marker::Model;
 
-/// The address of a state on the heap, which is the handle's: whoever has the handle has the state.
+/// The address of a state on the heap. The owner of the handle owns the state.
 #[repr(C)]
 pub struct Handle {
     at: *mut u8,
@@ -22,7 +22,7 @@ impl Model for Handle {
 }
 
 impl Handle {
-    /// The state.
+    /// Returns the state.
     pub(crate) fn into_box(self) -> Box<State>
         ensures { result.value ≡ self.state }
     {

@@ -1,4 +1,4 @@
-// What a host does: it supplies blocks, lets the core forget some, and makes the calls that wait.
+// What a host does: it supplies blocks, makes the core forget some, and makes the waiting calls.
 ghost use Rattle.std.specs.Prelude.{◌≡◌, true, false, OnOk, OnErr};
 ghost use Rattle.std.specs.Option.{option_map, option_map_or};
 ghost use Rattle.deferred_disk.specs.Deferred.{after_forget};
@@ -41,7 +41,7 @@ impl State {
         }
     }
 
-    // Whether a block is one of the disk.
+    // Whether the disk has this block.
     fn has_block(&self, block: u32) -> bool
         ensures { result ≡ has_block self.now block }
     {
@@ -63,7 +63,7 @@ impl State {
         }
     }
 
-    /// Forgets a block, if no call that waits writes to it.
+    /// Forgets a block, unless a waiting call writes to it.
     pub(crate) fn forget(&mut self, block: u32) -> i32
         ensures { AnswersForget self.old block result self.new }
     {
@@ -84,7 +84,7 @@ impl State {
         }
     }
 
-    /// How many calls wait for the host.
+    /// Returns the number of calls that wait for the host.
     pub(crate) fn waiting(&self) -> usize
         ensures { result ≡ waiting_in self.now }
     {
@@ -95,7 +95,7 @@ impl State {
         }
     }
 
-    // The call that waits behind so many others.
+    // Returns the waiting call that has `others` older ones before it.
     fn lent(&self, others: usize) -> Option<DeferredCall<'_>>
         ensures { option_map change_lent result ≡ waits_in others self.now }
     {
@@ -106,7 +106,7 @@ impl State {
         }
     }
 
-    /// The call that waits behind so many others, as numbers.
+    /// Stores the waiting call that has `index` older ones before it, as numbers.
     pub(crate) fn call(
         &self,
         index: u32,
@@ -134,7 +134,7 @@ impl State {
         }
     }
 
-    /// The oldest calls were made.
+    /// Reports that the host has made the oldest `count` calls.
     pub(crate) fn carried_out(&mut self, count: u32) -> i32
         ensures { AnswersMade self.old count result self.new }
     {

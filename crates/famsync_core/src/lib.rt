@@ -1,4 +1,4 @@
-//! An embedded volume for programs in C: it makes no system call, and reports which writes and syncs it wants.
+//! An embedded volume for programs in C. It makes no system call, and reports the writes and syncs that it wants.
 #![tactic(auto)]
 
 mod answering;

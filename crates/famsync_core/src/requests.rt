@@ -1,4 +1,4 @@
-// What is asked of an open volume, and how one is opened.
+// The requests to an open volume, and its opening.
 ghost use Rattle.std.specs.Prelude.{◌≡◌, ℕ, ◌-◌, ◌^◌, min, is_some, IfSome, IfNone, None};
 ghost use Rattle.std.specs.Option.{option_map};
 ghost use Rattle.deferred_disk.specs.Deferred.{carried_moment};
@@ -17,7 +17,8 @@ use embedded::Unread;
 use page_entry::FilePage;
 use std::alloc::Global;
 
-// The page of a file with these numbers. One that is too large for its type is the largest, which no volume has.
+// Returns the page of a file with these numbers. A number too large for its type becomes the largest, which no volume
+// has.
 pub(crate) fn page_numbered(file: u32, page: u64) -> FilePage
     ensures { result ≡ page_numbered file page }
 {
@@ -27,7 +28,7 @@ pub(crate) fn page_numbered(file: u32, page: u64) -> FilePage
     }
 }
 
-// The most pages of a commit, where 0 stands for as many as its journals or its log take.
+// Returns the largest number of pages of a commit, where 0 means as many as the journals or the log can take.
 fn most_pages(pages: u32) -> u32
     ensures { result ≡ most_pages pages }
 {
@@ -51,7 +52,7 @@ impl State {
         }
     }
 
-    // Holds the volume that was opened, or keeps the disk that wasn't.
+    // Keeps the opened volume, or the disk if the opening failed.
     fn hold(
         &mut self,
         opened: Result<OpenVolume, (Unread, DeferredDisk<Global>)>,
@@ -101,7 +102,7 @@ impl State {
         write_page(volume, page_numbered(file, page), bytes)
     }
 
-    /// Makes a commit. In a volume with a log it may want a block: the steps that were made stay.
+    /// Makes a commit. In a volume with a log it may want a block; the steps that were made remain.
     pub(crate) fn commit(&mut self, mark: &mut u32, wanted: &mut u32) -> i32
         ensures order { IfNone self.old.volume ((result ≡ order_code) × (mark.new ≡ mark.old)
             × (wanted.new ≡ wanted.old) × (self.new ≡ self.old)) }
@@ -118,8 +119,8 @@ impl State {
         make_commit(volume, mark, wanted)
     }
 
-    /// Makes further steps of the commits that were made. In a volume with a log it may want a block: the steps that
-    /// were made stay.
+    /// Makes further steps of earlier commits. In a volume with a log it may want a block; the steps that were made
+    /// remain.
     pub(crate) fn write_out(&mut self, most: u32, wanted: &mut u32) -> i32
         ensures order { IfNone self.old.volume
             ((result ≡ order_code) × (wanted.new ≡ wanted.old) × (self.new ≡ self.old)) }

@@ -1,4 +1,4 @@
-// What is kept of a volume between two calls.
+// The state of a volume between two calls.
 ghost use Rattle.std.specs.Prelude.{◌≡◌, ℕ, ◌*◌, List, length};
 ghost use Rattle.deferred_disk.specs.Deferred.{deferred};
 ghost use Rattle.famsync_core.specs.Held.{unopened};
@@ -24,7 +24,7 @@ impl Model for State {
 }
 
 impl State {
-    /// Before anything is known of a volume of this many blocks, which have this content.
+    /// Returns the state of a volume with this many blocks, which have this content. None of them is known yet.
     pub(crate) fn begin(alloc: Global, blocks: u32) -> Self
         ghost content: { List ℕ }
         requires { length content ≡ 4096 * blocks }
@@ -37,7 +37,7 @@ impl State {
     }
 }
 
-// A disk of this many blocks, which have this content.
+// Returns a disk with this many blocks, which have this content.
 fn disk_of<A: Allocator + Copy>(alloc: A, blocks: u32) -> DeferredDisk<A>
     ghost content: { List ℕ }
     requires { length content ≡ 4096 * blocks }

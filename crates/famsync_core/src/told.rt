@@ -1,4 +1,4 @@
-// What is told of an open volume.
+// The properties of an open volume that a C program can ask for.
 ghost use Rattle.std.specs.Prelude.{◌≡◌, ℕ, ◌-◌, ◌^◌, min, pos, unwrap_or, IfSome, IfNone};
 ghost use Rattle.famsync_core.specs.Codes.{order_code};
 ghost use Rattle.famsync_core.specs.Held.{page_numbered};
@@ -11,14 +11,14 @@ use crate::state::State;
 use crate::volume::OpenVolume;
 use device::put;
 
-/// A count as C gets it.
+/// Returns a count as a C integer, at most 2^63 - 1.
 pub(crate) fn number_of(count: u64) -> i64
     ensures { result ≡ pos (min count (2 ^ 63 - 1)) }
 {
     i64::try_from(count).unwrap_or(i64::MAX)
 }
 
-// A mark as C gets it, 0 where there is none.
+// Returns a mark as a C integer, 0 if there is none.
 fn mark_of(mark: Option<u32>) -> i64
     ensures { result ≡ pos (unwrap_or mark 0) }
 {
@@ -28,7 +28,7 @@ fn mark_of(mark: Option<u32>) -> i64
     }
 }
 
-// The length of a file, and how many pages it can have.
+// Stores the length of a file, and the number of pages that it can have.
 fn tell_file(volume: &OpenVolume, file: u32, length: &mut u64, pages: &mut u64) -> i32
     ensures { AnswersFile volume.now file result length.old length.new pages.old pages.new }
 {
@@ -42,7 +42,7 @@ fn tell_file(volume: &OpenVolume, file: u32, length: &mut u64, pages: &mut u64) 
     OK
 }
 
-// Copies the name of a file, if it has room, and answers its length.
+// Copies the name of a file to `to`, if `to` has room, and returns its length.
 fn tell_name(volume: &OpenVolume, file: u32, to: &mut [u8]) -> i64
     ensures { AnswersName volume.now file result to.old to.new }
 {
@@ -59,7 +59,7 @@ fn tell_name(volume: &OpenVolume, file: u32, to: &mut [u8]) -> i64
     number_of(name.len() as u64)
 }
 
-// Of a log: its number of blocks, how many of these are in use, and how many commits it has.
+// Stores a log's numbers of blocks, of blocks in use, and of commits.
 fn tell_log(volume: &OpenVolume, blocks: &mut u64, used: &mut u64, commits: &mut u64) -> i32
     ensures { AnswersLog volume.now result blocks.old blocks.new used.old used.new commits.old commits.new }
 {
@@ -75,7 +75,7 @@ fn tell_log(volume: &OpenVolume, blocks: &mut u64, used: &mut u64, commits: &mut
 }
 
 impl State {
-    /// How many files the volume has.
+    /// Returns the number of files of the volume.
     pub(crate) fn files(&self) -> i64
         ensures { result ≡ told files_told self.now }
     {
@@ -85,7 +85,7 @@ impl State {
         }
     }
 
-    /// How many pages a commit can have.
+    /// Returns the largest number of pages that a commit can have.
     pub(crate) fn frames(&self) -> i64
         ensures { result ≡ told frames_told self.now }
     {
@@ -96,7 +96,7 @@ impl State {
         }
     }
 
-    /// How many blocks lie before those of the first file.
+    /// Returns the number of blocks before those of the first file.
     pub(crate) fn head(&self) -> i64
         ensures { result ≡ told head_told self.now }
     {
@@ -124,7 +124,7 @@ impl State {
         }
     }
 
-    /// The length of a file, and how many pages it can have.
+    /// Stores the length of a file, and the number of pages that it can have.
     pub(crate) fn file(&self, file: u32, length: &mut u64, pages: &mut u64) -> i32
         ensures order { IfNone self.now.volume
             ((result ≡ order_code) × (length.new ≡ length.old) × (pages.new ≡ pages.old)) }
@@ -137,7 +137,7 @@ impl State {
         }
     }
 
-    /// Copies the name of a file, and answers its length.
+    /// Copies the name of a file to `to`, and returns its length.
     pub(crate) fn file_name(&self, file: u32, to: &mut [u8]) -> i64
         ensures order { IfNone self.now.volume ((result ≡ order_code) × (to.new ≡ to.old)) }
         ensures answers { IfSome self.now.volume (λ v. AnswersName v file result to.old to.new) }
@@ -148,7 +148,7 @@ impl State {
         }
     }
 
-    /// The last mark that is durable, 0 where there is none.
+    /// Returns the last acknowledged mark, or 0 if there is none.
     pub(crate) fn acknowledged(&self) -> i64
         ensures { result ≡ told acknowledged_told self.now }
     {
@@ -159,7 +159,7 @@ impl State {
         }
     }
 
-    /// How many pages the next commit takes.
+    /// Returns the number of pages that the next commit takes.
     pub(crate) fn staged(&self) -> i64
         ensures { result ≡ told staged_told self.now }
     {
@@ -182,7 +182,8 @@ impl State {
         }
     }
 
-    /// How many pages are to be written home still; of a log, how many of its blocks are in use.
+    /// Returns the number of pages that commits still have to write home. For a log, returns the number of its blocks
+    /// in use.
     pub(crate) fn unwritten(&self) -> i64
         ensures { result ≡ told unwritten_told self.now }
     {
@@ -193,7 +194,7 @@ impl State {
         }
     }
 
-    /// Of a log: its number of blocks, how many of these are in use, and how many commits it has.
+    /// Stores a log's numbers of blocks, of blocks in use, and of commits.
     pub(crate) fn log(&self, blocks: &mut u64, used: &mut u64, commits: &mut u64) -> i32
         ensures order { IfNone self.now.volume ((result ≡ order_code) × (blocks.new ≡ blocks.old)
             × (used.new ≡ used.old) × (commits.new ≡ commits.old)) }

@@ -1,4 +1,4 @@
-// An open volume, which has journals or a log.
+// An open volume, with journals or with a log.
 ghost use Rattle.std.specs.Prelude.{◌≡◌, ◌↔◌, true, false, IsTrue, OnOk, OnErr};
 ghost use Rattle.page_entry.specs.declared.refusal.Refusal.TheVariants.{NotAVolume};
 ghost use Rattle.deferred_disk.specs.Deferred.{after_forget, carried_moment};
@@ -16,23 +16,23 @@ use page_entry::{FileNumber, FilePage, Refusal};
 use std::alloc::{AllocError, Global};
 use volume_codec::Super;
 
-/// An open volume, of one of two kinds.
+/// An open volume of one of two kinds.
 #[derive(Drop)]
 pub enum OpenVolume {
-    /// Of layouts 1 to 4.
+    /// A volume of layouts 1 to 4.
     Journals(Embedded<Global>),
-    /// Of layouts 5 and 6.
+    /// A volume of layouts 5 and 6.
     Log(EmbeddedLog<Global>),
 }
 
-// Whether a disk has no volume with journals.
+// Whether a disk has no volume with journals, as this failure reports.
 fn is_not_a_volume(why: &Unread) -> bool
     ensures { IsTrue result ↔ (why.now ≡ Refused NotAVolume) }
 {
     matches!(why, Unread::Refused(Refusal::NotAVolume))
 }
 
-/// Opens the volume of a disk, of whichever kind it is, or hands the disk back.
+/// Opens the volume of a disk, of either kind. A failure returns the disk.
 pub(crate) fn open_volume(
     alloc: Global,
     disk: DeferredDisk<Global>,
@@ -55,7 +55,7 @@ pub(crate) fn open_volume(
 }
 
 impl OpenVolume {
-    /// Its disk.
+    /// Returns the volume's disk.
     pub(crate) fn disk(&self) -> &DeferredDisk<Global>
         ensures { result.now ≡ disk_of self.now }
     {
@@ -65,7 +65,7 @@ impl OpenVolume {
         }
     }
 
-    /// Its table of files.
+    /// Returns the volume's table of files.
     pub(crate) fn table(&self) -> &Super<Global>
         ensures { result.now ≡ table_in self.now }
     {
@@ -75,7 +75,7 @@ impl OpenVolume {
         }
     }
 
-    /// The length of each file.
+    /// Returns the length of each file, in bytes.
     pub(crate) fn lengths(&self) -> &[u64]
         ensures value { result.now ≡ file_lengths self.now }
         ensures each { AreLengths (table_in self.now) (file_lengths self.now) }
@@ -86,7 +86,7 @@ impl OpenVolume {
         }
     }
 
-    /// The host has read this block.
+    /// Supplies the bytes of a block that the host has read. Fails if there is no memory.
     pub(crate) fn supply(&mut self, block: u32, bytes: &[u8; 4096]) -> Result<(), AllocError>
         ensures ok { OnOk result (self.new ≡ over_disk self.old (with_supplied (disk_of self.old) block bytes.now)) }
         ensures err { OnErr result (self.new ≡ self.old) }
@@ -97,7 +97,7 @@ impl OpenVolume {
         }
     }
 
-    /// Forgets a block, if the host needn't keep it.
+    /// Forgets a block, if the volume allows it. Returns whether it did.
     pub(crate) fn forget(&mut self, block: u32) -> bool
         ensures result { result ≡ may_lose self.old block }
         ensures forgotten { result ≡ true → self.new ≡ over_disk self.old (after_forget (disk_of self.old) block) }
@@ -109,7 +109,7 @@ impl OpenVolume {
         }
     }
 
-    /// The host has made the oldest call.
+    /// Reports that the host has made the oldest call.
     pub(crate) fn carried_out(&mut self)
         ensures { self.new ≡ without_oldest_call self.old }
     {
@@ -149,7 +149,7 @@ impl OpenVolume {
         }
     }
 
-    /// Makes a commit, up to its acknowledgement by the pager. In a log, steps make room for it first.
+    /// Makes a commit, until the pager acknowledges it. In a log, steps make room for it first.
     pub(crate) fn commit(&mut self) -> Result<u32, Unread>
         ensures made { IsCommitted self.old result self.new }
         ensures carried { carried_moment (disk_of self.new) ≡ carried_moment (disk_of self.old) }
@@ -163,7 +163,7 @@ impl OpenVolume {
         }
     }
 
-    /// Makes further steps of the commits that were made.
+    /// Makes further steps of earlier commits. Returns whether one is left.
     pub(crate) fn write_out(&mut self, most: u32) -> Result<bool, Unread>
         ensures made { IsWrittenHome most self.old result self.new }
         ensures carried { carried_moment (disk_of self.new) ≡ carried_moment (disk_of self.old) }

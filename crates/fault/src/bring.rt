@@ -1,4 +1,4 @@
-// The frame of the page of a fault: the one that has the page, or a free one into which it is read.
+// The frame for the page of a fault: the frame that already has the page, or a free one into which the page is read.
 ghost use Rattle.std.specs.Prelude.{◌≡◌, ◌+◌, ◌≤◌, true, false, length, is_err, is_ok, IfOk, IfErr, IsSome};
 ghost use Rattle.std.specs.List.{All};
 ghost use Rattle.page_entry.specs.declared.numbers.FilePage.{FilePage};
@@ -19,7 +19,7 @@ use page_entry::{FrameNumber, Refusal};
 use std::alloc::Allocator;
 
 // Rule: frozen page
-// Copies the bytes of the frame that has a page to a free copy frame; `Held` exactly where none is free.
+// Copies a frame's bytes to a free copy frame. Fails with `Held` exactly if no copy frame is free.
 fn keep_copy<A: Allocator + Copy>(
     frames: &mut Frames<A>,
     frame: FrameNumber,
@@ -34,7 +34,7 @@ fn keep_copy<A: Allocator + Copy>(
     Ok(frame)
 }
 
-// Reads a page that isn't in memory into a free frame. `Device` exactly where the read fails.
+// Reads a page that isn't in memory into a free frame. Fails with `Device` exactly if the read fails.
 fn read_in<D: Device, A: Allocator + Copy>(
     frames: &mut Frames<A>,
     device: &mut D,
@@ -55,8 +55,8 @@ fn read_in<D: Device, A: Allocator + Copy>(
     }
 }
 
-/// The frame with the page of a fault, which is read into a free one where no frame has it; a store to a held page
-/// takes a copy of its bytes. After a refusal the frames are as before.
+/// Returns the frame with the page of a fault. If no frame has the page, it is read into a free one. A store to a held
+/// page first copies the page's bytes. After a failure the frames are unchanged.
 pub(crate) fn frame_for<D: Device, A: Allocator + Copy>(
     frames: &mut Frames<A>,
     checkpoint: &Checkpoint<A>,

@@ -21,7 +21,7 @@ fn clear(bytes: &mut [u8])
 }
 
 // Rule: zeros past the end
-// Makes every byte of a page of a file zero from the file's end on, where the file has so many bytes.
+// Sets all bytes of a file's page from the file's end on to zero. `len` is the file's length in bytes.
 fn clear_past_end(page: &mut [u8; 4096], len: u64, index: PageIndex)
     ensures cut { page.new ≡ cut_to_length len index page.old }
     ensures page { IsPage page.old }
@@ -32,7 +32,8 @@ fn clear_past_end(page: &mut [u8; 4096], len: u64, index: PageIndex)
     }
 }
 
-/// Reads a page of a file with so many bytes, whose home block begins at an offset: zeros from the file's end on.
+/// Reads a page of a file of `len` bytes, whose home block begins at `home` on the device. The bytes past the file's
+/// end are zero.
 pub(crate) fn read_page<D: Device>(
     device: &mut D,
     home: u64,

@@ -1,5 +1,5 @@
-//! Page faults: where the address of a fault leads, and how the fault is served (POSIX.1-2024, `mmap`, "References
-//! within the address range"; Park, Kelly and Shen 2013, failure-atomic msync).
+//! Page faults: the place of a fault's address, and how the fault is served (POSIX.1-2024, `mmap`, "References within
+//! the address range"; Park, Kelly and Shen 2013, failure-atomic msync).
 #![tactic(auto)]
 
 mod bring;

@@ -1,4 +1,4 @@
-// What is decided of a fault, before anything is done.
+// The decision on a fault, before anything is done.
 ghost use Rattle.std.specs.Prelude.{◌≡◌, ◌&&◌, true, Some, not, Ok, Err, MatchResult, if◌then◌else◌};
 ghost use Rattle.std.specs.List.{All};
 ghost use Rattle.mappings.specs.Places.{may_write};
@@ -15,18 +15,18 @@ use mappings::Place;
 use page_entry::{FilePage, FrameNumber, PAGE, Refusal};
 use std::alloc::Allocator;
 
-/// What is to be done so that the page of a fault is in a frame.
+/// What serves a fault.
 #[derive(Clone, Copy, Debug, PartialEq, Eq)]
 pub(crate) enum Plan {
-    /// Nothing: this frame has it.
+    /// Nothing: this frame has the page.
     Keep(FrameNumber),
-    /// This frame has it, and its bytes are copied to a free copy frame.
+    /// This frame has the page, and its bytes are copied to a free copy frame.
     Copy(FrameNumber),
-    /// It is read into a free frame.
+    /// The page is read into a free frame.
     Read,
 }
 
-/// The page of a file that a place is.
+/// Returns the page of a file that a place maps.
 pub(crate) fn page_at(place: Place) -> FilePage
     ensures { result ≡ page_at place }
 {
@@ -44,7 +44,7 @@ fn has_free_frame<A: Allocator + Copy>(frames: &Frames<A>) -> bool
 }
 
 // Rule: frozen page
-// Whether an access to a page takes a copy of its bytes: a store to a held page does.
+// Whether an access to a page copies the page's bytes first. A store to a held page does.
 fn copies_out<A: Allocator + Copy>(
     frames: &Frames<A>,
     checkpoint: &Checkpoint<A>,
@@ -56,15 +56,15 @@ fn copies_out<A: Allocator + Copy>(
     write && checkpoint.is_held(frames, page)
 }
 
-// Whether a fault is of a store to a place that doesn't allow writing.
+// Whether the fault is a store to a place that doesn't allow writing.
 fn lacks_right(fault: PageFault) -> bool
     ensures { result ≡ (fault.write && not (may_write fault.place.rights)) }
 {
     fault.write && !fault.place.rights.may_write()
 }
 
-/// Decides what is to be done for the page of a fault, or why the fault isn't served, in the order of the reasons. Two
-/// come later: no copy frame is free, and the read fails.
+/// Decides how to serve a fault, or why it isn't served. The first reason that applies is returned. Two reasons show
+/// only later: no copy frame is free, or the read fails.
 pub(crate) fn decide<A: Allocator + Copy>(
     frames: &Frames<A>,
     checkpoint: &Checkpoint<A>,
@@ -91,7 +91,7 @@ pub(crate) fn decide<A: Allocator + Copy>(
     }
 }
 
-// What is to be done for a page that is in a frame, where its bytes are copied or aren't.
+// Returns the plan for a page that is in a frame. `copies` is whether its bytes are copied.
 fn plan_for(frame: FrameNumber, copies: bool) -> Plan
     ensures { result ≡ (if copies then Plan.Copy frame else Plan.Keep frame) }
 {
@@ -102,7 +102,7 @@ fn plan_for(frame: FrameNumber, copies: bool) -> Plan
     }
 }
 
-// What is to be done for a page that is in no frame, or why it can't be read.
+// Returns the plan for a page that is in no frame, or why it can't be read.
 fn plan_to_read<A: Allocator + Copy>(frames: &Frames<A>, broken: bool) -> Result<Plan, Refusal>
     ensures { result ≡ (if not (has_free frames.now.frames) then Err Refusal.NoFrame
         else (if broken then Err Refusal.Device else Ok Plan.Read)) }

@@ -1,4 +1,4 @@
-// The form in which files are written.
+// The form in which a caller writes files.
 ghost use Rattle.std.specs.Prelude.{◌≡◌, ℕ, List, OnOk};
 ghost use Rattle.std.specs.Io.KnownBytes.{Appends};
 
@@ -7,10 +7,10 @@ use std::alloc::AllocError;
 use std::io;
 use thiserror::Error;
 
-/// Why the files of a volume weren't written, or not all of them.
+/// Why the files of a volume were not written, or not all of them.
 #[derive(Debug, Drop, Error)]
 pub enum ListFault {
-    /// A file couldn't be read: a call of the device failed.
+    /// A file couldn't be read, since a device call failed.
     #[error("{0}")]
     Unreadable(Refusal),
     /// A form couldn't write what was read.
@@ -18,23 +18,23 @@ pub enum ListFault {
     Unwritten(WriteFault),
 }
 
-/// Why a form didn't write a head, a row or a page, or not all of it.
+/// Why a form did not write a head, a row or a page, or not all of it.
 #[derive(Debug, Drop, Error)]
 pub enum WriteFault {
     /// The output couldn't be written.
     #[error("output: {0}")]
     Output(#[from] io::Error),
-    /// Memory was refused.
+    /// There was no memory.
     #[error("out of memory")]
     Memory(#[from(alloc)] AllocError),
 }
 
-/// How the head of a file and a row of its bytes are written.
+/// Writes the head of a file, and rows of the file's bytes.
 pub trait Form {
-    /// The head of a file of this name and length.
+    /// The text of the head of a file with this name and length.
     ghost head_text: { Self → List ℕ → ℕ → List ℕ };
 
-    /// A row: these bytes, the first of which is at this offset of the file.
+    /// The text of a row with these bytes. The first byte is at this offset of the file.
     ghost row_text: { Self → ℕ → List ℕ → List ℕ };
 
     /// Writes the head of a file.

@@ -1,5 +1,5 @@
-//! The files of a volume as it recovers, read a page at a time, and written in a form of the caller's, as rows of 16
-//! bytes, or copied to another file.
+//! The files of a volume as it recovers, read a page at a time. They are written as rows of 16 bytes, in a form of the
+//! caller's, or copied to another file.
 #![tactic(auto)]
 
 mod form;

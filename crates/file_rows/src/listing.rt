@@ -1,4 +1,4 @@
-// The files of a volume in their order, and their rows.
+// The files of a volume in order, and their rows.
 ghost use Rattle.std.specs.Prelude.{◌≡◌, ◌==◌, ◌<◌, ◌*◌, ◌≤◌, List, length, slice_get, Some, IfOk, IfErr, OnOk};
 ghost use Rattle.std.specs.Io.KnownBytes.{Appends};
 ghost use Rattle.std.specs.List.{list_all};
@@ -20,11 +20,11 @@ use page_entry::Refusal;
 use std::alloc::Allocator;
 use std::io;
 
-/// Bytes in a row.
+/// The number of bytes in a row.
 const ROW: usize = 16;
 
-/// Writes the files of the volume of a device, as it recovers, in the table's order: of each its head, and its rows of
-/// 16 bytes that aren't all zero. The volume is refused as opening refuses it. The device is only read.
+/// Writes the files of a device's volume, as it recovers, in the order of its table. For each file it writes a head,
+/// and the rows of 16 bytes that aren't all zero. Fails as opening the volume fails. The device is only read.
 pub fn list_files<D: Device, A: Allocator + Copy, F: Form, W: io::Write>(
     alloc: A,
     device: &mut D,
@@ -93,7 +93,7 @@ fn write_file<V: FoundFiles, D: Device, F: Form, W: io::Write>(
     write_pages(volume, device, file, bytes, &Rows { form }, out)
 }
 
-// The pages of a file as their rows.
+// Writes the pages of a file as rows.
 #[derive(Clone, Copy)]
 struct Rows<'a, F> {
     form: &'a F,

@@ -1,4 +1,4 @@
-// The pages of a file, one after the other.
+// The pages of a file, in order.
 ghost use Rattle.std.specs.Prelude.{◌≡◌, ◌↔◌, ◌<◌, ◌+◌, ◌*◌, ◌≤◌, ◌^◌, ℕ, List, length, OnOk};
 ghost use Rattle.std.specs.Io.KnownBytes.{Appends};
 ghost use Rattle.recovery.specs.Reading.{IsOnlyRead};
@@ -13,9 +13,9 @@ use device::{BlockFile, Device};
 use page_entry::PAGE;
 use std::io;
 
-/// How a page of a file is written.
+/// Writes a page of a file.
 pub trait PageForm {
-    /// A page: these bytes, the first of which is at this offset of the file.
+    /// The text of a page with these bytes. The first byte is at this offset of the file.
     ghost page_text: { Self → ℕ → List ℕ → List ℕ };
 
     /// Writes a page.
@@ -24,7 +24,7 @@ pub trait PageForm {
         ensures { OnOk result (Appends (W.contents out.old) (W.contents out.new) (page_text self.now at page.now)) };
 }
 
-/// Writes all pages of a file of this length, and reads it a page at a time. The device is only read.
+/// Reads a file of this length a page at a time, and writes all its pages. The device is only read.
 pub fn write_pages<V: FoundFiles, D: Device, F: PageForm, W: io::Write>(
     volume: &V,
     device: &mut D,
@@ -58,7 +58,7 @@ pub fn write_pages<V: FoundFiles, D: Device, F: PageForm, W: io::Write>(
     Ok(())
 }
 
-/// Copies all pages of a file to another file of its length, and reads it a page at a time. The device is only read.
+/// Reads a file a page at a time, and copies all its pages to another file of the same length. The device is only read.
 pub fn copy_pages<V: FoundFiles, D: Device, F: BlockFile>(
     volume: &V,
     device: &mut D,

@@ -10,7 +10,8 @@ use device::Device;
 use page_entry::{PAGE, Refusal};
 use recovery::reading::read;
 
-/// Reads a page of a file of this length, or what there is of it.
+/// Reads a page of a file of `bytes` bytes into `part`. Of the last page it reads only the bytes up to the file's end.
+/// Fails with `Device` if the read fails.
 pub fn read_page<V: FoundFiles, D: Device>(
     volume: &V,
     device: &mut D,

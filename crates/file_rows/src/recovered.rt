@@ -1,4 +1,4 @@
-// The volume of a device as it recovers.
+// The recovered volume of a device.
 ghost use Rattle.std.specs.Prelude.{◌≡◌, ◌*◌, ◌<◌, ◌≤◌, length, slice_index, IfOk, IfErr};
 ghost use Rattle.volume_codec.specs.Super.{Fits, block_count, geometry_of};
 ghost use Rattle.volume_codec.specs.Recovery.{IsVolume};
@@ -15,7 +15,7 @@ use std::alloc::Allocator;
 use std::marker::Model;
 use volume_codec::Super;
 
-/// What the volume of a device recovers to: the table of its files, its open journals, the newest first, and the
+/// The state to which a device's volume recovers: the table of its files, its open journals, the newest first, and the
 /// length of each file. Files are counted from 0, in the table's order.
 #[derive(Drop)]
 pub struct Recovered<A: Allocator + Copy> {
@@ -38,9 +38,10 @@ impl<A: Allocator + Copy> Model for Recovered<A> {
 }
 
 impl<A: Allocator + Copy> Recovered<A> {
-    /// Finds what the volume of a device recovers to. It is refused as opening refuses it: `NotAVolume` where the bytes
-    /// are no volume, `Damaged` where they are a damaged one, `Device` where a device call failed. The device is only
-    /// read.
+    /// Finds the state to which a device's volume recovers. The device is only read.
+    ///
+    /// Fails as opening the volume does: with `NotAVolume` if the bytes are no volume, with `Damaged` if they are a
+    /// damaged volume, and with `Device` if a device call failed.
     pub fn find<D: Device>(alloc: A, device: &mut D) -> Result<Self, Refusal>
         ensures found { D.is_honest device.old → IfOk result (λ volume. IsRecovered volume (D.seen device.old)) }
         ensures long { IfOk result (λ volume. 4096 * block_count volume.table ≤ length (D.seen device.old)) }
@@ -57,7 +58,7 @@ impl<A: Allocator + Copy> Recovered<A> {
         })
     }
 
-    // The length of a file in bytes.
+    // Returns the length of a file in bytes.
     fn size(&self, file: usize) -> u64
         requires { file < length self.now.table.files }
         ensures { result ≡ slice_index self.now.lengths file }
@@ -97,7 +98,7 @@ impl<A: Allocator + Copy> FoundFiles for Recovered<A> {
     }
 }
 
-// The table of the volume of a device, and its open journals, the newest first.
+// Returns the table of a device's volume, and its open journals, the newest first.
 fn find_parts<D: Device, A: Allocator + Copy>(
     alloc: A,
     device: &mut D,

@@ -1,15 +1,16 @@
-// Guesses of the frames that pages are in.
+// Guesses of the frames that contain pages.
 ghost use Rattle.std.specs.Prelude.{◌<◌};
 
 use page_entry::{FilePage, FrameNumber};
 use std::alloc::{AllocError, Allocator, Global};
 use std::marker::Model;
 
-// For each page a guess of the frame that it is in, shared with other pages: the frame that one of them was put into
-// last. Nobody relies on a guess: who takes one looks whether the page is there.
+// For each page, a guess of the frame that contains it. Several pages share a guess, which is the frame that was filled
+// last with one of them. A guess may be wrong, so each caller checks that the frame has the page.
 #[derive(Drop)]
 pub(crate) struct Guesses<A: Allocator + Copy = Global> {
-    // A power of two, and 16 or more for each frame, so that where all frames are in use few pages share a guess.
+    // The length is a power of two, and at least 16 for each frame. So few pages share a guess even if all frames are
+    // in use.
     frames: Vec<FrameNumber, A>,
 }
 
@@ -24,7 +25,7 @@ impl<A: Allocator + Copy> Model for Guesses<A> {
 }
 
 impl<A: Allocator + Copy> Guesses<A> {
-    // For so many frames; nothing was put anywhere yet. Fails where memory is refused.
+    // Returns guesses for this many frames, with no page in any frame yet. Fails if there is no memory.
     pub(crate) fn new(alloc: A, frames: FrameNumber) -> Result<Self, AllocError> {
         let count = (16 * frames as usize).next_power_of_two();
         Ok(Guesses {
@@ -32,20 +33,20 @@ impl<A: Allocator + Copy> Guesses<A> {
         })
     }
 
-    // A guess of the frame that a page is in.
+    // Returns a guess of the frame that contains a page.
     pub(crate) fn guess(&self, page: FilePage) -> FrameNumber {
         self.frames[place_of_guess(page, self.frames.len())]
     }
 
-    // A page was put into a frame.
+    // Records that a page was put into a frame.
     pub(crate) fn put(&mut self, page: FilePage, frame: FrameNumber) {
         let place = place_of_guess(page, self.frames.len());
         self.frames[place] = frame;
     }
 }
 
-// The place of a page's guess among so many. Pages that follow each other in a file have different ones, and the first
-// pages of the files are far apart.
+// Returns the place of a page's guess among `count` guesses. Consecutive pages of a file have different places, and the
+// first pages of the files are far apart.
 fn place_of_guess(page: FilePage, count: usize) -> usize
     requires { 0 < count }
     ensures { result < count }

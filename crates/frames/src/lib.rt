@@ -1,5 +1,5 @@
-//! The frames of memory that hold pages of files, and the copy frames that keep a frame's bytes as they were. All
-//! memory is taken when they are made, so that no later call can fail for want of it.
+//! The frames of memory that contain pages of files, and the copy frames that keep earlier bytes of a frame. All memory
+//! is allocated when they are made, so that no later call can fail for lack of memory.
 #![tactic(auto)]
 
 ghost use Rattle.std.specs.Prelude.{◌≡◌, ◌&&◌, not, nat_lt, ◌+◌, ◌≤◌, length, Some, None, IfOk, IfErr, IfSome, IfNone, IsSome, is_ok, is_none, slice_get, count_by};
@@ -18,16 +18,16 @@ use pages::{Pages, zero_bytes};
 use std::alloc::{AllocError, Allocator, Global};
 use std::marker::Model;
 
-/// A copy frame, counted from 0.
+/// The number of a copy frame, counted from 0.
 pub type CopyNumber = u32;
 
-/// Frames of 4,096 bytes, each free or in use for one page of a file, and copy frames of 4,096 bytes, each free or with
-/// the page and the bytes that a frame had. A page is in one frame at most, and in one copy frame at most. No two
-/// numbers share memory: a write to a frame leaves every other frame and every copy.
+/// Frames and copy frames, of 4,096 bytes each. A frame is free, or in use for one page of a file. A copy frame is
+/// free, or contains the page and the earlier bytes of a frame. A page is in at most one frame, and in at most one copy
+/// frame. No two numbers share memory: a write to a frame leaves every other frame and every copy unchanged.
 #[derive(Drop)]
 pub struct Frames<A: Allocator + Copy = Global> {
     frames: Pages<A>,
-    // The frames in use, in the order of their pages. There is room for each frame.
+    // The frames in use, in the order of their pages, with room for all frames.
     order: ChunkedList<A>,
     guesses: Guesses<A>,
     copies: Pages<A>,
@@ -46,7 +46,7 @@ impl<A: Allocator + Copy> Model for Frames<A> {
 }
 
 impl<A: Allocator + Copy> Frames<A> {
-    /// So many frames, numbered from 0, and so many copy frames, each free. Fails where memory is refused.
+    /// Returns this many frames and copy frames, each numbered from 0 and free. Fails if there is no memory.
     pub fn new(alloc: A, frames: FrameNumber, copies: CopyNumber) -> Result<Self, AllocError>
         ensures { IfOk result (λ made. made ≡ all_free frames copies) }
     {
@@ -58,7 +58,7 @@ impl<A: Allocator + Copy> Frames<A> {
         })
     }
 
-    /// How many frames there are.
+    /// Returns the number of frames.
     pub fn count(&self) -> FrameNumber
         ensures count { result ≡ length self.now.frames }
         ensures are { AreFrames self.now }
@@ -66,14 +66,14 @@ impl<A: Allocator + Copy> Frames<A> {
         self.frames.count()
     }
 
-    /// How many copy frames there are.
+    /// Returns the number of copy frames.
     pub fn copy_count(&self) -> CopyNumber
         ensures { result ≡ length self.now.copies }
     {
         self.copies.count()
     }
 
-    /// How many frames are free.
+    /// Returns the number of free frames.
     pub fn free_count(&self) -> FrameNumber
         ensures count { result ≡ count_by is_none self.now.frames }
         ensures any { nat_lt 0 result ≡ has_free self.now.frames }
@@ -88,7 +88,7 @@ impl<A: Allocator + Copy> Frames<A> {
         self.order.is_empty() && self.copies.is_unused()
     }
 
-    /// The frames in use, in the order of their pages' home blocks: by file, then by page.
+    /// Returns the frames in use, in the order of their pages' home blocks: by file, then by page.
     pub fn in_order(&self) -> &ChunkedList<A>
         ensures order { AreInOrder self.now result.now.items }
         ensures few { length result.now.items ≤ length self.now.frames }
@@ -96,7 +96,7 @@ impl<A: Allocator + Copy> Frames<A> {
         &self.order
     }
 
-    /// The frame that has a page; none where no frame has it.
+    /// Returns the frame that has a page, or `None` if no frame has it.
     pub fn find(&self, page: FilePage) -> Option<FrameNumber>
         ensures found { IfSome result (λ frame. page_of (frame_at self.now frame) ≡ Some page) }
         ensures none { IfNone result (HasNoFrame self.now page) }
@@ -109,7 +109,7 @@ impl<A: Allocator + Copy> Frames<A> {
         self.search(page)
     }
 
-    // The frame that has a page, searched in the order.
+    // Returns the frame that has a page, by a search in the order.
     fn search(&self, page: FilePage) -> Option<FrameNumber>
         ensures found { IfSome result (λ frame. page_of (frame_at self.now frame) ≡ Some page) }
         ensures none { IfNone result (HasNoFrame self.now page) }
@@ -126,8 +126,7 @@ impl<A: Allocator + Copy> Frames<A> {
         }
     }
 
-    /// A frame that has this page or a later one of the same file: the frame of the first of them. None where no frame
-    /// has such a page.
+    /// Returns a frame that has this page or a later page of the same file. Returns `None` if no frame has such a page.
     pub fn find_from(&self, page: FilePage) -> Option<FrameNumber>
         ensures found { IfSome result (HasPageFrom self.now page) }
         ensures none { IfNone result (HasNoneFrom self.now page) }
@@ -145,8 +144,8 @@ impl<A: Allocator + Copy> Frames<A> {
     }
 
     // Rule: free frame
-    /// Gives a free frame to a page that no frame has, its bytes all 0; `NoFrame` exactly where none is free. Which of
-    /// the free frames it is stays open.
+    /// Takes a free frame for a page that no frame has, with all bytes 0. Fails with `NoFrame` exactly if no frame is
+    /// free. The contract leaves open which free frame it takes.
     pub fn take(&mut self, page: FilePage) -> Result<FrameNumber, Refusal>
         requires { HasNoFrame self.old page }
         ensures was_free { IfOk result (λ frame. slice_get self.old.frames frame ≡ Some None) }
@@ -158,8 +157,8 @@ impl<A: Allocator + Copy> Frames<A> {
         self.take_with(page, &zero_bytes())
     }
 
-    /// Gives a free frame to a page that no frame has, with these bytes; `NoFrame` exactly where none is free. Which of
-    /// the free frames it is stays open.
+    /// Takes a free frame for a page that no frame has, with these bytes. Fails with `NoFrame` exactly if no frame is
+    /// free. The contract leaves open which free frame it takes.
     pub fn take_with(&mut self, page: FilePage, bytes: &[u8; 4096]) -> Result<FrameNumber, Refusal>
         requires { HasNoFrame self.old page }
         ensures was_free { IfOk result (λ frame. slice_get self.old.frames frame ≡ Some None) }
@@ -188,7 +187,8 @@ impl<A: Allocator + Copy> Frames<A> {
         self.frames.give(frame);
     }
 
-    /// The page of a file that a frame is in use for; none for a free frame, or a number that no frame has.
+    /// Returns the page of a file for which a frame is in use. Returns `None` for a free frame, or for a number that no
+    /// frame has.
     pub fn owner(&self, frame: FrameNumber) -> Option<FilePage>
         ensures owner { result ≡ page_of (frame_at self.now frame) }
         ensures are { AreFrames self.now }
@@ -196,7 +196,7 @@ impl<A: Allocator + Copy> Frames<A> {
         self.frames.page(frame)
     }
 
-    /// The bytes of a frame.
+    /// Returns the bytes of a frame.
     pub fn bytes(&self, frame: FrameNumber) -> &[u8; 4096]
         requires { IsSome (frame_at self.now frame) }
         ensures bytes { result.now ≡ bytes_of (frame_at self.now frame) }
@@ -205,7 +205,7 @@ impl<A: Allocator + Copy> Frames<A> {
         self.frames.bytes(frame)
     }
 
-    /// Writes bytes into a frame, from the byte `at` on.
+    /// Writes bytes into a frame, beginning at byte `at`.
     pub fn write(&mut self, frame: FrameNumber, at: usize, bytes: &[u8])
         requires in_use { IsSome (frame_at self.old frame) }
         requires within { at + length bytes.now ≤ 4096 }
@@ -214,8 +214,8 @@ impl<A: Allocator + Copy> Frames<A> {
         self.frames.write(frame, at, bytes);
     }
 
-    /// Copies a frame, whose page no copy has, to one free copy frame; `Held` exactly where no copy frame is free.
-    /// Which of the free copy frames it is stays open.
+    /// Copies a frame to a free copy frame. No copy frame may have the frame's page yet. Fails with `Held` exactly if
+    /// no copy frame is free. The contract leaves open which free copy frame it takes.
     pub fn copy_out(&mut self, frame: FrameNumber) -> Result<CopyNumber, Refusal>
         requires in_use { IsSome (frame_at self.old frame) }
         requires uncopied { (page : FilePage) → page_of (frame_at self.old frame) ≡ Some page
@@ -232,7 +232,7 @@ impl<A: Allocator + Copy> Frames<A> {
             .ok_or(Refusal::Held)
     }
 
-    /// The copy that has a page; none where no copy has it.
+    /// Returns the copy frame that has a page, or `None` if no copy frame has it.
     pub fn copy_of(&self, page: FilePage) -> Option<CopyNumber>
         ensures found { IfSome result (λ copy. page_of (copy_at self.now copy) ≡ Some page) }
         ensures none { IfNone result (HasNoCopy self.now page) }
@@ -241,7 +241,7 @@ impl<A: Allocator + Copy> Frames<A> {
         self.copies.find(page)
     }
 
-    /// The bytes of a copy.
+    /// Returns the bytes of a copy frame.
     pub fn copy_bytes(&self, copy: CopyNumber) -> &[u8; 4096]
         requires { IsSome (copy_at self.now copy) }
         ensures bytes { result.now ≡ bytes_of (copy_at self.now copy) }

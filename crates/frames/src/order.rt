@@ -1,4 +1,4 @@
-// The order of the frames in use: by their pages.
+// The frames in use, ordered by their pages.
 ghost use Rattle.std.specs.Prelude.{None, slice_index_or};
 ghost use Rattle.std.specs.List.Sorted.{IsPartitionedBy};
 ghost use Rattle.frames.specs.Frames.{page_of};
@@ -10,7 +10,7 @@ use chunked_list::ChunkedList;
 use page_entry::FilePage;
 use std::alloc::Allocator;
 
-/// The place of a page in the order.
+/// Returns the place of a page in the order.
 pub(crate) fn place_of<A: Allocator + Copy>(
     frames: &Pages<A>,
     order: &ChunkedList<A>,

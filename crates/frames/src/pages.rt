@@ -1,4 +1,4 @@
-// Pages of 4,096 bytes under numbers, each free or in use for a page of a file.
+// Numbered pages of 4,096 bytes, each free or in use for a page of a file.
 ghost use Rattle.std.specs.Prelude.{◌≡◌, ◌≢◌, not, ◌+◌, ◌<◌, ◌≤◌, ℕ, vec_len, length, replicate, None, Some, IfOk, IfSome, IfNone, is_some, IsSome, slice_get, slice_set, slice_index_or};
 ghost use Rattle.slab.specs.Slab.{get, slab_len};
 ghost use Rattle.frames.specs.Frames.{Frame, zero_page, bytes_of, has_free, has_used, page_of, overwrite_frame};
@@ -9,10 +9,11 @@ use slab::Slab;
 use std::alloc::{AllocError, Allocator, Global};
 use std::marker::Model;
 
-// Pages of 4,096 bytes, each free or in use for a page of a file. A slab gives out their numbers.
+// Pages of 4,096 bytes, each free or in use for a page of a file. A slab assigns their numbers.
 #[derive(Drop)]
 pub(crate) struct Pages<A: Allocator + Copy = Global> {
-    // A page of a file for each number in use. Numbers past the bytes have one too, so that they are never given out.
+    // A page of a file for each number in use. Numbers that have no bytes are in use as well, so that the slab never
+    // assigns them.
     pages: Slab<FilePage, A>,
     bytes: Vec<[u8; 4096], A>,
 }
@@ -31,7 +32,7 @@ impl<A: Allocator + Copy> Model for Pages<A> {
 }
 
 impl<A: Allocator + Copy> Pages<A> {
-    // So many pages, each free.
+    // Returns this many free pages.
     pub(crate) fn new(alloc: A, count: u32) -> Result<Self, AllocError>
         ensures { IfOk result (λ pages. pages ≡ replicate count None) }
     {
@@ -40,7 +41,7 @@ impl<A: Allocator + Copy> Pages<A> {
         Ok(Pages { pages, bytes })
     }
 
-    // How many pages there are, free and in use.
+    // Returns the number of pages, free and in use.
     pub(crate) fn count(&self) -> u32
         ensures { result ≡ length self.now }
     {
@@ -59,7 +60,7 @@ impl<A: Allocator + Copy> Pages<A> {
         true
     }
 
-    // Gives a free page to this page of a file, with these bytes; none where each is in use.
+    // Takes a free page for this page of a file, with these bytes. Returns its number, or `None` if no page is free.
     pub(crate) fn insert(&mut self, page: FilePage, bytes: &[u8; 4096]) -> Option<u32>
         ensures was_free { IfSome result (λ number. slice_get self.old number ≡ Some None) }
         ensures page { IfSome result (λ number. self.new
@@ -75,7 +76,7 @@ impl<A: Allocator + Copy> Pages<A> {
         Some(number as u32)
     }
 
-    // Makes a page in use free.
+    // Frees a page in use.
     pub(crate) fn give(&mut self, number: u32)
         requires { IsSome (slice_index_or self.old number None) }
         ensures { self.new ≡ slice_set self.old number None }
@@ -83,7 +84,7 @@ impl<A: Allocator + Copy> Pages<A> {
         self.pages.remove(number as usize);
     }
 
-    // The page of a file that a number is in use for.
+    // Returns the page of a file for which a number is in use.
     pub(crate) fn page(&self, number: u32) -> Option<FilePage>
         ensures { result ≡ page_of (slice_index_or self.now number None) }
     {
@@ -104,7 +105,7 @@ impl<A: Allocator + Copy> Pages<A> {
         }
     }
 
-    // The lowest number that is in use for this page of a file.
+    // Returns a number that is in use for this page of a file, or `None` if there is none.
     pub(crate) fn find(&self, page: FilePage) -> Option<u32>
         ensures found { IfSome result (λ number. page_of (slice_index_or self.now number None) ≡ Some page) }
         ensures none { IfNone result ((number : ℕ) → page_of (slice_index_or self.now number None) ≢ Some page) }
@@ -117,7 +118,7 @@ impl<A: Allocator + Copy> Pages<A> {
         None
     }
 
-    // The bytes of a page in use.
+    // Returns the bytes of a page in use.
     pub(crate) fn bytes(&self, number: u32) -> &[u8; 4096]
         requires { IsSome (slice_index_or self.now number None) }
         ensures { result.now ≡ bytes_of (slice_index_or self.now number None) }
@@ -125,7 +126,7 @@ impl<A: Allocator + Copy> Pages<A> {
         &self.bytes[number as usize]
     }
 
-    // Writes these bytes into a page in use, from a place on.
+    // Writes these bytes into a page in use, beginning at byte `at`.
     pub(crate) fn write(&mut self, number: u32, at: usize, bytes: &[u8])
         requires in_use { IsSome (slice_index_or self.old number None) }
         requires within { at + length bytes.now ≤ 4096 }
@@ -138,7 +139,7 @@ impl<A: Allocator + Copy> Pages<A> {
     }
 }
 
-// So many pages.
+// Returns this many pages of zeros.
 fn zero_pages<A: Allocator>(alloc: A, count: usize) -> Result<Vec<[u8; 4096], A>, AllocError>
     ensures { IfOk result (λ pages. pages.items ≡ replicate count zero_page) }
 {
@@ -149,14 +150,14 @@ fn zero_pages<A: Allocator>(alloc: A, count: usize) -> Result<Vec<[u8; 4096], A>
     Ok(pages)
 }
 
-// A page of zeros.
+// Returns a page of zeros.
 pub(crate) fn zero_bytes() -> [u8; 4096]
     ensures { result ≡ zero_page }
 {
     [0; 4096]
 }
 
-// A slab that gives out the numbers below `count`, the lowest first, and no other.
+// Returns a slab that can assign only the numbers below `count`.
 fn numbers_below<A: Allocator>(alloc: A, count: usize) -> Result<Slab<FilePage, A>, AllocError>
     ensures room { IfOk result (λ pages. count ≤ pages.capacity) }
     ensures free { IfOk result
@@ -173,7 +174,7 @@ fn numbers_below<A: Allocator>(alloc: A, count: usize) -> Result<Slab<FilePage, 
     Ok(pages)
 }
 
-// Gives out every number that the slab has room for.
+// Assigns every number that the slab has room for.
 fn give_out_all<A: Allocator>(pages: &mut Slab<FilePage, A>)
     requires { slab_len pages.old ≡ 0 }
     ensures capacity { pages.new.capacity ≡ pages.old.capacity }
@@ -186,5 +187,5 @@ fn give_out_all<A: Allocator>(pages: &mut Slab<FilePage, A>)
     let _room = pages.capacity();
 }
 
-// Stands for a page at the numbers that have no bytes.
+// The page at the numbers that have no bytes.
 const NO_PAGE: FilePage = FilePage { file: 0, page: 0 };

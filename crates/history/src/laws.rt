@@ -12,10 +12,13 @@ use device::Device;
 use recovery::{kinds_of_bytes, opened_again, opened_as_recovered};
 use volume_codec::one_reading;
 
-/// Where a crash of an honest device leaves nothing but what a read gives, the files to which that recovers are found
-/// for good: after any number of openings, each with a crash or none within and after it (`permanent`). Where all that
-/// a crash may leave of one reads back as the files after a durable prefix of a history, so it does after any number of
-/// such openings, and each opening finds exactly these files (`durable`).
+/// States what openings of an honest device find after a crash.
+///
+/// If a crash can leave only the bytes that a read returns, the files to which these recover are permanent
+/// (`permanent`). They are found after any number of openings, each with a crash or none within it and after it.
+///
+/// Let all bytes that a crash may leave read back as the files after a durable prefix of a history. This still holds
+/// after any number of such openings. Each opening then finds exactly these files (`durable`).
 pub fn opened_later<D: Device>(device: &D)
     ensures permanent { (files : List File) (n : ℕ) (first later : D) → D.is_honest first
         → Only (D.may_leave first) (D.seen first) → RecoversTo (D.seen first) files
@@ -30,8 +33,8 @@ pub fn opened_later<D: Device>(device: &D)
     one_reading();
 }
 
-/// Where nothing was stored, the files are as they were: a history without events leaves them (`files`), and they are
-/// what is found after it (`found`).
+/// States that nothing changes if nothing was stored. A history without events leaves the files unchanged (`files`),
+/// and they are found after it (`found`).
 pub fn nothing_stored()
     ensures files { (files : List File) → files_after files [] ≡ files }
     ensures found { (files found : List File) → AreDurable files [] found → found ≡ files }

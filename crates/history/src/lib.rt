@@ -1,5 +1,5 @@
-//! Histories of stores, changes of lengths and marks: the files after a history, which prefixes are durable, and what
-//! openings find after a crash.
+//! Histories of stores, length changes and marks: the files after a history, its durable prefixes, and what openings
+//! find after a crash.
 #![tactic(auto)]
 
 mod laws;

@@ -1,9 +1,9 @@
-//! A horizon: how far the marks of a history have come, as two numbers that threads raise and read without a lock.
-//! `stalled` is the number of the last mark, for which the processors were stalled, and `committed` that of the last
-//! acknowledged one, which is durable (failure-atomic `msync`, Park et al. 2013). Marks are counted from 1, so 0
-//! stands for none; the numbers are from 0 to 2^64 - 1. Both only rise, and `committed` is never above `stalled`.
+//! A horizon: two numbers that show how far the marks of a history have come. Threads raise and read them without a
+//! lock. `stalled` is the number of the last mark for which the processors were stalled. `committed` is the number of
+//! the last acknowledged mark, which is durable (failure-atomic `msync`, Park et al. 2013). Marks are counted from 1,
+//! so 0 means none. The numbers are from 0 to 2^64 - 1. Both only rise, and `committed` is never above `stalled`.
 //!
-//! A call that takes `rt` may wait for another thread's step: what it ensures holds if it returns.
+//! A call that takes `rt` may wait for another thread's step. What it ensures holds if it returns.
 #![tactic(auto)]
 
 ghost use Rattle.std.specs.Prelude.{◌≡◌, ◌≤◌, IfOk};
@@ -17,8 +17,8 @@ use std::alloc::{AllocError, Global};
 use std::marker::Model;
 use std::sync::Wait;
 
-/// The two numbers, to be shared by reference. Contracts see it as its cell's identity, by which holders of different
-/// horizons are told apart.
+/// The two numbers, to be shared by reference. In contracts a horizon is the identity of its cell, which distinguishes
+/// the holders of different horizons.
 #[derive(Drop)]
 pub struct Horizon {
     words: Words,
@@ -34,9 +34,9 @@ impl Model for Horizon {
     ghost view = { λ h. h.words.table.shared.table_id };
 }
 
-/// What one holder of a horizon has seen of it: the mark numbers after its last call, which it never sees lower again.
-/// Contracts see beside them by how much its own calls have raised each number. It may go to another thread. Only its
-/// own calls change it.
+/// What one holder of a horizon has seen of it: the numbers after the holder's last call. The holder never sees a lower
+/// number later. In contracts it also has the amount by which the holder's own calls have raised each number. A holder
+/// may move to another thread. Only its own calls change it.
 #[derive(Drop)]
 pub struct Seen {
     holder: Holder,
@@ -63,7 +63,7 @@ impl Model for Seen {
 }
 
 impl Horizon {
-    /// A horizon at which both numbers are 0, and its first holder. Fails where memory is refused.
+    /// Returns a horizon at which both numbers are 0, and its first holder. Fails if there is no memory.
     pub fn new(alloc: Global) -> Result<(Self, Seen), AllocError>
         ensures { IfOk result (λ h. h.1 ≡ nothing_seen h.0) }
     {
@@ -71,8 +71,8 @@ impl Horizon {
         Ok((Horizon { words }, Seen { holder }))
     }
 
-    /// A further holder, which has seen as much as this one. It takes no memory. What it raises is counted on from what
-    /// this one raised.
+    /// Returns a further holder, which has seen the same numbers as this one. It allocates no memory. The amounts that
+    /// the new holder raises are counted on from those of this one.
     pub fn another(&self, seen: &mut Seen) -> Seen
         requires own { seen.old.cell ≡ self.now }
         ensures same { seen.new ≡ seen.old }
@@ -83,8 +83,8 @@ impl Horizon {
         }
     }
 
-    /// The mark numbers stalled and committed, both of one moment: at least what this holder has seen before. If the
-    /// call returns.
+    /// Returns the numbers `stalled` and `committed`, both of the same moment. If the call returns, each is at least
+    /// what this holder has seen before.
     pub fn read<R: Wait>(&self, rt: &R, seen: &mut Seen) -> (u64, u64)
         requires own { seen.old.cell ≡ self.now }
         ensures result { result ≡ (seen.new.stalled, seen.new.committed) }
@@ -95,8 +95,8 @@ impl Horizon {
         (words[0], words[1])
     }
 
-    /// Makes stalled the greater of itself and a mark's number, in one step. If the call returns, this holder has seen
-    /// the numbers after that step.
+    /// Raises `stalled` to a mark's number, if it is lower, in one step. If the call returns, this holder has seen the
+    /// numbers after that step.
     pub fn raise_stalled<R: Wait>(&self, rt: &R, seen: &mut Seen, mark: u64)
         requires own { seen.old.cell ≡ self.now }
         ensures raised { mark ≤ seen.new.stalled }
@@ -106,8 +106,8 @@ impl Horizon {
         self.raise(rt, seen, mark, 0);
     }
 
-    /// Makes each of the two numbers the greater of itself and a mark's number, in one step. If the call returns, this
-    /// holder has seen the numbers after that step.
+    /// Raises each of the two numbers to a mark's number, if it is lower, in one step. If the call returns, this holder
+    /// has seen the numbers after that step.
     pub fn raise_committed<R: Wait>(&self, rt: &R, seen: &mut Seen, mark: u64)
         requires own { seen.old.cell ≡ self.now }
         ensures raised { mark ≤ seen.new.committed }
@@ -117,8 +117,8 @@ impl Horizon {
         self.raise(rt, seen, mark, mark);
     }
 
-    /// Makes each of the two numbers the greater of itself and the one given for it, in one step. If the call returns,
-    /// this holder has seen the numbers after that step.
+    /// Raises each of the two numbers to the value given for it, if it is lower, in one step. If the call returns, this
+    /// holder has seen the numbers after that step.
     fn raise<R: Wait>(&self, rt: &R, seen: &mut Seen, stalled: u64, committed: u64)
         requires own { seen.old.cell ≡ self.now }
         requires ordered { committed ≤ stalled }

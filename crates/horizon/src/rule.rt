@@ -5,7 +5,7 @@ use atomic_table::Split;
 use crossbeam_utils::atomic::seq_cell::{Pass, RuledSeqCell};
 use crossbeam_utils::rule::{Outcome, Protocol};
 
-/// What a holder has seen, and by how much its steps raised each word. No value of it is made.
+/// What a holder has seen, and by how much its steps raised each word. No value of this type is made.
 pub struct View {
     pub stalled: u64,
     pub committed: u64,
@@ -13,7 +13,7 @@ pub struct View {
     pub committed_raised: u64,
 }
 
-/// Both words rise, and committed stays at most stalled.
+/// A step that raises the words. `committed` remains at most `stalled`.
 pub struct Rising;
 
 impl Protocol<[u64; 2], View> for Rising {
@@ -34,7 +34,7 @@ impl Outcome<[u64; 2], View> for Raise {
     ghost then = { Steps };
 }
 
-/// A further holder has seen as much as the one that it is made from.
+/// A step that makes a further holder, which has seen the same as the holder it is made from.
 pub struct Same;
 
 impl Split<View> for Same {

@@ -1,4 +1,4 @@
-// What the table has of a file.
+// A file's entry in the table.
 ghost use Rattle.std.specs.Prelude.{◌≡◌, ◌<◌, length, slice_index};
 ghost use Rattle.volume_codec.specs.Super.{capacities_in};
 ghost use Rattle.inspection.specs.Text.{name_of as name};
@@ -6,7 +6,7 @@ ghost use Rattle.inspection.specs.Text.{name_of as name};
 use std::alloc::Allocator;
 use volume_codec::Super;
 
-/// The name of a file.
+/// Returns the name of a file.
 pub fn name_of<A: Allocator + Copy>(table: &Super<A>, file: usize) -> &str
     requires { file < length table.now.files }
     ensures { result.now ≡ name table.now file }
@@ -14,7 +14,7 @@ pub fn name_of<A: Allocator + Copy>(table: &Super<A>, file: usize) -> &str
     table.name(file)
 }
 
-/// The number of bytes to which a file may grow.
+/// Returns the number of bytes to which a file may grow.
 pub fn capacity_of<A: Allocator + Copy>(table: &Super<A>, file: usize) -> u64
     requires { file < length table.now.files }
     ensures { result ≡ slice_index (capacities_in table.now) file }

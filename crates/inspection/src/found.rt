@@ -1,4 +1,4 @@
-// What is found of the volume of a device.
+// What is found of a device's volume.
 ghost use Rattle.std.specs.Prelude.{◌≡◌, length, IfOk, IfErr};
 ghost use Rattle.recovery.specs.Opening.{RefusesOpening};
 ghost use Rattle.recovery.specs.Reading.{IsOnlyRead};
@@ -13,14 +13,14 @@ use recovery::reading::{find_lengths, opening_calls};
 use std::alloc::Allocator;
 use volume_codec::{Descriptor, Super};
 
-/// What a journal says.
+/// What is found of a journal.
 #[derive(Drop)]
 pub struct Journal<A: Allocator + Copy> {
     /// Its number, counted from 0.
     pub number: u32,
     /// The first byte of its gate.
     pub gate: u8,
-    /// Its descriptor, where that byte opens it.
+    /// Its descriptor, if that byte opens the gate.
     pub descriptor: Option<Descriptor<A>>,
 }
 
@@ -29,17 +29,18 @@ pub struct Journal<A: Allocator + Copy> {
 pub struct Found<A: Allocator + Copy> {
     /// The layout, the record slots and the files.
     pub table: Super<A>,
-    /// The length of each file in bytes, as the volume recovers to.
+    /// The length in bytes of each file, as the volume recovers.
     pub lengths: Vec<u64, A>,
-    /// What each journal says, in their order.
+    /// The journals, in order.
     pub journals: Vec<Journal<A>, A>,
-    /// How many device calls opening makes.
+    /// The number of device calls that opening makes.
     pub calls: u64,
 }
 
-/// Finds what the bytes of a device say of its volume, and counts the device calls that opening makes. It is refused as
-/// opening refuses it: `NotAVolume` where the bytes are no volume, `Damaged` where they are a damaged one. `Device`,
-/// where a device call failed, and `OutOfMemory` may come in the place of any. The device is only read.
+/// Finds the volume in a device's bytes, and counts the device calls that opening makes. The device is only read.
+///
+/// Fails as opening fails: with `NotAVolume` if the bytes are no volume, and with `Damaged` if they are a damaged
+/// volume. It may fail instead with `Device`, if a device call failed, or with `OutOfMemory`.
 pub fn inspect<D: Device, A: Allocator + Copy>(
     alloc: A,
     device: &mut D,
@@ -54,7 +55,7 @@ pub fn inspect<D: Device, A: Allocator + Copy>(
     find(alloc, device)
 }
 
-// Finds what the bytes of a device say.
+// Finds the volume in a device's bytes.
 fn find<D: Device, A: Allocator + Copy>(alloc: A, device: &mut D) -> Result<Found<A>, Refusal>
     ensures found { D.is_honest device.old → IfOk result (IsFound (D.seen device.old)) }
     ensures count { IfOk result (λ found. length found.lengths.items ≡ length found.table.files) }

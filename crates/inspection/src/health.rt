@@ -1,4 +1,4 @@
-// Whether a volume is whole, and whether it needs opening.
+// Whether a volume is undamaged, and whether it needs opening.
 ghost use Rattle.std.specs.Prelude.{◌≡◌, Some, IfOk, IfErr};
 ghost use Rattle.std.specs.List.{list_any};
 ghost use Rattle.recovery.specs.Opening.{RefusesOpening};
@@ -13,12 +13,12 @@ use page_entry::Refusal;
 use std::alloc::Allocator;
 use std::fmt;
 
-/// How a volume is that isn't damaged.
+/// The state of a volume that isn't damaged.
 #[derive(Clone, Copy, Debug, PartialEq, Eq)]
 pub enum Health {
     /// All its gates are closed.
     Clean,
-    /// A journal is open, whose records opening will carry out.
+    /// A journal is open. Opening will write its records home.
     NeedsOpening,
 }
 
@@ -27,7 +27,7 @@ impl fmt::Display for Health {
 
     ghost output = { λ health. Some (health_words health) };
 
-    /// What `check` prints of it.
+    /// Writes the text that `check` prints.
     fn fmt<W: fmt::Write>(&self, f: &mut fmt::Formatter<W>) -> fmt::Result {
         f.write_str(match self {
             Health::Clean => "clean",
@@ -36,9 +36,10 @@ impl fmt::Display for Health {
     }
 }
 
-/// How the volume of a device is. It is refused as opening refuses it: `NotAVolume` where the bytes are no volume,
-/// `Damaged` where they are a damaged one. `Device`, where a device call failed, and `OutOfMemory` may come in the
-/// place of any. The device is only read.
+/// Returns the state of a device's volume. The device is only read.
+///
+/// Fails as opening fails: with `NotAVolume` if the bytes are no volume, and with `Damaged` if they are a damaged
+/// volume. It may fail instead with `Device`, if a device call failed, or with `OutOfMemory`.
 pub fn examine<D: Device, A: Allocator + Copy>(alloc: A, device: &mut D) -> Result<Health, Refusal>
     ensures health { D.is_honest device.old → IfOk result (IsHealth (D.seen device.old)) }
     ensures refused { D.is_honest device.old → IfErr result (RefusesOpening (D.seen device.old)) }
@@ -51,7 +52,7 @@ pub fn examine<D: Device, A: Allocator + Copy>(alloc: A, device: &mut D) -> Resu
     }
 }
 
-// How a volume is of which this was found.
+// Returns the state of the volume for which this was found.
 fn health_of<A: Allocator + Copy>(found: &Found<A>) -> Health
     ensures { result ≡ health_by (list_any is_open found.now.journals.items) }
 {

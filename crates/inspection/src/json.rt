@@ -1,4 +1,4 @@
-// What is found of a volume, as JSON. The members of an object are in the order of their names.
+// What is found of a volume, as JSON. The members of an object are ordered by name.
 ghost use Rattle.std.specs.Prelude.{◌≡◌, ◌<◌, length, map, IfOk};
 ghost use Rattle.serde_json.specs.Data.{Data};
 ghost use Rattle.serde_json.specs.View.{view};
@@ -14,7 +14,7 @@ use serde_json::{Value, json};
 use std::alloc::{AllocError, Allocator, Global};
 use volume_codec::{Descriptor, Super};
 
-/// What is found of a volume, as one object.
+/// Returns what is found of a volume, as one object.
 pub fn found_value<A: Allocator + Copy>(
     global: Global,
     found: &Found<A>,
@@ -31,7 +31,7 @@ pub fn found_value<A: Allocator + Copy>(
     volume_value(making, found.calls, files, journals)
 }
 
-// What values are made with: memory, and the table of the volume.
+// The arguments that each value needs: memory, and the table of the volume.
 #[derive(Clone, Copy)]
 struct Making<'t, A: Allocator + Copy> {
     global: Global,
@@ -63,7 +63,7 @@ fn volume_value<A: Allocator + Copy>(
     })
 }
 
-// The files, which have these lengths.
+// Returns the files, which have these lengths.
 fn files_value<A: Allocator + Copy>(
     making: Making<'_, A>,
     lengths: &[u64],
@@ -80,7 +80,7 @@ fn files_value<A: Allocator + Copy>(
     Ok(Value::Array(files))
 }
 
-// A file of this length.
+// Returns a file of this length.
 fn file_value<A: Allocator + Copy>(
     making: Making<'_, A>,
     file: usize,
@@ -97,7 +97,7 @@ fn file_value<A: Allocator + Copy>(
     file_object(global, name, bytes, capacity, pages, home)
 }
 
-/// A file, whose home blocks begin at `home`.
+/// Returns a file whose home blocks begin at `home`.
 pub fn file_object(
     global: Global,
     name: &str,
@@ -117,9 +117,9 @@ pub fn file_object(
     })
 }
 
-// What is listed of a volume with a table.
+// An item in a list of a volume with a table.
 trait Item {
-    // As a value.
+    // The item as a value of JSON.
     ghost json: { Self → SuperValue → Data };
 
     fn value<A: Allocator + Copy>(&self, making: Making<'_, A>) -> Result<Value, AllocError>
@@ -197,7 +197,7 @@ impl Item for u32 {
     }
 }
 
-/// How a volume is, as one object.
+/// Returns the state of a volume, as one object.
 pub fn health_value(global: Global, health: Health) -> Result<Value, AllocError>
     ensures { IfOk result (λ value. view value ≡ health_data health) }
 {
@@ -208,7 +208,7 @@ pub fn health_value(global: Global, health: Health) -> Result<Value, AllocError>
     json!(in global; {"state": state})
 }
 
-/// That a volume is damaged, for this cause.
+/// Returns an object that reports a volume as damaged, with this cause.
 pub fn damage_value(global: Global, cause: &str) -> Result<Value, AllocError>
     ensures { IfOk result (λ value. view value ≡ damage_data cause.now) }
 {

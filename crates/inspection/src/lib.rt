@@ -1,5 +1,5 @@
-//! What the bytes of a volume say: its table, its journals, what opening would carry out, and whether it is damaged;
-//! printed as text and as JSON. Nothing is written to the volume.
+//! Reads the bytes of a volume without writing to it: its table, its journals, what opening would carry out, and
+//! whether it is damaged. Prints them as text and as JSON.
 #![tactic(auto)]
 
 mod file;

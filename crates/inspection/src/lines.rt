@@ -17,7 +17,7 @@ use serde_json::{Value, json};
 use std::alloc::{AllocError, Allocator, Global};
 use std::io::Write;
 
-/// Writes a line with a value that has no float.
+/// Writes a value that has no float, as a line.
 pub fn write_line<W: Write>(global: Global, value: &Value, out: &mut W) -> Result<(), WriteFault>
     ensures { has_float (view value.now) ≡ false
         → OnOk result (Appends (W.contents out.old) (W.contents out.new) (json_line (view value.now))) }
@@ -27,9 +27,10 @@ pub fn write_line<W: Write>(global: Global, value: &Value, out: &mut W) -> Resul
     Ok(())
 }
 
-/// Writes the files of the volume of a device, as it recovers: for each a line with its name and its length, and one
-/// for each row of 16 bytes that aren't all zero, with its offset and the bytes in hexadecimal. The volume is refused
-/// as `AnyVolume::find` refuses it. The device is only read.
+/// Writes the files of a device's volume, as it recovers. Each file has a line with its name and its length, and a line
+/// for each row of 16 bytes that aren't all zero. That line has the row's offset and its bytes in hexadecimal.
+///
+/// Fails as `AnyVolume::find` fails. The device is only read.
 pub fn write_file_lines<D: Device, A: Allocator + Copy, W: Write>(
     global: Global,
     alloc: A,
@@ -47,7 +48,7 @@ pub fn write_file_lines<D: Device, A: Allocator + Copy, W: Write>(
     list_any(alloc, device, &JsonLines { global }, out)
 }
 
-// The files of a volume as lines of JSON.
+// Writes the files of a volume as lines of JSON.
 #[derive(Clone, Copy)]
 struct JsonLines {
     global: Global,

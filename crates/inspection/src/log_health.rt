@@ -1,4 +1,4 @@
-// Whether a volume with a log is whole, and whether its log has commits.
+// Whether a volume with a log is undamaged, and whether its log has commits.
 ghost use Rattle.std.specs.Prelude.{IfOk, IfErr};
 ghost use Rattle.log_recovery.specs.Reading.{ReadsAlone};
 ghost use Rattle.log_reading.specs.Logged.{RefusesLogReading};
@@ -10,9 +10,10 @@ use log_reading::read_log_volume;
 use page_entry::Refusal;
 use std::alloc::Allocator;
 
-/// How the volume with a log on a device is. It is refused as reading refuses it: `NotAVolume` where the bytes are no
-/// volume with a log, `Damaged` where they are a damaged one. `Device`, where a device call failed, and `OutOfMemory`
-/// may come in the place of any. The device is only read.
+/// Returns the state of the volume with a log on a device. The device is only read.
+///
+/// Fails as reading fails: with `NotAVolume` if the bytes are no volume with a log, and with `Damaged` if they are a
+/// damaged one. It may fail instead with `Device`, if a device call failed, or with `OutOfMemory`.
 pub fn examine_log<D: Device, A: Allocator + Copy>(
     alloc: A,
     device: &mut D,

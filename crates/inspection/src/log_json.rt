@@ -1,4 +1,4 @@
-// What is found of a volume with a log, as JSON. The members of an object are in the order of their names.
+// What is found of a volume with a log, as JSON. The members of an object are ordered by name.
 ghost use Rattle.std.specs.Prelude.{◌≡◌, ◌<◌, length, IfOk};
 ghost use Rattle.serde_json.specs.View.{view};
 ghost use Rattle.log_volume.specs.Super.{log_of};
@@ -16,7 +16,7 @@ use page_entry::PAGE;
 use serde_json::{Value, json};
 use std::alloc::{AllocError, Allocator, Global};
 
-/// What is found of a volume with a log, as one object.
+/// Returns what is found of a volume with a log, as one object.
 pub fn log_found_value<A: Allocator + Copy>(
     global: Global,
     found: &LoggedVolume<A>,
@@ -91,7 +91,7 @@ fn log_value(
     })
 }
 
-// The files, which have these lengths.
+// Returns the files, which have these lengths.
 fn files_value<A: Allocator + Copy>(
     global: Global,
     table: &LogSuper<A>,
@@ -109,7 +109,7 @@ fn files_value<A: Allocator + Copy>(
     Ok(Value::Array(files))
 }
 
-// A file of this length.
+// Returns a file of this length.
 fn file_value<A: Allocator + Copy>(
     global: Global,
     table: &LogSuper<A>,

@@ -15,7 +15,7 @@ use page_entry::PAGE;
 use std::alloc::Allocator;
 use std::io;
 
-/// The number of the layout in which commits are sealed so.
+/// Returns the number of the layout that seals its commits in this way.
 pub fn layout_of(sealing: Sealing) -> u64
     ensures { result ≡ log_layout sealing }
 {
@@ -25,7 +25,7 @@ pub fn layout_of(sealing: Sealing) -> u64
     }
 }
 
-/// The first home block of a file of a volume with a log.
+/// Returns the first home block of a file of a volume with a log.
 pub fn home_of<A: Allocator + Copy>(table: &LogSuper<A>, file: usize) -> u64
     requires { file < length table.now.files }
     ensures { result ≡ log_home_of table.now file }
@@ -53,7 +53,7 @@ pub fn write_log_found<A: Allocator + Copy, W: io::Write>(
     )
 }
 
-// The line of the volume.
+// Writes the line of the volume.
 fn write_log_volume<W: io::Write>(log: &LogGeometry, out: &mut W) -> io::Result<()>
     ensures { OnOk result (Appends (W.contents out.old) (W.contents out.new) (log_volume_line log.now)) }
 {
@@ -75,7 +75,7 @@ fn write_volume_text<W: io::Write>(
     )
 }
 
-// The lines of the files, which have these lengths.
+// Writes the lines of the files, which have these lengths.
 fn write_log_files<A: Allocator + Copy, W: io::Write>(
     table: &LogSuper<A>,
     lengths: &[u64],
@@ -91,7 +91,7 @@ fn write_log_files<A: Allocator + Copy, W: io::Write>(
     Ok(())
 }
 
-// The line of a file of this length.
+// Writes the line of a file of this length.
 fn write_log_file<A: Allocator + Copy, W: io::Write>(
     table: &LogSuper<A>,
     file: usize,
@@ -109,7 +109,7 @@ fn write_log_file<A: Allocator + Copy, W: io::Write>(
     write_file_text(name, bytes, capacity, pages, home, out)
 }
 
-// The line of the log.
+// Writes the line of the log.
 fn write_log<W: io::Write>(commits: usize, used: u64, epoch: u64, out: &mut W) -> io::Result<()>
     ensures { OnOk result (Appends (W.contents out.old) (W.contents out.new) (log_line commits used epoch)) }
 {

@@ -1,4 +1,4 @@
-// Which page of which file a home block is.
+// The page and the file of a home block.
 ghost use Rattle.std.specs.Prelude.{◌≡◌, ◌<◌, ◌+◌, ℕ, IfSome, Some, length, slice_index};
 ghost use Rattle.volume_codec.specs.Super.{SuperValue, pages_of, first_home_of, capacities_in};
 ghost use Rattle.inspection.specs.Places.{place_in};
@@ -13,7 +13,7 @@ pub struct HomePage {
     pub page: u32,
 }
 
-/// Which page of which file a home block is; none of a home block before those of the files.
+/// Returns the page of a file to which a home block belongs. Returns `None` for a home block before those of the files.
 pub fn place_of<A: Allocator + Copy>(table: &Super<A>, home: u32) -> Option<HomePage>
     ensures place { result ≡ place_in table.now home }
     ensures within { IfSome result (λ place. place.file < length table.now.files) }
@@ -30,7 +30,7 @@ pub fn place_of<A: Allocator + Copy>(table: &Super<A>, home: u32) -> Option<Home
     None
 }
 
-/// Each page of each file is the place of its home block.
+/// States that each page of each file is the place of its home block.
 pub fn pages_have_places()
     ensures { (v : SuperValue) (i p : ℕ) → i < length v.files → p < pages_of (slice_index (capacities_in v) i)
         → place_in v (first_home_of v i + p) ≡ Some (record { file = i; page = p }) }

@@ -1,4 +1,4 @@
-// What the bytes of a volume say of its table and its journals, read without changing them.
+// Reads a volume's table and journals without changing them.
 ghost use Rattle.std.specs.Prelude.{◌≡◌, ◌+◌, ◌*◌, ◌≤◌, ◌<◌, length, slice_index, IfOk, IfErr};
 ghost use Rattle.volume_codec.specs.Layout.{journals_of, gate_block, descriptor_blocks};
 ghost use Rattle.volume_codec.specs.Recovery.{IsVolume};
@@ -14,8 +14,8 @@ use recovery::reading::{OpenJournal, read, read_descriptor_of, read_open, read_t
 use std::alloc::Allocator;
 use volume_codec::{Geometry, OPEN_GATE, Super};
 
-/// The table of a device's volume, and its open journals, the newest first. `NotAVolume` and `Damaged` as opening
-/// judges them; but the lengths of the files aren't judged.
+/// Returns the table of a device's volume, and its open journals, the newest first. Fails with `NotAVolume` and
+/// `Damaged` as opening does. It doesn't check the lengths of the files.
 pub fn read_parts<D: Device, A: Allocator + Copy>(
     alloc: A,
     device: &mut D,
@@ -32,7 +32,7 @@ pub fn read_parts<D: Device, A: Allocator + Copy>(
     Ok((table, found))
 }
 
-// The first byte of a journal's gate.
+// Returns the first byte of a journal's gate.
 fn read_gate<D: Device>(device: &mut D, geometry: &Geometry, journal: u32) -> Result<u8, Refusal>
     requires there { journal < journals_of geometry.now.layout }
     requires long { 4096 * geometry.now.blocks ≤ length (D.seen device.old) }
@@ -47,7 +47,7 @@ fn read_gate<D: Device>(device: &mut D, geometry: &Geometry, journal: u32) -> Re
     Ok(gate[0])
 }
 
-// As many zeros as a descriptor has bytes.
+// Returns a vector of zeros with the length of a descriptor.
 fn descriptor_room<A: Allocator + Copy>(
     alloc: A,
     geometry: &Geometry,
@@ -62,7 +62,7 @@ fn descriptor_room<A: Allocator + Copy>(
     }
 }
 
-// What a journal says. `Damaged` where its gate is open and its descriptor breaks the grammar.
+// Reads a journal. Fails with `Damaged` if its gate is open and its descriptor breaks the grammar.
 fn read_journal<D: Device, A: Allocator + Copy>(
     alloc: A,
     device: &mut D,
@@ -94,7 +94,7 @@ fn read_journal<D: Device, A: Allocator + Copy>(
     }
 }
 
-/// What each journal says, in their order. `Damaged` where the descriptor of an open one breaks the grammar.
+/// Reads the journals, in order. Fails with `Damaged` if the descriptor of an open one breaks the grammar.
 pub fn read_journals<D: Device, A: Allocator + Copy>(
     alloc: A,
     device: &mut D,

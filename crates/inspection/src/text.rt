@@ -26,14 +26,14 @@ pub fn write_found<A: Allocator + Copy, W: io::Write>(
     write_calls(found.calls, out)
 }
 
-// The line of opening.
+// Writes the line of opening.
 fn write_calls<W: io::Write>(calls: u64, out: &mut W) -> io::Result<()>
     ensures { OnOk result (Appends (W.contents out.old) (W.contents out.new) (calls_line calls)) }
 {
     writeln!(out, "opening makes {calls} device calls")
 }
 
-// The line of the volume.
+// Writes the line of the volume.
 fn write_volume<A: Allocator + Copy, W: io::Write>(table: &Super<A>, out: &mut W) -> io::Result<()>
     ensures { OnOk result (Appends (W.contents out.old) (W.contents out.new) (volume_line table.now)) }
 {
@@ -47,7 +47,7 @@ fn write_volume<A: Allocator + Copy, W: io::Write>(table: &Super<A>, out: &mut W
     )
 }
 
-// The lines of the files, which have these lengths.
+// Writes the lines of the files, which have these lengths.
 fn write_files<A: Allocator + Copy, W: io::Write>(
     table: &Super<A>,
     lengths: &[u64],
@@ -63,7 +63,7 @@ fn write_files<A: Allocator + Copy, W: io::Write>(
     Ok(())
 }
 
-// The line of a file of this length.
+// Writes the line of a file of this length.
 fn write_file<A: Allocator + Copy, W: io::Write>(
     table: &Super<A>,
     file: usize,
@@ -80,7 +80,7 @@ fn write_file<A: Allocator + Copy, W: io::Write>(
     write_file_text(name, bytes, capacity, pages, home, out)
 }
 
-/// The line of a file, whose home blocks begin at `home`.
+/// Writes the line of a file whose home blocks begin at `home`.
 pub fn write_file_text<W: io::Write>(
     name: &str,
     bytes: u64,
@@ -98,7 +98,7 @@ pub fn write_file_text<W: io::Write>(
     write_capacity(bytes, capacity, out)
 }
 
-// The name of a file, before its size.
+// Writes the name of a file, before its size.
 fn write_file_name<W: io::Write>(name: &str, out: &mut W) -> io::Result<()>
     ensures { OnOk result (Appends (W.contents out.old) (W.contents out.new) (file_name name.now)) }
 {
@@ -111,7 +111,7 @@ fn write_file_size<W: io::Write>(bytes: u64, pages: u32, home: u64, out: &mut W)
     write!(out, "{bytes} bytes, {pages} pages, home {home}")
 }
 
-// The capacity of a file where that isn't its length, and the line's end.
+// Writes the capacity of a file, if it isn't the file's length, and ends the line.
 fn write_capacity<W: io::Write>(bytes: u64, capacity: u64, out: &mut W) -> io::Result<()>
     ensures { OnOk result (Appends (W.contents out.old) (W.contents out.new) (capacity_text bytes capacity)) }
 {
@@ -122,7 +122,7 @@ fn write_capacity<W: io::Write>(bytes: u64, capacity: u64, out: &mut W) -> io::R
     }
 }
 
-// The lines of the journals.
+// Writes the lines of the journals.
 fn write_journals<A: Allocator + Copy, W: io::Write>(
     table: &Super<A>,
     journals: &[Journal<A>],
@@ -137,7 +137,7 @@ fn write_journals<A: Allocator + Copy, W: io::Write>(
     Ok(())
 }
 
-// The line of a journal.
+// Writes the line of a journal.
 fn write_journal<A: Allocator + Copy, W: io::Write>(
     table: &Super<A>,
     journal: &Journal<A>,
@@ -157,14 +157,14 @@ fn write_journal_name<W: io::Write>(number: u32, out: &mut W) -> io::Result<()>
     write!(out, "journal {number}: gate ")
 }
 
-// The byte of a gate in two hexadecimal digits.
+// Writes the byte of a gate as two hexadecimal digits.
 fn write_gate<W: io::Write>(gate: u8, out: &mut W) -> io::Result<()>
     ensures { OnOk result (Appends (W.contents out.old) (W.contents out.new) (gate_text gate)) }
 {
     write!(out, "{gate:02x}")
 }
 
-// What the gate of a journal opens: nothing, or what this descriptor says.
+// Writes the state of a journal: closed, or the contents of its descriptor.
 fn write_state<A: Allocator + Copy, W: io::Write>(
     table: &Super<A>,
     descriptor: &Option<Descriptor<A>>,
@@ -179,7 +179,7 @@ fn write_state<A: Allocator + Copy, W: io::Write>(
     }
 }
 
-// What the descriptor of an open journal says.
+// Writes the descriptor of an open journal.
 fn write_descriptor<A: Allocator + Copy, W: io::Write>(
     table: &Super<A>,
     descriptor: &Descriptor<A>,
@@ -207,7 +207,7 @@ fn write_line_end<W: io::Write>(out: &mut W) -> io::Result<()>
     writeln!(out)
 }
 
-// Home blocks, each as a page of its file.
+// Writes home blocks, each as a page of its file.
 fn write_homes<A: Allocator + Copy, W: io::Write>(
     table: &Super<A>,
     homes: &[u32],
@@ -221,7 +221,7 @@ fn write_homes<A: Allocator + Copy, W: io::Write>(
     Ok(())
 }
 
-// A home block, as a page of its file.
+// Writes a home block as a page of its file.
 fn write_home<A: Allocator + Copy, W: io::Write>(
     table: &Super<A>,
     home: u32,

@@ -1,4 +1,4 @@
-// A batch that begins by its home blocks.
+// A batch that is begun with its list of home blocks.
 ghost use Rattle.std.specs.Prelude.{◌≡◌, ◌<◌, ◌≤◌, false, length};
 ghost use Rattle.std.specs.List.{AllByRecursion};
 ghost use Rattle.std.specs.Vec.{vec_capacity};
@@ -10,21 +10,21 @@ use crate::queued::Queued;
 use crate::write_outs::journal_after;
 use std::alloc::Allocator;
 
-// These home blocks, in the memory of another list.
+// Returns these home blocks as a list, in the memory of another one.
 fn filled<A: Allocator + Copy>(mut list: Vec<u32, A>, homes: &[u32]) -> Vec<u32, A>
     requires { length homes.now ≤ vec_capacity list }
     ensures items { result.items ≡ homes.now }
     ensures room { vec_capacity list ≤ vec_capacity result }
 {
     list.clear();
-    // There is room for them.
+    // The list has room for them.
     let _ = list.extend_from_slice(homes);
     list
 }
 
 impl<A: Allocator + Copy> WriteOuts<A> {
-    /// Begins the write-out of a batch of these home blocks, as `begin` does. It takes no memory and makes no device
-    /// call.
+    /// Begins the write-out of a batch of these home blocks, as `begin` does. It allocates no memory and makes no
+    /// device call.
     pub fn begin_blocks(&mut self, mark: u64, homes: &[u32])
         requires whole { self.old.broken ≡ false }
         requires free { is_busy self.old ≡ false }

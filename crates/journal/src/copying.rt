@@ -1,4 +1,4 @@
-// A record is written to its home block.
+// Copying a record to its home block.
 ghost use Rattle.std.specs.Prelude.{◌*◌, ◌<◌, ◌≤◌, is_ok, length};
 ghost use Rattle.device.specs.Did.{Did};
 ghost use Rattle.device.specs.Work.{CopyBlock};
@@ -7,7 +7,7 @@ ghost use Rattle.volume_codec.specs.Layout.{IsHome, journals_of, record_block};
 use device::{Device, DeviceFault, copy_block};
 use volume_codec::Geometry;
 
-/// Writes record `slot` of a journal to a home block: the record is read into `buffer`, and then written.
+/// Copies record `slot` of a journal to a home block: reads the record into `buffer`, and then writes it.
 pub(crate) fn apply_record<D: Device>(
     device: &mut D,
     geometry: &Geometry,

@@ -1,4 +1,4 @@
-// The batch of an open journal is finished, as recovery finds one.
+// Finishing the batch of an open journal, as recovery finds it.
 ghost use Rattle.std.specs.Prelude.{◌≡◌, ◌+◌, ◌*◌, ◌≤◌, false, length};
 ghost use Rattle.journal.specs.Finished.{Finishes};
 ghost use Rattle.volume_codec.specs.Layout.{descriptor_blocks};
@@ -9,10 +9,10 @@ use device::{Device, DeviceFault};
 use std::alloc::Allocator;
 use volume_codec::Geometry;
 
-// No record is written.
+// The bytes of a record to write. No step here writes one.
 const BLANK: [u8; 4096] = [0; 4096];
 
-// Makes the last steps of a committed write-out, as many as are left.
+// Makes the remaining steps of a committed write-out.
 fn make_steps<D: Device, A: Allocator + Copy>(
     device: &mut D,
     flush: &mut Flush<A>,
@@ -37,9 +37,9 @@ fn make_steps<D: Device, A: Allocator + Copy>(
     Ok(())
 }
 
-/// Finishes a batch whose gate is open, the oldest of its volume: its write-out goes on as after the step that
-/// committed it. Its records are written to their home blocks, which are synced; its gate is closed, and that is
-/// synced: 2k + 3 device calls where it has k records. It takes no memory.
+/// Finishes the oldest batch of its volume, whose gate is open. The write-out continues after the step that committed
+/// the batch. It writes the records to their home blocks and syncs, then closes the gate and syncs. A batch of k
+/// records takes 2k + 3 device calls. The call allocates no memory.
 pub fn finish<D: Device, A: Allocator + Copy>(
     device: &mut D,
     geometry: &Geometry,

@@ -43,8 +43,8 @@ impl<A: Allocator + Copy> Model for Flush<A> {
 }
 
 impl<A: Allocator + Copy> Flush<A> {
-    /// A write-out of a batch, before its first step: of these home blocks, in rising order, through this journal,
-    /// committed under this mark. It takes no memory.
+    /// Returns the write-out of a batch before its first step. The home blocks are in rising order. The batch goes
+    /// through this journal, and commits under this mark. It allocates no memory.
     pub fn new(geometry: Geometry, journal: u32, mark: u64, homes: Vec<u32, A>) -> Self
         requires { IsBatch geometry (record { journal = journal; mark = mark; homes = homes.items }) }
         ensures { result ≡ flush_of geometry
@@ -58,36 +58,35 @@ impl<A: Allocator + Copy> Flush<A> {
         }
     }
 
-    /// The batch is committed, and the first step after that comes next: its gate is open, and its records are to be
-    /// written home.
+    /// Sets the write-out to the first step after the commit: the gate is open, and the records are to be written home.
     pub(crate) fn set_committed(&mut self)
         ensures { self.new ≡ record self.old { write_out = committed_of self.old.write_out } }
     {
         self.queued.set_committed();
     }
 
-    /// The journal, counted from 0.
+    /// Returns the journal, counted from 0.
     pub fn journal(&self) -> u32
         ensures { result ≡ self.now.write_out.batch.journal }
     {
         self.queued.journal()
     }
 
-    /// The mark that the batch is committed under.
+    /// Returns the mark under which the batch commits.
     pub fn mark(&self) -> u64
         ensures { result ≡ self.now.write_out.batch.mark }
     {
         self.queued.mark()
     }
 
-    /// The home blocks, in rising order. Record i is for the block at place i.
+    /// Returns the home blocks, in rising order. Record i is for the block at place i.
     pub fn homes(&self) -> &[u32]
         ensures { result.now ≡ self.now.write_out.batch.homes }
     {
         self.queued.homes()
     }
 
-    /// The stage of the next step; `None` once the write-out is done.
+    /// Returns the stage of the next step, or `None` if the write-out is done.
     pub fn stage(&self) -> Option<Stage>
         ensures { result ≡ next_stage self.now.write_out }
     {
@@ -108,8 +107,8 @@ impl<A: Allocator + Copy> Flush<A> {
         self.queued.is_committed()
     }
 
-    /// The place of the record that the next step writes; `None` where that step is another, or no device call will
-    /// be made.
+    /// Returns the place of the record that the next step writes. Returns `None` if that step writes no record, or if a
+    /// device call has failed.
     pub fn next_record(&self) -> Option<u32>
         ensures place { result ≡ flush_record self.now }
         ensures within { IfSome result (λ place. place < length self.now.write_out.batch.homes) }
@@ -120,7 +119,7 @@ impl<A: Allocator + Copy> Flush<A> {
         self.queued.next_record()
     }
 
-    /// The home block of that record: the next step is given its new bytes.
+    /// Returns the home block of the record that the next step writes. The caller passes its new bytes to that step.
     pub fn next_home(&self) -> Option<u32>
         ensures { result ≡ flush_home self.now }
     {
@@ -137,10 +136,12 @@ impl<A: Allocator + Copy> Flush<A> {
         self.queued.has_block(home)
     }
 
-    /// The next step: what its stage asks is done. It answers what the stage does, or `Device` where a device call
-    /// failed; then the write-out is broken, and every later step answers `Broken`, makes no call and changes nothing.
-    /// `bytes` are the new ones of the block `next_home`, where there is one. A record that is applied is read into
-    /// `buffer`. It takes no memory.
+    /// Makes the next step, which does the work of its stage, and returns that stage's result. `bytes` are the new
+    /// bytes of the block `next_home`, if there is one. A record that is written home is first read into `buffer`. The
+    /// call allocates no memory.
+    ///
+    /// Returns `Device` if a device call failed. The write-out is broken then: every later step returns `Broken`, makes
+    /// no device call and changes nothing.
     pub fn step<D: Device>(
         &mut self,
         device: &mut D,
@@ -154,7 +155,8 @@ impl<A: Allocator + Copy> Flush<A> {
         ensures value { self.new ≡ flush_after self.old result }
         ensures did { Did D.Device device.old (flush_work self.old bytes.now) (has_done result) device.new }
 
-        // With the same Old and New this is so after the step, and a crash at any moment of it leaves what it may.
+        // With the same Old and New this still holds after the step. A crash within the step leaves only what it may
+        // leave.
         ensures leads { (v : SuperValue) (old new : ℕ → List ℕ) → D.is_honest device.old
             → HasLedAlone D.Device v self.old old new device.old
             → ((home : ℕ) → flush_home self.old ≡ Some home → bytes.now ≡ new home)
@@ -175,7 +177,7 @@ impl<A: Allocator + Copy> Flush<A> {
         answer
     }
 
-    /// The list of home blocks, so that its memory serves again.
+    /// Returns the list of home blocks, so that its memory can be reused.
     pub fn into_homes(self) -> Vec<u32, A>
         ensures items { result.items ≡ self.write_out.batch.homes }
         ensures room { vec_capacity result ≡ self.room }

@@ -1,4 +1,4 @@
-// A gate is opened or closed, by its first byte.
+// Opening or closing a gate by its first byte.
 ghost use Rattle.std.specs.Prelude.{◌*◌, ◌<◌, ◌≤◌, [], ◌∷◌, is_ok, length};
 ghost use Rattle.device.specs.Did.{Did};
 ghost use Rattle.device.specs.Work.{WriteAt};
@@ -7,7 +7,7 @@ ghost use Rattle.volume_codec.specs.Layout.{journals_of, gate_block};
 use device::{Device, DeviceFault, write_at};
 use volume_codec::Geometry;
 
-/// Writes the byte that opens or closes the gate of a journal. It is sure after the next sync.
+/// Writes the byte that opens or closes the gate of a journal. The byte is durable after the next successful sync.
 pub(crate) fn write_gate<D: Device>(
     device: &mut D,
     geometry: &Geometry,

@@ -1,4 +1,4 @@
-// What follows of the definitions alone.
+// Facts that follow from the definitions alone.
 ghost use Rattle.std.specs.Prelude.{◌≡◌, ◌↔◌, ℕ, ◌+◌, ◌*◌, ◌<◌, ◌≤◌, true, false, List, [], ◌∷◌, ◌++◌, length, map, slice_index, Contains, Some, None, IsSome, MatchBool};
 ghost use Rattle.std.specs.List.{list_any};
 ghost use Rattle.device.specs.Device.{Torn, Only};
@@ -20,8 +20,8 @@ ghost use Rattle.journal.specs.Alone.{HasLedAlone};
 
 use device::Device;
 
-/// Which steps the stages are, of a write-out of k blocks whose descriptor has d blocks: step k + d + 3 commits the
-/// batch, step 2k + d + 6 is the last one, and all steps together make 3k + d + 6 device calls.
+/// States the steps of some stages, for a write-out of k blocks whose descriptor has d blocks. Step k + d + 3 commits
+/// the batch, and step 2k + d + 6 is the last one. All steps together make 3k + d + 6 device calls.
 pub fn steps_of_a_write_out()
     ensures commits { (k d : ℕ) → stage_at k d (k + d + 2) ≡ Some Committing }
     ensures finishes { (k d : ℕ) → stage_at k d (2 * k + d + 5) ≡ Some Finishing }
@@ -30,15 +30,16 @@ pub fn steps_of_a_write_out()
         let d = descriptor_blocks g.slots in calls_in_steps g batch (2 * k + d + 6) ≡ 3 * k + d + 6 }
 {}
 
-/// A step answers that a batch is committed where it isn't before the step and is after it, and nowhere else.
+/// States that a step returns `Committed` exactly if it commits the batch: the batch is not committed before the step,
+/// and is committed after it.
 pub fn a_step_answers_what_it_commits()
     ensures { (w : WriteOut) (mark : ℕ) → (answer_of w ≡ Committed mark)
         ↔ ((mark ≡ w.batch.mark) × (has_committed w ≡ false) × (has_committed (advanced_of w) ≡ true)) }
 {}
 
-/// Whose step comes next: the newest one's, where its batch isn't committed, and only that one changes by it; where all
-/// after the oldest are committed, the oldest one's. (Of write-outs that `WriteOuts` keeps, none but the newest has a
-/// batch that isn't committed.)
+/// States which write-out makes the next step. If the newest batch isn't committed, its write-out does, and only that
+/// one changes. If all batches after the oldest are committed, the oldest write-out does. (In `WriteOuts` only the
+/// newest batch can be uncommitted.)
 pub fn whose_step_comes_next()
     ensures newest { (older : List WriteOut) (newest : WriteOut) → has_committed newest ≡ false
         → (current (older ++ newest ∷ []) ≡ Some newest)
@@ -47,9 +48,9 @@ pub fn whose_step_comes_next()
         → (current (oldest ∷ newer) ≡ Some oldest) × (advanced (oldest ∷ newer) ≡ advanced_of oldest ∷ newer) }
 {}
 
-/// The same where syncs are shared. The newest goes on by itself until its records are to be synced, and from there to
-/// its commit. Where it doesn't, the oldest that has something to write makes the next step alone. Where none has, all
-/// make it, by one sync.
+/// States which write-out makes the next step if syncs are shared. The newest makes its steps alone until its records
+/// are to be synced, and from there to its commit. Otherwise the oldest that has something to write makes the next step
+/// alone. If none has anything to write, all make the step, by one sync.
 pub fn whose_step_comes_next_with_shared_syncs()
     ensures ahead { (older : List WriteOut) (newest : WriteOut) → is_at is_ahead newest ≡ true
         → (moving true (older ++ newest ∷ []) ≡ Some newest)
@@ -65,36 +66,37 @@ pub fn whose_step_comes_next_with_shared_syncs()
         × (moved true (oldest ∷ newer) ≡ map advanced_of (oldest ∷ newer)) }
 {}
 
-/// Commits that follow one another make two syncs each, where syncs are shared: the step that commits a batch is the
-/// second, and by then the home blocks of the batch before are sure, and the closed gate of the one before that.
+/// States that consecutive commits make two syncs each if syncs are shared. The second sync commits a batch. By then
+/// the home blocks of the previous batch are durable, and so is the closed gate of the batch before that.
 pub fn two_syncs_a_commit()
     ensures { (g : GeometryValue) (outs : WriteOutsValue) (commits syncs : ℕ) → IsGeometry g
         → shares_syncs g.layout ≡ true → HaveCommitted g outs commits syncs → has_uncommitted outs.batches ≡ false
         → syncs ≡ 2 * commits }
 {}
 
-/// Once no batch follows, what is left of such commits makes two syncs more at most, up to the end of the last one.
+/// States that at most two more syncs finish the last of these commits, if no batch follows.
 pub fn two_more_syncs_at_the_end()
     ensures { (g : GeometryValue) (outs ended : WriteOutsValue) (commits syncs more : ℕ) → IsGeometry g
         → shares_syncs g.layout ≡ true → HaveCommitted g outs commits syncs → has_uncommitted outs.batches ≡ false
         → HaveGoneOn outs ended more → more ≤ 2 }
 {}
 
-/// Where syncs are shared, a batch may begin as soon as the one before is committed: at most two are under way then.
+/// States that, with shared syncs, a batch may begin once the previous one is committed. At most two batches are in
+/// progress then.
 pub fn a_journal_is_free<D: Device>(device: &D)
     ensures { (v : SuperValue) (outs : WriteOutsValue) (old new : ℕ → List ℕ)
         → HasLedTo D.Device v outs old new device.now → shares_syncs v.layout ≡ true
         → has_uncommitted outs.batches ≡ false → (length outs.batches ≤ 2) × (is_busy outs ≡ false) }
 {}
 
-/// A step makes no batch: each that isn't done after it was there before it.
+/// States that a step makes no batch: each batch that is not done after the step was there before it.
 pub fn no_step_makes_a_batch()
     ensures { (outs : WriteOutsValue) (answer : Flushed) (w : WriteOut) → Contains (outs_after outs answer).batches w
         → (before : WriteOut) × Contains outs.batches before × (before.batch ≡ w.batch) }
 {}
 
-/// Whatever led to such write-outs and such a device: what a crash may leave, what a read finds of the home
-/// blocks, and what is there once all batches are done.
+/// States what is on a device after any batches and steps that led to these write-outs: what a crash may leave, what a
+/// read of a home block returns, and what the device contains once all batches are done.
 pub fn what_write_outs_leave<D: Device>(device: &D)
     ensures left { (v : SuperValue) (outs : WriteOutsValue) (old new : ℕ → List ℕ)
         → HasLedTo D.Device v outs old new device.now → (c : List ℕ) → D.may_leave device.now c
@@ -108,7 +110,7 @@ pub fn what_write_outs_leave<D: Device>(device: &D)
         → IsVolume v [] (D.seen device.now) × Only (D.may_leave device.now) (D.seen device.now) }
 {}
 
-/// The same of a write-out that is alone in its volume: once it is done, New is on the disk and in no journal.
+/// States the same for the only write-out of a volume. Once it is done, New is on the disk, and no journal is open.
 pub fn what_a_write_out_leaves<D: Device>(device: &D)
     ensures left { (v : SuperValue) (flush : FlushValue) (old new : ℕ → List ℕ)
         → HasLedAlone D.Device v flush old new device.now → (c : List ℕ) → D.may_leave device.now c
@@ -123,8 +125,9 @@ pub fn what_a_write_out_leaves<D: Device>(device: &D)
         × ((b : ℕ) → IsHome (geometry_of v) b → block_at (D.seen device.now) b ≡ new b) }
 {}
 
-/// Bytes recover to the same contents, by the same batches, whatever becomes of a block that recovery doesn't read: a
-/// record slot or a block of the descriptor of a closed journal, or a home block that has a record in an open one.
+/// States that blocks which recovery doesn't read may change freely. The bytes still recover to the same contents, by
+/// the same batches. Such a block is in the record slots or the descriptor of a closed journal. Or it is a home block
+/// that has a record in an open journal.
 pub fn unread_blocks()
     ensures kept { (v : SuperValue) (opened : List Batch) (contents : ℕ → List ℕ) (c torn : List ℕ) (block n : ℕ)
         → RecoversBy v opened contents c → IsUnread v opened block → n ≤ 4096 → Torn (4096 * block) n c torn
@@ -140,9 +143,12 @@ pub fn unread_blocks()
 {}
 
 // Rule: torn gate
-/// What becomes of recovered contents where a gate's byte is torn. While the gate is open as it was, or closed as it
-/// was, they stay. Where it opens over a descriptor and records that are there, the batch's blocks get the records.
-/// Where the gate of the oldest batch closes, whose records are all at home, they stay.
+/// States how torn gate bytes change the recovered contents:
+///
+/// * If the gate remains open or remains closed, the contents are unchanged.
+/// * If the gate opens over a complete descriptor and its records, the records become the contents of the batch's
+///   blocks.
+/// * If the gate of the oldest batch closes, and its records are all at home, the contents are unchanged.
 pub fn torn_gates()
     ensures kept { (v : SuperValue) (opened : List Batch) (contents : ℕ → List ℕ) (c torn : List ℕ) (j : ℕ)
         → RecoversBy v opened contents c → j < journals_of v.layout → Torn (4096 * gate_block v.slots j) 1 c torn

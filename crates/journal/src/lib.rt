@@ -1,6 +1,6 @@
 //! The journal of a volume: a redo log (Park, Kelly and Shen 2013, failure-atomic msync). The blocks of a batch are
-//! recorded beside their homes, committed together by one byte, and then written home. What a crash leaves at any
-//! moment is said by the contents that a volume's bytes recover to.
+//! first written to record slots, then committed together by one byte, and then written home. Contracts describe what a
+//! crash leaves by the contents to which the volume's bytes recover.
 #![tactic(auto)]
 
 mod batch_of_blocks;

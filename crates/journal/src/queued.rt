@@ -1,4 +1,4 @@
-// A batch on its way, as a list of write-outs holds it: where the volume has its parts is said once, for all of them.
+// A batch in a list of write-outs. The list keeps the volume's geometry once for all of them.
 ghost use Rattle.std.specs.Prelude.{◌≡◌, ◌≢◌, ◌↔◌, ◌⊎◌, ◌*◌, ◌<◌, ◌≤◌, is_ok, IsTrue, IsSome, length, slice_index, Contains, Some, IfSome};
 ghost use Rattle.std.specs.Vec.{vec_capacity};
 ghost use Rattle.device.specs.Did.{Did};
@@ -18,13 +18,13 @@ use std::alloc::Allocator;
 use std::marker::Model;
 use volume_codec::{CLOSED_GATE, Geometry, OPEN_GATE, write_descriptor};
 
-/// A batch and how many steps of its write-out were made.
+/// A batch, and the number of steps that its write-out has made.
 #[derive(Drop)]
 pub(crate) struct Queued<A: Allocator + Copy> {
     journal: u32,
     mark: u64,
     homes: Vec<u32, A>,
-    // How many blocks the descriptor of its journal has.
+    // The number of blocks of the journal's descriptor.
     described: u32,
     steps: u32,
 }
@@ -46,7 +46,7 @@ impl<A: Allocator + Copy> Model for Queued<A> {
       room = vec_capacity w.homes;
     } };
 
-    // It is the write-out of a batch of some volume.
+    // This is the write-out of a batch of some volume.
     ghost invariant = { λ w. (g : GeometryValue) × IsFlush g (record {
       batch = record { journal = w.journal; mark = w.mark; homes = w.homes.items };
       described = w.described;
@@ -55,8 +55,8 @@ impl<A: Allocator + Copy> Model for Queued<A> {
 }
 
 impl<A: Allocator + Copy> Queued<A> {
-    /// A batch before its first step: of these home blocks, in rising order, through this journal, committed under
-    /// this mark.
+    /// Returns a batch before its first step. The home blocks are in rising order. The batch goes through this journal,
+    /// and commits under this mark.
     pub(crate) fn new(geometry: &Geometry, journal: u32, mark: u64, homes: Vec<u32, A>) -> Self
         requires { IsBatch geometry.now (record { journal = journal; mark = mark; homes = homes.items }) }
         ensures { result ≡ queued_of geometry.now.slots
@@ -72,35 +72,35 @@ impl<A: Allocator + Copy> Queued<A> {
         }
     }
 
-    /// The batch is committed: the first step after that comes next.
+    /// Sets the batch to the first step after its commit.
     pub(crate) fn set_committed(&mut self)
         ensures { self.new ≡ record self.old { write_out = committed_of self.old.write_out } }
     {
         self.steps = self.homes.len() as u32 + self.described + 3;
     }
 
-    /// The journal, counted from 0.
+    /// Returns the journal, counted from 0.
     pub(crate) fn journal(&self) -> u32
         ensures { result ≡ self.now.write_out.batch.journal }
     {
         self.journal
     }
 
-    /// The mark that the batch is committed under.
+    /// Returns the mark under which the batch commits.
     pub(crate) fn mark(&self) -> u64
         ensures { result ≡ self.now.write_out.batch.mark }
     {
         self.mark
     }
 
-    /// The home blocks, in rising order.
+    /// Returns the home blocks, in rising order.
     pub(crate) fn homes(&self) -> &[u32]
         ensures { result.now ≡ self.now.write_out.batch.homes }
     {
         &self.homes
     }
 
-    /// The stage of the next step; `None` once the write-out is done.
+    /// Returns the stage of the next step, or `None` if the write-out is done.
     pub(crate) fn stage(&self) -> Option<Stage>
         ensures { result ≡ next_stage self.now.write_out }
     {
@@ -127,7 +127,7 @@ impl<A: Allocator + Copy> Queued<A> {
         }
     }
 
-    /// Whether the batch isn't committed, and the sync of its records isn't what comes next.
+    /// Whether the batch isn't committed, and the next step isn't the sync of its records.
     pub(crate) fn is_ahead(&self) -> bool
         ensures { result ≡ is_at ahead self.now.write_out }
     {
@@ -137,7 +137,7 @@ impl<A: Allocator + Copy> Queued<A> {
         }
     }
 
-    /// The place of the record that the next step writes; `None` where that step is another.
+    /// Returns the place of the record that the next step writes, or `None` if that step writes no record.
     pub(crate) fn next_record(&self) -> Option<u32>
         ensures place { result ≡ next_record self.now.write_out }
         ensures within { IfSome result (λ place. place < length self.now.write_out.batch.homes) }
@@ -148,7 +148,7 @@ impl<A: Allocator + Copy> Queued<A> {
         }
     }
 
-    /// The home block of that record.
+    /// Returns the home block of the record that the next step writes.
     pub(crate) fn next_home(&self) -> Option<u32>
         ensures { result ≡ next_home self.now.write_out }
     {
@@ -156,7 +156,7 @@ impl<A: Allocator + Copy> Queued<A> {
         Some(self.home_at(record))
     }
 
-    // The home block at a place.
+    // Returns the home block at a place.
     fn home_at(&self, place: u32) -> u32
         requires { place < length self.now.write_out.batch.homes }
         ensures value { result ≡ slice_index self.now.write_out.batch.homes place }
@@ -172,7 +172,7 @@ impl<A: Allocator + Copy> Queued<A> {
         self.homes.binary_search(&home).is_ok()
     }
 
-    // Does what the step of this stage asks of the device.
+    // Does the work of this stage on the device.
     fn carry_out<D: Device>(
         &self,
         geometry: &Geometry,
@@ -211,7 +211,7 @@ impl<A: Allocator + Copy> Queued<A> {
         }
     }
 
-    /// What the next step answers where no device call fails.
+    /// Returns the result of the next step if no device call fails.
     pub(crate) fn answer(&self) -> Flushed
         requires { IsSome (next_stage self.now.write_out) }
         ensures { result ≡ answer_of self.now.write_out }
@@ -219,7 +219,7 @@ impl<A: Allocator + Copy> Queued<A> {
         self.stage().unwrap().answer(self.mark)
     }
 
-    /// The next step is made.
+    /// Counts the next step as made.
     pub(crate) fn advance(&mut self)
         requires { IsSome (next_stage self.old.write_out) }
         ensures { self.new ≡ queued_advanced self.old }
@@ -227,9 +227,9 @@ impl<A: Allocator + Copy> Queued<A> {
         self.steps += 1;
     }
 
-    /// The next step: what its stage asks is done. It answers what the stage does, or `Device` where a device call
-    /// failed. `bytes` are the new ones of the block `next_home`, where there is one. A record that is applied is read
-    /// into `buffer`. It takes no memory.
+    /// Makes the next step, which does the work of its stage, and returns that stage's result. Returns `Device` if a
+    /// device call failed. `bytes` are the new bytes of the block `next_home`, if there is one. A record that is
+    /// written home is first read into `buffer`. The call allocates no memory.
     pub(crate) fn step<D: Device>(
         &mut self,
         geometry: &Geometry,
@@ -255,7 +255,7 @@ impl<A: Allocator + Copy> Queued<A> {
         }
     }
 
-    /// The list of home blocks, so that its memory serves again.
+    /// Returns the list of home blocks, so that its memory can be reused.
     pub(crate) fn into_homes(self) -> Vec<u32, A>
         ensures items { result.items ≡ self.write_out.batch.homes }
         ensures room { vec_capacity result ≡ self.room }

@@ -1,4 +1,4 @@
-// The next step of write-outs: of one alone, or of all of them, which share a sync.
+// The next step of write-outs: one of them makes it alone, or all of them share a sync.
 ghost use Rattle.std.specs.Prelude.{◌≡◌, ◌≢◌, ◌⊎◌, ◌*◌, ◌<◌, ◌≤◌, if◌then◌else◌, IsSome, IfSome, IfNone, length, map, slice_index_or};
 ghost use Rattle.std.specs.List.{AllByRecursion};
 ghost use Rattle.std.specs.Option.{option_map_or};
@@ -17,7 +17,7 @@ use device::{Device, make_durable};
 use std::alloc::Allocator;
 use volume_codec::Geometry;
 
-// The step of each of them is made.
+// Counts the step of each of them as made.
 fn advance_all<A: Allocator + Copy>(queued: &mut Vec<Queued<A>, A>)
     requires going { AllByRecursion (λ w. IsSome (next_stage w)) (write_outs_in queued.old.items) }
     ensures queued { queued.new.items ≡ map queued_advanced queued.old.items }
@@ -28,7 +28,8 @@ fn advance_all<A: Allocator + Copy>(queued: &mut Vec<Queued<A>, A>)
     }
 }
 
-// One sync, by which each of them makes its step. It answers what the oldest one's does, or `Device`.
+// Makes one sync, which is the step of each of them. Returns the result of the oldest one's step, or `Device` if the
+// sync failed.
 fn share_sync<D: Device, A: Allocator + Copy>(
     queued: &mut Vec<Queued<A>, A>,
     device: &mut D,
@@ -51,8 +52,8 @@ fn share_sync<D: Device, A: Allocator + Copy>(
     answer
 }
 
-/// The next step of these write-outs: of the one at this place alone, or of all, which share a sync. It answers what
-/// the step does, or `Device` where a device call failed.
+/// Makes the next step of these write-outs: of the one at `place` alone, or of all, which share a sync. Returns the
+/// step's result, or `Device` if a device call failed.
 pub(crate) fn step_next<D: Device, A: Allocator + Copy>(
     queued: &mut Vec<Queued<A>, A>,
     place: Option<usize>,

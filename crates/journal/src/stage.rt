@@ -4,31 +4,31 @@ ghost use Rattle.journal.specs.Stage.{stage_at, is_committed as committed, has_w
 
 use crate::Flushed;
 
-/// A stage of a write-out. Each is one step.
+/// A stage of a write-out. Each stage is one step.
 #[derive(Clone, Copy, PartialEq, Eq, Debug)]
 pub enum Stage {
-    /// Record i is written, from 0.
+    /// Writes record i, counted from 0.
     Recording(u32),
-    /// Block i of the descriptor is written, from 0.
+    /// Writes block i of the descriptor, counted from 0.
     Describing(u32),
-    /// Records and descriptor are made sure.
+    /// Syncs the records and the descriptor.
     SyncingRecords,
-    /// The gate is opened.
+    /// Opens the gate.
     Opening,
-    /// The open gate is made sure. This commits the batch.
+    /// Syncs the open gate. This commits the batch.
     Committing,
-    /// Record i is written to its home block.
+    /// Writes record i to its home block.
     Applying(u32),
-    /// The home blocks are made sure.
+    /// Syncs the home blocks.
     SyncingHomes,
-    /// The gate is closed.
+    /// Closes the gate.
     Closing,
-    /// The closed gate is made sure.
+    /// Syncs the closed gate.
     Finishing,
 }
 
 impl Stage {
-    /// Whether the batch is committed at this stage: the open gate is sure.
+    /// Whether the batch is committed at this stage, so that the open gate is durable.
     pub fn is_committed(self) -> bool
         ensures { result ≡ committed self }
     {
@@ -57,14 +57,14 @@ impl Stage {
         }
     }
 
-    // Whether the batch isn't committed, and the sync of its records isn't what comes next.
+    // Whether the batch isn't committed, and the next step isn't the sync of its records.
     pub(crate) fn is_ahead(self) -> bool
         ensures { result ≡ ahead self }
     {
         !self.is_committed() && self != Stage::SyncingRecords
     }
 
-    /// What the step of this stage of a mark's write-out answers, where its device calls succeed.
+    /// Returns the result of this stage's step, for the write-out of this mark, if the device calls succeed.
     pub fn answer(self, mark: u64) -> Flushed
         ensures { result ≡ answer_at mark self }
     {
@@ -77,8 +77,8 @@ impl Stage {
 }
 
 // Rule: closing order
-/// The next stage of a write-out of so many blocks, whose descriptor has `described` blocks, after so many steps;
-/// `None` once it is done.
+/// Returns the stage of a write-out of `blocks` blocks after `steps` steps. Its descriptor has `described` blocks.
+/// Returns `None` if the write-out is done.
 #[tactic(auto, using(crate::proofs::Stages::stage_at_is_by, std::proofs::lemmas::Bool::Decides::nat_tests))]
 pub fn stage_at(blocks: u32, described: u32, steps: u32) -> Option<Stage>
     ensures { result ≡ stage_at blocks described steps }

@@ -25,18 +25,18 @@ use std::alloc::{AllocError, Allocator};
 use std::marker::Model;
 use volume_codec::{Geometry, Super};
 
-/// The write-outs of a volume that aren't done: at most one for each journal. A batch may be recorded and committed
-/// while an older one is still applied; its own application waits until the older one is done or, where syncs are
-/// shared, until the older one's home blocks are sure.
+/// The write-outs of a volume that aren't done, at most one for each journal. A batch may be recorded and committed
+/// before an older one is written home. To be written home, it waits until the older one is done. With shared syncs it
+/// waits only until the older one's home blocks are durable.
 #[derive(Drop)]
 pub struct WriteOuts<A: Allocator + Copy> {
     pub(crate) geometry: Geometry,
     pub(crate) next: u32,
-    // The oldest first. There is room for one in each journal.
+    // The oldest first, with room for one in each journal.
     pub(crate) queued: Vec<Queued<A>, A>,
-    // Lists with room for the home blocks of a batch, for the journals that have none.
+    // Lists for the home blocks of a batch, one for each journal that has no batch.
     pub(crate) spare: Vec<Vec<u32, A>, A>,
-    // Records are read into it on their way to their home blocks.
+    // A record is read into it before it is written home.
     buffer: [u8; 4096],
     broken: bool,
 }
@@ -57,7 +57,7 @@ impl<A: Allocator + Copy> Model for WriteOuts<A> {
         (map (λ list. vec_capacity list) o.spare.items) (vec_capacity o.spare) };
 }
 
-// The journal whose turn it is after this one.
+// Returns the journal that takes its turn after this one.
 pub(crate) fn journal_after(geometry: &Geometry, journal: u32) -> u32
     requires { journal < journals_of geometry.now.layout }
     ensures { result ≡ following geometry.now.layout journal }
@@ -69,7 +69,7 @@ pub(crate) fn journal_after(geometry: &Geometry, journal: u32) -> u32
     }
 }
 
-// Lists of home blocks, as many as journals, each with room for as many blocks as there are slots.
+// Returns one list of home blocks for each journal, with room for as many blocks as there are slots.
 fn spare_lists<A: Allocator + Copy>(
     alloc: A,
     journals: usize,
@@ -87,12 +87,12 @@ fn spare_lists<A: Allocator + Copy>(
     Ok(lists)
 }
 
-// A block to read into.
+// Returns a block to read into.
 fn blank_block() -> [u8; 4096] {
     [0; 4096]
 }
 
-// The home block of a page.
+// Returns the home block of a page.
 fn home_of<A: Allocator + Copy>(table: &Super<A>, page: FilePage) -> u32
     requires { HasHome table.now page }
     ensures { result ≡ home_of table.now page }
@@ -101,7 +101,8 @@ fn home_of<A: Allocator + Copy>(table: &Super<A>, page: FilePage) -> u32
     table.first_home(page.file as usize) + page.page
 }
 
-// The home block of the lengths, where one was set, in the memory of another list.
+// Returns a list with the home block of the lengths if a length was set, and an empty list otherwise. It uses the
+// memory of another list.
 fn refilled<A: Allocator + Copy>(
     mut list: Vec<u32, A>,
     table: &Super<A>,
@@ -113,13 +114,13 @@ fn refilled<A: Allocator + Copy>(
 {
     list.clear();
     if resized {
-        // There is room for it.
+        // The list has room for it.
         let _ = list.push(table.geometry().first_home());
     }
     list
 }
 
-// Then those of pages.
+// Adds the home blocks of pages to a list.
 fn add_homes<A: Allocator + Copy>(list: &mut Vec<u32, A>, table: &Super<A>, pages: &[FilePage])
     requires room { vec_len list.old + length pages.now ≤ vec_capacity list.old }
     requires pages { All (HasHome table.now) pages.now }
@@ -127,13 +128,13 @@ fn add_homes<A: Allocator + Copy>(list: &mut Vec<u32, A>, table: &Super<A>, page
     ensures room { vec_capacity list.old ≤ vec_capacity list.new }
 {
     for page in pages {
-        // There is room for it.
+        // The list has room for it.
         let _ = list.push(home_of(table, *page));
     }
 }
 
-// What follows of a step's answer: the oldest leaves where it is done, and its list is spare again; or a device call
-// has failed.
+// Applies a step's result. If the oldest write-out is done, it leaves, and its list becomes spare. If a device call
+// failed, the write-outs are broken.
 fn conclude<A: Allocator + Copy>(
     queued: &mut Vec<Queued<A>, A>,
     spare: &mut Vec<Vec<u32, A>, A>,
@@ -160,7 +161,8 @@ fn conclude<A: Allocator + Copy>(
 }
 
 impl<A: Allocator + Copy> WriteOuts<A> {
-    /// No write-outs yet, with memory for one batch in each journal, of as many blocks as a journal has record slots.
+    /// Returns no write-outs, with memory for one batch in each journal. Each batch may have as many blocks as a
+    /// journal has record slots.
     pub fn new(alloc: A, geometry: Geometry) -> Result<Self, AllocError>
         ensures { IfOk result (λ outs. outs ≡ none_of geometry) }
     {
@@ -176,7 +178,7 @@ impl<A: Allocator + Copy> WriteOuts<A> {
         })
     }
 
-    /// Whether they are as `new` leaves them.
+    /// Whether they are in the state that `new` returns.
     pub fn is_fresh(&self) -> bool
         ensures { IsTrue result ↔ (self.now ≡ none_of self.now.geometry) }
     {
@@ -190,14 +192,14 @@ impl<A: Allocator + Copy> WriteOuts<A> {
         self.queued.is_empty()
     }
 
-    /// Whether a device call failed in a step. Then no further step is made.
+    /// Whether a device call failed in a step. No further step is made then.
     pub fn is_broken(&self) -> bool
         ensures { result ≡ self.now.broken }
     {
         self.broken
     }
 
-    // Whether a batch isn't committed: then it is the newest.
+    // Whether a batch isn't committed. Only the newest can be uncommitted.
     fn has_uncommitted(&self) -> bool
         ensures { result ≡ has_uncommitted self.now.batches }
     {
@@ -208,7 +210,8 @@ impl<A: Allocator + Copy> WriteOuts<A> {
     }
 
     // Rule: busy
-    /// Whether no further batch may begin: one isn't committed, or as many aren't done as there are journals.
+    /// Whether no further batch may begin. Either a batch isn't committed, or the number of unfinished batches equals
+    /// the number of journals.
     pub fn is_busy(&self) -> bool
         ensures { result ≡ is_busy self.now }
     {
@@ -227,8 +230,8 @@ impl<A: Allocator + Copy> WriteOuts<A> {
         false
     }
 
-    // The place of the write-out whose stage decides what a crash leaves: the newest, where its batch isn't committed,
-    // or else the oldest. Where no sync is shared it makes the next step.
+    // Returns the place of the write-out whose stage decides what a crash leaves. It is the newest if its batch isn't
+    // committed, and the oldest otherwise. Without shared syncs it also makes the next step.
     fn current_place(&self) -> Option<usize>
         ensures some { IfSome result (IsCurrent self.now.batches) }
         ensures lone { IfSome result (IsLone false self.now.batches) }
@@ -238,7 +241,7 @@ impl<A: Allocator + Copy> WriteOuts<A> {
         Some(if self.has_uncommitted() { last } else { 0 })
     }
 
-    // The place of the oldest that has something to write.
+    // Returns the place of the oldest write-out that has something to write.
     fn writer_place(&self) -> Option<usize>
         ensures some { IfSome result (IsFirst (is_at has_writes) self.now.batches) }
         ensures none { IfNone result (list_any (is_at has_writes) self.now.batches ≡ false) }
@@ -251,7 +254,7 @@ impl<A: Allocator + Copy> WriteOuts<A> {
         None
     }
 
-    // Where syncs are shared, the place of the write-out that makes the next step; `None` where all share a sync.
+    // Returns the place of the write-out that makes the next step with shared syncs, or `None` if all share a sync.
     fn sharing_place(&self) -> Option<usize>
         ensures lone { IfSome result (IsLone true self.now.batches) }
         ensures joint { IfNone result (self.now.batches ≢ [] → IsJoint true self.now.batches) }
@@ -270,7 +273,7 @@ impl<A: Allocator + Copy> WriteOuts<A> {
         self.geometry.journals() == 4
     }
 
-    // The place of the write-out that makes the next step; `None` where all share a sync.
+    // Returns the place of the write-out that makes the next step, or `None` if all share a sync.
     fn lone_place(&self) -> Option<usize>
         ensures lone { IfSome result (IsLone (in_common self.now.geometry.layout) self.now.batches) }
         ensures joint { IfNone result (self.now.batches ≢ []
@@ -283,8 +286,8 @@ impl<A: Allocator + Copy> WriteOuts<A> {
         }
     }
 
-    /// The stage that decides what a crash leaves: of the batch that isn't committed, or if there is none of the
-    /// oldest. It is the stage of the next step where no sync is shared. `None` where every batch is done.
+    /// Returns the stage that decides what a crash leaves: that of the uncommitted batch, or else of the oldest one.
+    /// Without shared syncs it is the stage of the next step. Returns `None` if every batch is done.
     pub fn stage(&self) -> Option<Stage>
         ensures { result ≡ current_stage self.now }
     {
@@ -292,8 +295,8 @@ impl<A: Allocator + Copy> WriteOuts<A> {
         self.queued[at].stage()
     }
 
-    /// The place, in its batch, of the record that the next step writes; `None` where that step is another, or no
-    /// device call will be made.
+    /// Returns the place, in its batch, of the record that the next step writes. Returns `None` if that step writes no
+    /// record, or if a device call has failed.
     pub fn next_record(&self) -> Option<u32>
         ensures { result ≡ outs_record self.now }
     {
@@ -304,7 +307,7 @@ impl<A: Allocator + Copy> WriteOuts<A> {
         self.queued[at].next_record()
     }
 
-    /// The home block of that record: the next step is given its new bytes.
+    /// Returns the home block of the record that the next step writes. The caller passes its new bytes to that step.
     pub fn next_home(&self) -> Option<u32>
         ensures { result ≡ outs_home self.now }
     {
@@ -315,10 +318,11 @@ impl<A: Allocator + Copy> WriteOuts<A> {
         self.queued[at].next_home()
     }
 
-    /// Begins the write-out of a batch of pages of the table's files, in rising order, after the block of the files'
-    /// lengths where one was set, under a mark above those of all that aren't done. It goes through the journal whose
-    /// turn it is: journals take turns by batches, from journal 0 on, and that one is free since the write-outs aren't
-    /// busy. It takes no memory and makes no device call.
+    /// Begins the write-out of a batch of pages of the table's files, in rising order. If a length was set, the block
+    /// of the lengths comes first. The mark is above those of all unfinished batches.
+    ///
+    /// Journals take turns by batches, from journal 0 on. The batch goes through the next one, which is free since the
+    /// write-outs aren't busy. The call allocates no memory and makes no device call.
     pub fn begin(&mut self, mark: u64, table: &Super<A>, resized: bool, pages: &[FilePage])
         requires whole { self.old.broken ≡ false }
         requires free { is_busy self.old ≡ false }
@@ -336,14 +340,16 @@ impl<A: Allocator + Copy> WriteOuts<A> {
         self.next = journal_after(&self.geometry, self.next);
     }
 
-    /// The next step: of the batch that isn't committed, or if there is none of the oldest. What its stage asks is
-    /// done. It answers what the stage does, or `Device` where a device call failed; then the write-outs are broken,
-    /// and every later step answers `Broken`, makes no call and changes nothing. `bytes` are the new ones of the block
-    /// `next_home`, where there is one. It takes no memory.
+    /// Makes the next step: of the uncommitted batch, or else of the oldest one. The step does the work of its stage,
+    /// and this returns that stage's result. `bytes` are the new bytes of the block `next_home`, if there is one. The
+    /// call allocates no memory.
     ///
-    /// In a layout of four journals write-outs share their syncs: before the records of a batch are synced, the gate
-    /// of the oldest is closed and the home blocks of the one after it are written, and the sync of the records is
-    /// that of both. So commits that follow one another make two syncs each.
+    /// Returns `Device` if a device call failed. The write-outs are broken then: every later step returns `Broken`,
+    /// makes no device call and changes nothing.
+    ///
+    /// In a layout of four journals write-outs share their syncs. Before the records of a batch are synced, the gate of
+    /// the oldest is closed, and the home blocks of the one after it are written. The sync of the records then serves
+    /// both of these as well. So consecutive commits make two syncs each.
     pub fn step<D: Device>(&mut self, device: &mut D, bytes: &[u8; 4096]) -> Flushed
         requires long { 4096 * self.old.geometry.blocks ≤ length (D.seen device.old) }
         requires some { self.old.batches ≢ [] }
@@ -354,7 +360,8 @@ impl<A: Allocator + Copy> WriteOuts<A> {
         ensures value { self.new ≡ outs_after self.old result }
         ensures did { Did D.Device device.old (next_work self.old bytes.now) (has_done result) device.new }
 
-        // With the same Old and New this is so after the step, and a crash at any moment of it leaves what it may.
+        // With the same Old and New this still holds after the step. A crash within the step leaves only what it may
+        // leave.
         ensures leads { (v : SuperValue) (old new : ℕ → List ℕ) → D.is_honest device.old
             → HasLedTo D.Device v self.old old new device.old
             → ((home : ℕ) → outs_home self.old ≡ Some home → bytes.now ≡ new home)

@@ -11,7 +11,7 @@ use std::alloc::{AllocError, Allocator};
 use std::collections::BTreeMap;
 use std::marker::Model;
 
-/// Home blocks with their bytes, in rising order.
+/// Home blocks with their bytes, ordered by rising numbers.
 #[derive(Drop)]
 pub struct Blocks<A: Allocator + Copy> {
     tree: BTreeMap<u32, Box<[u8; 4096], A>, A>,
@@ -29,7 +29,7 @@ impl<A: Allocator + Copy> Model for Blocks<A> {
 }
 
 impl<A: Allocator + Copy> Blocks<A> {
-    /// None yet. It takes no memory.
+    /// Returns an empty collection. It allocates no memory.
     pub fn new(alloc: A) -> Self
         ensures { result ≡ [] }
     {
@@ -38,7 +38,7 @@ impl<A: Allocator + Copy> Blocks<A> {
         }
     }
 
-    /// How many there are.
+    /// Returns the number of blocks.
     pub fn len(&self) -> usize
         ensures { result ≡ length self.now }
     {
@@ -52,14 +52,14 @@ impl<A: Allocator + Copy> Blocks<A> {
         let _ = &self.tree;
     }
 
-    /// Whether there are none.
+    /// Whether there is no block.
     pub fn is_empty(&self) -> bool
         ensures { IsTrue result ↔ (self.now ≡ []) }
     {
         self.len() == 0
     }
 
-    /// The bytes of a home block, if it is one of them.
+    /// Returns the bytes of a home block, if it is one of these.
     pub fn get(&self, home: u32) -> Option<&[u8; 4096]>
         ensures { option_copied result ≡ bytes_in self.now home }
     {
@@ -69,7 +69,7 @@ impl<A: Allocator + Copy> Blocks<A> {
         }
     }
 
-    /// These are the bytes of a home block from now on. An `Err` changes nothing.
+    /// Sets the bytes of a home block. If this fails, nothing has changed.
     pub fn put(&mut self, home: u32, bytes: Box<[u8; 4096], A>) -> Result<(), AllocError>
         ensures ok { OnOk result (self.new ≡ with_home self.old home bytes.value) }
         ensures err { OnErr result (self.new ≡ self.old) }
@@ -80,21 +80,21 @@ impl<A: Allocator + Copy> Blocks<A> {
         Ok(())
     }
 
-    /// All home blocks go.
+    /// Removes all home blocks.
     pub fn clear(&mut self)
         ensures { self.new ≡ [] }
     {
         self.tree.clear();
     }
 
-    /// The home blocks from `low` on that come before `high` go.
+    /// Removes the home blocks from `low` up to, but not including, `high`.
     pub fn remove(&mut self, low: u32, high: u32)
         ensures { self.new ≡ without_run self.old low high }
     {
         self.tree.retain(|home, _| *home < low || high <= *home);
     }
 
-    /// The bytes of a home block after the first `left` become zeros, if it is one of these.
+    /// Sets the bytes of a home block after the first `left` to zero, if it is one of these.
     pub fn cut(&mut self, home: u32, left: u64)
         ensures { self.new ≡ cut_in self.old home left }
     {
@@ -106,7 +106,8 @@ impl<A: Allocator + Copy> Blocks<A> {
         });
     }
 
-    // Puts zeros in the home blocks from `low` on that come before `high`; after an `Err`, in some of them.
+    // Sets the home blocks from `low` up to, but not including, `high` to zeros. If this fails, no other block has
+    // changed.
     fn put_zeros(&mut self, alloc: A, low: u32, high: u32) -> Result<(), AllocError>
         requires { low ≤ high }
         ensures ok { OnOk result (self.new ≡ with_zeros self.old low (high - low)) }
@@ -119,7 +120,8 @@ impl<A: Allocator + Copy> Blocks<A> {
         Ok(())
     }
 
-    // Puts zeros in these home blocks, and a text in another one. An `Err` changes only these.
+    // Sets the home blocks from `low` up to `high` to zeros, and another block to a text. If this fails, only blocks
+    // from `low` up to `high` have changed.
     fn fill(
         &mut self,
         alloc: A,
@@ -138,8 +140,8 @@ impl<A: Allocator + Copy> Blocks<A> {
         self.put(first, block)
     }
 
-    /// Puts the last page of a file that grows, zeros in the home blocks after it that come before `high`, and the text
-    /// of the lengths in the first home block. An `Err` changes nothing.
+    /// Grows a file: sets its last page, and sets the first home block to the text of the lengths. The home blocks
+    /// after that page and before `high` become zeros. If this fails, nothing has changed.
     pub fn grow(
         &mut self,
         alloc: A,
@@ -164,7 +166,7 @@ impl<A: Allocator + Copy> Blocks<A> {
         };
         match self.fill(alloc, low, high, first, text) {
             Ok(()) => {
-                // It has one already.
+                // The block is already here, so this can't fail.
                 let _ = self.put(home, block);
                 Ok(())
             }
@@ -175,8 +177,8 @@ impl<A: Allocator + Copy> Blocks<A> {
         }
     }
 
-    /// Takes the home blocks from `low` on that come before `high` away, cuts the last page of a file that shrinks, and
-    /// puts the text of the lengths in the first home block. An `Err` changes nothing.
+    /// Shrinks a file: cuts its last page, and sets the first home block to the text of the lengths. Removes the home
+    /// blocks from `low` up to, but not including, `high`. If this fails, nothing has changed.
     pub fn shrink(
         &mut self,
         alloc: A,
@@ -200,7 +202,7 @@ impl<A: Allocator + Copy> Blocks<A> {
         Ok(())
     }
 
-    /// Adds the numbers of the home blocks to a list that has room for them.
+    /// Adds the numbers of the home blocks to an empty list that has room for them.
     pub fn list_homes(&self, list: &mut Vec<u32, A>)
         requires none { list.old.items ≡ [] }
         requires room { length self.now ≤ vec_capacity list.old }
@@ -208,11 +210,11 @@ impl<A: Allocator + Copy> Blocks<A> {
         ensures room { vec_capacity list.old ≤ vec_capacity list.new }
     {
         for home in self.tree.keys() {
-            // There is room for it.
+            // The list has room for it.
             let _ = list.push(*home);
         }
     }
-    /// Adds the bytes of all blocks to a list, one block behind the other.
+    /// Adds the bytes of all blocks to a list, in the order of the blocks.
     pub fn list_bytes(&self, list: &mut Vec<u8, A>) -> Result<(), AllocError>
         ensures bytes { OnOk result (list.new.items ≡ list.old.items ++ all_bytes self.now) }
         ensures whole { AreWholeBlocks self.now }

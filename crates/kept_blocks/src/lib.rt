@@ -1,4 +1,4 @@
-//! Blocks that are kept in memory: home blocks with their bytes, in rising order.
+//! Blocks that are kept in memory: home blocks with their bytes, ordered by rising numbers.
 #![tactic(auto)]
 
 mod blocks;

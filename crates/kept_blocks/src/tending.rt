@@ -1,12 +1,12 @@
-// Work on a device from outside what owns it.
+// Work on a device that another value owns.
 ghost use Rattle.std.specs.Prelude.{◌≡◌, length};
 
 use device::Device;
 
-/// Works on a device between two calls of the store that owns it. The host of a `DeferredDisk` is one: it supplies
-/// blocks and makes the calls that the disk recorded. It leaves the device's length as it is.
+/// Works on a device between two calls of the store that owns it. For example, the host of a `DeferredDisk` supplies
+/// blocks and makes the calls that the disk recorded. The length of the device doesn't change.
 pub trait Tender<D: Device> {
-    /// What its work may do: the tender and the device before the work, the device and the tender after it.
+    /// The relation of the tender and the device before the work to the device and the tender after it.
     ghost tends: { Self → D → D → Self → Type 0 };
 
     /// Works on the device.

@@ -1,4 +1,4 @@
-// The bytes of one commit, left by a crash in the midst of another one.
+// A crash within one commit that leaves the bytes of another commit.
 ghost use Rattle.std.specs.Prelude.{◌≡◌};
 ghost use Rattle.device.specs.Memory.{seen_of, may_leave_of};
 ghost use Rattle.least_syncs.specs.Commit.{HasMade, IsCommit, Parting, WritesOver, content_at_sync, syncs_of};
@@ -7,9 +7,9 @@ use crate::Recovery;
 use device::MemDisk;
 use std::alloc::Allocator;
 
-/// Crashes a disk in the midst of a commit that hasn't synced yet, so that the bytes of another disk are left: of one
-/// that was like it when the commit began, and on which another commit was synced, which has changed no places but
-/// those that are unsynced here. What recovers that commit recovers it here.
+/// Crashes a disk within a commit that hasn't synced yet, so that it has the bytes of another disk. That disk was equal
+/// when the commit began. Another commit was synced on it, which has changed only places that are unsynced here.
+/// Whatever recovers that commit from there recovers it here as well.
 pub fn crash_as_the_other<R: Recovery, A: Allocator + Copy>(
     under_way: &mut MemDisk<A>,
     synced: &MemDisk<A>,

@@ -1,4 +1,4 @@
-// How few syncs do.
+// The least number of syncs of a commit.
 ghost use Rattle.std.specs.Prelude.{◌≡◌, ◌≢◌, ◌≤◌, ◌+◌, ◌^◌, ◌∷◌, [], List, ℕ, length, replicate};
 ghost use Rattle.device.specs.Memory.{DiskChange, Recorded, new_disk, seen_of};
 ghost use Rattle.least_syncs.specs.Commit.{AreByOneSync, IsCommit, WriteTheSamePlaces, WritesOver, syncs_of};
@@ -6,15 +6,20 @@ ghost use Rattle.least_syncs.specs.Examples.{flag_at, flag_made, flagged, gate_m
 
 use crate::Recovery;
 
-/// One sync makes sure of where a commit wrote, and not of what. Until it succeeds a crash may leave any bytes in the
-/// places that were written, also those that another commit syncs there, from which that one is recovered.
+/// States that one sync is too few. One sync makes the places that a commit wrote durable, but not which bytes they
+/// have. Until it succeeds, a crash may leave any bytes in these places. They can be the bytes that another commit
+/// syncs there, and from which that commit is recovered.
 ///
-/// Two commits begin on one disk, whatever was written and synced before. Where they write the same places before
-/// they first sync, each makes two syncs (`same`); and so does one that has changed nothing by its first sync but
-/// places which the other one has unsynced before its own (`over`). Whatever the places are, commits by one sync each
-/// lead a disk to no more contents than there are sets of its places (`many`): of the 256^n contents that n bytes can
-/// have, to 2^n. And no commit does without a sync (`none`), unless its contents are recovered from what there was
-/// before it.
+/// Let two commits begin on one disk, whatever was written and synced before. Their contents differ from each other and
+/// from the old ones.
+///
+/// * If they write the same places before they first sync, each makes at least two syncs (`same`).
+/// * Let a commit have changed, by its first sync, only places that the other one has unsynced before its own. Then it
+///   makes at least two syncs (`over`).
+///
+/// Commits by one sync each lead a disk of n bytes to at most 2^n contents, the number of sets of its places (`many`).
+/// The bytes can have 256^n contents. No commit does without a sync, unless its contents are recovered from what was
+/// there before it (`none`).
 pub fn one_sync_is_too_few<R: Recovery>()
     ensures same { (old one other : R.Contents) (begun a b : Recorded) (these others : List DiskChange)
         → IsCommit R.recovers old one begun these a → IsCommit R.recovers old other begun others b
@@ -30,9 +35,10 @@ pub fn one_sync_is_too_few<R: Recovery>()
         → IsCommit R.recovers old new begun calls ended → (R.recovers (seen_of begun) new → ⊥) → 1 ≤ syncs_of calls }
 {}
 
-/// That two commits write the same places is needed, and two syncs are enough. By one sync each, a disk of n zeros is
-/// led to n contents: each commit writes another place (`places`). By two syncs each, a disk of two bytes is led to
-/// whatever its second byte can be, and all of these commits write the same places before they first sync (`bytes`).
+/// States that the premise of equal places is needed, and that two syncs are enough. By one sync each, a disk of n
+/// zeros is led to n contents, since each commit writes another place (`places`). By two syncs each, a disk of two
+/// bytes is led to each value of its second byte. All of these commits write the same places before they first sync
+/// (`bytes`).
 pub fn what_few_syncs_do()
     ensures places { (n : ℕ) → AreByOneSync (λ c found. flagged c ≡ found) 0 (new_disk (replicate n 0)) n
         (λ i. i + 1) flag_at (flag_made n) }

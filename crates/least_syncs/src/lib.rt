@@ -1,4 +1,4 @@
-//! How few syncs an acknowledged commit can do with, whatever the format of the volume and whatever recovers it.
+//! The least number of syncs of an acknowledged commit, for any format of the volume and any recovery.
 #![tactic(auto)]
 
 mod forged;

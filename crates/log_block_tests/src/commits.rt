@@ -1,4 +1,4 @@
-// Commits: where the ring wraps, where it is full, and where a device call fails.
+// Tests commits when the ring wraps, when it is full, and when a device call fails.
 use device::{Device, FailingDisk, MemDisk};
 use log_codec::{LogGeometry, LogStart, Sealing, encode_start};
 use log_commits::{CommitFault, LogTail};
@@ -8,7 +8,7 @@ use std::process::Abort;
 
 pub const BY_DIGEST: Sealing = Sealing::ByDigest(0x0123_4567_89ab_cdef);
 
-// The start of a log whose first commit has number 5, in epoch 2.
+// Returns the start of a log whose first commit has number 5, in epoch 2.
 pub fn start_at(position: u32) -> LogStart {
     LogStart {
         position,
@@ -17,7 +17,7 @@ pub fn start_at(position: u32) -> LogStart {
     }
 }
 
-// A disk with a log without commits.
+// Returns a disk with a log without commits.
 pub fn disk_of<R: Abort + AllocGlobal>(
     rt: &R,
     log: &LogGeometry,
@@ -31,7 +31,7 @@ pub fn disk_of<R: Abort + AllocGlobal>(
     MemDisk::from_bytes(rt.alloc(), bytes).expect(rt, "memory")
 }
 
-// Commits records of one byte, if the device is as long as the volume.
+// Commits records whose bytes are all `byte`, if the device is as long as the volume.
 pub fn commit<R: Abort + AllocGlobal, D: Device>(
     rt: &R,
     tail: &mut LogTail,
@@ -48,7 +48,7 @@ pub fn commit<R: Abort + AllocGlobal, D: Device>(
     tail.commit(device, homes, &mut room)
 }
 
-// What is read of the log.
+// Returns what is read of the log.
 pub fn found_on<R: Abort + AllocGlobal>(
     rt: &R,
     disk: &mut MemDisk<Global>,
@@ -57,7 +57,7 @@ pub fn found_on<R: Abort + AllocGlobal>(
     read_log(rt.alloc(), disk, log).expect(rt, "a log")
 }
 
-// Whether each byte of a block is this one.
+// Whether each byte of a block is `byte`.
 pub fn is_filled(disk: &MemDisk<Global>, block: usize, byte: u8) -> bool {
     let bytes = disk.bytes();
     block < 4096
@@ -65,8 +65,8 @@ pub fn is_filled(disk: &MemDisk<Global>, block: usize, byte: u8) -> bool {
         && bytes[4096 * block..4096 * block + 4096] == [byte; 4096]
 }
 
-// Whether a commit of 1,020 records and one of a single record are found again, in a log of 1,100 blocks that begins at
-// this position. The first one's descriptor takes two blocks.
+// Whether a commit of 1,020 records and one of a single record are found again. They are in a log of 1,100 blocks that
+// begins at this position. The first commit's descriptor takes two blocks.
 fn is_found_again<R: Abort + AllocGlobal>(rt: &R, sealing: Sealing, position: u32) -> bool {
     let log = LogGeometry::new(sealing, 1100, 2200).expect(rt, "a log");
     let start = start_at(position);
@@ -92,7 +92,7 @@ fn is_found_again<R: Abort + AllocGlobal>(rt: &R, sealing: Sealing, position: u3
 #[test]
 fn a_commit_wraps(rt: HostRuntime) {
     for sealing in [Sealing::ByByte, BY_DIGEST] {
-        // In the descriptor, and in the records.
+        // The ring wraps in the descriptor, and then in the records.
         for position in [1099, 600] {
             assert!(rt;
                 is_found_again(&rt, sealing, position),
@@ -102,12 +102,12 @@ fn a_commit_wraps(rt: HostRuntime) {
     }
 }
 
-// A log of nine blocks in a volume of twenty, whose home blocks are 13 to 19.
+// Returns a log of nine blocks in a volume of twenty, whose home blocks are 13 to 19.
 pub fn small_log<R: Abort>(rt: &R, sealing: Sealing) -> LogGeometry {
     LogGeometry::new(sealing, 9, 20).expect(rt, "a log")
 }
 
-// The results of four commits, the first of two records, each of three blocks.
+// Returns the results of four commits of three blocks each, the first of two records.
 fn results_of_four<R: Abort + AllocGlobal>(
     rt: &R,
     sealing: Sealing,
@@ -131,7 +131,7 @@ fn a_full_log_is_busy(rt: HostRuntime) {
     assert!(rt; by_digest == [Ok(()), Ok(()), Ok(()), Err(CommitFault::Busy)]);
 }
 
-// The refusal of a commit for these home blocks, in a log of nine blocks.
+// Returns the refusal of a commit for these home blocks, in a log of nine blocks.
 fn refusal_of<R: Abort + AllocGlobal>(rt: &R, homes: &[u32]) -> Option<CommitFault> {
     let log = small_log(rt, Sealing::ByByte);
     let start = start_at(0);
@@ -149,8 +149,8 @@ pub fn commits_are_refused(rt: HostRuntime) {
     assert!(rt; refusal_of(&rt, &[13, 14, 15, 16, 17, 18, 19]).is_none());
 }
 
-// A commit that succeeds, and one whose device call of this number fails: whether the second one's failure is told,
-// whether a third is refused then, and how many commits are found.
+// Makes a commit that succeeds, and one whose device call of this number fails. Returns whether the second commit
+// failed, whether a third is refused then, and the number of commits found.
 fn fails_at<R: Abort + AllocGlobal>(rt: &R, sealing: Sealing, call: u64) -> (bool, bool, usize) {
     let log = small_log(rt, sealing);
     let start = start_at(4);
@@ -171,8 +171,9 @@ fn fails_at<R: Abort + AllocGlobal>(rt: &R, sealing: Sealing, call: u64) -> (boo
 
 #[test]
 fn a_device_call_fails(rt: HostRuntime) {
-    // The commit lies at positions 7, 8 and 0, so it is written in two calls. Under a byte seal a sync, the seal's byte
-    // and a sync follow, under a digest a sync. A commit that was written whole is read, though it wasn't acknowledged.
+    // The commit is at positions 7, 8 and 0, so it is written in two calls. With a byte seal a sync, the seal's byte
+    // and a sync follow. With a digest seal a sync follows. A commit that was written completely is read, though it
+    // wasn't acknowledged.
     for (sealing, call, commits) in [
         (Sealing::ByByte, 1, 1),
         (Sealing::ByByte, 2, 1),

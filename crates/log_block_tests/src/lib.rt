@@ -1,4 +1,4 @@
-//! Commits to small logs by each kind of seal, and what is read of these logs then.
+//! Tests of commits to small logs with each kind of seal, and of what is then read of these logs.
 #![tactic(auto)]
 
 #[cfg(test)]

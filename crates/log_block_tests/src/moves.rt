@@ -1,4 +1,4 @@
-// Commits are written home, and the start moves behind them: room gets free, and a failed call changes no contents.
+// Tests writing commits home and moving the start past them. This frees room, and a failed call changes no contents.
 ghost use Rattle.std.specs.Prelude.{◌*◌, ◌≤◌, IsTrue, length};
 
 use crate::commits::{BY_DIGEST, commit, disk_of, found_on, is_filled, small_log, start_at};
@@ -15,7 +15,7 @@ fn is_whole<D: Device>(tail: &LogTail, device: &D) -> bool
     device.len() >= 4096 * u64::from(tail.log().block_count())
 }
 
-// Writes home what two commits of three blocks left in blocks 13, 14 and 19: two neighbours at once, and one alone.
+// Writes home the blocks 13, 14 and 19 of two commits: two neighbours at once, and one alone.
 fn writes_home<D: Device>(tail: &mut LogTail, device: &mut D) -> bool {
     let mut bytes = [1; 8192];
     bytes[4096..].copy_from_slice(&[2; 4096]);
@@ -38,7 +38,7 @@ fn move_start<D: Device>(
     tail.move_start(device, second, oldest)
 }
 
-// A log of nine blocks with two commits, of three blocks each.
+// Returns a log of nine blocks with two commits of three blocks each.
 fn two_commits<R: Abort + AllocGlobal>(rt: &R, sealing: Sealing) -> (LogTail, MemDisk<Global>) {
     let log = small_log(rt, sealing);
     let start = start_at(7);
@@ -51,7 +51,7 @@ fn two_commits<R: Abort + AllocGlobal>(rt: &R, sealing: Sealing) -> (LogTail, Me
     (tail, disk)
 }
 
-// Whether a start moves behind two commits, and back to the first start behind two more.
+// Whether a start moves past two commits, and back to the first start past two more.
 fn goes_round<R: Abort + AllocGlobal>(rt: &R, sealing: Sealing) -> bool {
     let (mut tail, mut disk) = two_commits(rt, sealing);
     let oldest = tail.commits_so_far();
@@ -81,7 +81,7 @@ fn the_start_moves(rt: HostRuntime) {
     }
 }
 
-// The start is written before a commit, which makes sure of it, and is selected behind that.
+// Writes the start before a commit, whose syncs make it durable, and selects it after the commit.
 fn shares_a_sync<R: Abort + AllocGlobal>(rt: &R, sealing: Sealing) -> bool {
     let (mut tail, mut disk) = two_commits(rt, sealing);
     let oldest = tail.commits_so_far();
@@ -110,7 +110,8 @@ fn a_commit_makes_sure_of_the_start(rt: HostRuntime) {
     }
 }
 
-// A move whose device call of this number fails: whether that is told, and the number of commits that are found.
+// Moves the start, with a failure of the device call of this number. Returns whether the failure is reported, and the
+// number of commits found.
 fn fails_at<R: Abort + AllocGlobal>(rt: &R, call: u64) -> (bool, usize) {
     let (mut tail, mut disk) = two_commits(rt, Sealing::ByByte);
     let oldest = tail.commits_so_far();

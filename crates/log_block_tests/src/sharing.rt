@@ -1,4 +1,4 @@
-// A log in steady use makes no sync of its own: moves of the start share those of commits.
+// Tests that a log in steady use makes no sync of its own: moves of the start share those of commits.
 use crate::commits::{BY_DIGEST, disk_of, start_at};
 use crate::stores::{byte_of, commits, steps};
 use device::{Device, MemDisk};
@@ -9,7 +9,7 @@ use std::alloc::Global;
 use std::process::Abort;
 use taped_disk::{Call, TapedDisk};
 
-// Makes steps until the start is written: whether it succeeds.
+// Makes steps until the start is written. Returns whether it succeeds.
 fn writes_start<D: Device>(store: &mut LogStore<Global>, disk: &mut D) -> bool {
     for _ in 0..32 {
         match steps(store, disk) {
@@ -21,7 +21,7 @@ fn writes_start<D: Device>(store: &mut LogStore<Global>, disk: &mut D) -> bool {
     false
 }
 
-// What a host does behind each commit: once half of the ring is used, it writes a start, unless one is written.
+// Does what a host does after each commit: once half of the ring is used, it writes a start, unless one is written.
 fn tends<D: Device>(store: &mut LogStore<Global>, disk: &mut D) -> bool {
     let is_half = store.used() >= store.log().ring() / 2;
     if is_half && store.stage() == HomeStage::Resting {
@@ -30,12 +30,12 @@ fn tends<D: Device>(store: &mut LogStore<Global>, disk: &mut D) -> bool {
     true
 }
 
-// The first home block of a log of this many blocks.
+// Returns the first home block of a log of this many blocks.
 fn first_home(ring: u32) -> u32 {
     ring.min(64) + 4
 }
 
-// A store over a log of this many blocks with seven home blocks.
+// Returns a store over a log of this many blocks, with seven home blocks.
 fn store_of<R: Abort + AllocGlobal>(
     rt: &R,
     sealing: Sealing,
@@ -51,7 +51,7 @@ fn store_of<R: Abort + AllocGlobal>(
     )
 }
 
-// The number of syncs, if each call was recorded.
+// Returns the number of syncs, if each call was recorded.
 fn count_syncs<D: Device>(disk: &TapedDisk<D>) -> Option<usize> {
     if !disk.is_whole {
         return None;
@@ -65,7 +65,7 @@ fn count_syncs<D: Device>(disk: &TapedDisk<D>) -> Option<usize> {
     Some(syncs)
 }
 
-// The number of writes of home blocks, which begin at this block, if each call was recorded.
+// Returns the number of writes of home blocks, which begin at block `homes`, if each call was recorded.
 fn count_home_writes<D: Device>(disk: &TapedDisk<D>, homes: u32) -> Option<usize> {
     if !disk.is_whole {
         return None;
@@ -81,7 +81,7 @@ fn count_home_writes<D: Device>(disk: &TapedDisk<D>, homes: u32) -> Option<usize
     Some(writes)
 }
 
-// The number of syncs of 200 commits round a log of nine blocks, if all succeed and are read back.
+// Returns the number of syncs of 200 commits to a log of nine blocks, if all succeed and are read back.
 fn syncs_of<R: Abort + AllocGlobal>(rt: &R, sealing: Sealing) -> Option<usize> {
     let (mut store, mut disk) = store_of(rt, sealing, 9);
     for round in 0..200 {
@@ -98,12 +98,12 @@ fn syncs_of<R: Abort + AllocGlobal>(rt: &R, sealing: Sealing) -> Option<usize> {
 
 #[test]
 fn a_log_in_use_makes_no_sync_of_its_own(rt: HostRuntime) {
-    // Two a commit where a byte seals, and one where a digest seals.
+    // Each commit makes two syncs with a byte seal, and one with a digest seal.
     assert!(rt; syncs_of(&rt, Sealing::ByByte) == Some(400));
     assert!(rt; syncs_of(&rt, BY_DIGEST) == Some(200));
 }
 
-// How often 1,000 commits of the same block write it home, in a log of 64 blocks, if all succeed.
+// Returns how often 1,000 commits of the same block write it home, in a log of 64 blocks, if all succeed.
 fn home_writes_of<R: Abort + AllocGlobal>(rt: &R, sealing: Sealing) -> Option<usize> {
     let (mut store, mut disk) = store_of(rt, sealing, 64);
     for round in 0..1000u32 {

@@ -1,4 +1,4 @@
-// A store over a small log: commits between the steps that write older ones home, and reads after each call.
+// Tests a store over a small log: commits between the steps that write older ones home, and reads after each call.
 ghost use Rattle.std.specs.Prelude.{◌*◌, ◌≤◌, IsTrue, length};
 
 use crate::commits::{BY_DIGEST, disk_of, found_on, is_filled, small_log, start_at};
@@ -16,7 +16,7 @@ pub fn is_whole<D: Device>(store: &LogStore<Global>, device: &D) -> bool
     device.len() >= 4096 * u64::from(store.log().block_count())
 }
 
-// Commits records of one byte: whether it succeeds.
+// Commits records whose bytes are all `byte`. Returns whether it succeeds.
 pub fn commits<R: Abort + AllocGlobal, D: Device>(
     rt: &R,
     store: &mut LogStore<Global>,
@@ -29,7 +29,7 @@ pub fn commits<R: Abort + AllocGlobal, D: Device>(
     is_whole(store, disk) && store.commit(disk, homes, &mut room).is_ok()
 }
 
-// The byte of which a home block consists, as the store reads it.
+// Returns the byte that fills a home block, as the store reads it.
 pub fn byte_of<D: Device>(store: &LogStore<Global>, disk: &mut D, home: u32) -> Option<u8> {
     let mut buffer = [0xEE; 4096];
     if !is_whole(store, disk) || store.read(disk, home, &mut buffer).is_err() {
@@ -51,14 +51,15 @@ pub fn steps<D: Device>(store: &mut LogStore<Global>, disk: &mut D) -> Option<Pr
     store.step(disk).ok()
 }
 
-// Moves the start by steps alone: whether it succeeds.
+// Moves the start by steps alone. Returns whether it succeeds.
 fn moves<D: Device>(store: &mut LogStore<Global>, disk: &mut D) -> bool {
     steps(store, disk) == Some(Progress::Wrote)
         && steps(store, disk) == Some(Progress::Synced)
         && steps(store, disk) == Some(Progress::Moved)
 }
 
-// Whether two commits are written home, with one between, which has a home block of theirs; and that one then.
+// Whether two commits are written home while a third one is made, which shares a home block with them. The third one
+// must then be written home as well.
 fn writes_all_home<R: Abort + AllocGlobal>(rt: &R, sealing: Sealing) -> bool {
     let log = small_log(rt, sealing);
     let start = start_at(7);
@@ -107,7 +108,7 @@ fn a_store_writes_all_home(rt: HostRuntime) {
     }
 }
 
-// Whether a log of nine blocks takes 200 commits of a block each, with five steps behind each.
+// Whether a log of nine blocks takes 200 commits of a block each, with five steps after each.
 fn goes_round<R: Abort + AllocGlobal>(rt: &R, sealing: Sealing) -> bool {
     let log = small_log(rt, sealing);
     let start = start_at(0);

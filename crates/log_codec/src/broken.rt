@@ -1,20 +1,20 @@
-// Why bytes are no descriptor of a commit.
+// Why bytes aren't the descriptor of a commit.
 
-/// The rule that bytes break which are no descriptor of a commit with the number that is asked for.
+/// The rule that bytes break, so that they aren't the descriptor of a commit with the wanted number.
 #[derive(Clone, Copy, PartialEq, Eq, Debug)]
 pub enum Broken {
-    /// Less than a block, or another number of blocks than the number of records asks for.
+    /// There is less than a block, or not the number of blocks that the number of records needs.
     Length,
-    /// The commit has another number, or no commit may have the one that is asked for.
+    /// The commit has another number, or no commit may have the wanted number.
     Number,
-    /// No record, more than 65,535, or more than the log has room for.
+    /// There is no record, there are more than 65,535, or there are more than the log has room for.
     Count,
-    /// One of the twelve bytes behind the number of records isn't zero.
+    /// One of the twelve bytes after the number of records isn't zero.
     Reserved,
-    /// A byte behind the last home block isn't zero.
+    /// A byte after the last home block isn't zero.
     Padding,
     /// The home blocks don't rise strictly, or one is no home block of the volume.
     Homes,
-    /// Memory was refused; the bytes keep the other rules.
+    /// There was no memory. The bytes follow the other rules.
     OutOfMemory,
 }

@@ -13,7 +13,7 @@ use crate::broken::Broken;
 use crate::log::{LogGeometry, descriptor_blocks_of};
 use std::alloc::Allocator;
 
-/// Writes home blocks at a place, up to which the block is written.
+/// Writes home blocks at `at`, the end of the bytes already written.
 fn put_homes(block: &mut [u8; 4096], at: usize, homes: &[u32])
     requires { at + 4 * length homes.now ≤ 4096 }
     ensures { (text : List ℕ) → block.old ≡ padded 4096 text → length text ≡ at
@@ -24,7 +24,8 @@ fn put_homes(block: &mut [u8; 4096], at: usize, homes: &[u32])
     }
 }
 
-/// The first block of a descriptor: its seal, its number, the number of its home blocks, and these first ones.
+/// Returns the first block of a descriptor: its seal, its number, the number of its home blocks, and the first home
+/// blocks.
 fn first_block(seal: &[u8; 8], number: u64, count: u32, homes: &[u32]) -> [u8; 4096]
     requires { length homes.now ≤ 1016 }
     ensures { result ≡ padded 4096 (seal.now ++ number_text 8 number ++ number_text 4 count ++ zeros 12
@@ -39,7 +40,7 @@ fn first_block(seal: &[u8; 8], number: u64, count: u32, homes: &[u32]) -> [u8; 4
     block
 }
 
-/// A further block of a descriptor: these home blocks.
+/// Returns a further block of a descriptor, with these home blocks.
 fn further_block(homes: &[u32]) -> [u8; 4096]
     requires { length homes.now ≤ 1024 }
     ensures { result ≡ padded 4096 (flat_map (number_text 4) homes.now) }
@@ -49,7 +50,7 @@ fn further_block(homes: &[u32]) -> [u8; 4096]
     block
 }
 
-/// Those of the home blocks from a place on, at most this many.
+/// Returns the home blocks that begin at place `from`, at most `most`.
 fn part_of(homes: &[u32], from: usize, most: usize) -> &[u32]
     ensures { result.now ≡ take most (drop from homes.now) }
 {
@@ -63,8 +64,8 @@ fn part_of(homes: &[u32], from: usize, most: usize) -> &[u32]
     &rest[..most]
 }
 
-/// Block `index` of the descriptor of the commit with this number, whose record i is for the home block at place i,
-/// under this seal. Takes no memory.
+/// Returns block `index` of a commit's descriptor, with this number and this seal. Record i is for the home block at
+/// place i. It allocates no memory.
 pub fn encode_descriptor(seal: &[u8; 8], number: u64, homes: &[u32], index: u32) -> [u8; 4096]
     requires few { length homes.now ≤ 65535 }
     requires within { index < log_descriptor_blocks (length homes.now) }
@@ -77,7 +78,7 @@ pub fn encode_descriptor(seal: &[u8; 8], number: u64, homes: &[u32], index: u32)
     further_block(part_of(homes, 1024 * index as usize - 8, 1024))
 }
 
-/// Whether the blocks rise strictly, from `low` on and below `high`.
+/// Whether the blocks rise strictly, are at least `low`, and are below `high`.
 pub fn rise_within(homes: &[u32], low: u32, high: u32) -> bool
     ensures { IsTrue result ↔ RiseWithin low high homes.now }
 {
@@ -110,7 +111,7 @@ fn spells(bytes: &[u8], number: u64) -> bool
     bytes == number_bytes(number).as_slice()
 }
 
-/// This many numbers of 4 bytes from byte 32 on.
+/// Returns `count` numbers of 4 bytes that begin at byte 32. Fails with `OutOfMemory` if there is no memory.
 fn homes_at<A: Allocator + Copy>(
     alloc: A,
     bytes: &[u8],
@@ -131,8 +132,8 @@ fn homes_at<A: Allocator + Copy>(
     Ok(homes)
 }
 
-/// The number of records that the first block of a commit's descriptor says, if the commit has this number and may
-/// have as many records. Bytes behind the first block aren't read.
+/// Returns the number of records from the first block of a commit's descriptor. Fails if the commit doesn't have this
+/// number, or may not have that many records. Bytes after the first block aren't read.
 pub fn decode_count(log: &LogGeometry, number: u64, bytes: &[u8]) -> Result<u32, Broken>
     ensures ok { IfOk result (λ count. (4096 ≤ length bytes.now) × IsCommitNumber number
         × (take 8 (drop 8 bytes.now) ≡ number_text 8 number) × (count ≡ records_said bytes.now)
@@ -152,8 +153,8 @@ pub fn decode_count(log: &LogGeometry, number: u64, bytes: &[u8]) -> Result<u32,
     Ok(count)
 }
 
-/// The home blocks of the records of the commit with this number, whose descriptor these blocks are, under any seal;
-/// else the rule that they break.
+/// Returns the home blocks of the commit with this number, whose descriptor is in these blocks, with any seal. Fails
+/// with the rule that the bytes break.
 pub fn decode_descriptor<A: Allocator + Copy>(
     alloc: A,
     log: &LogGeometry,

@@ -1,4 +1,4 @@
-// What follows of the definitions alone.
+// Facts that follow from the definitions alone.
 ghost use Rattle.std.specs.Prelude.{◌≡◌, ◌≢◌, ℕ, ◌+◌, ◌-◌, ◌*◌, ◌%◌, ◌^◌, ◌<◌, ◌≤◌, List, [], ◌∷◌, ◌++◌, length, take, slice_index};
 ghost use Rattle.std.specs.List.{AllByRecursion};
 ghost use Rattle.volume_codec.specs.Descriptor.{RiseWithin};
@@ -13,9 +13,10 @@ ghost use Rattle.log_codec.specs.Commit.{LogDescriptor, IsLogged, IsLogDescripto
 ghost use Rattle.log_codec.specs.Broken.{BreaksFirstRule, BreaksLogRule, records_said};
 ghost use Rattle.log_codec.specs.Chain.{IsSealedAt, IsNextCommit, HasLog, IsLogHome, LogRecovers, IsChain, IsDamagedLog, spare_blocks, position_after, records_position, chain_end, chain_blocks, logged_or, newest_or};
 
-/// What is written reads back: the text of a start, and that of a descriptor under any seal, keep the grammar. A block
-/// says at most one start, bytes say at most one descriptor, and a position has at most one sealed commit. Bytes have
-/// at most one log, and recover to at most one list of contents.
+/// States that what is written reads back, and that bytes have at most one reading. The text of a start, and that of a
+/// descriptor under any seal, follow the grammar. A block contains at most one start. Bytes contain at most one
+/// descriptor, and a position has at most one sealed commit. Bytes have at most one log, and recover to at most one
+/// list of contents.
 pub fn one_log()
     ensures start_back { (ring : ℕ) (s : LogStart) → IsLogStart ring s → IsStartBlock ring s (start_text s) }
     ensures descriptor_back { (g : LogValue) (d : LogDescriptor) (seal : List ℕ) → IsLogged g d → length seal ≡ 8
@@ -32,15 +33,16 @@ pub fn one_log()
         → LogRecovers g contents bytes → LogRecovers g others bytes → IsLogHome g b → contents b ≡ others b }
 {}
 
-/// Bytes that break a rule say no descriptor with the number that is asked for.
+/// States that bytes which break a rule aren't a descriptor with the wanted number.
 pub fn broken_bytes()
     ensures { (g : LogValue) (number : ℕ) (bytes : List ℕ) (broken : Broken) → IsLog g
         → BreaksLogRule g number bytes broken → broken ≢ OutOfMemory → (d : LogDescriptor) → d.number ≡ number
         → IsLogDescriptor g d bytes → ⊥ }
 {}
 
-/// Where a log lies. Its blocks lie from block 4 on and before the home blocks. Blocks from a position on are apart
-/// until the ring is round. A descriptor has room for 32 bytes and 4 for each record, and no block more.
+/// States where the parts of a log are. Its blocks are at block 4 and later, and before the home blocks. A position and
+/// the one that follows it by the length of the ring are the same block. A descriptor has room for 32 bytes and 4 more
+/// for each record. It has no more blocks than it needs.
 pub fn parts_of_log()
     ensures within { (ring p : ℕ) → 0 < ring → (4 ≤ ring_block ring p) × (ring_block ring p < first_log_home ring) }
     ensures round { (ring p : ℕ) → 0 < ring → ring_block ring (p + ring) ≡ ring_block ring p }
@@ -48,9 +50,9 @@ pub fn parts_of_log()
     ensures no_more { (records : ℕ) → 4096 * log_descriptor_blocks records < 32 + 4 * records + 4096 }
 {}
 
-/// How the next commit is found at a position. The first block says its number of records, and breaks no rule. The
-/// descriptor's blocks say the commit, and begin with its seal. A descriptor is that of the next commit if it has the
-/// wanted number, room in the blocks that are left, and the seal of its records.
+/// States how the next commit is found at a position. The first block contains its number of records, and breaks no
+/// rule. The descriptor's blocks contain the commit, and begin with its seal. A descriptor is that of the next commit
+/// if it has the wanted number, room in the remaining blocks, and the seal of its records.
 pub fn next_commit()
     ensures first { (g : LogValue) (epoch p number left : ℕ) (d : LogDescriptor) (bytes : List ℕ) (broken : Broken)
         → IsLog g → 4096 * g.blocks ≤ length bytes → IsNextCommit g epoch p number left d bytes
@@ -69,9 +71,9 @@ pub fn next_commit()
         → IsNextCommit g epoch p number left d bytes }
 {}
 
-/// Where a log goes on, where it ends, and where it is damaged. Each chain goes on with the next commit, if one lies at
-/// its position. Else, where a byte seals and the seal there is open, there is no chain; where a digest seals, the log
-/// ends there. A log with a start and no chain is damaged, and so is one without a start.
+/// States where a log continues, where it ends, and when it is damaged. A chain continues with the next commit, if
+/// there is one at its position. Otherwise a log that a digest seals ends there. If a byte seals, and the seal there is
+/// open, there is no chain. A log is damaged if it has a start and no chain, or no start.
 pub fn ends_of_log()
     ensures goes_on { (g : LogValue) (epoch p number left : ℕ) (d : LogDescriptor) (ds : List LogDescriptor)
         (bytes : List ℕ) → IsLog g → 4096 * g.blocks ≤ length bytes → IsNextCommit g epoch p number left d bytes
@@ -92,8 +94,9 @@ pub fn ends_of_log()
         → IsDamagedLog g bytes }
 {}
 
-/// The room of a chain, and its end. The commits lie one behind the other. They fit in the blocks that were left for
-/// them, with the block that no commit takes. So none lies over another one. Behind the last commit a start may be.
+/// States the room of a chain, and its end. The commits follow one another. With the block that no commit takes, they
+/// fit in the blocks that were left for them, so none overlaps another. A new start may be at the end of the last
+/// commit.
 pub fn room_of_chain()
     ensures behind { (p : ℕ) (ds : List LogDescriptor) → chain_end p ds ≡ p + chain_blocks ds }
     ensures fits { (g : LogValue) (epoch p number left : ℕ) (ds : List LogDescriptor) (bytes : List ℕ)
@@ -108,8 +111,9 @@ pub fn room_of_chain()
         }) }
 {}
 
-/// What recovered contents are made of. The records of the newest commit stand for its home blocks, record i for the
-/// home block at place i; every other home block is what it is without that commit, and itself without any.
+/// States what recovered contents consist of. Record i of the newest commit is the contents of the home block at place
+/// i. Every other home block has the contents that it has without that commit. Without any commit, a home block has its
+/// own contents.
 pub fn recovered_from_log()
     ensures newest { (ring other p : ℕ) (ds : List LogDescriptor) (d : LogDescriptor) (b : ℕ)
         → newest_or ring other p (ds ++ d ∷ []) b

@@ -1,4 +1,4 @@
-//! The bytes of a volume's log: where its parts lie, the two starts, and the commits, each sealed by one byte or by a
+//! The bytes of a volume's log: where its parts are, its two starts, and its commits, each sealed by one byte or by a
 //! digest.
 #![tactic(auto)]
 

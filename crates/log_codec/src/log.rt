@@ -1,20 +1,20 @@
-// Where a volume with a log has its parts, and which block a position of the log is.
+// The places of the parts of a volume with a log, and the block of each position of the log.
 ghost use Rattle.std.specs.Prelude.{◌≡◌, ◌<◌, ◌≤◌, ◌+◌, ◌-◌, ◌%◌, ◌^◌, ℕ, ◌↔◌, IsTrue, IfSome, IfNone};
 ghost use Rattle.log_codec.specs.Log.{LogValue, IsLog, IsCommitSize, ring_block, first_log_home, first_log_file_home, log_descriptor_blocks, log_commit_blocks};
 
 use crate::sealing::Sealing;
 use std::marker::Model;
 
-/// The least number of blocks of a log: it has room for a page and the lengths.
+/// The smallest number of blocks of a log, with room for a page and the lengths.
 const LEAST_RING: u64 = 4;
 
-/// The greatest number of blocks of a log.
+/// The largest number of blocks of a log.
 const MOST_RING: u64 = 1 << 24;
 
-/// The greatest number of records of a commit.
+/// The largest number of records of a commit.
 const MOST_RECORDS: u32 = 65535;
 
-/// The number of blocks of the descriptor of a commit of this many records.
+/// Returns the number of blocks of a descriptor for this many records.
 pub(crate) fn descriptor_blocks_of(records: u32) -> u32
     requires { records ≤ 65535 }
     ensures value { result ≡ log_descriptor_blocks records }
@@ -23,7 +23,8 @@ pub(crate) fn descriptor_blocks_of(records: u32) -> u32
     (4 * records + 4127) / 4096
 }
 
-/// Where a volume with a log has its parts. Positions of the log are counted from 0, and go round.
+/// The places of the parts of a volume with a log. Positions of the log are counted from 0, and wrap at the end of the
+/// ring.
 #[derive(Clone, Copy, Debug)]
 pub struct LogGeometry {
     sealing: Sealing,
@@ -44,7 +45,8 @@ impl Model for LogGeometry {
 }
 
 impl LogGeometry {
-    /// The geometry of a volume with this many blocks of log and this many blocks in all, if there is one.
+    /// Returns the geometry of a volume with `ring` blocks of log and `blocks` blocks in all, if there is such a
+    /// volume.
     pub fn new(sealing: Sealing, ring: u64, blocks: u64) -> Option<LogGeometry>
         ensures some { IfSome result (λ g. (g ≡ record { sealing = sealing; ring = ring; blocks = blocks }) × IsLog g) }
         ensures none { IfNone result (IsLog (record { sealing = sealing; ring = ring; blocks = blocks }) → ⊥) }
@@ -62,7 +64,7 @@ impl LogGeometry {
         })
     }
 
-    /// How the commits are sealed.
+    /// Returns how the commits are sealed.
     pub fn sealing(&self) -> Sealing
         ensures value { result ≡ self.now.sealing }
         ensures log { IsLog self.now }
@@ -70,7 +72,7 @@ impl LogGeometry {
         self.sealing
     }
 
-    /// The number of blocks of the log, 4 to 2^24.
+    /// Returns the number of blocks of the log, from 4 to 2^24.
     pub fn ring(&self) -> u32
         ensures value { result ≡ self.now.ring }
         ensures log { IsLog self.now }
@@ -78,7 +80,7 @@ impl LogGeometry {
         self.ring
     }
 
-    /// The number of blocks of the volume, at most 2^32 - 1.
+    /// Returns the number of blocks of the volume, at most 2^32 - 1.
     pub fn block_count(&self) -> u32
         ensures value { result ≡ self.now.blocks }
         ensures log { IsLog self.now }
@@ -86,7 +88,8 @@ impl LogGeometry {
         self.blocks
     }
 
-    /// The first home block, which holds the lengths of the files: the first that a descriptor may name.
+    /// Returns the first home block, which contains the lengths of the files. It is the first block that a descriptor
+    /// may name.
     pub fn first_home(&self) -> u32
         ensures value { result ≡ first_log_home self.now.ring }
         ensures log { IsLog self.now }
@@ -94,7 +97,7 @@ impl LogGeometry {
         4 + self.ring
     }
 
-    /// The first home block of the files.
+    /// Returns the first home block of the files.
     pub fn first_file_home(&self) -> u32
         ensures value { result ≡ first_log_file_home self.now.ring }
         ensures log { IsLog self.now }
@@ -102,7 +105,7 @@ impl LogGeometry {
         5 + self.ring
     }
 
-    /// The position this many blocks behind another one.
+    /// Returns the position that follows another one by this many blocks.
     pub fn position_behind(&self, position: u32, blocks: u32) -> u32
         ensures value { result ≡ (position + blocks) % self.now.ring }
         ensures within { result < self.now.ring }
@@ -111,7 +114,7 @@ impl LogGeometry {
         ((u64::from(position) + u64::from(blocks)) % u64::from(self.ring)) as u32
     }
 
-    /// The block this many blocks behind a position of the log.
+    /// Returns the block that follows a position of the log by this many blocks.
     pub fn block_behind(&self, position: u32, blocks: u32) -> u32
         ensures value { result ≡ ring_block self.now.ring (position + blocks) }
         ensures low { result < first_log_home self.now.ring }
@@ -120,7 +123,7 @@ impl LogGeometry {
         4 + self.position_behind(position, blocks)
     }
 
-    /// The number of blocks from a position of the log up to where the ring wraps, from 1.
+    /// Returns the number of blocks from a position of the log to the end of the ring, at least 1.
     pub fn blocks_ahead(&self, position: u32) -> u32
         ensures value { result ≡ self.now.ring - position % self.now.ring }
         ensures some { 0 < result }
@@ -139,7 +142,7 @@ impl LogGeometry {
         descriptor_blocks_of(records) + records < self.ring
     }
 
-    /// The greatest number of records that a commit may have.
+    /// Returns the largest number of records that a commit may have.
     pub fn most_records(&self) -> u32
         ensures size { IsCommitSize self.now.ring result }
         ensures most { (records : ℕ) → IsCommitSize self.now.ring records → records ≤ result }
@@ -149,7 +152,7 @@ impl LogGeometry {
         fits.min(MOST_RECORDS)
     }
 
-    /// The number of blocks of the descriptor of a commit of this many records, or none if a commit can't have these.
+    /// Returns the number of blocks of a descriptor for this many records, or `None` if no commit may have that many.
     pub fn descriptor_blocks(&self, records: u32) -> Option<u32>
         ensures some { IfSome result (λ n. (n ≡ log_descriptor_blocks records) × IsCommitSize self.now.ring records) }
         ensures none { IfNone result (IsCommitSize self.now.ring records → ⊥) }

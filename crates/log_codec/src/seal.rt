@@ -12,25 +12,25 @@ use xxh64::Xxh64;
 /// The byte that opens a seal.
 const OPEN: u8 = 0xA7;
 
-/// What the seal of a commit says in a log that is sealed by a byte.
+/// The state of a commit's seal in a log that is sealed by a byte.
 #[derive(Clone, Copy, PartialEq, Eq, Debug)]
 pub enum ByteSeal {
-    /// The commit isn't whole.
+    /// The commit isn't complete.
     Closed,
-    /// The commit is whole.
+    /// The commit is complete.
     Open,
-    /// The first byte opens it, and another one isn't zero.
+    /// The first byte opens the seal, but another byte isn't zero.
     Damaged,
 }
 
-/// The open seal of a log that is sealed by a byte. Every other first byte closes it.
+/// Returns the open seal of a log that is sealed by a byte. A seal with any other first byte is closed.
 pub fn open_seal() -> [u8; 8]
     ensures { result ≡ opened }
 {
     [OPEN, 0, 0, 0, 0, 0, 0, 0]
 }
 
-/// What a seal says in a log that is sealed by a byte.
+/// Returns the state of a seal in a log that is sealed by a byte.
 pub fn read_seal(seal: &[u8; 8]) -> ByteSeal
     ensures { SealSays result seal.now }
 {
@@ -43,14 +43,14 @@ pub fn read_seal(seal: &[u8; 8]) -> ByteSeal
     ByteSeal::Open
 }
 
-/// The digest of a commit, which is computed piece by piece: `new` takes the descriptor's body, `add` the records.
+/// The digest of a commit, computed in pieces. `new` takes the descriptor's body, and `add` takes the records.
 #[derive(Drop)]
 pub struct CommitDigest {
     hasher: Xxh64,
 }
 
 impl CommitDigest {
-    /// Begins with the body of a descriptor: that of the commit with this number and these home blocks. The seed is the
+    /// Begins with the body of the descriptor of the commit with this number and these home blocks. The seed is the
     /// volume's key, changed by the epoch of the session.
     pub fn new(key: u64, epoch: u64, number: u64, homes: &[u32]) -> Self
         requires { length homes.now ≤ 65535 }
@@ -67,7 +67,7 @@ impl CommitDigest {
         CommitDigest { hasher }
     }
 
-    /// Adds the next records, one behind the other.
+    /// Adds the next records, in order.
     pub fn add(&mut self, records: &[u8])
         ensures { (key epoch : ℕ) (d : LogDescriptor) (taken : List ℕ)
             → HasTakenCommit self.old key epoch d taken
@@ -76,7 +76,7 @@ impl CommitDigest {
         self.hasher.update(records);
     }
 
-    /// The seal of the commit with the records that were added, which are shorter than 2^32 bytes.
+    /// Returns the seal of the commit with the added records. These must be shorter than 2^32 bytes.
     pub fn seal(&self) -> [u8; 8]
         ensures { (key epoch : ℕ) (d : LogDescriptor) (taken : List ℕ)
             → HasTakenCommit self.now key epoch d taken → length d.homes ≤ 65535 → length taken < 2 ^ 32

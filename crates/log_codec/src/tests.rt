@@ -1,4 +1,5 @@
-// Blocks that were written by hand from the format's tables, each rule broken, and digests of an independent program.
+// Tests blocks that were written by hand from the format's tables, each broken rule, and digests of an independent
+// program.
 use crate::{
     Broken, ByteSeal, CommitDigest, LogGeometry, LogStart, Sealing, decode_count,
     decode_descriptor, decode_start, encode_descriptor, encode_start, is_second, open_seal,
@@ -9,17 +10,17 @@ use std::process::Abort;
 
 const KEY: u64 = 0x0123_4567_89ab_cdef;
 
-// A log of nine blocks in a volume of twenty, whose home blocks are 13 to 19.
+// Returns a log of nine blocks in a volume of twenty, whose home blocks are 13 to 19.
 fn small_log<R: Abort>(rt: &R) -> LogGeometry {
     LogGeometry::new(Sealing::ByByte, 9, 20).expect(rt, "a log")
 }
 
-// A log of 1,100 blocks, in which descriptors may have two blocks.
+// Returns a log of 1,100 blocks, in which descriptors may have two blocks.
 fn long_log<R: Abort>(rt: &R) -> LogGeometry {
     LogGeometry::new(Sealing::ByDigest(KEY), 1100, 6000).expect(rt, "a log")
 }
 
-// A block with one byte changed.
+// Returns a block with one byte changed.
 fn changed(block: &[u8; 4096], at: usize, byte: u8) -> [u8; 4096] {
     let mut other = *block;
     if at < 4096 {
@@ -28,7 +29,7 @@ fn changed(block: &[u8; 4096], at: usize, byte: u8) -> [u8; 4096] {
     other
 }
 
-// The descriptor of commit 7 for the home blocks 13 and 14, under an open seal.
+// Returns the descriptor of commit 7 for the home blocks 13 and 14, with an open seal.
 fn sample_commit() -> [u8; 4096] {
     let mut block = [0; 4096];
     block[..20].copy_from_slice(b"\xa7\0\0\0\0\0\0\0\0\0\0\0\0\0\0\x07\0\0\0\x02");
@@ -36,7 +37,7 @@ fn sample_commit() -> [u8; 4096] {
     block
 }
 
-// The rule that bytes break which are no descriptor of commit 7.
+// Returns the rule that bytes break, so that they aren't a descriptor of commit 7.
 fn broken_by<R: Abort + AllocGlobal>(rt: &R, bytes: &[u8]) -> Option<Broken> {
     match decode_descriptor(rt.alloc(), &small_log(rt), 7, bytes) {
         Ok(_) => None,
@@ -44,12 +45,12 @@ fn broken_by<R: Abort + AllocGlobal>(rt: &R, bytes: &[u8]) -> Option<Broken> {
     }
 }
 
-// All bytes of a block but the last one.
+// Returns all bytes of a block but the last one.
 fn without_last(block: &[u8; 4096]) -> &[u8] {
     &block[..4095]
 }
 
-// The home blocks 2000, 2003, .., of 1,017 records.
+// Returns the home blocks 2000, 2003, .., of 1,017 records.
 fn many_homes<R: Abort + AllocGlobal>(rt: &R) -> Vec<u32, Global> {
     let mut homes = Vec::new(rt.alloc());
     for i in 0u32..1017 {
@@ -58,7 +59,7 @@ fn many_homes<R: Abort + AllocGlobal>(rt: &R) -> Vec<u32, Global> {
     homes
 }
 
-// Writes a block of a volume, if it is in it.
+// Writes a block of a volume, if the volume has it.
 fn put_block(volume: &mut [u8], block: u32, bytes: &[u8]) {
     let at = 4096 * block as usize;
     if at <= volume.len() && bytes.len() <= volume.len() - at {
@@ -66,7 +67,7 @@ fn put_block(volume: &mut [u8], block: u32, bytes: &[u8]) {
     }
 }
 
-// The blocks of a volume's log from a position on, one after another.
+// Returns the blocks of a volume's log from a position on, in order.
 fn ring_part<R: Abort + AllocGlobal>(
     rt: &R,
     log: &LogGeometry,
@@ -192,7 +193,7 @@ fn byte_seals(rt: HostRuntime) {
     assert!(rt; read_seal(b"\xa6\0\0\0\0\0\0\0") == ByteSeal::Closed);
 }
 
-// Record 0 is 4,096 times 0x11, and record 1 the bytes 3, 10, 17, .., each 7 more.
+// Each byte of record 0 is 0x11. Record 1 has the bytes 3, 10, 17, .., each larger by 7.
 #[test]
 fn digests(rt: HostRuntime) {
     let mut records = [0x11; 8192];
@@ -212,7 +213,7 @@ fn digests(rt: HostRuntime) {
     assert!(rt; later.seal() != digest.seal());
 }
 
-// A commit of 1,017 records at two positions: the ring wraps within its descriptor of two blocks, and within its
+// Tests a commit of 1,017 records at two positions. The ring wraps within its descriptor of two blocks, and within its
 // records.
 #[test]
 fn commits_go_round(rt: HostRuntime) {

@@ -1,4 +1,4 @@
-// Commits are written home, and the start moves behind them.
+// Writing commits home, and moving the start past them.
 ghost use Rattle.std.specs.Prelude.{◌≡◌, ◌≢◌, ◌↔◌, ◌<◌, ◌≤◌, ◌+◌, ◌*◌, ◌^◌, ◌++◌, ℕ, Bool, true, false, List, [], ◌∷◌, not, is_ok, length, slice_index, IsOk, IfErr, OnOk};
 ghost use Rattle.volume_codec.specs.Layout.{block_at};
 ghost use Rattle.device.specs.Device.{Only};
@@ -16,34 +16,34 @@ use crate::tail::LogTail;
 use device::{Device, DeviceFault, copy_block, make_durable, write_at};
 use log_codec::{LogStart, encode_start, start_block_of};
 
-/// The oldest commits of a log: those below a number, and the blocks that they take.
+/// The oldest commits of a log: those with numbers below `below`, and their blocks.
 #[derive(Clone, Copy, PartialEq, Eq, Debug)]
 pub struct OldCommits {
-    /// The number of the first commit behind them.
+    /// The number of the first later commit.
     pub below: u64,
-    /// The number of blocks that they take.
+    /// The number of blocks of these commits.
     pub blocks: u32,
 }
 
-/// Why commits aren't written home, or the start isn't moved.
+/// Why commits aren't written home, or why the start isn't moved.
 #[derive(Clone, Copy, PartialEq, Eq, Debug)]
 pub enum MoveFault {
-    /// A device call failed before. Open the volume anew.
+    /// A device call failed before. The volume must be opened again.
     Spent,
-    /// The log doesn't have these commits or blocks, or these aren't whole home blocks of the volume.
+    /// The log doesn't have these commits or blocks, or these aren't complete home blocks of the volume.
     Range,
     /// A device call failed now.
     Device,
 }
 
-// The byte that selects the second start or the first one.
+// Returns the byte that selects the second start, or the first one.
 fn selecting(second: bool) -> u8
     ensures { result ≡ selected second }
 {
     if second { 0xA7 } else { 0 }
 }
 
-// Writes a start in the place of the one that doesn't count.
+// Writes a start to the place of the unselected start.
 fn write_other<D: Device>(device: &mut D, second: bool, start: &LogStart) -> Result<(), DeviceFault>
     requires long { 16384 ≤ length (D.seen device.old) }
     ensures { Did D.Device device.old (WriteAt (4096 * start_block (not second)) (start_text start.now))
@@ -53,7 +53,7 @@ fn write_other<D: Device>(device: &mut D, second: bool, start: &LogStart) -> Res
     write_at(device, at, &encode_start(start))
 }
 
-// Selects the start that doesn't count, and makes sure of that.
+// Selects the unselected start, and syncs.
 pub(crate) fn select_other<D: Device>(device: &mut D, second: bool) -> Result<(), DeviceFault>
     requires long { 16384 ≤ length (D.seen device.old) }
     ensures { DidAll D.Device device.old (select_works second) (is_ok result) device.new }
@@ -64,7 +64,7 @@ pub(crate) fn select_other<D: Device>(device: &mut D, second: bool) -> Result<()
     }
 }
 
-// Writes a start in the place of the one that doesn't count, makes sure of it, selects it, and makes sure of that.
+// Writes a start to the place of the unselected start, syncs, selects it, and syncs.
 fn move_to<D: Device>(device: &mut D, second: bool, start: &LogStart) -> Result<(), DeviceFault>
     requires long { 16384 ≤ length (D.seen device.old) }
     ensures { DidAll D.Device device.old
@@ -82,7 +82,7 @@ fn move_to<D: Device>(device: &mut D, second: bool, start: &LogStart) -> Result<
 }
 
 impl LogTail {
-    /// All commits of the log so far.
+    /// Returns all commits of the log so far.
     pub fn commits_so_far(&self) -> OldCommits
         ensures { result ≡ record { below = self.now.number; blocks = self.now.used } }
     {
@@ -92,7 +92,7 @@ impl LogTail {
         }
     }
 
-    // Whether the start may move behind these commits.
+    // Whether the start may move past these commits, or why not.
     pub(crate) fn judge_move(&self, oldest: OldCommits) -> Result<(), MoveFault>
         ensures ok { OnOk result (MayMove self.now oldest) }
         ensures small { oldest.below < 2 ^ 64 }
@@ -111,7 +111,7 @@ impl LogTail {
         Ok(())
     }
 
-    // The start behind these commits.
+    // Returns the start after these commits.
     pub(crate) fn start_behind(&self, oldest: OldCommits) -> LogStart
         ensures { result ≡ start_behind self.now oldest }
     {
@@ -122,7 +122,7 @@ impl LogTail {
         }
     }
 
-    // Whether bytes may be written into home blocks from this one on.
+    // Whether bytes may be written into home blocks from this one on, or why not.
     fn judge_home(&self, home: u32, size: usize) -> Result<(), MoveFault>
         ensures ok { OnOk result (MayWriteHome self.now home size) }
         ensures refused { IfErr result (RefusesHome self.now home size) }
@@ -140,8 +140,8 @@ impl LogTail {
         Ok(())
     }
 
-    /// Writes bytes into home blocks, from this one on. One device call, and nothing is made sure of. A crash changes
-    /// no contents where commits of the log have these blocks.
+    /// Writes bytes into home blocks, from this one on. It makes one device call, and nothing becomes durable by it. If
+    /// commits of the log have these blocks, a crash changes no contents.
     pub fn write_home<D: Device>(
         &mut self,
         device: &mut D,
@@ -158,7 +158,8 @@ impl LogTail {
         ensures written { D.is_honest device.old
             → OnOk result (HasHomes home bytes.now (D.seen device.old) (D.seen device.new)) }
 
-        // Each list that a crash may leave before holds the log, with these commits, which have these home blocks.
+        // Premise: all bytes that a crash could have left before this call contain the log with these commits. The
+        // commits have these home blocks.
         ensures leaves { (second : Bool) (contents : ℕ → List ℕ) (chain : List LogDescriptor)
             → D.is_honest device.old
             → ((b : ℕ) → home ≤ b → 4096 * b < 4096 * home + length bytes.now → IsLoggedHome chain b)
@@ -175,7 +176,7 @@ impl LogTail {
         }
     }
 
-    // Whether this block of the log may be copied to this home block.
+    // Whether this block of the log may be copied to this home block, or why not.
     fn judge_copy(&self, block: u32, home: u32) -> Result<(), MoveFault>
         ensures ok { OnOk result (MayCopyHome self.now block home) }
         ensures refused { IfErr result (RefusesCopy self.now block home) }
@@ -193,8 +194,8 @@ impl LogTail {
         Ok(())
     }
 
-    /// Copies a block of the log to a home block: a read and a write, and nothing is made sure of. A crash changes no
-    /// contents where a commit of the log has the home block.
+    /// Copies a block of the log to a home block. It makes a read and a write, and nothing becomes durable by it. If a
+    /// commit of the log has the home block, a crash changes no contents.
     pub fn copy_home<D: Device>(
         &mut self,
         device: &mut D,
@@ -211,7 +212,8 @@ impl LogTail {
         ensures copied { D.is_honest device.old
             → OnOk result (HasHomes home (block_at (D.seen device.old) block) (D.seen device.old) (D.seen device.new)) }
 
-        // Each list that a crash may leave before holds the log, with these commits, one of which has this home block.
+        // Premise: all bytes that a crash could have left before this call contain the log with these commits. One of
+        // the commits has this home block.
         ensures leaves { (second : Bool) (contents : ℕ → List ℕ) (chain : List LogDescriptor)
             → D.is_honest device.old → IsLoggedHome chain home
             → HasCommits D.Device second self.old contents chain device.old
@@ -228,9 +230,9 @@ impl LogTail {
         }
     }
 
-    /// Writes the start behind these commits in the place of the start that doesn't count. `second` says whether the
-    /// second start counts. One device call, and nothing is made sure of. The start may be selected once this is sure,
-    /// by a commit or by a sync, and these commits are written home.
+    /// Writes the start after these commits to the place of the unselected start. `second` is whether the second start
+    /// is selected. It makes one device call, and nothing becomes durable by it. Once the written start is durable, by
+    /// a commit or by a sync, and these commits are written home, it may be selected.
     pub fn write_start<D: Device>(
         &mut self,
         device: &mut D,
@@ -245,12 +247,12 @@ impl LogTail {
         ensures did { MayMove self.old oldest
             → Did D.Device device.old (start_work self.old second oldest) (is_ok result) device.new }
 
-        // Each list that a crash may leave before holds the log, by the start that counts.
+        // Premise: all bytes that a crash could have left before this call contain the log, by the selected start.
         ensures leaves { (contents : ℕ → List ℕ) (chain : List LogDescriptor) → D.is_honest device.old
             → HasCommits D.Device second self.old contents chain device.old
             → LeavesCommits D.Device second self.old contents chain device.old device.new }
 
-        // These commits are written home. Then the start is ready to be selected, once it is sure.
+        // If these commits are written home, the start is ready to be selected once it is durable.
         ensures ready { (contents : ℕ → List ℕ) (ds younger : List LogDescriptor) → D.is_honest device.old
             → HasCommits D.Device second self.old contents (ds ++ younger) device.old
             → AreOldest self.old oldest ds
@@ -268,7 +270,7 @@ impl LogTail {
         }
     }
 
-    /// Makes sure of all that was written. One device call.
+    /// Makes all that was written durable. It makes one device call.
     pub fn make_sure<D: Device>(&mut self, device: &mut D) -> Result<(), MoveFault>
         ensures may { OnOk result (self.old.spent ≡ false) }
         ensures refused { IfErr result (RefusesSure self.old) }
@@ -279,7 +281,7 @@ impl LogTail {
             → OnOk result (Only (D.may_leave device.new) (D.seen device.new)
             × (D.seen device.new ≡ D.seen device.old)) }
 
-        // Each list that a crash may leave before holds the log.
+        // Premise: all bytes that a crash could have left before this call contain the log.
         ensures leaves { (second : Bool) (contents : ℕ → List ℕ) (chain : List LogDescriptor)
             → HasCommits D.Device second self.old contents chain device.old
             → LeavesCommits D.Device second self.old contents chain device.old device.new }
@@ -294,8 +296,8 @@ impl LogTail {
         Ok(())
     }
 
-    /// Selects the start behind these commits, which was written and is sure, and makes sure of that. Two device calls.
-    /// Then the room of these commits is free.
+    /// Selects the start after these commits, which was written and is durable, and makes the selection durable. It
+    /// makes two device calls. The room of these commits is free then.
     pub fn select_start<D: Device>(
         &mut self,
         device: &mut D,
@@ -310,7 +312,7 @@ impl LogTail {
         ensures did { MayMove self.old oldest
             → DidAll D.Device device.old (select_works second) (is_ok result) device.new }
 
-        // All is sure, the start is written, and these commits are written home.
+        // Premise: all is durable, the start is written, and these commits are written home.
         ensures leaves { (contents : ℕ → List ℕ) (ds younger : List LogDescriptor) → D.is_honest device.old
             → Only (D.may_leave device.old) (D.seen device.old)
             → IsReadyToMove second self.old oldest contents ds younger (D.seen device.old)
@@ -329,8 +331,8 @@ impl LogTail {
         Ok(())
     }
 
-    /// Moves the start behind these commits, which are written home: it writes the start, makes sure of that and of all
-    /// that was written before, selects it, and makes sure of that. Four device calls.
+    /// Moves the start past these commits, which are written home. It writes the start, syncs, selects the start, and
+    /// syncs. The first sync also makes all earlier writes durable. It makes four device calls.
     pub fn move_start<D: Device>(
         &mut self,
         device: &mut D,
@@ -345,8 +347,8 @@ impl LogTail {
         ensures did { MayMove self.old oldest
             → DidAll D.Device device.old (move_works self.old second oldest) (is_ok result) device.new }
 
-        // Each list that a crash may leave before holds the log, by the start that counts, and a read finds these
-        // commits written home.
+        // Premise: all bytes that a crash could have left before this call contain the log, by the selected start. A
+        // read finds these commits written home.
         ensures leaves { (contents : ℕ → List ℕ) (ds younger : List LogDescriptor) → D.is_honest device.old
             → HasCommits D.Device second self.old contents (ds ++ younger) device.old
             → AreOldest self.old oldest ds

@@ -26,7 +26,7 @@ use log_codec::{LogGeometry, Sealing, rise_within};
 /// The byte that opens a seal.
 const OPEN: u8 = 0xA7;
 
-// The number of blocks that no commit takes.
+// Returns the number of blocks that no commit takes.
 fn spare_of(sealing: Sealing) -> u32
     ensures value { result ≡ spare_blocks sealing }
     ensures small { result ≤ 1 }
@@ -37,7 +37,7 @@ fn spare_of(sealing: Sealing) -> u32
     }
 }
 
-// Makes sure of what was written. Where a start is to be selected, the one that doesn't count is, before that.
+// Syncs. If a start is to be selected, first selects the unselected start.
 fn finish<D: Device>(device: &mut D, select: Option<bool>) -> Result<(), DeviceFault>
     requires long { 16384 ≤ length (D.seen device.old) }
     ensures { DidAll D.Device device.old (last_works select) (is_ok result) device.new }
@@ -48,7 +48,7 @@ fn finish<D: Device>(device: &mut D, select: Option<bool>) -> Result<(), DeviceF
     }
 }
 
-// Makes sure of what was written, opens the seal at an offset, and finishes.
+// Syncs, opens the seal at an offset, and finishes.
 fn open_at<D: Device>(device: &mut D, at: u64, select: Option<bool>) -> Result<(), DeviceFault>
     requires long { 16384 ≤ length (D.seen device.old) }
     requires there { at + 1 ≤ length (D.seen device.old) }
@@ -65,7 +65,7 @@ fn open_at<D: Device>(device: &mut D, at: u64, select: Option<bool>) -> Result<(
     finish(device, select)
 }
 
-// Writes a commit and one byte, which closes the next seal, at a position of the log, and finishes.
+// Writes a commit, and one byte that closes the next seal, at a position of the log, and finishes.
 fn write_commit<D: Device>(
     device: &mut D,
     log: &LogGeometry,
@@ -96,8 +96,8 @@ fn write_commit<D: Device>(
 }
 
 impl LogTail {
-    // The number of blocks of the descriptor of the next commit, with records for these home blocks, in room of this
-    // size.
+    // Returns the number of blocks of the next commit's descriptor, with records for these home blocks, for a `room` of
+    // this size. Fails if the commit may not be made.
     pub(crate) fn judge(&self, homes: &[u32], room: usize) -> Result<u32, CommitFault>
         ensures ok { IfOk result (λ blocks. (blocks ≡ log_descriptor_blocks (length homes.now))
             × MayCommit self.now homes.now room) }
@@ -130,7 +130,7 @@ impl LogTail {
         Ok(blocks)
     }
 
-    // Writes the next commit, in whose room the records are, and finishes.
+    // Writes the next commit, whose records are in `room`, and finishes.
     pub(crate) fn write_next<D: Device>(
         &mut self,
         device: &mut D,
@@ -168,11 +168,11 @@ impl LogTail {
         Ok(())
     }
 
-    /// Commits records for home blocks, which rise strictly. The caller's room is as long as the commit and one byte.
-    /// It has the records behind the blocks of the descriptor, which are filled in here. Takes no memory.
+    /// Commits records for home blocks, which rise strictly. `room` is as long as the commit and one byte. It contains
+    /// the records after the blocks of the descriptor, which this fills in. The call allocates no memory.
     ///
-    /// Where a byte seals, this makes a write of all but that byte, a sync, a write of the byte, and a sync. Where a
-    /// digest seals, it makes a write and a sync. The write of the commit is cut in two where the ring wraps.
+    /// With a byte seal, this writes all but the seal's byte, syncs, writes that byte, and syncs. With a digest seal,
+    /// it writes and syncs. If the ring wraps within the commit, the write is split in two.
     pub fn commit<D: Device>(
         &mut self,
         device: &mut D,
@@ -191,11 +191,12 @@ impl LogTail {
         ensures bytes { MayCommit self.old homes.now (length room.old)
             → room.new ≡ commit_bytes self.old homes.now (records_in homes.now room.old) ++ 0 ∷ [] }
 
-        // Home blocks, the starts and the byte that selects one stay.
+        // Home blocks, the starts and the byte that selects one are unchanged.
         ensures outside { D.is_honest device.old
             → IsSameOutside self.old.log (D.seen device.old) (D.seen device.new) }
 
-        // Each list that a crash may leave before holds the log, with these contents and commits.
+        // Premise: all bytes that a crash could have left before this call contain the log, with these contents and
+        // commits.
         ensures commits { (second : Bool) (contents : ℕ → List ℕ) (chain : List LogDescriptor)
             → D.is_honest device.old
             → HasCommits D.Device second self.old contents chain device.old
@@ -203,7 +204,7 @@ impl LogTail {
             (committed_to contents homes.now (records_in homes.now room.old))
             (chain ++ next_logged self.old homes.now ∷ []) (D.seen device.new)) }
 
-        // Each list that a crash may leave before holds the log, with these contents.
+        // Premise: all bytes that a crash could have left before this call contain the log, with these contents.
         ensures leaves { (contents : ℕ → List ℕ) → D.is_honest device.old
             → ((c : List ℕ) → D.may_leave device.old c → HoldsLog self.old contents c)
             → CommitLeaves D.Device self.old contents homes.now (records_in homes.now room.old) (is_ok result)

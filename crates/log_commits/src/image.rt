@@ -6,7 +6,7 @@ ghost use Rattle.log_commits.specs.Commit.{records_in};
 
 use log_codec::{CommitDigest, LogGeometry, Sealing, encode_descriptor, open_seal};
 
-/// The seal of the commit with this number, these home blocks and these records, in a session of this epoch.
+/// Returns the seal of the commit with this number, these home blocks and these records, in a session of this epoch.
 pub fn seal_of(log: &LogGeometry, epoch: u64, number: u64, homes: &[u32], records: &[u8]) -> [u8; 8]
     requires few { length homes.now ≤ 65535 }
     requires short { length records.now < 2 ^ 32 }
@@ -37,8 +37,8 @@ pub fn put_descriptor(room: &mut [u8], seal: &[u8; 8], number: u64, homes: &[u32
     }
 }
 
-/// Fills in the bytes of a commit: its seal and its descriptor before the records, which are in the room already, and a
-/// zero behind them.
+/// Fills in the bytes of a commit around the records, which are already in `room`: the seal and the descriptor before
+/// them, and a zero after them.
 pub fn fill(log: &LogGeometry, epoch: u64, number: u64, homes: &[u32], blocks: u32, room: &mut [u8])
     requires few { length homes.now ≤ 65535 }
     requires blocks { blocks ≡ log_descriptor_blocks (length homes.now) }

@@ -1,4 +1,4 @@
-// What follows of the definitions alone.
+// Facts that follow from the definitions alone.
 ghost use Rattle.std.specs.Prelude.{◌≡◌, ◌⊎◌, ◌++◌, ℕ, List, [], ◌∷◌, Bool};
 ghost use Rattle.volume_codec.specs.Layout.{block_at};
 ghost use Rattle.log_codec.specs.declared.sealing.Sealing.TheVariants.{ByDigest};
@@ -15,8 +15,8 @@ ghost use Rattle.log_commits.specs.Behind.{HoldsCommits, IsReadyToMove, IsSameOu
 
 use log_codec::one_log;
 
-/// Bytes that hold a log with a tail recover to its contents, if no further commit lies behind it. Where a byte seals,
-/// none does. A log without commits holds its home blocks.
+/// States that bytes which contain a log up to a tail recover to its contents, if no further commit follows it. With a
+/// byte seal none follows. A log without commits has the contents of its home blocks.
 pub fn held_log()
     ensures recovers { (t : TailValue) (contents : ℕ → List ℕ) (bytes : List ℕ) → HoldsLog t contents bytes
         → EndsAtTail t bytes → LogRecovers t.log contents bytes }
@@ -28,7 +28,7 @@ pub fn held_log()
         → EndsAtTail (tail_at g s spent) bytes }
 {}
 
-/// Bytes that hold the commits below a number have one list of contents by them.
+/// States that bytes which contain the commits below a number have one list of contents by these commits.
 pub fn one_held()
     ensures { (g : LogValue) (number : ℕ) (contents others : ℕ → List ℕ) (bytes : List ℕ) (b : ℕ) → IsLog g
         → HoldsUpTo g number contents bytes → HoldsUpTo g number others bytes → IsLogHome g b
@@ -37,8 +37,9 @@ pub fn one_held()
     one_log();
 }
 
-/// Where a digest seals, bytes that hold the commits up to a number recover to their contents, or to those with the
-/// next commit, if that is the only commit from this number on that can be read.
+/// States to which contents bytes recover with a digest seal, if they contain the commits below a number. Premise: at
+/// most the next commit can be read from this number on. The contents are those without the next commit, or those with
+/// it.
 pub fn told_commit()
     ensures { (t : TailValue) (contents : ℕ → List ℕ) (homes records bytes : List ℕ) (key : ℕ)
         → t.log.sealing ≡ ByDigest key → HoldsUpTo t.log t.number contents bytes
@@ -46,9 +47,9 @@ pub fn told_commit()
         → LogRecovers t.log contents bytes ⊎ LogRecovers t.log (committed_to contents homes records) bytes }
 {}
 
-/// What writing home may do. A home block that a commit of the log has may contain any bytes, so a crash within its
-/// write changes no contents. Once each home block of the oldest commits has its recovered bytes, or a younger commit
-/// has it, a start behind these commits may count.
+/// States what writing commits home may do. A home block that a commit of the log has may contain any bytes. So a crash
+/// within its write changes no contents. A start after the oldest commits may be selected once each of their home
+/// blocks has its recovered bytes, or a younger commit has it.
 pub fn written_home()
     ensures any_bytes { (t : TailValue) (contents : ℕ → List ℕ) (old new : List ℕ) → IsLog t.log
         → (held : HoldsLog t contents old) → DiffersInHomes t.log held.chain old new → HoldsLog t contents new }
@@ -57,8 +58,9 @@ pub fn written_home()
         → MayStartBehind t contents ds younger old new → HoldsLog (tail_from t ds) contents new }
 {}
 
-/// What a commit keeps of older commits that are being written home: a home block that is written stays so, or the
-/// commit has it, too. Once the start behind the older commits is written and they are home, it stays ready.
+/// States what a commit keeps while older commits are written home. A home block that is written home remains so, or
+/// the new commit has it as well. Once the start after the older commits is written and they are home, it remains
+/// ready.
 pub fn committing_keeps()
     ensures written { (t : TailValue) (contents : ℕ → List ℕ) (ds younger : List LogDescriptor)
         (homes records old new : List ℕ) → IsSameOutside t.log old new

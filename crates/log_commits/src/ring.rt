@@ -1,4 +1,4 @@
-// Writes that go round the ring of a log.
+// Writes that wrap at the end of a log's ring.
 ghost use Rattle.std.specs.Prelude.{◌<◌, ◌≤◌, ◌+◌, ◌*◌, is_ok, length};
 ghost use Rattle.log_commits.specs.Calls.{DidAll};
 ghost use Rattle.log_commits.specs.Ring.{ring_works};
@@ -6,10 +6,10 @@ ghost use Rattle.log_commits.specs.Ring.{ring_works};
 use device::{Device, DeviceFault, write_at};
 use log_codec::LogGeometry;
 
-/// The offset of the first block of the log.
+/// The offset of the first block of the log, in bytes.
 const FIRST: u64 = 16384;
 
-/// Writes bytes from a position of the log on, but the first few: one write, or two where the ring wraps.
+/// Writes all bytes but the first `from` at a position of the log. It makes one write, or two if the ring wraps.
 pub fn write_ring<D: Device>(
     device: &mut D,
     log: &LogGeometry,

@@ -1,4 +1,4 @@
-// A commit whose last sync makes sure of a move of the start, too.
+// A commit whose last sync also makes a move of the start durable.
 ghost use Rattle.std.specs.Prelude.{◌≡◌, ◌≢◌, ◌↔◌, ◌≤◌, ◌+◌, ◌*◌, ◌++◌, ℕ, Bool, List, [], ◌∷◌, not, true, is_ok, length, IfErr, OnOk};
 ghost use Rattle.log_codec.specs.Commit.{LogDescriptor};
 ghost use Rattle.log_commits.specs.declared.fault.CommitFault.TheVariants.{Device};
@@ -15,9 +15,9 @@ use crate::tail::LogTail;
 use device::Device;
 
 impl LogTail {
-    /// Commits as `commit`, and selects the start behind these old commits, which is written: the byte that selects it
-    /// is written before the commit's last sync, which makes sure of both. Then the room of the old commits is free.
-    /// Where a digest seals, the start has to be sure before.
+    /// Commits as `commit` does, and selects the start after these old commits, which is written already. The byte that
+    /// selects it is written before the commit's last sync, which makes both durable. The room of the old commits is
+    /// free then. With a digest seal, the start must be durable before.
     pub fn commit_selecting<D: Device>(
         &mut self,
         device: &mut D,
@@ -36,7 +36,8 @@ impl LogTail {
             → DidAll D.Device device.old (selecting_works self.old second homes.now (records_in homes.now room.old))
             (is_ok result) device.new }
 
-        // Each list that a crash may leave before holds the log, by the start that counts, and the other one is ready.
+        // Premise: all bytes that a crash could have left before this call contain the log, by the selected start. The
+        // other start is ready.
         ensures leaves { (contents : ℕ → List ℕ) (ds younger : List LogDescriptor) → D.is_honest device.old
             → HasCommits D.Device second self.old contents (ds ++ younger) device.old
             → IsReadyToMove second self.old oldest contents ds younger (D.seen device.old)

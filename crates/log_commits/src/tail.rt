@@ -5,7 +5,7 @@ ghost use Rattle.log_commits.specs.Tail.{IsTail, tail_at};
 use log_codec::{LogGeometry, LogStart};
 use std::marker::Model;
 
-/// The end of a log, as a session knows it: where the next commit begins, and which blocks are in use.
+/// The end of a log, as a session knows it: the place of the next commit, and the blocks in use.
 #[derive(Drop)]
 pub struct LogTail {
     pub(crate) log: LogGeometry,
@@ -41,7 +41,7 @@ impl Model for LogTail {
 }
 
 impl LogTail {
-    /// The end of a log that has no commit: this is the start that counts.
+    /// Returns the end of a log that has no commit, with this selected start.
     pub fn new(log: LogGeometry, start: LogStart) -> Self
         ensures { result ≡ tail_at log start false }
     {
@@ -56,42 +56,42 @@ impl LogTail {
         }
     }
 
-    /// Where the volume has its parts.
+    /// Returns the places of the volume's parts.
     pub fn log(&self) -> LogGeometry
         ensures { result ≡ self.now.log }
     {
         self.log
     }
 
-    /// The position of the next commit.
+    /// Returns the position of the next commit.
     pub fn position(&self) -> u32
         ensures { result ≡ self.now.position }
     {
         self.position
     }
 
-    /// The number of the next commit.
+    /// Returns the number of the next commit.
     pub fn number(&self) -> u64
         ensures { result ≡ self.now.number }
     {
         self.number
     }
 
-    /// The epoch of the session.
+    /// Returns the epoch of the session.
     pub fn epoch(&self) -> u64
         ensures { result ≡ self.now.start.epoch }
     {
         self.start.epoch
     }
 
-    /// The number of commits in the log: those that aren't all written home.
+    /// Returns the number of commits in the log that aren't all written home.
     pub fn commits(&self) -> u64
         ensures { result ≡ self.now.number - self.now.start.number }
     {
         self.number.saturating_sub(self.start.number)
     }
 
-    /// Whether a device call failed. Then no further commit is made.
+    /// Whether a device call failed. No further commit is made then.
     pub fn is_spent(&self) -> bool
         ensures { result ≡ self.now.spent }
     {

@@ -1,4 +1,4 @@
-// The files of a volume with a log on a disk in memory, as it recovers.
+// The recovered files of a volume with a log on a disk in memory.
 ghost use Rattle.std.specs.Prelude.{◌≡◌, ◌*◌, ◌<◌, ◌≤◌, List, length, map, IfOk};
 ghost use Rattle.device.specs.Memory.{seen_of};
 ghost use Rattle.volume_codec.specs.Files.{File};
@@ -13,7 +13,7 @@ use file_rows::{FoundFiles, copy_pages};
 use log_reading::read_log_volume;
 use std::alloc::{AllocError, Allocator};
 
-/// The files to which a disk recovers by its log.
+/// Returns the files to which a disk recovers by its log.
 pub(crate) fn read_files<A: Allocator + Copy>(
     alloc: A,
     disk: &mut MemDisk<A>,
@@ -28,7 +28,7 @@ pub(crate) fn read_files<A: Allocator + Copy>(
     }
 }
 
-// The bytes of each file of a volume that was found.
+// Returns the bytes of each file of a volume that was found.
 fn read_each<V: FoundFiles, A: Allocator + Copy>(
     alloc: A,
     volume: &V,
@@ -48,7 +48,7 @@ fn read_each<V: FoundFiles, A: Allocator + Copy>(
     Ok(files)
 }
 
-// The bytes of one file.
+// Returns the bytes of one file.
 fn read_file<V: FoundFiles, A: Allocator + Copy>(
     alloc: A,
     volume: &V,
@@ -69,7 +69,7 @@ fn read_file<V: FoundFiles, A: Allocator + Copy>(
     }
 }
 
-// The bytes of a disk.
+// Returns the bytes of a disk.
 fn bytes_in<A: Allocator + Copy>(alloc: A, disk: &MemDisk<A>) -> Result<Vec<u8, A>, CrashFault>
     ensures { IfOk result (λ bytes. bytes.items ≡ seen_of disk.now) }
 {

@@ -1,4 +1,4 @@
-// Runs over the disk that shows the volume with a log of a device.
+// Runs over the disk that shows the volume with a log on a device.
 ghost use Rattle.std.specs.Prelude.{◌≡◌, Ok, IfOk, IfErr, alloc_error};
 ghost use Rattle.device.specs.Memory.{new_disk};
 ghost use Rattle.machine.specs.declared.act.Shape.{Shape};
@@ -21,8 +21,8 @@ use machine::{Machine, Reply, Shape, Step};
 use page_entry::Refusal;
 use std::alloc::{AllocError, Allocator};
 
-/// Makes a run over the volume with a log of a device, up to a step that is answered that the device failed. The
-/// device, and the replies; there are none where the device failed as it was opened.
+/// Makes a run over the volume with a log on a device, up to a step with the reply that the device failed. Returns the
+/// device and the replies. There is no reply if the device failed while it was opened.
 pub(crate) fn run_by_log<D: Device + Drop, A: Allocator + Copy>(
     alloc: A,
     device: D,
@@ -40,7 +40,7 @@ pub(crate) fn run_by_log<D: Device + Drop, A: Allocator + Copy>(
     }
 }
 
-/// Makes a run over a volume with a log once, on a copy of a disk that holds these bytes.
+/// Makes a run over a volume with a log once, on a copy of a disk with these bytes.
 pub(crate) fn list<A: Allocator + Copy>(
     alloc: A,
     image: &[u8],
@@ -57,7 +57,7 @@ pub(crate) fn list<A: Allocator + Copy>(
     }
 }
 
-// Makes a run over the volume with a log of a disk once.
+// Makes a run once over the volume with a log on a disk.
 fn list_on<A: Allocator + Copy>(
     alloc: A,
     disk: Listing<A>,
@@ -74,7 +74,7 @@ fn list_on<A: Allocator + Copy>(
     }
 }
 
-// Makes a run over a disk that shows a volume with a log once.
+// Makes a run once over a disk that shows a volume with a log.
 fn list_shown<A: Allocator + Copy>(
     alloc: A,
     shown: LogDisk<Listing<A>, A>,
@@ -93,7 +93,7 @@ fn list_shown<A: Allocator + Copy>(
     }
 }
 
-/// Why a disk wasn't opened, or a machine wasn't started on it.
+/// Returns why a disk wasn't opened, or why no machine was started on it.
 pub(crate) fn why_refused<D: Drop>(refused: (Refusal, D)) -> CrashFault
     ensures { result ≡ cause_of refused.0 }
 {
@@ -101,7 +101,7 @@ pub(crate) fn why_refused<D: Drop>(refused: (Refusal, D)) -> CrashFault
     fault_of(refusal)
 }
 
-/// What was made of a volume that was opened. Where nothing was, memory was refused.
+/// Returns the value made from an opened volume. It can fail only for lack of memory.
 pub(crate) fn memory_alone<T: Drop>(made: Result<T, CrashFault>) -> Result<T, CrashFault>
     ensures same { IfOk result (λ value. made ≡ Ok value) }
     ensures memory { IfErr result (λ why. why ≡ CrashFault.Memory alloc_error) }
@@ -112,7 +112,7 @@ pub(crate) fn memory_alone<T: Drop>(made: Result<T, CrashFault>) -> Result<T, Cr
     }
 }
 
-// Makes the steps of a run, and lists the device calls that opened the volume and those that the steps made.
+// Makes the steps of a run. Lists the device calls that opened the volume and those that the steps made.
 fn list_steps<A: Allocator + Copy>(
     alloc: A,
     mut machine: Machine<LogDisk<Listing<A>, A>, A>,
@@ -136,7 +136,7 @@ fn list_steps<A: Allocator + Copy>(
     })
 }
 
-// The replies to the steps of a run, and the number of device calls after each.
+// Returns the replies to the steps of a run, and the number of device calls after each.
 fn note_steps<A: Allocator + Copy>(
     alloc: A,
     machine: &mut Machine<LogDisk<Listing<A>, A>, A>,

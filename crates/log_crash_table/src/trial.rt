@@ -1,4 +1,4 @@
-// A run over a volume with a log, made once to learn its calls and its replies, and again for each crash.
+// A run over a volume with a log. It is made once to learn its calls and replies, and again for each crash.
 ghost use Rattle.std.specs.Prelude.{◌≡◌, ◌≢◌, ◌↔◌, ◌<◌, ◌≤◌, ℕ, List, length, map, slice_get, Some, Err};
 ghost use Rattle.std.specs.Prelude.{IfOk, IfErr, IsTrue};
 ghost use Rattle.device.specs.Memory.{seen_of};
@@ -18,7 +18,7 @@ use machine::{Reply, Shape, Step};
 use std::alloc::Allocator;
 use std::marker::Model;
 
-/// A run on a copy of a disk that has a volume with a log: its replies, and the calls of the disk.
+/// A run on a copy of a disk that has a volume with a log, with its replies and the calls of the disk.
 #[derive(Drop)]
 pub struct LogTrial<'a, A: Allocator + Copy> {
     alloc: A,
@@ -54,8 +54,10 @@ impl<'a, A: Allocator + Copy> Model for LogTrial<'a, A> {
 }
 
 impl<'a, A: Allocator + Copy> LogTrial<'a, A> {
-    /// Makes a run on a copy of a disk that has this volume with a log. `Refused` where the volume isn't opened, or
-    /// `engine::start` refuses the disk that shows it, for another cause than memory; and else `Memory` alone.
+    /// Makes a run on a copy of a disk that has this volume with a log.
+    ///
+    /// Fails with `Refused` if the volume can't be opened, or if `engine::start` refuses the disk that shows it, for
+    /// another cause than memory. Otherwise it can fail only with `Memory`.
     pub fn new(
         alloc: A,
         twin: &'a Twin<'a, A>,
@@ -84,7 +86,8 @@ impl<'a, A: Allocator + Copy> LogTrial<'a, A> {
         }
     }
 
-    // What a crash left of the run that was made again, with the cause for which there is no answer.
+    // Makes the run again, and returns the mark whose files the crash left. Fails with the cause if there is no such
+    // mark.
     fn left(&self, fails: u64, choice: &[u8]) -> Result<u32, CrashFault>
         ensures { IfOk result (LeavesByLog self.now fails choice.now) }
     {
@@ -96,7 +99,7 @@ impl<'a, A: Allocator + Copy> LogTrial<'a, A> {
         self.mark_in(&replies, &mut disk)
     }
 
-    // The mark whose files a disk has, by these replies.
+    // Returns the mark whose files a disk has, by these replies.
     fn mark_in(&self, replies: &[Reply], disk: &mut MemDisk<A>) -> Result<u32, CrashFault>
         ensures { IfOk result (λ number. (files : List File) × RecoversToLog self.now.image files
             × (found : List File) × RecoversToLog (seen_of disk.old) found
@@ -153,9 +156,13 @@ impl<'a, A: Allocator + Copy> CrashedRun<A> for LogTrial<'a, A> {
         steps_before(&self.listed.counts, call)
     }
 
-    /// `Otherwise` where the choice isn't as long as the disk, where the run was answered otherwise when it was made
-    /// again, and where the files that are found are those at no mark, or at one that is older than the last one that
-    /// was acknowledged. Else `Memory` alone.
+    /// Fails with `Otherwise` if one of these holds:
+    ///
+    /// * The choice isn't as long as the disk.
+    /// * The repeated run had other replies.
+    /// * The files found are at no mark, or at a mark older than the last acknowledged one.
+    ///
+    /// Otherwise it can fail only with `Memory`.
     fn crash(&self, fails: u64, choice: &[u8]) -> Result<u32, CrashFault>
         ensures leaves { IfOk result (LeavesByLog self.now fails choice.now) }
         ensures otherwise { length choice.now ≢ length self.now.image → result ≡ Err CrashFault.Otherwise }
@@ -170,7 +177,7 @@ impl<'a, A: Allocator + Copy> CrashedRun<A> for LogTrial<'a, A> {
         }
     }
 
-    // A volume that isn't opened again was answered otherwise.
+    // A volume that isn't opened again counts as a run with other replies.
     fn cause(&self, fault: CrashFault) -> CrashFault {
         match fault {
             CrashFault::Memory(cause) => CrashFault::Memory(cause),
@@ -186,7 +193,7 @@ fn are_first<A: Allocator + Copy>(number: u32, before: &[Vec<u8, A>], found: &[V
     number > 0 || are_same(before, found)
 }
 
-// Whether no mark after this one was acknowledged by these replies.
+// Whether these replies acknowledge no later mark than this one.
 fn is_durable(replies: &[Reply], number: u32) -> bool
     ensures { IsTrue result ↔ ((i k : ℕ) → slice_get replies.now i ≡ Some (Committed k) → k ≤ number) }
 {

@@ -1,4 +1,4 @@
-// A volume with a log, and one in layout 4 with the same files.
+// A volume with a log, and a volume in layout 4 with the same files.
 ghost use Rattle.std.specs.Prelude.{◌≡◌, map, drop, IfOk, IfErr};
 ghost use Rattle.device.specs.Memory.{new_disk};
 ghost use Rattle.log_disk.specs.Opening.{fitted, shown_bytes};
@@ -17,8 +17,8 @@ use std::alloc::{AllocError, Allocator};
 use std::marker::Model;
 use volume_codec::Super;
 
-/// A volume with a log, its files, and a volume in layout 4 that has the same files. By the second one it is known
-/// which files there are at each mark of a run.
+/// A volume with a log, its files, and a volume in layout 4 that has the same files. The second volume shows which
+/// files exist at each mark of a run.
 #[derive(Drop)]
 pub struct Twin<'a, A: Allocator + Copy> {
     image: &'a [u8],
@@ -46,8 +46,8 @@ impl<'a, A: Allocator + Copy> Model for Twin<'a, A> {
 }
 
 impl<'a, A: Allocator + Copy> Twin<'a, A> {
-    /// Reads the volume with a log that has these bytes, and makes the other one. `Refused` where the volume isn't
-    /// opened as a disk in layout 4, and else `Memory` alone.
+    /// Reads the volume with a log that has these bytes, and makes the other one. Fails with `Refused` if the volume
+    /// can't be opened as a disk in layout 4. Otherwise it can fail only with `Memory`.
     pub fn new(alloc: A, image: &'a [u8]) -> Result<Self, CrashFault>
         ensures made { IfOk result (λ twin. twin.image ≡ image.now) }
         ensures refused { IfErr result (HasNoTwin image.now) }
@@ -56,13 +56,13 @@ impl<'a, A: Allocator + Copy> Twin<'a, A> {
             return Err(CrashFault::Memory(AllocError));
         };
         match LogDisk::open(alloc, copy) {
-            // The volume was opened, so its files are read unless memory is refused.
+            // The volume was opened, so reading its files can fail only for lack of memory.
             Ok(disk) => memory_alone(Twin::shown_by(alloc, image, disk)),
             Err(refused) => Err(why_refused(refused)),
         }
     }
 
-    // The volume with a log that has these bytes, and the one that its disk shows.
+    // Returns the volume with a log that has these bytes, and the volume that its disk shows.
     fn shown_by(alloc: A, image: &'a [u8], disk: LogDisk<MemDisk<A>, A>) -> Result<Self, CrashFault>
         requires { IsShownBy image.now disk }
         ensures { IfOk result (λ twin. twin.image ≡ image.now) }
@@ -78,21 +78,21 @@ impl<'a, A: Allocator + Copy> Twin<'a, A> {
         })
     }
 
-    /// The bytes of the volume with a log.
+    /// Returns the bytes of the volume with a log.
     pub fn image(&self) -> &'a [u8]
         ensures { result.now ≡ self.now.image }
     {
         self.image
     }
 
-    // The bytes of the volume in layout 4.
+    // Returns the bytes of the volume in layout 4.
     pub(crate) fn shown(&self) -> &[u8]
         ensures { result.now ≡ self.now.shown }
     {
         &self.shown
     }
 
-    // The bytes of the files.
+    // Returns the bytes of the files.
     pub(crate) fn files(&self) -> &[Vec<u8, A>]
         ensures bytes { map (λ v. v.items) result.now ≡ self.now.files }
         ensures twin { IsTwin self.now }
@@ -101,14 +101,14 @@ impl<'a, A: Allocator + Copy> Twin<'a, A> {
     }
 }
 
-// A disk in memory with these bytes.
+// Returns a disk in memory with these bytes.
 fn copy_of<A: Allocator + Copy>(alloc: A, image: &[u8]) -> Result<MemDisk<A>, AllocError>
     ensures { IfOk result (λ disk. disk ≡ new_disk image.now) }
 {
     MemDisk::from_bytes(alloc, Vec::from_slice(alloc, image)?)
 }
 
-// The bytes of the volume in layout 4 that shows these bytes.
+// Returns the bytes of the volume in layout 4 that shows these bytes.
 fn shown_of<A: Allocator + Copy>(
     alloc: A,
     volume: &LogSuper<A>,
@@ -129,7 +129,7 @@ fn shown_of<A: Allocator + Copy>(
     Ok(shown)
 }
 
-// The bytes from an offset on.
+// Returns the bytes from an offset on.
 fn behind(bytes: &[u8], at: u64) -> &[u8]
     ensures { result.now ≡ drop at bytes.now }
 {
@@ -139,7 +139,7 @@ fn behind(bytes: &[u8], at: u64) -> &[u8]
     &bytes[at as usize..]
 }
 
-// The first bytes, as many as these at most, and zeros where they are fewer.
+// Returns the first `count` bytes, with zeros at the end if there are fewer.
 fn fit<A: Allocator + Copy>(alloc: A, bytes: &[u8], count: u64) -> Result<Vec<u8, A>, AllocError>
     ensures { IfOk result (λ fit. fit.items ≡ fitted count bytes.now) }
 {

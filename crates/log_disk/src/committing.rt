@@ -1,4 +1,4 @@
-// A batch of the disk is put for a commit to the log.
+// Putting a batch of the disk for a commit to the log.
 ghost use Rattle.std.specs.Prelude.{◌≡◌, ℕ, ◌+◌, ◌^◌, ◌<◌, ◌≤◌, List, [], length, OnOk};
 ghost use Rattle.volume_codec.specs.Layout.{first_home};
 ghost use Rattle.journal.specs.WriteOut.{IsBatch};
@@ -11,14 +11,14 @@ use log_pager::LogPager;
 use shown_volume::{OpenJournal, ShownVolume};
 use std::alloc::Allocator;
 
-// Where home blocks begin: those of the disk, and those of the volume.
+// The first home blocks of the disk and of the volume.
 #[derive(Clone, Copy)]
 pub(crate) struct Firsts {
     pub(crate) shown: u32,
     pub(crate) volume: u32,
 }
 
-// The home block of the volume for one of the disk.
+// Returns the home block of the volume for one of the disk.
 pub(crate) fn moved_home(firsts: Firsts, home: u32) -> u32
     requires low { firsts.shown ≤ home }
     requires high { home + firsts.volume < firsts.shown + 2 ^ 32 }

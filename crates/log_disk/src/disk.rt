@@ -13,15 +13,16 @@ use std::alloc::Allocator;
 use std::marker::Model;
 use volume_codec::Super;
 
-/// A disk that shows the volume on a device, which has a log, as a volume in layout 4 with the same files. Its writes
-/// are kept in memory. Where a write opens the gate of a journal, the records of that are committed to the log, and
-/// where its gate closes, they are forgotten.
+/// A disk that shows the volume with a log on a device as a volume in layout 4 with the same files. Its writes are kept
+/// in memory. A write that opens the gate of a journal commits the journal's records to the log. A write that closes
+/// the gate makes the disk forget them.
 ///
-/// It takes the calls that a journal makes and those that open a volume whose journals are closed, and refuses others:
-/// the write of a block that recovery reads, and the read of a block that it doesn't know. Once a commit fails, each
-/// call fails.
+/// The disk accepts the calls that a journal makes, and those that open a volume whose journals are closed. It refuses
+/// any other call: the write of a block that recovery reads, or the read of a block that it doesn't know. Once a commit
+/// fails, each call fails.
 ///
 /// On an honest device reads return what was written. `crashes_alike` and `works_unless_failed` state what a crash of
+/// the device leaves.
 /// the device leaves.
 #[derive(Drop)]
 pub struct LogDisk<D: Device, A: Allocator + Copy> {
@@ -43,17 +44,17 @@ impl<D: Device, A: Allocator + Copy> Model for LogDisk<D, A> {
 }
 
 impl<D: Device, A: Allocator + Copy> LogDisk<D, A> {
-    /// The device of the volume.
+    /// Returns the device of the volume.
     pub fn device(&self) -> &D
         ensures { result.now ≡ self.now.device }
     {
         self.disk.pager.device()
     }
 
-    /// States what a crash of the device leaves, now and since any earlier state, within calls or between two. Suppose
-    /// that each commit since the opening that can be read from these bytes was made by the disk (`IsTold`). Then they
-    /// stand for some that a crash of the disk might have left. If a byte seals commits, all bytes fulfil the premise
-    /// (`byte`). Makes no device call.
+    /// States what a crash of the device leaves, now and since any earlier state, within a call or between two. The
+    /// premise is that the disk made each commit since the opening that can be read from these bytes (`IsTold`). Then
+    /// the bytes correspond to some that a crash of the disk might have left. If a byte seals commits, all bytes fulfil
+    /// the premise (`byte`). It makes no device call.
     pub fn crashes_alike(&self)
         ensures now { D.is_honest self.now.device → (c : List ℕ) → D.may_leave self.now.device c → IsTold self.now c
             → StandsForOne (may_leave_of self.now.memory) c }
@@ -63,15 +64,15 @@ impl<D: Device, A: Allocator + Copy> LogDisk<D, A> {
         self.disk.crashes_alike();
     }
 
-    /// States what the device has, and what a crash of it leaves now, unless a call of the disk has failed: bytes that
-    /// stand for those of the disk. Makes no device call.
+    /// States what the device contains, and what a crash of it leaves now, unless a call of the disk has failed. These
+    /// bytes correspond to those of the disk. It makes no device call.
     pub fn works_unless_failed(&self)
         ensures { WorksUnlessFailed D.Device self.now }
     {
         let _ = &self.disk;
     }
 
-    /// The device of the volume, what its super block says, and what that of the disk says.
+    /// Returns the device of the volume, the volume's super block, and the disk's super block.
     pub fn into_parts(self) -> (D, LogSuper<A>, Super<A>)
         ensures device { result.0 ≡ self.device }
         ensures volume { result.1 ≡ self.volume }
@@ -80,7 +81,7 @@ impl<D: Device, A: Allocator + Copy> LogDisk<D, A> {
         self.disk.into_parts()
     }
 
-    /// The device of the volume, as the calls left it.
+    /// Returns the device of the volume, as the calls left it.
     pub fn into_device(self) -> D
         ensures { result ≡ self.device }
     {

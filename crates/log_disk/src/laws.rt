@@ -1,4 +1,4 @@
-// What a crash leaves of the device, by what one of the disk might have left.
+// What a crash leaves of the device, in terms of what a crash of the disk might have left.
 ghost use Rattle.std.specs.Prelude.{◌≡◌, IsTrue, OnOk};
 ghost use Rattle.log_disk.specs.Disk.{LogDiskValue};
 ghost use Rattle.log_disk.specs.Laws.{StandsSince, Works};
@@ -9,8 +9,8 @@ use std::alloc::Allocator;
 use volume_codec::one_reading;
 
 impl<D: Device, A: Allocator + Copy> DiskParts<D, A> {
-    // Says what a crash of the device leaves since any earlier state, of bytes from which only commits can be read that
-    // the disk made: bytes that stand for some that a crash of the disk might have left.
+    // States what a crash of the device leaves since any earlier state: bytes that correspond to some that a crash of
+    // the disk might have left. The premise is that only commits made by the disk can be read from them.
     pub(crate) fn crashes_alike(&self)
         ensures { D.is_honest self.now.device → (old : LogDiskValue D) → StandsSince D.Device old self.now }
     {
@@ -26,7 +26,7 @@ impl<D: Device, A: Allocator + Copy> DiskParts<D, A> {
         !self.failed
     }
 
-    // The outcome of a call, unless the disk has failed.
+    // Returns the outcome of a call, or a failure if the disk has failed.
     pub(crate) fn unless_failed(&self, outcome: Result<(), DeviceFault>) -> Result<(), DeviceFault>
         ensures same { OnOk result (result ≡ outcome) }
         ensures works { OnOk result (Works D.Device self.now) }

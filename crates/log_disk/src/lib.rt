@@ -1,5 +1,4 @@
-//! A disk over a volume with a log: a machine uses it as a volume in layout 4, and each of its batches is one commit to
-//! the log.
+//! A disk over a volume with a log. A machine uses it as a volume in layout 4, and each batch is one commit to the log.
 #![tactic(auto)]
 
 mod calls;

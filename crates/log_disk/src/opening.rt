@@ -1,4 +1,4 @@
-// How the volume of a device is opened as a disk.
+// Opening the volume of a device as a disk.
 ghost use Rattle.std.specs.Prelude.{◌≡◌, ◌≢◌, ◌*◌, ◌≤◌, ℕ, List, IfOk, IfErr, length, take};
 ghost use Rattle.device.specs.Device.{LeavesOnly, Only};
 ghost use Rattle.device.specs.Memory.{may_leave_of, seen_of};
@@ -33,7 +33,7 @@ use shown_volume::ShownVolume;
 use std::alloc::Allocator;
 use volume_codec::{FileSpec, Super, one_reading};
 
-// The files of a volume as they are asked for, in the first places.
+// Returns the files of a volume as a request for them, in the first places.
 fn specs_of<A: Allocator + Copy>(table: &Super<A>) -> [FileSpec<'_>; 64]
     ensures specs { asked_by (take (length table.now.files) result) ≡ asked_whole table.now.files }
     ensures fits { Fits table.now }
@@ -53,7 +53,7 @@ fn specs_of<A: Allocator + Copy>(table: &Super<A>) -> [FileSpec<'_>; 64]
     specs
 }
 
-// The table of the disk that shows a volume. `BadShape` where it would have 2^32 blocks or more.
+// Returns the table of the disk that shows a volume. Fails with `BadShape` if it would have 2^32 blocks or more.
 fn shown_table<A: Allocator + Copy>(alloc: A, volume: &LogSuper<A>) -> Result<Super<A>, Refusal>
     ensures ok { IfOk result (IsShownTable volume.now) }
     ensures refused { IfErr result (RefusesShown volume.now) }
@@ -68,11 +68,11 @@ fn shown_table<A: Allocator + Copy>(alloc: A, volume: &LogSuper<A>) -> Result<Su
 }
 
 impl<D: Device, A: Allocator + Copy> LogDisk<D, A> {
-    /// Opens the volume of a device, as `open_log_volume` does, and shows it as a disk. The disk has the files that the
-    /// device recovers to, all of it counts as synced, and its journals are closed.
+    /// Opens the volume of a device, as `open_log_volume` does, and shows it as a disk. The disk has the files to which
+    /// the device recovers. All of it counts as synced, and its journals are closed.
     ///
-    /// `BadShape` where the disk would have 2^32 blocks or more. Other refusals as `open_log_volume`. A refusal hands
-    /// the device back.
+    /// Fails with `BadShape` if the disk would have 2^32 blocks or more. Otherwise fails as `open_log_volume` does. A
+    /// failure returns the device.
     pub fn open(alloc: A, mut device: D) -> Result<Self, (Refusal, D)>
         ensures opened { D.is_honest device → IfOk result (HasOpenedDisk D.Device device) }
         ensures fresh { IfOk result (λ disk. disk
@@ -105,7 +105,7 @@ impl<D: Device, A: Allocator + Copy> LogDisk<D, A> {
 }
 
 impl<D: Device, A: Allocator + Copy> DiskParts<D, A> {
-    // The parts of the disk that shows a volume that was opened.
+    // Returns the parts of the disk that shows an opened volume.
     fn over(alloc: A, opened: OpenedLog<A>, table: Super<A>, device: D) -> Self
         requires shown { IsShownTable opened.table table }
         requires long { 4096 * (log_of opened.table).blocks ≤ length (D.seen device) }

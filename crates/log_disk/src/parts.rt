@@ -1,4 +1,4 @@
-// What a disk over a volume with a log keeps.
+// The data of a disk over a volume with a log.
 ghost use Rattle.std.specs.Prelude.{◌≡◌};
 
 use crate::past::Past;
@@ -56,7 +56,7 @@ impl<D: Device, A: Allocator + Copy> Model for DiskParts<D, A> {
 }
 
 impl<D: Device, A: Allocator + Copy> DiskParts<D, A> {
-    // The device of the volume, what its super block says, and what that of the disk says.
+    // Returns the device of the volume, the volume's super block, and the disk's super block.
     pub(crate) fn into_parts(self) -> (D, LogSuper<A>, Super<A>)
         ensures device { result.0 ≡ self.device }
         ensures volume { result.1 ≡ self.volume }

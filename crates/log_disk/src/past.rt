@@ -1,4 +1,4 @@
-// What only proofs read of a disk over a log. It takes no bytes, and its functions do nothing at run time.
+// The part of a disk over a log that only proofs read. It takes no bytes, and its functions do nothing at run time.
 ghost use Rattle.std.specs.Prelude.{◌≡◌, ℕ, ◌+◌, List, [], ◌∷◌, length};
 ghost use Rattle.std.specs.Borrow.{ftrue};
 ghost use Rattle.std.specs.Coded.{coded_list};
@@ -13,8 +13,8 @@ use std::marker::Model;
 use std::slice::from_ref;
 use volume_codec::Super;
 
-// What the disk held at first, its writes and syncs with the last one first, and its moments, each beside that of the
-// device, the newest first.
+// The first contents of the disk, its writes and syncs, and its moments, each with that of the device. Of the writes,
+// syncs and moments, the newest comes first.
 #[derive(Drop)]
 pub struct Past {
     pub ghost first: { List ℕ },
@@ -27,7 +27,7 @@ impl Model for Past {
 }
 
 impl Past {
-    // That of a disk with this content, which shows a volume on a device at this moment.
+    // Returns the past of a disk with this content, which shows a volume on a device at this moment.
     pub(crate) fn begin<D: Device, A: Allocator + Copy>(
         _volume: &LogSuper<A>,
         _table: &Super<A>,
@@ -39,8 +39,8 @@ impl Past {
         Past::holding(&[], &0, &[])
     }
 
-    // A past with these parts, which the caller picks from the arguments: the past before, where there is one, and what
-    // came then.
+    // Returns a past with these parts. The caller picks them from the arguments: the earlier past, if there is one, and
+    // what came then.
     fn holding(_before: &[Past], _number: &u64, _bytes: &[u8]) -> Past
         ghost held: { List ℕ × (List DiskChange × List (ℕ × ℕ)) }
         ensures { (result.first ≡ held.0) × (result.changes ≡ held.1.0) × (result.moments ≡ held.1.1) }
@@ -48,7 +48,7 @@ impl Past {
         Past {}
     }
 
-    // After a write of these bytes at an offset, with the device at this moment.
+    // Returns the past after a write of these bytes at an offset, with the device at this moment.
     pub(crate) fn with_write<D: Device>(before: &Past, at: &u64, bytes: &[u8], _device: &D) -> Past
         ghost moment: { ℕ }
         ensures { (result.first ≡ before.now.first)
@@ -58,7 +58,7 @@ impl Past {
         Past::holding(from_ref(before), at, bytes)
     }
 
-    // After a sync.
+    // Returns the past after a sync.
     pub(crate) fn with_sync<D: Device>(before: &Past, _device: &D) -> Past
         ghost moment: { ℕ }
         ensures { (result.first ≡ before.now.first)
@@ -68,7 +68,7 @@ impl Past {
         Past::holding(from_ref(before), &0, &[])
     }
 
-    // After calls of the device that aren't seen on the disk.
+    // Returns the past after calls of the device that don't show on the disk.
     pub(crate) fn with_calls<D: Device>(before: &Past, _device: &D) -> Past
         ghost moment: { ℕ }
         ensures { (result.first ≡ before.now.first) × (result.changes ≡ before.now.changes)

@@ -17,7 +17,7 @@ use std::alloc::Allocator;
 use volume_codec::{one_reading, recovered_from};
 
 impl<D: Device, A: Allocator + Copy> DiskParts<D, A> {
-    // Where home blocks begin.
+    // Returns the first home blocks of the disk and of the volume.
     fn firsts(&self) -> Firsts
         ensures shown { result.shown ≡ first_home self.now.table.layout self.now.table.slots }
         ensures volume { result.volume ≡ first_log_home self.now.volume.ring }
@@ -29,7 +29,7 @@ impl<D: Device, A: Allocator + Copy> DiskParts<D, A> {
         }
     }
 
-    // The journal whose gate this block is.
+    // Returns the journal whose gate this block is.
     pub(crate) fn gate_of(&self, block: u32) -> Option<u32>
         ensures { IfSome result (λ j. (j < journals_of self.now.table.layout)
             × (block ≡ gate_block self.now.table.slots j)) }
@@ -40,8 +40,8 @@ impl<D: Device, A: Allocator + Copy> DiskParts<D, A> {
         self.shown.journal_of_gate(block)
     }
 
-    // Opens the gate of a journal, whose batch is committed to the log. Where that fails, a crash may leave the gate
-    // open or closed.
+    // Opens the gate of a journal, and commits its batch to the log. If this fails, a crash may leave the gate open or
+    // closed.
     pub(crate) fn open_gate(
         &mut self,
         journal: u32,
@@ -123,7 +123,7 @@ impl<D: Device, A: Allocator + Copy> DiskParts<D, A> {
         Ok(())
     }
 
-    // Makes sure of what was written. What a gate committed is sure already, and the rest is kept in memory.
+    // Makes writes durable. What a gate committed is durable already, and the rest is kept in memory.
     pub(crate) fn settle(&mut self) -> Result<(), DeviceFault>
         ensures { (IsErr result × (self.new ≡ self.old)) ⊎ WritesOn D.Device self.old sync self.new }
     {
@@ -134,7 +134,7 @@ impl<D: Device, A: Allocator + Copy> DiskParts<D, A> {
         Ok(())
     }
 
-    // Reads a home block of which no open journal has a record.
+    // Reads a home block that has no record in an open journal.
     fn read_home(&mut self, block: u32, buffer: &mut [u8; 4096]) -> Result<(), DeviceFault>
         requires within { block < block_count self.old.table }
         ensures on { (IsErr result × (self.new ≡ self.old)) ⊎ ReadsOn D.Device self.old self.new }

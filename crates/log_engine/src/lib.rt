@@ -1,4 +1,4 @@
-//! The main job on a volume with a log: it is opened as a disk, a machine is booted over that, and steps are made.
+//! The main job on a volume with a log: opens it as a disk, boots a machine over the disk, and makes steps.
 #![tactic(auto)]
 
 mod running;

@@ -1,4 +1,4 @@
-// A volume with a log is opened as a disk, a machine is booted over that, and steps are made one at a time.
+// Opens a volume with a log as a disk, boots a machine over the disk, and makes steps one at a time.
 ghost use Rattle.std.specs.Prelude.{◌≡◌, List, length, take, IfOk, IfErr};
 ghost use Rattle.machine.specs.declared.act.Reply.{Reply};
 ghost use Rattle.engine.specs.Engine.{HasStarted, HasNotStarted};
@@ -19,7 +19,7 @@ use recovery::crashed_since_opening;
 use std::alloc::Allocator;
 use volume_codec::one_reading;
 
-// Makes a step. What a crash leaves within it and after it stands for what one leaves of the disk.
+// Makes a step. Also provides the law about what a crash of the device leaves (`crashes_alike`).
 fn make_step<D: Device, A: Allocator + Copy>(
     machine: &mut Machine<LogDisk<D, A>, A>,
     step: &Step,
@@ -31,7 +31,7 @@ fn make_step<D: Device, A: Allocator + Copy>(
     reply
 }
 
-// Makes one step after the other, and tells each reply before the next step, until the listener says to stop.
+// Makes the steps in order. The listener hears each reply before the next step, and can stop the run.
 fn make_steps<D: Device, A: Allocator + Copy, L: Listener>(
     machine: &mut Machine<LogDisk<D, A>, A>,
     steps: &[Step],
@@ -48,7 +48,7 @@ fn make_steps<D: Device, A: Allocator + Copy, L: Listener>(
     }
 }
 
-// Boots a machine of this shape over the disk that shows a volume. A refusal hands the volume's device back.
+// Boots a machine of this shape over the disk that shows a volume. On a refusal, returns the volume's device.
 fn boot<D: Device, A: Allocator + Copy>(
     alloc: A,
     disk: LogDisk<D, A>,
@@ -72,21 +72,22 @@ fn boot<D: Device, A: Allocator + Copy>(
     }
 }
 
-/// Opens the volume with a log of a device, boots a machine of this shape over the disk that shows it, makes the steps
-/// one at a time, tells each reply to the listener before the next step, and hands the device back. It ends after the
-/// last step, or where the listener says to stop.
+/// Runs steps on the volume with a log on this device, and returns the device. Opens the volume as a disk, boots a
+/// machine of this shape over it, and makes the steps one at a time. The listener hears each reply before the next
+/// step. The run ends after the last step, or earlier if the listener stops it.
 ///
-/// On an honest device each reply is by the rules and the laws of the machine. Take any steps, and device calls that
-/// may fail. What was stored survives (`HasRunOnLog.survives`): a crash within a step leaves bytes that recover, by the
-/// log, to the volume's files after a prefix of the answered stores and length changes. The prefix is empty or ends at
-/// a mark, and has every mark that was acknowledged before the step. After the last step, with or without a crash, it
-/// is such a prefix of all of them. So it is after further openings, each with a crash within or after it.
+/// On an honest device each reply obeys the rules and the laws of the machine. This holds for any steps, even if device
+/// calls fail. Stores survive crashes (`HasRunOnLog.survives`). A crash within a step leaves bytes that recover, by the
+/// log, to the volume's files after a durable prefix of the history. That prefix consists of answered stores and length
+/// changes. It is empty or ends at a mark, and contains every mark acknowledged before the step. After the last step,
+/// the same holds for the whole run, with or without a crash. It still holds after further openings, each with a crash
+/// within or after it.
 ///
-/// In layout 6 this has a premise on the bytes that the crash leaves: each commit since the opening that can be read
-/// from them was made by the disk (`IsTold`). After the last step it has none, if no call of the disk failed.
+/// In layout 6 this has a premise on the bytes that the crash leaves: the disk made each commit since the opening that
+/// can be read from them (`IsTold`). After the last step there is no premise if no call of the disk failed.
 ///
-/// A refusal as of `LogDisk::open` and of `engine::start`; nothing was told then. On an honest device the files of the
-/// volume are found after it, with or without a crash, as `HasNotRunOnLog` says.
+/// Fails as `LogDisk::open` and `engine::start` do. Then the listener heard no reply. On an honest device a later
+/// opening finds the volume's files, with or without a crash (`HasNotRunOnLog`).
 pub fn run<D: Device, A: Allocator + Copy, L: Listener>(
     alloc: A,
     device: D,

@@ -1,4 +1,4 @@
-// What a caller may ask of the files of a volume with a log, and its device.
+// Queries about the files of a volume with a log, and access to its device.
 ghost use Rattle.std.specs.Prelude.{◌≡◌, ◌↔◌, ◌-◌, ◌&&◌, length, is_none, is_some, IsTrue};
 ghost use Rattle.kept_blocks.specs.Blocks.{bytes_in};
 ghost use Rattle.pager.specs.Calls.{page_refusal};
@@ -14,7 +14,7 @@ use log_codec::Sealing;
 use page_entry::FilePage;
 use std::alloc::Allocator;
 
-// The blocks of a log that no commit takes.
+// The number of blocks of a log that commits leave free.
 fn spare_of(sealing: Sealing) -> u64
     ensures { result ≡ spare_blocks sealing }
 {
@@ -25,7 +25,7 @@ fn spare_of(sealing: Sealing) -> u64
 }
 
 impl<D: Device, A: Allocator + Copy> LogFiles<D, A> {
-    /// The number of blocks that were put since the last commit: pages of files, and the block of the lengths if one
+    /// Returns the number of blocks put since the last commit: pages of files, and the block of the lengths if a length
     /// was set.
     pub fn staged(&self) -> usize
         ensures { result ≡ length self.now.pager.staged }
@@ -33,7 +33,7 @@ impl<D: Device, A: Allocator + Copy> LogFiles<D, A> {
         self.pager.staged()
     }
 
-    /// The number of pages of files that the next commit takes.
+    /// Returns the number of pages of files in the next commit.
     pub fn staged_pages(&self) -> usize
         ensures { result ≡ pages_put self.now.table self.now.pager.staged }
     {
@@ -41,7 +41,7 @@ impl<D: Device, A: Allocator + Copy> LogFiles<D, A> {
         self.pager.staged().saturating_sub(lengths)
     }
 
-    /// Whether a page that is there was put since the last commit.
+    /// Whether the page exists and was put since the last commit.
     pub fn is_staged(&self, page: FilePage) -> bool
         ensures { result ≡ (is_none (page_refusal self.now.lengths page)
             && is_some (bytes_in self.now.pager.staged (log_home_of self.now.table page))) }
@@ -52,35 +52,35 @@ impl<D: Device, A: Allocator + Copy> LogFiles<D, A> {
         }
     }
 
-    /// Whether a device call of a commit or a step failed. Then nothing is put, committed or written home any more.
+    /// Whether a device call of a commit or a step failed. Then no more pages are put, committed or written home.
     pub fn is_broken(&self) -> bool
         ensures { result ≡ self.now.pager.store.tail.spent }
     {
         self.pager.is_spent()
     }
 
-    /// Whether the log has no commit, so that each is written home, and no step is under way.
+    /// Whether the log has no commit, because each is written home, and no step is under way.
     pub fn is_idle(&self) -> bool
         ensures { IsTrue result ↔ ((self.now.pager.store.tail.used ≡ 0) × (self.now.pager.store.stage ≡ Resting)) }
     {
         self.pager.is_idle()
     }
 
-    /// The number of blocks of the log that are in use.
+    /// Returns the number of blocks of the log that are in use.
     pub fn used(&self) -> u32
         ensures { result ≡ self.now.pager.store.tail.used }
     {
         self.pager.used()
     }
 
-    /// The number of commits in the log: those that aren't all written home.
+    /// Returns the number of commits in the log: those that aren't all written home.
     pub fn commits(&self) -> u64
         ensures { result ≡ self.now.pager.store.tail.number - self.now.pager.store.tail.start.number }
     {
         self.pager.commits()
     }
 
-    /// Whether the log has enough free blocks for a commit of what was put.
+    /// Whether the log has enough free blocks for a commit of the staged blocks.
     pub fn has_room(&self) -> bool
         ensures { result ≡ has_blocks_for self.now.pager.store.tail self.now.pager.staged }
     {
@@ -96,21 +96,21 @@ impl<D: Device, A: Allocator + Copy> LogFiles<D, A> {
         blocks + spare_of(log.sealing()) <= u64::from(log.ring())
     }
 
-    // Whether the log has a number for a commit of what was put.
+    // Whether the log has a number left for a commit of the staged blocks.
     pub(crate) fn has_number(&self) -> bool
         ensures { result ≡ has_number_for self.now.pager.store.tail self.now.pager.staged }
     {
         self.pager.staged() == 0 || self.pager.number() < u64::MAX
     }
 
-    /// The device.
+    /// Returns the device.
     pub fn device(&self) -> &D
         ensures { result.now ≡ self.now.pager.device }
     {
         self.pager.device()
     }
 
-    /// Hands the device to a tender. All else stays as it is.
+    /// Hands the device to a tender. Everything else stays unchanged.
     pub fn tend<T: Tender<D>>(&mut self, tender: &mut T)
         ensures state { self.new ≡ on_device self.old self.new.pager.device }
         ensures tended { T.tends tender.old self.old.pager.device self.new.pager.device tender.new }
@@ -119,7 +119,7 @@ impl<D: Device, A: Allocator + Copy> LogFiles<D, A> {
         self.pager.tend(tender);
     }
 
-    /// The device as it is. An opening finds the commits, and not what was put since the last one.
+    /// Returns the device as it is. An opening finds the commits, but not the pages put since the last one.
     pub fn into_device(self) -> D
         ensures { result ≡ self.pager.device }
     {

@@ -1,4 +1,4 @@
-// Commits, and steps by which they are written home.
+// Commits, and the steps that write them home.
 ghost use Rattle.std.specs.Prelude.{◌≡◌, ◌≢◌, ◌↔◌, ◌+◌, ℕ, List, [], None, Some, IfOk, IfErr, OnOk, OnErr};
 ghost use Rattle.device.specs.Device.{LeavesOnly};
 ghost use Rattle.kept_blocks.specs.Blocks.{AreWholeBlocks};
@@ -15,7 +15,7 @@ use log_store::{Progress, StoreFault};
 use page_entry::Refusal;
 use std::alloc::Allocator;
 
-// The refusal of a call that makes device calls, after all else that may be against it was ruled out.
+// The refusal for a fault of the pager, once all other reasons for a refusal are ruled out.
 fn refusal_by(fault: PagerFault) -> Refusal
     ensures { result ≡ refusal_by fault }
 {
@@ -26,7 +26,7 @@ fn refusal_by(fault: PagerFault) -> Refusal
 }
 
 impl<D: Device, A: Allocator + Copy> LogFiles<D, A> {
-    // Whether what was put may be committed.
+    // Whether the staged blocks may be committed.
     fn judge_commit(&self) -> Result<(), Refusal>
         ensures ok { OnOk result (log_commit_refusal self.now ≡ None) }
         ensures err { IfErr result (λ why. log_commit_refusal self.now ≡ Some why) }
@@ -40,12 +40,16 @@ impl<D: Device, A: Allocator + Copy> LogFiles<D, A> {
         Ok(())
     }
 
-    /// Commits all that was put since the last commit, under the next mark, which is returned. Then it is durable.
-    /// Where nothing was put, no device call is made, and only the number of marks rises.
+    /// Commits all pages and lengths put since the last commit, and returns the mark of the commit. Then they are
+    /// durable. If nothing was put, no device call is made, and only the number of marks rises.
     ///
-    /// `Broken` after a device call of a commit or a step failed. `Busy` where the log has too few free blocks (then
-    /// `has_room` is false, and steps free some), or a number is used up: marks have come to 2^32 - 1, or the log's
-    /// commits to 2^64 - 2. `OutOfMemory`. `Device` where a device call failed: then every later commit is `Broken`.
+    /// Fails with:
+    ///
+    /// - `Broken` if a device call of an earlier commit or step failed.
+    /// - `Busy` if the log has too few free blocks. Then `has_room` is false, and steps free some blocks.
+    /// - `Busy` if a number is used up: marks have reached 2^32 - 1, or the log's commits 2^64 - 2.
+    /// - `OutOfMemory` if there is too little memory.
+    /// - `Device` if a device call failed. Then each later commit fails with `Broken`.
     pub fn commit(&mut self) -> Result<u32, Refusal>
         ensures ok { OnOk result (log_commit_refusal self.old ≡ None) }
         ensures mark { IfOk result (λ mark. mark ≡ self.old.marks + 1) }
@@ -60,7 +64,7 @@ impl<D: Device, A: Allocator + Copy> LogFiles<D, A> {
         ensures honest { D.is_honest self.new.pager.device ↔ D.is_honest self.old.pager.device }
         ensures whole { AreWholeBlocks self.old.pager.staged }
 
-        // The home blocks have what was put, or what they had.
+        // The home blocks contain the staged bytes, or the bytes from before.
         ensures over { (contents : ℕ → List ℕ) → D.is_honest self.old.pager.device
             → IsPagerOver D.Device self.old.pager contents
             → OnOk result (IsPagerOver D.Device self.new.pager (contents_put contents self.old.pager.staged)) }
@@ -83,13 +87,14 @@ impl<D: Device, A: Allocator + Copy> LogFiles<D, A> {
         }
     }
 
-    /// The next step by which commits are written home, as `LogPager::step`: it begins with all commits so far, copies
-    /// their home blocks, one a step, and moves the start of the log behind them, which frees their blocks. That takes
-    /// three steps: it writes the start, makes sure of it, and selects it. Pages may be put and committed between two
-    /// steps. Once the start is written, commits carry the rest of the move.
+    /// Makes the next step of writing commits home, as `LogPager::step` does. The first step begins with all commits so
+    /// far. Then each step copies one of their home blocks. Then three steps move the log's start behind these commits,
+    /// which frees their blocks: the first writes the start, the second makes it durable, and the third selects it.
+    /// Pages may be put and committed between two steps. Once the start is written, commits do the rest of the move.
     ///
-    /// `Broken` after a device call of a commit or a step failed. `OutOfMemory` where there is no memory to begin; then
-    /// nothing changes. `Device` where a device call failed: then every later commit and step is `Broken`.
+    /// Fails with `Broken` if a device call of an earlier commit or step failed. Fails with `OutOfMemory` if there is
+    /// no memory to begin; then nothing changes. Fails with `Device` if a device call failed; then each later commit
+    /// and step fails with `Broken`.
     pub fn step(&mut self) -> Result<Progress, Refusal>
         ensures stepped { IfOk result (λ progress. IsLogFilesStep D.Device self.old progress self.new) }
         ensures refused { IfErr result (RefusesFilesStep self.old) }
@@ -97,7 +102,7 @@ impl<D: Device, A: Allocator + Copy> LogFiles<D, A> {
         ensures failed { IfErr result (λ why. why ≡ Refusal.Device → IsFailedLogStep D.Device self.old self.new) }
         ensures honest { D.is_honest self.new.pager.device ↔ D.is_honest self.old.pager.device }
 
-        // The home blocks have the same contents.
+        // The home blocks keep their contents.
         ensures over { (contents : ℕ → List ℕ) → D.is_honest self.old.pager.device
             → IsPagerOver D.Device self.old.pager contents
             → OnOk result (IsPagerOver D.Device self.new.pager contents) }

@@ -26,19 +26,19 @@ use pager::length_at;
 use std::alloc::Allocator;
 use std::marker::Model;
 
-/// The files of a volume with a log: pages are put, lengths set, both committed together, read back, and written home
-/// in steps.
+/// The files of a volume with a log. Pages are put and lengths are set. Both are committed together, read back, and
+/// written home in steps.
 #[derive(Drop)]
 pub struct LogFiles<D: Device, A: Allocator + Copy> {
     pub(crate) alloc: A,
     pub(crate) table: LogSuper<A>,
     // The length of each file in bytes.
     pub(crate) lengths: Vec<u64, A>,
-    // The most pages of files that a commit takes.
+    // The greatest number of pages of files in a commit.
     pub(crate) most: u32,
-    // How many commits were made since the opening.
+    // The number of commits since the opening.
     pub(crate) marks: u32,
-    // The home blocks: those that were put, the log, and the device.
+    // The home blocks that were put, the log, and the device.
     pub(crate) pager: LogPager<D, A>,
 }
 
@@ -55,7 +55,7 @@ impl<D: Device, A: Allocator + Copy> Model for LogFiles<D, A> {
 }
 
 impl<D: Device, A: Allocator + Copy> LogFiles<D, A> {
-    // The home block of a page that begins before its file's end.
+    // Returns the home block of a page, which must begin before its file's end.
     pub(crate) fn admit_page(&self, page: FilePage) -> Result<u32, Refusal>
         ensures ok { OnOk result (page_refusal self.now.lengths page ≡ None) }
         ensures home { IfOk result (λ home. home ≡ log_home_of self.now.table page) }
@@ -74,7 +74,7 @@ impl<D: Device, A: Allocator + Copy> LogFiles<D, A> {
         Ok(page_home(&self.table, &self.lengths, page))
     }
 
-    // How many bytes the file has from the page's begin on.
+    // The number of the file's bytes from the beginning of the page on.
     fn left(&self, page: FilePage) -> u64
         requires { page.file < length self.now.lengths }
         ensures { result ≡ file_length self.now.lengths page.file - 4096 * page.page }
@@ -82,7 +82,7 @@ impl<D: Device, A: Allocator + Copy> LogFiles<D, A> {
         length_at(&self.lengths, page.file).saturating_sub(PAGE * u64::from(page.page))
     }
 
-    // Whether the next commit takes no further page, where this home block is put.
+    // Whether the next commit can't take this home block, because it is full and the block isn't put yet.
     fn takes_no_page(&self, home: u32) -> bool
         ensures { result ≡ takes_no_page self.now.table self.now.most self.now.pager.staged home }
     {
@@ -92,7 +92,7 @@ impl<D: Device, A: Allocator + Copy> LogFiles<D, A> {
         self.staged_pages() >= self.most as usize
     }
 
-    // The first bytes of a page, and zeros after them, are kept for the next commit.
+    // Stages the first `left` bytes of a page, with zeros after them, for the next commit.
     fn stage(&mut self, home: u32, bytes: &[u8; 4096], left: u64) -> Result<(), Refusal>
         requires low { first_log_home self.old.table.ring < home }
         requires within { home < (log_of self.old.table).blocks }
@@ -114,10 +114,16 @@ impl<D: Device, A: Allocator + Copy> LogFiles<D, A> {
         }
     }
 
-    /// The page has these bytes from now on, up to its file's end. The next commit takes it. No device call is made.
+    /// Puts the bytes of a page, up to its file's end. The next commit contains them. No device call is made.
     ///
-    /// `NoFile` and `Einval` for a page that isn't there, `Broken` after a device call of a commit or a step failed,
-    /// `NoFrame` where the next commit takes no further page, `OutOfMemory`. A refusal changes nothing.
+    /// Fails with:
+    ///
+    /// - `NoFile` or `Einval` if there is no such page.
+    /// - `Broken` if a device call of a commit or a step failed.
+    /// - `NoFrame` if the next commit can't take another page.
+    /// - `OutOfMemory` if there is too little memory.
+    ///
+    /// A refusal changes nothing.
     pub fn put(&mut self, page: FilePage, bytes: &[u8; 4096]) -> Result<(), Refusal>
         ensures ok { OnOk result (log_put_refusal self.old page ≡ None) }
         ensures put { OnOk result (self.new ≡ after_page_put self.old page bytes.now) }
@@ -136,7 +142,7 @@ impl<D: Device, A: Allocator + Copy> LogFiles<D, A> {
         self.stage(home, bytes, self.left(page))
     }
 
-    // Reads a home block of a file: the bytes that were put last, else those of the commits so far.
+    // Reads a home block of a file: the bytes that were put last, or else those of the commits so far.
     pub(crate) fn read_home(&mut self, home: u32, buffer: &mut [u8; 4096]) -> Result<(), Refusal>
         requires home { IsLogHome (log_of self.old.table) home }
         ensures bytes { (contents : ℕ → List ℕ) → D.is_honest self.old.pager.device
@@ -158,10 +164,10 @@ impl<D: Device, A: Allocator + Copy> LogFiles<D, A> {
         }
     }
 
-    /// Copies a page, with zeros past its file's end: the bytes that were put last, else those that the commits so far
-    /// left, which takes a device call.
+    /// Reads a page, with zeros past its file's end. Copies the bytes that were put last. If the page wasn't put since
+    /// the last commit, copies what the commits so far left, which takes a device call.
     ///
-    /// `NoFile` and `Einval` for a page that isn't there, `Device` where the call failed.
+    /// Fails with `NoFile` or `Einval` if there is no such page. Fails with `Device` if the device call failed.
     pub fn read(&mut self, page: FilePage, buffer: &mut [u8; 4096]) -> Result<(), Refusal>
         ensures there { OnOk result (page_refusal self.old.lengths page ≡ None) }
         ensures bytes { (contents : ℕ → List ℕ) → D.is_honest self.old.pager.device
@@ -183,14 +189,14 @@ impl<D: Device, A: Allocator + Copy> LogFiles<D, A> {
         Ok(())
     }
 
-    /// What the super block says: the table of the files.
+    /// Returns the contents of the super block: how commits are sealed, the size of the log, and the table of files.
     pub fn table(&self) -> &LogSuper<A>
         ensures { result.now ≡ self.now.table }
     {
         &self.table
     }
 
-    /// The length of each file in bytes, in the table's order. None is above its file's capacity.
+    /// Returns the length of each file in bytes, in the table's order. No length exceeds its file's capacity.
     pub fn lengths(&self) -> &[u64]
         ensures value { result.now ≡ self.now.lengths }
         ensures each { AreLengths (table_of self.now.table) self.now.lengths }
@@ -198,14 +204,14 @@ impl<D: Device, A: Allocator + Copy> LogFiles<D, A> {
         &self.lengths
     }
 
-    /// The most pages of files that a commit takes.
+    /// Returns the greatest number of pages of files in a commit.
     pub fn most(&self) -> u32
         ensures { result ≡ self.now.most }
     {
         self.most
     }
 
-    /// How many commits were made since the opening.
+    /// Returns the number of commits since the opening.
     pub fn marks(&self) -> u32
         ensures { result ≡ self.now.marks }
     {

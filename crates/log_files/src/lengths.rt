@@ -1,4 +1,4 @@
-// Files get other lengths.
+// Changes the lengths of files.
 ghost use Rattle.std.specs.Prelude.{◌≡◌, ◌+◌, ◌<◌, ◌==◌, ◌%◌, ◌&&◌, ◌∷◌, [], ℕ, List, not, nat_lt, true, false, length};
 ghost use Rattle.std.specs.Prelude.{if◌then◌else◌, is_none, None, slice_index_or, IfOk, IfErr, OnOk, OnErr};
 ghost use Rattle.page_entry.specs.declared.refusal.Refusal.TheVariants.{NoFrame};
@@ -24,7 +24,7 @@ use pager::{capacity_at, length_at, text_with};
 use std::alloc::Allocator;
 
 impl<D: Device, A: Allocator + Copy> LogFiles<D, A> {
-    // Whether a file may have this length.
+    // Whether the file may have this length.
     fn admit_length(&self, file: FileNumber, to: u64) -> Result<(), Refusal>
         ensures may { OnOk result (MayHaveLogLength self.now.table file to) }
         ensures ok { OnOk result (log_length_refusal self.now file to
@@ -43,7 +43,7 @@ impl<D: Device, A: Allocator + Copy> LogFiles<D, A> {
         Ok(())
     }
 
-    // Whether the next commit doesn't take as many pages as a growth puts.
+    // Whether the next commit would have too many pages after a growth.
     fn is_overfull(&self, file: FileNumber, from: u64, to: u64) -> bool
         requires may { MayHaveLogLength self.now.table file to }
         requires from { from ≡ file_length self.now.lengths file }
@@ -61,7 +61,7 @@ impl<D: Device, A: Allocator + Copy> LogFiles<D, A> {
         self.staged_pages() + more > self.most as usize
     }
 
-    // The bytes of the page in which a file ends; zeros where it ends with a page.
+    // Reads the page in which the file ends, or returns zeros if the file ends at a page boundary.
     fn read_last(&mut self, file: FileNumber, from: u64) -> Result<[u8; 4096], Refusal>
         requires file { file < length self.old.table.files }
         requires from { from ≡ file_length self.old.lengths file }
@@ -87,7 +87,7 @@ impl<D: Device, A: Allocator + Copy> LogFiles<D, A> {
         Ok(last)
     }
 
-    // A file grows, where the page in which it ended has these bytes.
+    // Grows a file. `last` contains the bytes of the page in which it ended.
     fn put_growth(&mut self, file: FileNumber, to: u64, last: &[u8; 4096]) -> Result<(), Refusal>
         requires may { MayHaveLogLength self.old.table file to }
         requires more { file_length self.old.lengths file < to }
@@ -115,7 +115,7 @@ impl<D: Device, A: Allocator + Copy> LogFiles<D, A> {
         }
     }
 
-    // A file grows.
+    // Grows a file.
     fn grow(&mut self, file: FileNumber, from: u64, to: u64) -> Result<(), Refusal>
         requires may { MayHaveLogLength self.old.table file to }
         requires from { from ≡ file_length self.old.lengths file }
@@ -144,7 +144,7 @@ impl<D: Device, A: Allocator + Copy> LogFiles<D, A> {
         self.put_growth(file, to, &last)
     }
 
-    // A file shrinks.
+    // Shrinks a file.
     fn shrink(&mut self, file: FileNumber, from: u64, to: u64) -> Result<(), Refusal>
         requires may { MayHaveLogLength self.old.table file to }
         requires from { from ≡ file_length self.old.lengths file }
@@ -173,16 +173,24 @@ impl<D: Device, A: Allocator + Copy> LogFiles<D, A> {
         }
     }
 
-    /// Sets the length of a file in bytes, from 0 to its capacity (POSIX.1-2024, `ftruncate`). The next commit takes
-    /// the change. A file that grows has zeros from its old end on: each page that it gets, and the one in which it
-    /// ended, is put, and counts among the pages of the next commit. When a file shrinks, its pages past the new end
-    /// are no longer put. The page in which it ends then has zeros from there on, if it is put. To grow from inside a
-    /// page that isn't put takes one device call. Nothing else takes one. If the file has this length already, nothing
-    /// changes.
+    /// Sets the length of a file in bytes, from 0 to its capacity (POSIX.1-2024, `ftruncate`). The next commit contains
+    /// the change. If the file has this length already, nothing changes.
     ///
-    /// `NoFile`, `Einval` past the file's capacity, `Broken` after a device call of a commit or a step failed,
-    /// `NoFrame` where the next commit doesn't take so many pages, `Device` where the device call failed,
-    /// `OutOfMemory`. A refusal changes nothing.
+    /// A file that grows has zeros from its old end on. Its new pages, and the page in which it ended, are put. They
+    /// count among the pages of the next commit. When a file shrinks, its pages past the new end are no longer put. If
+    /// the page in which it then ends is put, its bytes from the new end on become zeros. A growth takes one device
+    /// call if the old end is inside a page that isn't put. Nothing else takes one.
+    ///
+    /// Fails with:
+    ///
+    /// - `NoFile` if there is no such file.
+    /// - `Einval` if the length exceeds the file's capacity.
+    /// - `Broken` if a device call of a commit or a step failed.
+    /// - `NoFrame` if the next commit can't take that many pages.
+    /// - `Device` if the device call failed.
+    /// - `OutOfMemory` if there is too little memory.
+    ///
+    /// A refusal changes nothing.
     pub fn set_length(&mut self, file: FileNumber, length: u64) -> Result<(), Refusal>
         ensures ok { OnOk result (log_length_refusal self.old file length ≡ None) }
         ensures set { (contents : ℕ → List ℕ) → D.is_honest self.old.pager.device

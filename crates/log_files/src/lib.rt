@@ -1,5 +1,5 @@
-//! The files of a volume with a log: pages are put and lengths set, both committed together, read back, and written
-//! home in steps.
+//! The files of a volume with a log. Pages are put and lengths are set. Both are committed together, read back, and
+//! written home in steps.
 #![tactic(auto)]
 
 mod asking;

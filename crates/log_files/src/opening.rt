@@ -1,4 +1,4 @@
-// How the files of a volume with a log are opened.
+// Opens the files of a volume with a log.
 ghost use Rattle.std.specs.Prelude.{◌≡◌, ◌≢◌, ◌+◌, ◌-◌, ◌*◌, ◌≤◌, ℕ, [], min, length, slice_index};
 ghost use Rattle.std.specs.Prelude.{IfOk, IfErr};
 ghost use Rattle.device.specs.Device.{LeavesOnly, Only};
@@ -24,7 +24,8 @@ use log_volume::LogSuper;
 use page_entry::Refusal;
 use std::alloc::Allocator;
 
-/// The most pages of files that a commit takes: this many, or one less than a commit has records, if that is fewer.
+/// Returns the greatest number of pages of files in a commit: `most`, or one less than the log's most records in a
+/// commit, if that is fewer.
 fn most_pages<A: Allocator + Copy>(table: &LogSuper<A>, most: u32) -> u32
     ensures value { (limit : ℕ) → IsCommitSize table.now.ring limit
         → ((n : ℕ) → IsCommitSize table.now.ring n → n ≤ limit) → result ≡ min most (limit - 1) }
@@ -34,7 +35,7 @@ fn most_pages<A: Allocator + Copy>(table: &LogSuper<A>, most: u32) -> u32
 }
 
 impl<D: Device, A: Allocator + Copy> LogFiles<D, A> {
-    // The files of a volume that was opened.
+    // Makes the files of a volume that was opened.
     fn over(alloc: A, opened: OpenedLog<A>, device: D, most: u32) -> Self
         requires fit { AreLengths (table_of opened.table) opened.lengths.items }
         requires long { 4096 * (log_of opened.table).blocks ≤ length (D.seen device) }
@@ -67,11 +68,12 @@ impl<D: Device, A: Allocator + Copy> LogFiles<D, A> {
         }
     }
 
-    /// Opens the volume of a device, as `open_log_volume` does. A commit takes at most this many pages of files, or one
-    /// less than the log has room for in one commit, if that is fewer: one block is kept for the lengths. Nothing is
-    /// put then, and the log has no commit.
+    /// Opens the volume on a device, as `open_log_volume` does. Then nothing is put, and the log has no commit. A
+    /// commit takes at most `most` pages of files, or one less than the log's most records in a commit, if that is
+    /// fewer. One record is reserved for the lengths.
     ///
-    /// `NotAVolume`, `Damaged`, `Busy`, `Device`, `OutOfMemory`, as `open_log_volume`. A refusal hands the device back.
+    /// Fails with `NotAVolume`, `Damaged`, `Busy`, `Device` or `OutOfMemory`, as `open_log_volume` does. A refusal
+    /// returns the device.
     pub fn open(alloc: A, mut device: D, most: u32) -> Result<Self, (Refusal, D)>
         ensures opened { D.is_honest device → IfOk result (λ files. HasOpenedVolume D.Device device files.table
             files.lengths files.pager.store.tail.start files.pager.device) }

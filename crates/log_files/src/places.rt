@@ -14,7 +14,7 @@ use page_entry::{FileNumber, FilePage};
 use pager::{block_after, home_block, last_block};
 use std::alloc::Allocator;
 
-/// How many blocks the home blocks of a volume with a log lie behind those that its table says.
+/// Returns how many blocks the home blocks of a volume with a log lie behind those in its table.
 pub(crate) fn shift_of<A: Allocator + Copy>(table: &LogSuper<A>) -> u32
     ensures value { result ≡ table.now.ring + 1 }
     ensures blocks { block_count (table_of table.now) + (table.now.ring + 1) ≡ (log_of table.now).blocks }
@@ -25,7 +25,7 @@ pub(crate) fn shift_of<A: Allocator + Copy>(table: &LogSuper<A>) -> u32
     table.log().ring() + 1
 }
 
-/// The home block of a page that begins before its file's end.
+/// Returns the home block of a page that begins before its file's end.
 pub(crate) fn page_home<A: Allocator + Copy>(
     table: &LogSuper<A>,
     lengths: &[u64],
@@ -43,7 +43,8 @@ pub(crate) fn page_home<A: Allocator + Copy>(
     home_block(table.table(), lengths, page) + shift
 }
 
-/// The home block of the page in which a file of this length ends, or that begins at its end; it is below its capacity.
+/// Returns the home block of the page in which a file of this length ends, or which begins at that end. The length is
+/// below the file's capacity.
 pub(crate) fn end_home<A: Allocator + Copy>(table: &LogSuper<A>, file: FileNumber, end: u64) -> u32
     requires file { file < length table.now.files }
     requires fits { end < slice_index_or (capacities_in (table_of table.now)) file 0 }
@@ -55,7 +56,7 @@ pub(crate) fn end_home<A: Allocator + Copy>(table: &LogSuper<A>, file: FileNumbe
     last_block(table.table(), file, end) + shift
 }
 
-/// The home block behind those of a file of this length.
+/// Returns the home block behind those of a file of this length.
 pub(crate) fn home_after<A: Allocator + Copy>(
     table: &LogSuper<A>,
     file: FileNumber,

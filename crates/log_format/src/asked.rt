@@ -1,4 +1,4 @@
-// The super block that is asked for.
+// The super block for the files and the log that a caller asks for.
 ghost use Rattle.std.specs.Prelude.{◌≡◌, ◌≤◌, ◌<◌, ◌^◌, ◌↔◌, IsTrue, IfOk, IfErr, All, length, take};
 ghost use Rattle.volume_codec.specs.Files.{asked_by};
 ghost use Rattle.log_volume.specs.Super.{LogSuperValue, log_of, key_of};
@@ -11,7 +11,7 @@ use page_entry::Refusal;
 use std::alloc::Allocator;
 use volume_codec::{FileSpec, MAX_FILES, Super, block_count_as};
 
-/// The greatest number of blocks of a log.
+/// The greatest number of blocks in a log.
 const MOST_BLOCKS: u64 = 1 << 24;
 
 /// Whether no file is longer than its capacity.
@@ -21,7 +21,7 @@ fn have_room(files: &[FileSpec]) -> bool
     files.iter().all(|file| file.length <= file.capacity)
 }
 
-/// These files at their capacities, in the first places.
+/// Returns these files, each with its capacity as its length, followed by empty entries.
 fn full_specs<'a>(files: &[FileSpec<'a>]) -> [FileSpec<'a>; 64]
     requires { length files.now ≤ 64 }
     ensures { asked_by (take (length files.now) result) ≡ full_files (asked_by files.now) }
@@ -41,7 +41,7 @@ fn full_specs<'a>(files: &[FileSpec<'a>]) -> [FileSpec<'a>; 64]
     full
 }
 
-/// The key of a kind of seal is below 2^64; zero where a byte seals.
+/// Returns the key of a kind of seal, which is below 2^64; zero if a byte seals.
 fn key_in(sealing: Sealing) -> u64
     ensures { key_of sealing < 2 ^ 64 }
 {
@@ -51,7 +51,7 @@ fn key_in(sealing: Sealing) -> u64
     }
 }
 
-/// Where the volume has its parts that is asked for. `BadShape` where there is none.
+/// Returns the geometry of the requested volume. Fails with `BadShape` if there is no such volume.
 fn asked_log(sealing: Sealing, files: &[FileSpec], ring: u64) -> Result<LogGeometry, Refusal>
     ensures log { IfOk result (λ log. log ≡ log_of (log_asked sealing (asked_by files.now) ring)) }
     ensures asked { IfOk result (λ _.
@@ -75,9 +75,14 @@ fn asked_log(sealing: Sealing, files: &[FileSpec], ring: u64) -> Result<LogGeome
     }
 }
 
-/// The number of blocks of a volume with a log of this many blocks and with these files. `BadShape` where no volume has
-/// them: 1 to 64 files of distinct names, names of 1 to 32 bytes from 0x21 to 0x7E, capacities from 1, lengths up to
-/// the capacity, 4 to 2^24 blocks of log, and a block count of at most 2^32 - 1. Takes no memory.
+/// Returns the number of blocks of a volume with a log of `ring` blocks and with these files. Takes no memory. Fails
+/// with `BadShape` if no volume has them. The rules are:
+///
+/// - 1 to 64 files, with distinct names.
+/// - Names of 1 to 32 bytes, from 0x21 to 0x7E.
+/// - Capacities from 1, and lengths up to the capacity.
+/// - A log of 4 to 2^24 blocks.
+/// - At most 2^32 - 1 blocks in all.
 pub fn log_block_count(sealing: Sealing, files: &[FileSpec], ring: u64) -> Result<u64, Refusal>
     ensures ok { IfOk result (λ blocks. (v : LogSuperValue) × IsLogAsked sealing (asked_by files.now) ring v
         × (blocks ≡ (log_of v).blocks)) }
@@ -90,8 +95,8 @@ pub fn log_block_count(sealing: Sealing, files: &[FileSpec], ring: u64) -> Resul
     }
 }
 
-/// The super block of a volume with a log of this many blocks and with these files. `BadShape` where no volume has
-/// them, by the rules of `log_block_count`, found before any memory is taken.
+/// Returns the super block of a volume with a log of `ring` blocks and with these files. Fails with `BadShape` if no
+/// volume has them, by the rules of `log_block_count`. This is found before any memory is taken.
 pub fn asked_super<A: Allocator + Copy>(
     alloc: A,
     sealing: Sealing,

@@ -1,4 +1,4 @@
-// A volume with a log is made on a device whose bytes are all 0.
+// Makes a volume with a log on a device whose bytes are all 0.
 ghost use Rattle.std.specs.Prelude.{◌≡◌, ◌⊎◌, ◌*◌, ◌≤◌, ◌+◌, ℕ, length, slice_index, is_ok, IfOk, IfErr, OnOk};
 ghost use Rattle.device.specs.Device.{LeavesOnly};
 ghost use Rattle.device.specs.Did.{Did};
@@ -22,20 +22,23 @@ use page_entry::{PAGE, Refusal};
 use std::alloc::Allocator;
 use volume_codec::{FileSpec, write_lengths_of};
 
-/// The start of a fresh log.
+/// The start of a new log.
 const FIRST_START: LogStart = LogStart {
     position: 0,
     number: 1,
     epoch: 1,
 };
 
-/// Makes a volume with a log of this many blocks on a device whose bytes are all 0: the log has no commit, and the
-/// files have these lengths and only zeros. It writes the start in block 2 and the lengths block, syncs, writes block 0
-/// and syncs. No other byte changes, whatever is answered.
+/// Makes a volume with a log of `ring` blocks on a device whose bytes are all 0. The log has no commit, and the files
+/// have these lengths and only zeros. The call writes the start in block 2 and the lengths block, and syncs. Then it
+/// writes block 0 and syncs. No other byte changes, even if the call fails.
 ///
-/// `BadShape`, before any memory is taken and any device call is made, where no volume has these files and this log
-/// (`log_block_count`), or the device is shorter than its blocks. `OutOfMemory` before any device call. `Device` where
-/// a device call failed: the later ones weren't made.
+/// Fails with:
+///
+/// - `BadShape` if no volume has these files and this log (`log_block_count`), or if the device is shorter than the
+///   volume. Then no memory was taken and no device call was made.
+/// - `OutOfMemory` before any device call.
+/// - `Device` if a device call failed. Then the later calls weren't made.
 pub fn format_log<D: Device, A: Allocator + Copy>(
     alloc: A,
     device: &mut D,
@@ -60,8 +63,8 @@ pub fn format_log<D: Device, A: Allocator + Copy>(
     }
 }
 
-/// The super block of these files in a volume with a log of this many blocks, on a device of so many bytes. `BadShape`,
-/// before any memory is taken, where there is none or the device is shorter than its blocks.
+/// Returns the super block of these files in a volume with a log of `ring` blocks, on a device of `bytes` bytes. Fails
+/// with `BadShape`, before it takes memory, if there is no such volume or the device is shorter than it.
 pub fn log_shape<A: Allocator + Copy>(
     alloc: A,
     bytes: u64,
@@ -80,7 +83,7 @@ pub fn log_shape<A: Allocator + Copy>(
     asked_super(alloc, sealing, files, ring)
 }
 
-// Writes the first start, the lengths of these files and their super block.
+// Writes the first start, the lengths of these files, and their super block.
 fn write_fresh<D: Device, A: Allocator + Copy>(
     device: &mut D,
     table: &LogSuper<A>,
@@ -102,8 +105,8 @@ fn write_fresh<D: Device, A: Allocator + Copy>(
     finish_log(device, table)
 }
 
-/// Writes what a new volume with a log has before its first home block of a file, but for block 0: the first start and
-/// the lengths of these files. The caller's device is long enough for the volume.
+/// Writes the first start and the lengths of these files. Apart from block 0, everything else before the first home
+/// block of a file stays zero in a new volume. The device must be long enough for the volume.
 pub fn lay_log<D: Device, A: Allocator + Copy>(
     device: &mut D,
     table: &LogSuper<A>,
@@ -124,8 +127,8 @@ pub fn lay_log<D: Device, A: Allocator + Copy>(
     put_lengths(device, &table.log(), &lengths)
 }
 
-/// Finishes a volume with a log, all the rest of which was written: that is synced, and then the super block is written
-/// and synced.
+/// Finishes a volume with a log, of which all but the super block is written. Syncs, writes the super block, and syncs
+/// again.
 pub fn finish_log<D: Device, A: Allocator + Copy>(
     device: &mut D,
     table: &LogSuper<A>,
@@ -138,7 +141,7 @@ pub fn finish_log<D: Device, A: Allocator + Copy>(
     finish_new(device, &block)
 }
 
-// Writes the start of a fresh log.
+// Writes the start of a new log.
 fn put_start<D: Device>(device: &mut D, log: &LogGeometry) -> Result<(), DeviceFault>
     requires { 4096 * log.now.blocks ≤ length (D.seen device.old) }
     ensures did { Did D.Device device.old (WriteAt 8192 (start_text first_log_start)) (is_ok result) device.new }
@@ -149,7 +152,7 @@ fn put_start<D: Device>(device: &mut D, log: &LogGeometry) -> Result<(), DeviceF
     write_at(device, 2 * PAGE, &start)
 }
 
-// Writes the block of lengths.
+// Writes the lengths block.
 fn put_lengths<D: Device>(
     device: &mut D,
     log: &LogGeometry,

@@ -1,4 +1,4 @@
-// What follows of the definitions alone.
+// Consequences of the definitions alone.
 ghost use Rattle.std.specs.Prelude.{ℕ, List, []};
 ghost use Rattle.volume_codec.specs.Files.{AskedFile, lengths_asked};
 ghost use Rattle.recovery.specs.Format.{zero_files};
@@ -9,7 +9,7 @@ ghost use Rattle.log_volume.specs.Files.{RecoversToLog};
 ghost use Rattle.log_format.specs.Asked.{IsLogAsked};
 ghost use Rattle.log_format.specs.Fresh.{IsFreshVolume, first_log_start};
 
-/// A fresh volume has a log without commits, and recovers to the files that were asked for, all of whose bytes are 0.
+/// A new volume has a log without commits. It recovers to the files that were asked for, with only zeros in them.
 pub fn fresh_volume()
     ensures log { (table : LogSuperValue) (lengths bytes : List ℕ) → IsFreshVolume table lengths bytes
         → HasLog (log_of table) first_log_start [] bytes }

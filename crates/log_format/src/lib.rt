@@ -1,4 +1,4 @@
-//! A volume with a log is made on a device whose bytes are all 0.
+//! Makes a volume with a log on a device whose bytes are all 0.
 #![tactic(auto)]
 
 mod asked;

@@ -1,4 +1,4 @@
-// What follows of the calls.
+// Consequences of the calls' contracts.
 ghost use Rattle.std.specs.Prelude.{◌≡◌, ◌⊎◌, ◌↔◌, ◌+◌, ℕ, List, [], ◌∷◌, ◌++◌, Bool, None};
 ghost use Rattle.page_entry.specs.declared.numbers.FilePage.{FilePage};
 ghost use Rattle.device.specs.Device.{LeavesOnly};
@@ -18,19 +18,19 @@ ghost use Rattle.log_histories.specs.Runs.{IsMadeIn, ReadsBackAmongLog, TellsRun
 use device::Device;
 use log_commits::one_held;
 
-/// What a crash leaves of a volume with a log, whatever calls were made since it was opened. It had these files then.
+/// What a crash leaves of a volume with a log, after any calls since it was opened with these files.
 ///
-/// In layout 6, where a digest seals commits, the bytes that are left have a premise (`TellsSince`): from the number of
-/// the next commit on, they contain no commit that can be read but the commit under way. In layout 5, where a byte
-/// seals, all bytes fulfil it (`by_byte`).
+/// In layout 6, where a digest seals commits, this has a premise on the remaining bytes (`TellsSince`). From the number
+/// of the next commit on, they must contain no readable commit except the commit under way. In layout 5, where a byte
+/// seals, all bytes fulfil the premise (`by_byte`).
 ///
-/// - `left`: After the calls a crash leaves what recovers to the files after a durable prefix of their history. That
-///   prefix is empty or ends with a mark, and has every mark that was acknowledged.
-/// - `commit`: So it does at any moment within the next commit, whose own mark may be there. A device call of it may
-///   fail.
-/// - `step`: So it does at any moment within the next step.
+/// - `left`: After the calls, a crash leaves bytes that recover to the files after a durable prefix of the history.
+///   That prefix is empty or ends with a mark, and contains every acknowledged mark.
+/// - `commit`: The same holds at any moment within the next commit, even if a device call of it fails. The prefix may
+///   then contain that commit's own mark.
+/// - `step`: The same holds at any moment within the next step.
 /// - `over`: The home blocks have some contents.
-/// - `reads`: With any such contents, callers see of each page the bytes that were put last. This has no premise.
+/// - `reads`: With any such contents, callers read in each page the bytes that were put last. This has no premise.
 pub fn what_log_files_leave<D: Device>(device: &D)
     ensures left { (files : List File) (history : List Event) (s : LogFilesState D)
         → HasComeLog D.Device files history s → (c : List ℕ) → D.may_leave s.pager.device c → TellsSince s IsNone c
@@ -57,18 +57,18 @@ pub fn what_log_files_leave<D: Device>(device: &D)
     one_held();
 }
 
-/// What a crash leaves between two states, where calls led from the one to the other: a run.
+/// What a crash leaves between two states, if calls led from one to the other: a run.
 ///
-/// In layout 6 the bytes that are left have a premise: each commit that can be read from them, with the number of the
-/// first state's next commit or a later one, was made in the run (`TellsRun`), or is the commit that follows it
-/// (`TellsNext`). In layout 5 all bytes fulfil both (`by_byte`).
+/// In layout 6 this has a premise on the remaining bytes. It concerns each readable commit in them that has the number
+/// of the first state's next commit or a later number. The run made this commit (`TellsRun`), or the commit follows the
+/// run (`TellsNext`). In layout 5 all bytes fulfil both (`by_byte`).
 ///
 /// - `come`: A run adds its events to the history of the calls before it.
-/// - `on`: Two runs, one after the other, are one, with the commits of both.
-/// - `since`: A crash between the run's first state and its last one leaves what recovers to the files after a durable
-///   prefix of the history and of some of the run's events.
-/// - `within_commit`, `within_step`: So it does up to any moment within the commit or the step that follows the run. A
-///   device call of it may fail.
+/// - `on`: Two consecutive runs are one run, with the commits of both.
+/// - `since`: A crash between the run's first and last states leaves bytes that recover to the files after a durable
+///   prefix. It is a prefix of the history extended by some of the run's events.
+/// - `within_commit`, `within_step`: The same holds up to any moment within the commit or the step that follows the
+///   run, even if a device call of it fails.
 pub fn what_log_runs_leave<D: Device>(device: &D)
     ensures come { (files : List File) (history events : List Event) (s t : LogFilesState D)
         → HasComeLog D.Device files history s → HasGoneLog D.Device s events t

@@ -1,4 +1,4 @@
-//! The laws of the histories of a volume with a log: what a crash leaves after any calls and within them.
+//! The laws of the histories of a volume with a log: what a crash leaves after any calls, and within them.
 #![tactic(auto)]
 
 mod laws;

@@ -18,7 +18,7 @@ pub struct Newest {
     pub block: u32,
 }
 
-// Whether there is a record, of a commit with this number or a later one.
+// Whether there is a record, and its commit has this number or a later one.
 fn is_from(newest: &Option<Newest>, below: u64) -> bool
     ensures { result ≡ is_from below newest.now }
 {
@@ -28,7 +28,7 @@ fn is_from(newest: &Option<Newest>, below: u64) -> bool
     }
 }
 
-/// The newest record of each home block that commits of a log have, and room for further ones.
+/// The newest record of each home block in the commits of a log, with room for further records.
 #[derive(Drop)]
 pub struct LogIndex<A: Allocator + Copy> {
     tree: BTreeMap<u32, Option<Newest>, A>,
@@ -43,7 +43,7 @@ impl<A: Allocator + Copy> Model for LogIndex<A> {
 }
 
 impl<A: Allocator + Copy> LogIndex<A> {
-    /// That of a log without commits. Takes no memory.
+    /// Makes the index of a log without commits. Takes no memory.
     pub fn new(alloc: A) -> Self
         ensures { result ≡ [] }
     {
@@ -52,7 +52,7 @@ impl<A: Allocator + Copy> LogIndex<A> {
         }
     }
 
-    /// The newest record of a home block, if a commit has one.
+    /// Returns the newest record of a home block, if a commit has one.
     pub fn find(&self, home: u32) -> Option<Newest>
         ensures { result ≡ find_in self.now home }
     {
@@ -62,7 +62,7 @@ impl<A: Allocator + Copy> LogIndex<A> {
         }
     }
 
-    /// Takes the memory for records of these home blocks. No record changes, also where memory is refused.
+    /// Takes the memory for records of these home blocks. No record changes, even if the call fails.
     pub fn admit(&mut self, homes: &[u32]) -> Result<(), AllocError>
         ensures same { (b : ℕ) → find_in self.new b ≡ find_in self.old b }
         ensures room { OnOk result ((b : ℕ) → Contains homes.now b → Contains (indexed_homes self.new) b) }
@@ -86,7 +86,8 @@ impl<A: Allocator + Copy> LogIndex<A> {
         Ok(())
     }
 
-    /// Notes the records of a commit, which begin at a position of the log. There is room for them. Takes no memory.
+    /// Notes the records of a commit. They begin at position `records` of the log. Takes no memory: `admit` made the
+    /// room.
     pub fn note(&mut self, log: &LogGeometry, records: u32, number: u64, homes: &[u32])
         requires few { length homes.now ≤ 65535 }
         requires room { (b : ℕ) → Contains homes.now b → Contains (indexed_homes self.old) b }
@@ -110,14 +111,14 @@ impl<A: Allocator + Copy> LogIndex<A> {
         self.tree.retain(|_, newest| is_from(newest, below));
     }
 
-    /// The number of home blocks that records or room are kept of.
+    /// Returns the number of home blocks that have a record, or room for one.
     pub fn len(&self) -> usize
         ensures { result ≡ length self.now }
     {
         self.tree.len()
     }
 
-    // Lists these home blocks.
+    // Lists the home blocks that have a record, or room for one.
     pub(crate) fn list_homes(&self, list: &mut Vec<u32, A>) -> Result<(), AllocError>
         requires none { list.old.items ≡ [] }
         ensures items { OnOk result (list.new.items ≡ indexed_homes self.now) }

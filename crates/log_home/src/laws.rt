@@ -1,4 +1,4 @@
-// What follows of the definitions alone.
+// Consequences of the definitions alone.
 ghost use Rattle.std.specs.Prelude.{◌≡◌, ◌+◌, ◌%◌, ◌++◌, ℕ, Bool, List, [], ◌∷◌, length};
 ghost use Rattle.log_codec.specs.Log.{LogValue, log_descriptor_blocks};
 ghost use Rattle.log_codec.specs.Commit.{LogDescriptor};
@@ -11,8 +11,8 @@ ghost use Rattle.log_commits.specs.Behind.{HoldsCommits, AreOldest, IsSameOutsid
 ghost use Rattle.log_home.specs.Index.{Entries, IsIndexOf, find_in, from_number, indexed_homes, recorded_or};
 ghost use Rattle.log_home.specs.Work.{AreHome};
 
-/// An index stays that of the log's commits: when a commit is noted, and when the start has moved behind the oldest
-/// commits and these are forgotten.
+/// An index still belongs to the log's commits after two changes. A commit was noted, or the start moved behind the
+/// oldest commits and these were forgotten.
 pub fn index_stays()
     ensures empty { (g : LogValue) (p : ℕ) → IsIndexOf g p [] [] }
     ensures noted { (g : LogValue) (p position records : ℕ) (chain : List LogDescriptor) (d : LogDescriptor)
@@ -28,8 +28,8 @@ pub fn index_stays()
         → (let s = start_behind t oldest in IsIndexOf t.log s.position younger new) }
 {}
 
-/// What is home stays so in a commit, or the commit has it, too. Once all home blocks of the index are done that the
-/// work began with, all home blocks of its commits are written.
+/// Home blocks that are written stay written in a commit, or the commit contains them, too. When the work has done
+/// every home block of the index that it began with, all home blocks of its commits are written.
 pub fn home_stays()
     ensures by_commit { (t : TailValue) (contents : ℕ → List ℕ) (ds younger : List LogDescriptor)
         (done homes records old new : List ℕ) → IsSameOutside t.log old new

@@ -1,4 +1,4 @@
-//! Commits of a log are written home: the newest record of each home block, and its copying in steps of bounded size.
+//! Writes commits of a log home: an index of the newest record of each home block, and the copying in bounded steps.
 #![tactic(auto)]
 
 mod index;

@@ -1,4 +1,4 @@
-// The home blocks of a log's oldest commits are written, one after another.
+// Writes the home blocks of a log's oldest commits, one after another.
 ghost use Rattle.std.specs.Prelude.{◌≡◌, ◌≢◌, ◌↔◌, ◌<◌, ◌≤◌, ◌+◌, ◌*◌, ◌++◌, ℕ, Bool, true, List, [], is_ok, length, take, IsTrue, IfOk, IfErr, OnOk, OnErr};
 ghost use Rattle.device.specs.Did.{Did};
 ghost use Rattle.log_codec.specs.Chain.{IsLogHome, chain_blocks};
@@ -16,7 +16,8 @@ use log_commits::{LogTail, MoveFault, OldCommits};
 use std::alloc::{AllocError, Allocator};
 use std::marker::Model;
 
-/// The commits of a log so far, whose home blocks are written in steps. Further commits may be made between two steps.
+/// Work that writes home, in steps, the commits that a log had when the work began. Further commits may be made between
+/// two steps.
 #[derive(Drop)]
 pub struct HomeWork<A: Allocator + Copy> {
     oldest: OldCommits,
@@ -36,7 +37,7 @@ impl<A: Allocator + Copy> Model for HomeWork<A> {
 }
 
 impl<A: Allocator + Copy> HomeWork<A> {
-    /// No commits: there is nothing to do. Takes no memory.
+    /// Makes work without commits, which is done already. Takes no memory.
     pub fn none(alloc: A) -> HomeWork<A>
         ensures { result ≡ no_work }
     {
@@ -50,7 +51,7 @@ impl<A: Allocator + Copy> HomeWork<A> {
         }
     }
 
-    /// Begins with all commits of the log so far.
+    /// Begins the work with all commits of the log so far.
     pub fn begin(alloc: A, tail: &LogTail, index: &LogIndex<A>) -> Result<HomeWork<A>, AllocError>
         ensures { IfOk result (λ work. work ≡ record {
           oldest = record { below = tail.now.number; blocks = tail.now.used };
@@ -67,22 +68,22 @@ impl<A: Allocator + Copy> HomeWork<A> {
         })
     }
 
-    /// The commits that are written home. Once all is done, the start may move behind them.
+    /// Returns the commits that this work writes home. Once all is done, the start may move behind them.
     pub fn oldest(&self) -> OldCommits
         ensures { result ≡ self.now.oldest }
     {
         self.oldest
     }
 
-    /// Whether all is done.
+    /// Whether all of the work is done.
     pub fn is_done(&self) -> bool
         ensures { IsTrue result ↔ (self.now.done ≡ length self.now.homes) }
     {
         self.done == self.homes.len()
     }
 
-    /// The home block that the next step looks at, and its record, if that is to be copied: it is in the oldest
-    /// commits.
+    /// Returns the home block that the next step considers, and its newest record, if that record belongs to the oldest
+    /// commits. Only then does the step copy it.
     pub fn next_copy(&self, index: &LogIndex<A>) -> Option<(u32, Newest)>
         ensures { result ≡ next_copy self.now index.now }
     {
@@ -97,7 +98,7 @@ impl<A: Allocator + Copy> HomeWork<A> {
         }
     }
 
-    // The next home block is done.
+    // Counts the next home block as done.
     fn pass(&mut self)
         ensures { self.new ≡ stepped self.old }
     {
@@ -106,8 +107,8 @@ impl<A: Allocator + Copy> HomeWork<A> {
         }
     }
 
-    /// Copies the newest record of the next home block to its place, if it is in the oldest commits: a read and a
-    /// write. Where a younger commit has the home block, no device call is made.
+    /// Copies the newest record of the next home block to its place, by a read and a write. If a younger commit
+    /// contains the home block, the record isn't copied, and no device call is made.
     pub fn step<D: Device>(
         &mut self,
         tail: &mut LogTail,
@@ -123,14 +124,15 @@ impl<A: Allocator + Copy> HomeWork<A> {
         ensures did { MayStep tail.old (next_copy self.old index.now)
             → Did D.Device device.old (copy_work (next_copy self.old index.now)) (is_ok result) device.new }
 
-        // The index is that of the log's commits, and each list that a crash may leave before holds the log.
+        // If the index belongs to the log's commits, and each crash state before holds the log, each crash state keeps
+        // holding it.
         ensures leaves { (second : Bool) (contents : ℕ → List ℕ) (chain : List LogDescriptor)
             → D.is_honest device.old
             → IsIndexOf tail.old.log tail.old.start.position chain index.now
             → HasCommits D.Device second tail.old contents chain device.old
             → LeavesCommits D.Device second tail.old contents chain device.old device.new }
 
-        // One home block more is written, or a younger commit has it.
+        // One more home block is written, or a younger commit contains it.
         ensures home { (second : Bool) (contents : ℕ → List ℕ) (ds younger : List LogDescriptor)
             → D.is_honest device.old
             → HoldsCommits second tail.old contents (ds ++ younger) (D.seen device.old)

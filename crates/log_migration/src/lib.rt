@@ -1,4 +1,4 @@
-//! A volume with journals is copied into a volume with a log on another device.
+//! Copies a volume with journals into a volume with a log on another device.
 #![tactic(auto)]
 
 mod migration;

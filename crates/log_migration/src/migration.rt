@@ -1,4 +1,4 @@
-// A volume becomes one with a log, on another device.
+// Migrates a volume to a volume with a log, on another device.
 ghost use Rattle.std.specs.Prelude.{◌≡◌, ◌⊎◌, ◌≤◌, ℕ, length, slice_index, is_ok, IfOk, IfErr, OnOk};
 ghost use Rattle.device.specs.Device.{LeavesOnly};
 ghost use Rattle.recovery.specs.Migration.{asked_of, AreAccounted};
@@ -19,8 +19,8 @@ use page_entry::Refusal;
 use recovery::{Volume, copy_files, specs_of};
 use std::alloc::Allocator;
 
-/// The number of blocks of the volume that `migrate_to_log` makes of this one, with a log of this many blocks.
-/// `BadShape` where there is none. Takes no memory.
+/// Returns the number of blocks of the volume that `migrate_to_log` makes of this one, with a log of `ring` blocks.
+/// Takes no memory. Fails with `BadShape` if there is no such volume.
 pub fn migrated_log_blocks<D: Device, A: Allocator + Copy>(
     volume: &Volume<D, A>,
     sealing: Sealing,
@@ -35,7 +35,7 @@ pub fn migrated_log_blocks<D: Device, A: Allocator + Copy>(
     log_block_count(sealing, &specs[..volume.file_count()], ring)
 }
 
-/// Writes, on a device, all but block 0 and the files of the volume with a log that has the files of another volume.
+/// Writes the start of the log and the lengths of the new volume. Block 0 and the files aren't written yet.
 fn begin<D: Device, E: Device, A: Allocator + Copy>(
     alloc: A,
     old: &Volume<D, A>,
@@ -59,8 +59,8 @@ fn begin<D: Device, E: Device, A: Allocator + Copy>(
     Ok(table)
 }
 
-/// Finishes a volume with a log, all the rest of which was written: that is synced, and then the super block is written
-/// and synced.
+/// Finishes a volume with a log, of which all but the super block is written. Syncs, writes the super block, and syncs
+/// again.
 fn finish<D: Device, A: Allocator + Copy>(
     device: &mut D,
     table: &LogSuper<A>,
@@ -76,17 +76,22 @@ fn finish<D: Device, A: Allocator + Copy>(
     }
 }
 
-/// Makes, on another device whose bytes are all 0, a volume with a log of this many blocks and with the files of this
-/// one, the same names, lengths, capacities and bytes: in layout 5 where a byte seals commits, and in layout 6 where a
-/// digest does. The log has no commit. `BadShape`, before any memory is taken and any device call is made, where no
-/// volume has them, or the other device is shorter than its blocks. `OutOfMemory` before any device call. `Device`
-/// where a call of one of the two devices failed.
+/// Makes a volume with a log of `ring` blocks, on another device whose bytes are all 0. Its files have the same names,
+/// lengths, capacities and bytes as those of the old volume. It is in layout 5 if a byte seals commits, and in layout 6
+/// if a digest does. The log has no commit.
 ///
-/// The volume isn't written at any moment, whatever the other device is and whatever is answered. On the other device
-/// the start of the log and the lengths are written, then the files are copied, 32,768 bytes at a time and each up to
-/// its length. All that is synced before the super block is written and synced. A crash meanwhile leaves block 0 as it
-/// was, or any bytes in it and all the rest of the volume filled. Block 1, block 3, the log, and what lies past the
-/// volume stay.
+/// Fails with:
+///
+/// - `BadShape` if no volume has these files and this log, or if the other device is shorter than the volume. Then no
+///   memory was taken and no device call was made.
+/// - `OutOfMemory` before any device call.
+/// - `Device` if a call of one of the two devices failed.
+///
+/// The old volume is never written, even if the call fails or the other device isn't honest. On the other device, the
+/// start of the log and the lengths are written first. Then the files are copied, 32,768 bytes at a time and each up to
+/// its length. All this is synced before the super block is written and synced. A crash meanwhile leaves block 0 as it
+/// was, or any bytes in it with the rest of the volume complete. Block 1, block 3, the log, and the bytes past the
+/// volume stay unchanged.
 pub fn migrate_to_log<D: Device, E: Device, A: Allocator + Copy>(
     alloc: A,
     old: &mut Volume<D, A>,
@@ -97,7 +102,7 @@ pub fn migrate_to_log<D: Device, E: Device, A: Allocator + Copy>(
     ensures migrated { D.is_honest old.old.device → E.is_honest new.old → IsZero (E.seen new.old)
         → OnOk result (HasMigratedToLog D.Device E.Device sealing ring old.old new.old new.new) }
 
-    // The volume stays, and nothing of it is written, at no moment.
+    // The old volume stays as it is, and is never written.
     ensures table { old.new.table ≡ old.old.table }
     ensures lengths { old.new.lengths ≡ old.old.lengths }
     ensures unwritten { D.is_honest old.old.device → IsUnwritten D.Device old.old.device old.new.device }

@@ -12,8 +12,8 @@ use log_recovery::ends_at;
 use page_entry::Refusal;
 use std::alloc::Allocator;
 
-/// The first epoch behind this one in which a log that begins at a position, with this number, has no commit. `Busy`
-/// where no epoch is left. The device is only read.
+/// Returns the first epoch after `last` in which a log that begins at this position, with this number, has no commit.
+/// Fails with `Busy` if no epoch is left. Only reads the device.
 pub fn free_epoch<D: Device, A: Allocator + Copy>(
     alloc: A,
     device: &mut D,

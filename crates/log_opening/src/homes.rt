@@ -1,4 +1,4 @@
-// The records of commits are written to their home blocks.
+// Writes the records of commits to their home blocks.
 ghost use Rattle.std.specs.Prelude.{◌≡◌, ℕ, Bool, List, ◌+◌, ◌*◌, ◌≤◌, if◌then◌else◌, is_ok, length, nat_eq, OnOk};
 ghost use Rattle.device.specs.Count.{raised};
 ghost use Rattle.device.specs.Work.{CopyBlock, Nothing};
@@ -18,7 +18,7 @@ use log_codec::LogGeometry;
 use log_recovery::{FoundCommit, FoundLog};
 use std::alloc::Allocator;
 
-/// Copies a block, or doesn't.
+/// Copies a block, unless `skip` is set.
 fn copy_unless<D: Device>(
     device: &mut D,
     skip: bool,
@@ -36,7 +36,7 @@ fn copy_unless<D: Device>(
     copy_block(device, from, to, buffer)
 }
 
-/// Writes the records of the commit at a place home, but for those of home blocks that a younger commit has.
+/// Writes home the records of the commit at a place, except those of home blocks that a younger commit contains.
 fn write_records<D: Device, A: Allocator + Copy>(
     device: &mut D,
     log: &LogGeometry,

@@ -1,4 +1,4 @@
-// What follows of an opening's contract and of the definitions.
+// Consequences of an opening's contract and of the definitions.
 ghost use Rattle.std.specs.Prelude.{◌≡◌, ℕ, List};
 ghost use Rattle.volume_codec.specs.Files.{File};
 ghost use Rattle.volume_codec.specs.Layout.{block_at};
@@ -15,8 +15,8 @@ use device::Device;
 use log_codec::one_log;
 use log_volume::one_log_super;
 
-/// After a crash and any number of openings, each of which a crash cut off, a device recovers to the contents that all
-/// lists recover to which the first crash may leave.
+/// After a crash and any number of openings that were each cut off by a crash, a device recovers to the same contents.
+/// All crash states of the first device must recover to these contents.
 pub fn cut_off_openings<D: Device>(device: &D)
     ensures { (g : LogValue) (contents : ℕ → List ℕ) (n : ℕ) (first later : D) → IsLog g
         → AllRecoverTo g contents (D.may_leave first) → IsCutOff D.Device g n first later
@@ -25,8 +25,8 @@ pub fn cut_off_openings<D: Device>(device: &D)
     one_log();
 }
 
-/// A volume that was opened has the files that the device's bytes recovered to before, and these lengths. What a crash
-/// leaves of an opening recovers to the same files.
+/// An opened volume has the files that the device's bytes recovered to before, and these lengths. A crash of an opening
+/// leaves bytes that recover to the same files.
 pub fn files_of_openings<D: Device>(device: &D)
     ensures opened { (old new : D) (table : LogSuperValue) (lengths : List ℕ) (next : LogStart)
         → HasOpenedVolume D.Device old table lengths next new

@@ -1,4 +1,4 @@
-// The lengths of the files in a log that was found.
+// Finds the lengths of the files in a log that was read.
 ghost use Rattle.std.specs.Prelude.{◌≡◌, ◌⊎◌, ◌+◌, ◌*◌, ◌≤◌, ◌<◌, length, IfOk, IfErr};
 ghost use Rattle.volume_codec.specs.Lengths.{AreLengths, IsLengths};
 ghost use Rattle.volume_codec.specs.Refusals.{RefusesLengths};
@@ -14,8 +14,8 @@ use page_entry::Refusal;
 use std::alloc::Allocator;
 use volume_codec::{Super, read_lengths};
 
-/// The block with the recovered bytes of the lengths block. This is the first home block, so that it is the first home
-/// block of each commit that has it.
+/// Returns the block with the recovered bytes of the lengths block. That is the first home block, so a commit that
+/// contains it lists it first.
 fn newest_lengths<A: Allocator + Copy>(log: &LogGeometry, found: &FoundLog<A>) -> u32
     requires found { IsFoundLog log.now found.now }
     ensures value { result ≡ newest_or log.now.ring (first_log_home log.now.ring) found.now.start.position
@@ -35,7 +35,7 @@ fn newest_lengths<A: Allocator + Copy>(log: &LogGeometry, found: &FoundLog<A>) -
     block
 }
 
-/// The lengths of the files of this table, in what the log of a device recovers to.
+/// Returns the lengths of the table's files, as the log of a device recovers them.
 pub fn find_lengths<D: Device, A: Allocator + Copy>(
     alloc: A,
     device: &mut D,

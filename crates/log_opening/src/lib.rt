@@ -1,4 +1,4 @@
-//! Opening a volume with a log: the records of its commits are written home, and the log goes on behind them.
+//! Opens a volume with a log: writes the records of its commits home, and continues the log behind them.
 #![tactic(auto)]
 
 mod epoch;

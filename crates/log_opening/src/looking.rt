@@ -1,4 +1,4 @@
-// The log is looked at before anything is written.
+// Examines the log before anything is written.
 ghost use Rattle.std.specs.Prelude.{◌≡◌, ℕ, ◌*◌, ◌≤◌, length, IfOk, IfErr, OnOk};
 ghost use Rattle.log_codec.specs.Start.{IsLogStart};
 ghost use Rattle.log_recovery.specs.Reading.{IsFoundLog};
@@ -12,15 +12,15 @@ use log_recovery::{FoundLog, read_log};
 use page_entry::Refusal;
 use std::alloc::Allocator;
 
-/// A log that was found, and the start behind all of its commits.
+/// A log that was found, and the next start, behind all of its commits.
 #[derive(Drop)]
 pub struct Looked<A: Allocator + Copy> {
     pub found: FoundLog<A>,
     pub next: LogStart,
 }
 
-/// The log of a device whose bytes are made sure of first, and the start behind all of its commits, in the first later
-/// epoch in which the log ends there.
+/// Makes the device's bytes durable, and then reads its log. Returns the log and the start behind all of its commits.
+/// The start's epoch is the first later epoch in which the log ends there.
 pub fn look<D: Device, A: Allocator + Copy>(
     alloc: A,
     device: &mut D,

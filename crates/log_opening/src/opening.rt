@@ -1,4 +1,4 @@
-// A volume with a log is opened.
+// Opens a volume with a log.
 ghost use Rattle.std.specs.Prelude.{◌≡◌, ◌≢◌, ◌⊎◌, ◌*◌, ◌≤◌, not, length, slice_index, IfOk, IfErr, OnOk};
 ghost use Rattle.device.specs.Device.{LeavesOnly};
 ghost use Rattle.log_codec.specs.Start.{IsLogStart, counts_second};
@@ -14,8 +14,8 @@ use log_codec::{LogGeometry, LogStart};
 use page_entry::Refusal;
 use std::alloc::Allocator;
 
-/// Finishes the opening of a volume whose log was looked at: its records are written home, and the log begins behind
-/// its commits. Memory is taken before anything is written.
+/// Finishes the opening of a volume whose log was examined. Writes its records home, and begins the log behind its
+/// commits. Takes memory before it writes.
 pub fn finish<D: Device, A: Allocator + Copy>(
     alloc: A,
     device: &mut D,
@@ -50,13 +50,20 @@ pub fn finish<D: Device, A: Allocator + Copy>(
     }
 }
 
-/// Opens a volume with a log: its log has no commit then, and begins with the start that is returned. Each home block
-/// has its newest record, and all of it is synced.
+/// Opens a volume with a log, and returns the start of its log. The log then has no commit, each home block has its
+/// newest record, and all of this is synced.
 ///
-/// It syncs and reads the log. Then it writes the records home and the start that doesn't count, syncs, writes the byte
-/// that selects this start, and syncs. `Damaged` where the device holds no log of this volume, `Busy` where no epoch is
-/// left: then nothing is written. `Device` where a device call failed. Then the device recovers as before, and so it
-/// does after a crash at any moment.
+/// The call syncs and reads the log. Then it writes the records home, writes the start that doesn't count, and syncs.
+/// Then it writes the byte that selects this start, and syncs.
+///
+/// Fails with:
+///
+/// - `Damaged` if the device contains no log of this volume.
+/// - `Busy` if no epoch is left.
+/// - `OutOfMemory` if there is too little memory.
+/// - `Device` if a device call failed. Then the device recovers as before.
+///
+/// The first three errors leave the device unwritten. After a crash at any moment the device recovers as before, too.
 pub fn open_log<D: Device, A: Allocator + Copy>(
     alloc: A,
     device: &mut D,

@@ -1,4 +1,4 @@
-// The start behind all commits is written, and then counts.
+// Writes the start behind all commits, and then makes it count.
 ghost use Rattle.std.specs.Prelude.{◌≡◌, ℕ, Bool, not, ◌*◌, ◌≤◌, ◌<◌, if◌then◌else◌, is_ok, length, nat_eq, OnOk, [], ◌∷◌};
 ghost use Rattle.device.specs.Count.{raised};
 ghost use Rattle.indexmap.specs.IndexMap.{get};
@@ -15,7 +15,7 @@ use log_codec::{LogGeometry, LogStart, encode_start, selecting_byte, start_block
 use log_recovery::FoundLog;
 use std::alloc::Allocator;
 
-/// Writes all records home, and a start in the place of the one that doesn't count, and makes sure of both.
+/// Writes all records home, and a start in place of the start that doesn't count. Then syncs both.
 pub fn prepare<D: Device, A: Allocator + Copy>(
     device: &mut D,
     log: &LogGeometry,
@@ -47,7 +47,7 @@ pub fn prepare<D: Device, A: Allocator + Copy>(
     }
 }
 
-/// Lets one of the starts count from now on, and makes sure of it.
+/// Makes one of the starts count from now on, durably.
 pub fn switch<D: Device>(device: &mut D, second: bool) -> Result<(), DeviceFault>
     requires long { 8192 ≤ length (D.seen device.old) }
     ensures switched { D.is_honest device.old

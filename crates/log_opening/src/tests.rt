@@ -1,5 +1,5 @@
-// A log with three commits that was written by hand is opened: without a fault, with each call failing in turn, and
-// where a commit lies at its end that is sealed in the next epoch.
+// Opens a log with three commits that was written by hand: without a fault, and with each call failing in turn. Also if
+// a commit at its end is sealed in the next epoch.
 use crate::{open_log, open_log_volume};
 use device::{Device, FailingDisk, MemDisk};
 use log_codec::{
@@ -18,14 +18,14 @@ fn small_log<R: Abort>(rt: &R, sealing: Sealing) -> LogGeometry {
     LogGeometry::new(sealing, 9, 20).expect(rt, "a log")
 }
 
-// Writes a block of a volume, if it is in it.
+// Writes a block of a volume. Does nothing if the block lies outside.
 fn put_block(volume: &mut [u8], block: usize, bytes: &[u8; 4096]) {
     if block < 20 && volume.len() == 81920 {
         volume[4096 * block..4096 * block + 4096].copy_from_slice(bytes);
     }
 }
 
-// Writes a commit with one record of one byte at a block, and the record in the next one.
+// Writes a commit with one record at a block, and the record in the next block. All bytes of the record are equal.
 fn put_commit(
     volume: &mut [u8],
     sealing: Sealing,
@@ -49,8 +49,8 @@ fn put_commit(
     }
 }
 
-// A volume of twenty blocks, whose second start counts, with three commits from number 5 on. They lie in blocks 5 and
-// 6, 7 and 8, and 9 and 10. The first and the last have home block 14, the second one 19.
+// A volume of twenty blocks, whose second start counts, with three commits from number 5 on. They are in blocks 5 and
+// 6, 7 and 8, and 9 and 10. The first and the last contain home block 14, the second contains home block 19.
 fn volume<R: Abort + AllocGlobal>(rt: &R, sealing: Sealing) -> Vec<u8, Global> {
     let mut volume = vec![in rt.alloc(); 0; 81920].expect(rt, "memory");
     put_block(&mut volume, 1, &[0xA7; 4096]);
@@ -82,8 +82,8 @@ fn first_bytes<R: Abort + AllocGlobal>(rt: &R, disk: &MemDisk<Global>) -> [u8; 4
 
 #[test]
 fn opens_a_log(rt: HostRuntime) {
-    // A sync; the selector, the start and the blocks of the log; the block at its end; two home blocks, each with a
-    // read and a write; the new start and its sync, the selector and its sync.
+    // The calls: a sync; the selector, the start and the blocks of the log; the block at its end; a read and a write
+    // for each of two home blocks; the new start and its sync; the selector and its sync.
     for (sealing, calls) in [(Sealing::ByByte, 16), (Sealing::ByDigest(KEY), 19)] {
         let bytes = volume(&rt, sealing);
         let mut disk = MemDisk::from_bytes(rt.alloc(), bytes).expect(&rt, "memory");
@@ -139,7 +139,7 @@ fn passes_by_an_epoch(rt: HostRuntime) {
     assert!(rt; first_bytes(&rt, &disk)[1] == 0);
 }
 
-// The same volume with a super block, which has a file of 20,000 bytes in six blocks, and its lengths block.
+// The same volume with a super block. It has a lengths block, and a file of 20,000 bytes in six blocks.
 fn whole_volume<R: Abort + AllocGlobal>(rt: &R) -> Vec<u8, Global> {
     let file = FileSpec {
         name: "a",
@@ -165,7 +165,7 @@ fn opens_a_volume(rt: HostRuntime) {
 
 #[test]
 fn refuses_a_volume(rt: HostRuntime) {
-    // Another magic; a commit that replaces the lengths by bytes which aren't lengths.
+    // Another magic; a commit that replaces the lengths by invalid ones.
     for (damaged, wanted) in [(false, Refusal::NotAVolume), (true, Refusal::Damaged)] {
         let mut bytes = whole_volume(&rt);
         if damaged {

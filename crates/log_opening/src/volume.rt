@@ -1,4 +1,4 @@
-// A device is opened whose super block says a volume with a log.
+// Opens a device whose super block describes a volume with a log.
 ghost use Rattle.std.specs.Prelude.{◌≡◌, ◌≢◌, ◌⊎◌, ◌*◌, ◌<◌, ◌≤◌, length, slice_index, IfOk, IfErr, OnOk};
 ghost use Rattle.device.specs.Device.{LeavesOnly};
 ghost use Rattle.volume_codec.specs.Layout.{block_at};
@@ -20,8 +20,8 @@ use log_volume::{LogSuper, one_log_super, read_log_super};
 use page_entry::Refusal;
 use std::alloc::Allocator;
 
-/// A volume with a log that was opened: what its super block says, the length of each file, the start of its log, which
-/// has no commit, and whether this is the second of the two starts.
+/// An opened volume with a log: the contents of its super block, and the length of each file. Its log has no commit.
+/// `start` is the log's start, and `second` is true if it is the second of the two starts.
 #[derive(Drop)]
 pub struct OpenedLog<A: Allocator + Copy> {
     pub table: LogSuper<A>,
@@ -30,8 +30,9 @@ pub struct OpenedLog<A: Allocator + Copy> {
     pub second: bool,
 }
 
-/// What the super block of a device says, which isn't shorter than a block. `NotAVolume` where it has no magic of a
-/// layout with a log, `Damaged` where it says nothing, `Device` where it couldn't be read. The device is only read.
+/// Reads the super block of a device that has at least one block. Only reads the device. Fails with `NotAVolume` if the
+/// super block has no magic of a layout with a log. Fails with `Damaged` if it breaks another rule, and with `Device`
+/// if it couldn't be read.
 pub fn read_first<D: Device, A: Allocator + Copy>(
     alloc: A,
     device: &mut D,
@@ -53,7 +54,8 @@ pub fn read_first<D: Device, A: Allocator + Copy>(
     }
 }
 
-/// A volume with a log that was found on a device: what its super block says, the lengths of its files, and its log.
+/// A volume with a log that was found on a device: the contents of its super block, the lengths of its files, and its
+/// log.
 #[derive(Drop)]
 struct FoundVolume<A: Allocator + Copy> {
     table: LogSuper<A>,
@@ -61,7 +63,7 @@ struct FoundVolume<A: Allocator + Copy> {
     looked: Looked<A>,
 }
 
-/// The volume with a log on a device, whose bytes are made sure of. Nothing is written.
+/// Finds the volume with a log on a device, and makes the device's bytes durable. Writes nothing.
 fn find_volume<D: Device, A: Allocator + Copy>(
     alloc: A,
     device: &mut D,
@@ -100,12 +102,20 @@ fn find_volume<D: Device, A: Allocator + Copy>(
     })
 }
 
-/// Opens a device that holds a volume with a log: its log has no commit then, each home block has its newest record,
-/// and all of it is synced.
+/// Opens a device that contains a volume with a log. The log then has no commit, each home block has its newest record,
+/// and all of this is synced.
 ///
-/// It reads block 0, syncs, and reads the log and the lengths. Then it goes on as `open_log`. `NotAVolume` where the
-/// device has no block or not the magic of a layout with a log, `Damaged` where it has one and recovers to no files,
-/// `Busy` where no epoch is left: then nothing is written. `Device` where a device call failed.
+/// The call reads block 0, syncs, and reads the log and the lengths. Then it continues as `open_log` does.
+///
+/// Fails with:
+///
+/// - `NotAVolume` if the device has no block 0, or not the magic of a layout with a log.
+/// - `Damaged` if it has the magic, but recovers to no files.
+/// - `Busy` if no epoch is left.
+/// - `OutOfMemory` if there is too little memory.
+/// - `Device` if a device call failed.
+///
+/// All errors but `Device` leave the device unwritten.
 pub fn open_log_volume<D: Device, A: Allocator + Copy>(
     alloc: A,
     device: &mut D,

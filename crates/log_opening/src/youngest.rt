@@ -1,4 +1,4 @@
-// The youngest commit that has a home block.
+// The youngest commit that contains each home block.
 ghost use Rattle.std.specs.Prelude.{◌≡◌, ◌⊎◌, ◌↔◌, ◌+◌, ℕ, Some, nat_eq, IsTrue, IfOk, IfErr, OnOk};
 ghost use Rattle.std.specs.List.{Contains};
 ghost use Rattle.indexmap.specs.IndexMap.{get};
@@ -11,10 +11,10 @@ use page_entry::Refusal;
 use std::alloc::Allocator;
 use std::hash::{BuildHasherDefault, FoldHasher};
 
-/// The place of the youngest commit that has a home block.
+/// The place of the youngest commit that contains a home block, for each home block.
 pub type Youngest<A> = IndexMap<u32, usize, BuildHasherDefault<FoldHasher>, A>;
 
-/// Notes that the commit at a place has these home blocks.
+/// Notes that the commit at a place contains these home blocks.
 fn note<A: Allocator + Copy>(
     youngest: &mut Youngest<A>,
     homes: &[u32],
@@ -32,7 +32,7 @@ fn note<A: Allocator + Copy>(
     Ok(())
 }
 
-/// The youngest commits that have the home blocks of a log.
+/// Finds the youngest commit for each home block in a log.
 pub fn youngest_commits<A: Allocator + Copy>(
     alloc: A,
     found: &FoundLog<A>,
@@ -50,7 +50,7 @@ pub fn youngest_commits<A: Allocator + Copy>(
     Ok(youngest)
 }
 
-/// Whether the youngest commit that has a home block comes behind a place.
+/// Whether the youngest commit that contains a home block comes after a place.
 pub fn is_younger<A: Allocator + Copy>(youngest: &Youngest<A>, home: u32, place: usize) -> bool
     ensures { IsTrue result ↔ IsYounger (get nat_eq youngest.now) (place + 1) home }
 {

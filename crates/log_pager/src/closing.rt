@@ -12,7 +12,7 @@ use log_codec::Sealing;
 use std::alloc::Allocator;
 
 impl<D: Device, A: Allocator + Copy> LogPager<D, A> {
-    /// Whether the log ends behind the last commit, as `LogStore::ends`.
+    /// Whether the log ends behind the last commit, as `LogStore::ends` determines it.
     pub fn ends(&mut self) -> Result<bool, PagerFault>
         ensures state { self.new ≡ record self.old { device = self.new.device } }
         ensures ends { D.is_honest self.old.device

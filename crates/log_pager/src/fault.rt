@@ -1,13 +1,13 @@
-// Why a call of a pager fails.
+// The reasons for which a call of a pager fails.
 use log_store::StoreFault;
 
-/// Why a call fails.
+/// The reason for which a call fails.
 #[derive(Clone, Copy, PartialEq, Eq, Debug)]
 pub enum PagerFault {
-    /// A commit takes no further block.
+    /// The next commit can't take another block.
     Full,
     /// The device is shorter than the volume.
     Short,
-    /// The store refuses, for this reason.
+    /// The store failed, for this reason.
     Store(StoreFault),
 }

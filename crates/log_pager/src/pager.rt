@@ -1,4 +1,3 @@
-// The pager.
 ghost use Rattle.std.specs.Prelude.{◌≡◌, ◌≢◌, ◌↔◌, ◌⊎◌, ◌<◌, ◌≤◌, ◌+◌, ◌-◌, ◌*◌, ◌^◌, ℕ, List, [], None, Ok, true};
 ghost use Rattle.std.specs.Prelude.{false, length, IsTrue, IfErr, OnOk, OnErr, IfOk};
 ghost use Rattle.device.specs.Device.{LeavesOnly, Only};
@@ -28,7 +27,7 @@ use std::marker::Model;
 pub struct LogPager<D: Device, A: Allocator + Copy> {
     pub(crate) alloc: A,
     pub(crate) store: LogStore<A>,
-    // The blocks that were put since the last commit.
+    // The blocks put since the last commit.
     pub(crate) staged: Blocks<A>,
     pub(crate) device: D,
 }
@@ -42,7 +41,7 @@ impl<D: Device, A: Allocator + Copy> Model for LogPager<D, A> {
 }
 
 impl<D: Device, A: Allocator + Copy> LogPager<D, A> {
-    /// That of a store over this device.
+    /// Makes a pager of a store over this device.
     pub fn new(alloc: A, store: LogStore<A>, device: D) -> Self
         ensures value { result ≡ record { store = store; staged = []; device = device } }
         ensures over { (contents : ℕ → List ℕ) → IsStoreOver D.Device store contents device
@@ -63,14 +62,15 @@ impl<D: Device, A: Allocator + Copy> LogPager<D, A> {
         self.device.len() < 4096 * u64::from(self.store.log().block_count())
     }
 
-    /// States that each block that was put has 4,096 bytes.
+    /// States that each staged block has 4,096 bytes.
     pub fn are_whole(&self)
         ensures { AreWholeBlocks self.now.staged }
     {
         self.staged.are_whole();
     }
 
-    /// Copies a home block: the bytes that were put last, else those of the commits, which takes a device call.
+    /// Reads a home block: the bytes that were put last, or else those of the commits. Only the latter takes a device
+    /// call.
     pub fn read(&mut self, home: u32, buffer: &mut [u8; 4096]) -> Result<(), PagerFault>
         ensures refused { IfErr result (RefusesPagerRead D.Device self.old home) }
         ensures state { self.new ≡ record self.old { device = self.new.device } }
@@ -99,7 +99,7 @@ impl<D: Device, A: Allocator + Copy> LogPager<D, A> {
         }
     }
 
-    /// Commits all that was put since the last commit. Where nothing was put, no device call is made.
+    /// Commits all blocks put since the last commit. If nothing was put, makes no device call.
     pub fn commit(&mut self) -> Result<(), PagerFault>
         ensures value { OnOk result (self.new.staged ≡ []) }
         ensures kept { OnErr result (self.new.staged ≡ self.old.staged) }
@@ -162,7 +162,7 @@ impl<D: Device, A: Allocator + Copy> LogPager<D, A> {
         }
     }
 
-    /// The next step by which commits are written home, as `LogStore::step`.
+    /// Makes the next step of writing commits home, as `LogStore::step` does.
     pub fn step(&mut self) -> Result<Progress, PagerFault>
         ensures may { OnOk result (MayStepBy self.old.store self.old.store.stage) }
         ensures value { IfOk result (StepsBy self.old.store self.old.store.stage self.new.store) }

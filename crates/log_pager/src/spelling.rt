@@ -1,4 +1,4 @@
-// The home blocks and the room of a commit.
+// The list of home blocks and the buffer of a commit.
 ghost use Rattle.std.specs.Prelude.{◌≡◌, ◌≤◌, ◌+◌, ◌*◌, [], length, OnOk, IfOk};
 ghost use Rattle.kept_blocks.specs.Blocks.{AreWholeBlocks, homes_in};
 ghost use Rattle.log_codec.specs.Log.{log_commit_blocks};
@@ -8,7 +8,7 @@ ghost use Rattle.log_pager.specs.Pager.{records_put};
 use kept_blocks::Blocks;
 use std::alloc::{AllocError, Allocator};
 
-/// Lists the home blocks, and makes the room of their commit, with their bytes in it.
+/// Lists the home blocks, and returns the buffer for their commit, which contains their bytes.
 pub(crate) fn spell<A: Allocator + Copy>(
     alloc: A,
     blocks: &Blocks<A>,

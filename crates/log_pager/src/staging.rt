@@ -1,4 +1,4 @@
-// Blocks that are put.
+// Puts blocks for the next commit.
 ghost use Rattle.std.specs.Prelude.{◌≡◌, ◌+◌, ◌-◌, ◌<◌, ◌≤◌, ℕ, List, None, length, is_some, OnOk, OnErr, IfErr};
 ghost use Rattle.std.specs.Option.{option_copied};
 ghost use Rattle.volume_codec.specs.Descriptor.{RiseWithin};
@@ -34,7 +34,7 @@ impl<D: Device, A: Allocator + Copy> LogPager<D, A> {
         Ok(())
     }
 
-    // Keeps the bytes of a home block of the volume for the next commit.
+    // Stages the bytes of a home block for the next commit.
     fn keep(&mut self, home: u32, block: Box<[u8; 4096], A>) -> Result<(), PagerFault>
         requires { IsLogHome self.old.store.tail.log home }
         ensures put { OnOk result (self.new ≡ record self.old { staged = with_home self.old.staged home block.value }) }
@@ -49,7 +49,7 @@ impl<D: Device, A: Allocator + Copy> LogPager<D, A> {
         }
     }
 
-    /// The home block has these bytes from now on. The next commit takes it. No device call is made.
+    /// Puts the bytes of a home block. The next commit contains them. Makes no device call. On failure nothing changes.
     pub fn put(&mut self, home: u32, bytes: &[u8; 4096]) -> Result<(), PagerFault>
         ensures put { OnOk result (self.new ≡ record self.old { staged = with_home self.old.staged home bytes.now }) }
         ensures home { OnOk result (IsLogHome self.old.store.tail.log home) }
@@ -67,7 +67,7 @@ impl<D: Device, A: Allocator + Copy> LogPager<D, A> {
         }
     }
 
-    /// The same with a block that is on the heap already.
+    /// Puts the bytes of a home block, as `put` does, from a block that is on the heap already.
     pub fn put_block(&mut self, home: u32, block: Box<[u8; 4096], A>) -> Result<(), PagerFault>
         ensures put { OnOk result (self.new ≡ record self.old { staged = with_home self.old.staged home block.value }) }
         ensures home { OnOk result (IsLogHome self.old.store.tail.log home) }
@@ -82,8 +82,8 @@ impl<D: Device, A: Allocator + Copy> LogPager<D, A> {
         self.keep(home, block)
     }
 
-    /// Puts the last page of a file that grows, zeros in the home blocks after it that come before `high`, and the text
-    /// of the lengths in the first home block. No device call is made. An `Err` changes nothing.
+    /// Puts the last page of a file that grows, and zeros in the home blocks after it up to `high`, exclusive. Also
+    /// puts the text of the lengths in the first home block. Makes no device call. On failure nothing changes.
     pub fn grow(
         &mut self,
         home: u32,
@@ -107,8 +107,9 @@ impl<D: Device, A: Allocator + Copy> LogPager<D, A> {
         self.staged.grow(self.alloc, home, high, last, first, text)
     }
 
-    /// Takes the home blocks from `low` on that come before `high` away, cuts the last page of a file that shrinks, and
-    /// puts the text of the lengths in the first home block. No device call is made. An `Err` changes nothing.
+    /// Unstages the home blocks from `low` to `high`, exclusive, when a file shrinks. Cuts the file's last page if it
+    /// is staged, and puts the text of the lengths in the first home block. Makes no device call. On failure nothing
+    /// changes.
     pub fn shrink(
         &mut self,
         low: u32,
@@ -132,7 +133,7 @@ impl<D: Device, A: Allocator + Copy> LogPager<D, A> {
             .shrink(self.alloc, low, high, home, left, first, text)
     }
 
-    /// How many blocks were put since the last commit.
+    /// Returns the number of blocks put since the last commit.
     pub fn staged(&self) -> usize
         ensures { result ≡ length self.now.staged }
     {
@@ -146,7 +147,7 @@ impl<D: Device, A: Allocator + Copy> LogPager<D, A> {
         self.staged.get(home).is_some()
     }
 
-    /// The bytes of a home block that was put since the last commit.
+    /// Returns the bytes of a home block, if it was put since the last commit.
     pub fn kept(&self, home: u32) -> Option<&[u8; 4096]>
         ensures { option_copied result ≡ bytes_in self.now.staged home }
     {

@@ -1,4 +1,4 @@
-// The files of a volume with a log, for those who read them page by page.
+// The files of a volume with a log, for callers that read them page by page.
 ghost use Rattle.std.specs.Prelude.{◌≡◌, ◌<◌, length, slice_index};
 ghost use Rattle.log_volume.specs.Super.{log_of};
 ghost use Rattle.log_reading.specs.Logged.{IsLoggedVolume, IsSoundLogged, logged_files};

@@ -1,4 +1,4 @@
-//! A volume with a log is read as it recovers, and isn't opened.
+//! Reads a volume with a log as it recovers, without opening it.
 #![tactic(auto)]
 
 mod files;

@@ -15,7 +15,7 @@ use log_recovery::{FoundCommit, FoundLog, read_block};
 use page_entry::Refusal;
 use std::alloc::Allocator;
 
-/// The block of the record of a home block in a commit, and another block where it has none.
+/// Returns the block of a home block's record in a commit, or `other` if the commit has none.
 fn record_or<A: Allocator + Copy>(
     log: &LogGeometry,
     commit: &FoundCommit<A>,
@@ -40,7 +40,8 @@ fn record_or<A: Allocator + Copy>(
     other
 }
 
-/// The block with the recovered bytes of a home block: its record in the newest commit that has one, or itself.
+/// Returns the block with the recovered bytes of a home block: its record in the newest commit that has one, or else
+/// the home block itself.
 pub fn newest_block<A: Allocator + Copy>(log: &LogGeometry, found: &FoundLog<A>, home: u32) -> u32
     requires found { IsFoundLog log.now found.now }
     requires home { home < log.now.blocks }
@@ -55,7 +56,7 @@ pub fn newest_block<A: Allocator + Copy>(log: &LogGeometry, found: &FoundLog<A>,
     block
 }
 
-/// The home block of a page of a file.
+/// Returns the home block of a page of a file.
 pub fn home_of<A: Allocator + Copy>(volume: &LoggedVolume<A>, file: usize, page: u32) -> u32
     requires there { file < length volume.now.table.files }
     requires page { page < pages_of (slice_index (capacities_in (table_of volume.now.table)) file) }
@@ -67,7 +68,8 @@ pub fn home_of<A: Allocator + Copy>(volume: &LoggedVolume<A>, file: usize, page:
     table.first_home(file) + log.ring() + 1 + page
 }
 
-/// The recovered bytes of a page of a file. The device, from which the volume was read, is only read.
+/// Reads the recovered bytes of a page of a file. `device` must be the device from which the volume was read. Only
+/// reads it. Fails with `Device` if the device call failed.
 pub fn read_page<D: Device, A: Allocator + Copy>(
     volume: &LoggedVolume<A>,
     device: &mut D,

@@ -1,4 +1,4 @@
-// How much of a log its commits take.
+// The blocks that the commits of a log use.
 ghost use Rattle.std.specs.Prelude.{◌≡◌};
 ghost use Rattle.log_codec.specs.Chain.{chain_blocks};
 ghost use Rattle.log_volume.specs.Super.{log_of};
@@ -9,7 +9,7 @@ use log_codec::LogGeometry;
 use log_recovery::FoundLog;
 use std::alloc::Allocator;
 
-/// The number of blocks that the commits of a log take.
+/// Returns the number of blocks that the commits of a log use.
 fn blocks_in<A: Allocator + Copy>(log: &LogGeometry, found: &FoundLog<A>) -> u64
     requires found { IsFoundLog log.now found.now }
     ensures { result ≡ chain_blocks (chain_of found.now.commits.items) }
@@ -23,7 +23,7 @@ fn blocks_in<A: Allocator + Copy>(log: &LogGeometry, found: &FoundLog<A>) -> u64
     used
 }
 
-/// The number of blocks that the commits of a volume's log take.
+/// Returns the number of blocks that the commits of a volume's log use.
 pub fn used_blocks<A: Allocator + Copy>(volume: &LoggedVolume<A>) -> u64
     requires log { IsFoundLog (log_of volume.now.table) volume.now.log }
     ensures { result ≡ chain_blocks (chain_of volume.now.log.commits.items) }

@@ -1,4 +1,4 @@
-// A volume with a log is read.
+// Reads a volume with a log.
 ghost use Rattle.std.specs.Prelude.{◌≡◌, ◌*◌, ◌≤◌, ℕ, List, length, IfOk, IfErr};
 ghost use Rattle.volume_codec.specs.Lengths.{AreLengths};
 ghost use Rattle.log_volume.specs.Super.{table_of, log_of};
@@ -14,20 +14,25 @@ use log_volume::{LogSuper, one_log_super};
 use page_entry::Refusal;
 use std::alloc::Allocator;
 
-/// A volume with a log that was read: what its super block says, the length of each file as it recovers, and its log.
+/// A volume with a log that was read: the contents of its super block, the recovered length of each file, and its log.
 #[derive(Drop)]
 pub struct LoggedVolume<A: Allocator + Copy> {
     /// How commits are sealed, the blocks of the log, and the files.
     pub table: LogSuper<A>,
     /// The length of each file in bytes.
     pub lengths: Vec<u64, A>,
-    /// The start that counts and the commits. Opening writes these home.
+    /// The start that counts, and the commits. An opening writes the commits home.
     pub log: FoundLog<A>,
 }
 
-/// Reads a volume with a log as it recovers. `NotAVolume` where the device has no block or not the magic of a layout
-/// with a log, `Damaged` where it has one and recovers to no files, `Device` where a device call failed. `OutOfMemory`
-/// may come in the place of any. The device is only read.
+/// Reads a volume with a log as it recovers. Only reads the device.
+///
+/// Fails with:
+///
+/// - `NotAVolume` if the device has no block 0, or not the magic of a layout with a log.
+/// - `Damaged` if it has the magic, but recovers to no files.
+/// - `Device` if a device call failed.
+/// - `OutOfMemory` if there is too little memory. This error may replace any of the others.
 pub fn read_log_volume<D: Device, A: Allocator + Copy>(
     alloc: A,
     device: &mut D,

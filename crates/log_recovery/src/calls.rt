@@ -1,4 +1,4 @@
-// Device calls, with a fault as a refusal.
+// Device calls whose faults are refusals.
 ghost use Rattle.std.specs.Prelude.{◌≡◌, ◌+◌, ◌*◌, ◌≤◌, length, IfOk, IfErr};
 ghost use Rattle.volume_codec.specs.Layout.{block_at};
 ghost use Rattle.log_recovery.specs.Reading.{ReadsAlone, HasFaultsBy};
@@ -6,7 +6,7 @@ ghost use Rattle.log_recovery.specs.Reading.{ReadsAlone, HasFaultsBy};
 use device::Device;
 use page_entry::{PAGE, Refusal};
 
-/// The bytes of a block.
+/// Reads a block. Fails with `Device` if the device call failed.
 pub fn read_block<D: Device>(device: &mut D, block: u32) -> Result<[u8; 4096], Refusal>
     requires { 4096 * block + 4096 ≤ length (D.seen device.old) }
     ensures bytes { D.is_honest device.old → IfOk result (λ bytes. bytes ≡ block_at (D.seen device.old) block) }

@@ -1,4 +1,4 @@
-// The commit at a position of the log: its descriptor, and its seal.
+// Reads the commit at a position of the log: its descriptor and its seal.
 ghost use Rattle.std.specs.Prelude.{◌≡◌, ◌≢◌, ◌*◌, ◌≤◌, ◌<◌, ℕ, length, take, IfOk, IfErr, IfSome};
 ghost use Rattle.volume_codec.specs.Layout.{block_at};
 ghost use Rattle.log_codec.specs.declared.sealing.Sealing.TheVariants.{ByByte, ByDigest};
@@ -18,7 +18,7 @@ use log_codec::{
 use page_entry::Refusal;
 use std::alloc::Allocator;
 
-/// The first eight bytes of a block.
+/// Returns the first eight bytes of a block.
 fn seal_at(block: &[u8; 4096]) -> [u8; 8]
     ensures { result ≡ take 8 block.now }
 {
@@ -27,7 +27,7 @@ fn seal_at(block: &[u8; 4096]) -> [u8; 8]
     seal
 }
 
-/// The number of blocks of a log that no commit takes.
+/// Returns the number of blocks of a log that commits leave free.
 fn spare(log: &LogGeometry) -> u32
     ensures { result ≡ spare_blocks log.now.sealing }
 {
@@ -37,7 +37,7 @@ fn spare(log: &LogGeometry) -> u32
     }
 }
 
-/// What a log is whose descriptor breaks this rule: damaged, or memory was refused.
+/// Returns the refusal for a descriptor that breaks a rule of the grammar, or for which there was too little memory.
 fn refusal_of(broken: Broken) -> Refusal
     ensures { result ≡ refusal_by broken }
 {
@@ -47,7 +47,7 @@ fn refusal_of(broken: Broken) -> Refusal
     }
 }
 
-/// The blocks of a descriptor from a position on. The first one was read already.
+/// Reads the blocks of a descriptor at a position. `first` is its first block, which was read already.
 fn read_head<D: Device, A: Allocator + Copy>(
     alloc: A,
     device: &mut D,
@@ -83,8 +83,8 @@ fn read_head<D: Device, A: Allocator + Copy>(
     Ok(head)
 }
 
-/// The commit at a position whose descriptor says this number, under any seal, if it has room in the blocks that are
-/// left. `Damaged` where no such descriptor lies there. Its first block was read already.
+/// Reads the descriptor of the commit at a position, which must have this number and fit the remaining blocks. Ignores
+/// its seal. `first` is its first block, which was read already. Fails with `Damaged` if there is no such descriptor.
 fn read_descriptor<D: Device, A: Allocator + Copy>(
     alloc: A,
     device: &mut D,
@@ -127,7 +127,7 @@ fn read_descriptor<D: Device, A: Allocator + Copy>(
     }
 }
 
-/// The seal that a commit has in a log that is sealed by digests, by its records on the device.
+/// Computes the seal that a commit must have in a log sealed by digests, from its records on the device.
 fn seal_of<D: Device, A: Allocator + Copy>(
     device: &mut D,
     log: &LogGeometry,
@@ -153,8 +153,8 @@ fn seal_of<D: Device, A: Allocator + Copy>(
     Ok(digest.seal())
 }
 
-/// What lies at a position of a log that is sealed by a byte. `Damaged` where the seal there is open over anything else
-/// than the next commit.
+/// Reads what is at a position of a log sealed by a byte: the next commit, or the end of the log. Fails with `Damaged`
+/// if the seal there is open, but there is no next commit. Also if the seal is neither open nor closed.
 fn next_by_byte<D: Device, A: Allocator + Copy>(
     alloc: A,
     device: &mut D,
@@ -187,7 +187,7 @@ fn next_by_byte<D: Device, A: Allocator + Copy>(
     }
 }
 
-/// What lies at a position of a log that is sealed by digests.
+/// Reads what is at a position of a log sealed by digests: the next commit, or the end of the log.
 fn next_by_digest<D: Device, A: Allocator + Copy>(
     alloc: A,
     device: &mut D,
@@ -225,7 +225,8 @@ fn next_by_digest<D: Device, A: Allocator + Copy>(
     }
 }
 
-/// What lies at a position of the log: the next commit, or the end of the log. `Damaged` where it is neither.
+/// Reads what is at a position of the log: the next commit, or `None` at the end of the log. Fails with `Damaged` if it
+/// is neither.
 pub fn read_next<D: Device, A: Allocator + Copy>(
     alloc: A,
     device: &mut D,

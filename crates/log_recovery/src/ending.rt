@@ -11,8 +11,9 @@ use log_codec::LogGeometry;
 use page_entry::Refusal;
 use std::alloc::Allocator;
 
-/// Whether a log that begins at a position, with this number and in this epoch, has no commit. `Damaged` where it is
-/// neither a commit nor the end of a log that lies there, which is never said of digests. The device is only read.
+/// Whether a log that begins at this position, with this number and in this epoch, has no commit. Only reads the
+/// device. Fails with `Damaged` if there is neither a commit nor the end of a log. This doesn't happen if a digest
+/// seals commits.
 pub fn ends_at<D: Device, A: Allocator + Copy>(
     alloc: A,
     device: &mut D,

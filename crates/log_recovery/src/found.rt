@@ -7,7 +7,7 @@ use std::alloc::Allocator;
 pub struct FoundCommit<A: Allocator + Copy> {
     /// Its number.
     pub number: u64,
-    /// The position of its first block. Positions go on where the ring wraps.
+    /// The position of its first block. Positions continue to rise when the ring wraps.
     pub position: u32,
     /// The number of blocks of its descriptor. Its records follow.
     pub head: u32,
@@ -22,9 +22,9 @@ pub struct FoundLog<A: Allocator + Copy> {
     pub second: bool,
     /// The start that counts.
     pub start: LogStart,
-    /// The commits, the oldest first.
+    /// The commits, oldest first.
     pub commits: Vec<FoundCommit<A>, A>,
-    /// The position behind them, in the ring.
+    /// The position behind the commits, in the ring.
     pub end_position: u32,
     /// The number of the next commit.
     pub end_number: u64,

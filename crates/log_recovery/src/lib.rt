@@ -1,4 +1,4 @@
-//! The log of a volume on a device: it is read, from the start that counts to its end.
+//! Reads the log of a volume on a device, from the start that counts to the log's end.
 #![tactic(auto)]
 
 mod calls;

@@ -1,4 +1,4 @@
-// The log of a device is read.
+// Reads the log of a device.
 ghost use Rattle.std.specs.Prelude.{◌≡◌, ◌*◌, ◌≤◌, length, IfOk, IfErr};
 ghost use Rattle.log_codec.specs.Start.{IsLogStart};
 ghost use Rattle.log_recovery.specs.Reading.{ReadsAlone, HasFaultsBy, IsFoundLog, HoldsFound, RefusesLog};
@@ -12,8 +12,8 @@ use log_codec::{LogGeometry, LogStart, decode_start, is_second, start_block_of};
 use page_entry::{PAGE, Refusal};
 use std::alloc::Allocator;
 
-/// The commits of the log from this start on. `Damaged` where it is neither the next commit nor the end of the log that
-/// lies behind one.
+/// Reads the commits of the log from this start on. Fails with `Damaged` if the commits are followed by neither another
+/// commit nor the end of the log.
 fn read_chain<D: Device, A: Allocator + Copy>(
     alloc: A,
     device: &mut D,
@@ -58,11 +58,16 @@ fn read_chain<D: Device, A: Allocator + Copy>(
     }
 }
 
-/// The log of a device: the start that counts, the commits from there on, and where the log ends. `Damaged` where the
-/// device is shorter than the volume, or its bytes hold no log: the start that counts breaks the grammar, or, where a
-/// byte seals, an open seal lies over anything else than the next commit. `Device` where a device call failed.
-/// `OutOfMemory` may come in the place of these. The device is only read. Each block of a descriptor is read once, and
-/// the records where a digest seals.
+/// Reads the log of a device: the start that counts, the commits from there on, and where the log ends. Only reads the
+/// device. Reads each block of a descriptor once. If a digest seals commits, also reads the records.
+///
+/// Fails with:
+///
+/// - `Damaged` if the device is shorter than the volume.
+/// - `Damaged` if the start that counts breaks the grammar.
+/// - `Damaged` if a byte seals commits, and there is neither the next commit nor the end of the log.
+/// - `Device` if a device call failed.
+/// - `OutOfMemory` if there is too little memory. This error may replace any of the others.
 pub fn read_log<D: Device, A: Allocator + Copy>(
     alloc: A,
     device: &mut D,

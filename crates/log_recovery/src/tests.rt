@@ -1,4 +1,4 @@
-// Logs that were written by hand: three commits, the first of which wraps, damaged ones, and digests.
+// Logs that were written by hand: three commits, of which the first wraps; damaged logs; digests.
 use crate::{FoundLog, read_log};
 use device::MemDisk;
 use log_codec::{
@@ -15,21 +15,21 @@ fn small_log<R: Abort>(rt: &R, sealing: Sealing) -> LogGeometry {
     LogGeometry::new(sealing, 9, 20).expect(rt, "a log")
 }
 
-// Writes a block of a volume, if it is in it.
+// Writes a block of a volume. Does nothing if the block lies outside.
 fn put_block(volume: &mut [u8], block: usize, bytes: &[u8; 4096]) {
     if block < 20 && volume.len() == 81920 {
         volume[4096 * block..4096 * block + 4096].copy_from_slice(bytes);
     }
 }
 
-// Changes a byte of a volume, if it is in it.
+// Changes a byte of a volume. Does nothing if the byte lies outside.
 fn put_byte(volume: &mut [u8], at: usize, byte: u8) {
     if at < volume.len() {
         volume[at] = byte;
     }
 }
 
-// The seal of a commit of this epoch with these records, each a block of one byte.
+// Returns the seal of a commit of this epoch. Each of its records is a block of one repeated byte.
 fn seal(sealing: Sealing, epoch: u64, number: u64, homes: &[u32], bytes: &[u8]) -> [u8; 8] {
     match sealing {
         Sealing::ByByte => open_seal(),
@@ -46,7 +46,7 @@ fn seal(sealing: Sealing, epoch: u64, number: u64, homes: &[u32], bytes: &[u8]) 
     }
 }
 
-// The descriptor of a commit with at most two records.
+// Returns the descriptor of a commit with at most two records.
 fn descriptor(seal: &[u8; 8], number: u64, homes: &[u32]) -> [u8; 4096] {
     if homes.len() > 2 {
         return [0; 4096];
@@ -54,8 +54,9 @@ fn descriptor(seal: &[u8; 8], number: u64, homes: &[u32]) -> [u8; 4096] {
     encode_descriptor(seal, number, homes, 0)
 }
 
-// A volume of twenty blocks with three commits from number 5 on. The first wraps: its descriptor lies in block 11, its
-// records in blocks 12 and 4. The second lies in blocks 5 and 6, the third in blocks 7 and 8. The log ends at block 9.
+// A volume of twenty blocks with three commits from number 5 on. The first wraps: its descriptor is in block 11, its
+// records are in blocks 12 and 4. The second is in blocks 5 and 6, the third in blocks 7 and 8. The log ends at block
+// 9.
 fn volume<R: Abort + AllocGlobal>(rt: &R, sealing: Sealing) -> Vec<u8, Global> {
     let mut volume = vec![in rt.alloc(); 0; 81920].expect(rt, "memory");
     put_byte(&mut volume, 4096, 0xA7);
@@ -78,7 +79,7 @@ fn volume<R: Abort + AllocGlobal>(rt: &R, sealing: Sealing) -> Vec<u8, Global> {
     volume
 }
 
-// What is found in these bytes.
+// Reads the log in these bytes.
 fn found_in<R: Abort + AllocGlobal>(
     rt: &R,
     sealing: Sealing,
@@ -88,7 +89,7 @@ fn found_in<R: Abort + AllocGlobal>(
     read_log(rt.alloc(), &mut disk, &small_log(rt, sealing))
 }
 
-// The number of commits that are found in a volume with one byte changed, if a log is found.
+// Returns the number of commits found in a volume with one byte changed, or `None` if no log is found.
 fn commits_in<R: Abort + AllocGlobal>(
     rt: &R,
     sealing: Sealing,
@@ -119,7 +120,8 @@ fn three_commits(rt: HostRuntime) {
 
 #[test]
 fn damage_by_byte(rt: HostRuntime) {
-    // The selecting byte selects a block of zeros; the start; an open seal behind the end; a byte of the second seal.
+    // Changes: the selecting byte, to a start of zeros; the start; an open seal behind the end; a byte of the second
+    // seal; a byte of the second commit's number.
     for (at, byte) in [
         (4096, 0),
         (3 * 4096 + 15, 9),
@@ -132,14 +134,15 @@ fn damage_by_byte(rt: HostRuntime) {
     }
     // A closed seal is the end of the log.
     assert!(rt; commits_in(&rt, Sealing::ByByte, 5 * 4096, 0) == Some(1));
-    // A record isn't judged.
+    // The records aren't checked.
     assert!(rt; commits_in(&rt, Sealing::ByByte, 6 * 4096, 0) == Some(3));
 }
 
 #[test]
 fn ends_by_digest(rt: HostRuntime) {
     let sealing = Sealing::ByDigest(KEY);
-    // Another epoch; a byte of the second commit's record, of its number, and of its seal.
+    // Changes: the epoch; a byte of the second commit's record; a byte of the first commit's last record; the second
+    // commit's number; the third commit's seal.
     for (at, byte, commits) in [
         (3 * 4096 + 15, 9, 0),
         (6 * 4096, 0, 1),

@@ -1,4 +1,4 @@
-//! A commit to a log that makes room first, where the log has none.
+//! Commits to a log. If the log has no room, makes room first.
 #![tactic(auto)]
 
 mod room;

@@ -1,4 +1,4 @@
-// A commit, with the rounds of steps that it needs.
+// A commit, with the rounds of steps that it needs to get room.
 ghost use Rattle.std.specs.Prelude.{◌≡◌, ◌≢◌, ◌↔◌, ◌⊎◌, ◌≤◌, ◌+◌, ℕ, List, [], Ok, length, Err, IsTrue, IfOk, IfErr, OnOk};
 ghost use Rattle.device.specs.Device.{LeavesOnly};
 ghost use Rattle.volume_codec.specs.Layout.{block_at};
@@ -29,7 +29,7 @@ fn has_moved(progress: Progress) -> bool
     matches!(progress, Progress::Moved)
 }
 
-// Whether there was no step to make.
+// Whether there was no step left to make.
 fn was_idle(progress: Progress) -> bool
     ensures { IsTrue result ↔ (progress ≡ Progress.Idle) }
 {
@@ -46,7 +46,7 @@ fn is_busy(made: &Result<(), PagerFault>) -> bool
     )
 }
 
-// The next step of the pager.
+// Makes the next step of the pager.
 fn make_step<D: Device, A: Allocator + Copy>(
     pager: &mut LogPager<D, A>,
 ) -> Result<Progress, PagerFault>
@@ -56,8 +56,8 @@ fn make_step<D: Device, A: Allocator + Copy>(
     pager.step()
 }
 
-// Makes sure that the log ends where the session believes. Where a digest seals, bytes that somebody else left there
-// could be taken for the next commit.
+// Checks that the log ends behind the session's last commit. If a digest seals commits, leftover bytes there could be
+// taken for the next commit.
 fn check_end<D: Device, A: Allocator + Copy>(pager: &mut LogPager<D, A>) -> Result<(), PagerFault>
     ensures { ChecksEnd D.Device pager.old result pager.new }
 {
@@ -67,7 +67,7 @@ fn check_end<D: Device, A: Allocator + Copy>(pager: &mut LogPager<D, A>) -> Resu
     }
 }
 
-// Makes steps up to the one that moves the start.
+// Makes steps up to the step that moves the start.
 fn make_round<D: Device, A: Allocator + Copy>(pager: &mut LogPager<D, A>) -> Result<(), PagerFault>
     ensures { MakesSteps D.Device pager.old result pager.new }
 {
@@ -86,7 +86,7 @@ fn make_round<D: Device, A: Allocator + Copy>(pager: &mut LogPager<D, A>) -> Res
     }
 }
 
-// Commits what was put, of which there is something, if the log has room for it.
+// Commits the staged blocks, of which there is at least one, if the log has room for them.
 fn pager_commit<D: Device, A: Allocator + Copy>(
     pager: &mut LogPager<D, A>,
 ) -> Result<(), PagerFault>
@@ -96,7 +96,7 @@ fn pager_commit<D: Device, A: Allocator + Copy>(
     pager.commit()
 }
 
-// Commits what was put, if the log has room for it. After that the log ends at its tail.
+// Commits the staged blocks, if the log has room for them. Then checks that the log ends behind the commit.
 fn commit_put<D: Device, A: Allocator + Copy>(pager: &mut LogPager<D, A>) -> Result<(), PagerFault>
     ensures commits { Commits D.Device pager.old result pager.new }
     ensures idle { pager.old.staged ≡ [] → (result ≡ Ok tt) × (pager.new ≡ pager.old) }
@@ -110,7 +110,7 @@ fn commit_put<D: Device, A: Allocator + Copy>(pager: &mut LogPager<D, A>) -> Res
     }
 }
 
-// Commits what was put, after a round of steps.
+// Commits the staged blocks after a round of steps.
 fn commit_after_round<D: Device, A: Allocator + Copy>(
     pager: &mut LogPager<D, A>,
 ) -> Result<(), PagerFault>
@@ -122,7 +122,7 @@ fn commit_after_round<D: Device, A: Allocator + Copy>(
     }
 }
 
-// Commits what was put, after as many rounds of steps as it needs: the rest of the one that is under way, and one of
+// Commits the staged blocks after the rounds of steps that it needs: the rest of the current round, and one round of
 // all commits of the log.
 fn commit_in_rounds<D: Device, A: Allocator + Copy>(
     pager: &mut LogPager<D, A>,
@@ -141,12 +141,12 @@ fn commit_in_rounds<D: Device, A: Allocator + Copy>(
     commit_after_round(pager)
 }
 
-/// Commits what was put. While the log has no room for it, the commits so far are written home and the start moves
-/// behind them. If nothing was put, no device call is made.
+/// Commits the staged blocks. While the log has no room for them, writes the commits so far home, and moves the start
+/// behind them. If nothing was put, makes no device call.
 ///
-/// If a digest seals commits, the log is read behind the commit. The call fails with a commit's `Device` if a read
-/// fails there, or if bytes there could be taken for the next commit. Other errors keep what was put; if a byte seals,
-/// each error does.
+/// If a digest seals commits, the call also reads the log behind the commit. It fails with a commit's `Device` if such
+/// a read fails, or if bytes there could be taken for the next commit. After any other error the blocks are still
+/// staged. If a byte seals commits, this holds for each error.
 pub fn commit_with_room<D: Device, A: Allocator + Copy>(
     pager: &mut LogPager<D, A>,
 ) -> Result<(), PagerFault>
@@ -164,7 +164,7 @@ pub fn commit_with_room<D: Device, A: Allocator + Copy>(
         → IfErr result (λ fault. fault ≢ PagerFault.Store (StoreFault.Commit CommitFault.Device)
         → fault ≢ PagerFault.Store (StoreFault.Move MoveFault.Device) → IsPagerOver D.Device pager.new contents) }
 
-    // A crash within the call leaves the commits before it, whatever seals commits.
+    // A crash within the call leaves the commits before it, for either kind of seal.
     ensures held { (contents : ℕ → List ℕ) → D.is_honest pager.old.device → IsPagerOver D.Device pager.old contents
         → LeavesOnly D.moment D.left_since pager.old.device pager.new.device
         (HoldsUpTo pager.old.store.tail.log pager.old.store.tail.number contents) }
@@ -173,14 +173,14 @@ pub fn commit_with_room<D: Device, A: Allocator + Copy>(
     ensures ended { (contents : ℕ → List ℕ) → D.is_honest pager.old.device → IsPagerOver D.Device pager.old contents
         → IsEnded D.Device pager.old → OnOk result (IsEnded D.Device pager.new) }
 
-    // Where a byte seals.
+    // Only if a byte seals commits.
     ensures leaves { (contents : ℕ → List ℕ) → D.is_honest pager.old.device
         → pager.old.store.tail.log.sealing ≡ ByByte → IsPagerOver D.Device pager.old contents
         → LeavesOnly D.moment D.left_since pager.old.device pager.new.device
         (λ c. LogRecovers pager.old.store.tail.log contents c
         ⊎ LogRecovers pager.old.store.tail.log (contents_put contents pager.old.staged) c) }
 
-    // The first block of the device stays, at each moment and from then on, also where the result is an error.
+    // The first block of the device stays unchanged, at each moment and afterwards, even if the call fails.
     ensures first { (text : List ℕ) → ((c : List ℕ) → D.may_leave pager.old.device c → block_at c 0 ≡ text)
         → KeepsFirst D.Device text pager.old.device pager.new.device }
 {

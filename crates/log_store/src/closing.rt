@@ -14,9 +14,9 @@ use page_entry::Refusal;
 use std::alloc::Allocator;
 
 impl<A: Allocator + Copy> LogStore<A> {
-    /// Whether the log of the device ends behind the last commit: no bytes there have the next number and a digest of
-    /// their own. If a digest seals commits, this reads the device from there on. If a byte does, it reads nothing, and
-    /// the log ends.
+    /// Whether the log on the device ends behind the last commit: no bytes there have the next number and a matching
+    /// digest. If a digest seals commits, reads the device from there on. If a byte does, reads nothing, and returns
+    /// true.
     pub fn ends<D: Device>(&self, device: &mut D) -> Result<bool, StoreFault>
         requires long { 4096 * self.now.tail.log.blocks ≤ length (D.seen device.old) }
         ensures ends { D.is_honest device.old

@@ -1,34 +1,34 @@
-// What a step did, and why a call fails.
+// The result of a step, and the reasons for which a call fails.
 use log_commits::{CommitFault, MoveFault};
 
-/// Why a call fails.
+/// The reason for which a call fails.
 #[derive(Clone, Copy, PartialEq, Eq, Debug)]
 pub enum StoreFault {
-    /// A commit isn't made, for this reason.
+    /// A commit failed, for this reason.
     Commit(CommitFault),
-    /// A step isn't made, for this reason.
+    /// A step failed, for this reason.
     Move(MoveFault),
-    /// The block is no home block of the volume.
+    /// The block isn't a home block of the volume.
     Range,
     /// A device call of a read failed.
     Device,
-    /// Memory was refused.
+    /// There was too little memory.
     OutOfMemory,
 }
 
-/// What a step did.
+/// The result of a step.
 #[derive(Clone, Copy, PartialEq, Eq, Debug)]
 pub enum Progress {
     /// The log has no commits.
     Idle,
-    /// It began to write all commits so far home.
+    /// The step began to write all commits so far home.
     Began,
-    /// It looked at a home block, and copied it unless a younger commit has it.
+    /// The step considered a home block. It copied the block's record, unless a younger commit contains the block.
     Copied,
-    /// All home blocks of these commits are written. It wrote the start behind them, which a commit may select.
+    /// All home blocks of these commits are written. The step wrote the start behind them, which a commit may select.
     Wrote,
-    /// It made sure of that.
+    /// The step made that start durable.
     Synced,
-    /// It selected the start and made sure of that: the room of these commits is free.
+    /// The step selected that start durably. The room of these commits is free.
     Moved,
 }

@@ -1,4 +1,4 @@
-// What follows of the definitions alone.
+// Consequences of the definitions alone.
 ghost use Rattle.std.specs.Prelude.{◌≡◌, ℕ, Bool, [], None, slice_index};
 ghost use Rattle.volume_codec.specs.Layout.{block_at};
 ghost use Rattle.device.specs.Device.{Only};
@@ -11,8 +11,8 @@ ghost use Rattle.log_store.specs.Store.{IsStoreOver, StoreValue, fresh_store};
 
 use device::Device;
 
-/// A new store is over a device that holds a log without commits, by the start that counts, once all of that is sure.
-/// The contents are the home blocks.
+/// A new store is over a device whose log, from the start that counts, has no commits, once all its bytes are durable.
+/// The store's contents are the home blocks.
 pub fn opened_store<D: Device>(_device: &D)
     ensures { (g : LogValue) (start : LogStart) (second spent : Bool)
         → Only (D.may_leave _device.now) (D.seen _device.now)

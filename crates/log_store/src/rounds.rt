@@ -1,12 +1,12 @@
-// What follows of the definitions alone: rounds of steps end.
+// Consequences of the definitions alone: rounds of steps end.
 ghost use Rattle.std.specs.Prelude.{◌≡◌, ◌≢◌, ◌<◌};
 ghost use Rattle.log_store.specs.declared.fault.Progress.{Progress};
 ghost use Rattle.log_store.specs.declared.fault.Progress.TheVariants.{Idle, Moved};
 ghost use Rattle.log_store.specs.Rounds.{IsOfAll, IsResting, round_left};
 ghost use Rattle.log_store.specs.Store.{StepsBy, StoreValue};
 
-/// Steps come to the one that moves the start (`nearer`), unless each commit is home (`idle`). Where no round was under
-/// way, the round is of all commits (`begun`, `goes`), and the log is empty then (`moved`).
+/// Each step comes nearer to the step that moves the start (`nearer`), unless each commit is home (`idle`). If no round
+/// was under way, the new round is of all commits (`begun`, `goes`), and afterwards the log is empty (`moved`).
 pub fn rounds_end()
     ensures nearer { (old new : StoreValue) (progress : Progress) → StepsBy old old.stage new progress
         → progress ≢ Idle → progress ≢ Moved → round_left new < round_left old }

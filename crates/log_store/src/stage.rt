@@ -3,12 +3,12 @@
 /// How far the oldest commits of a log are written home.
 #[derive(Clone, Copy, PartialEq, Eq, Debug)]
 pub enum HomeStage {
-    /// None are being written home.
+    /// No commits are being written home.
     Resting,
     /// Their home blocks are being copied, one after another.
     Copying,
-    /// The start behind them is written, and no sync was made since.
+    /// The start behind them is written, and there was no sync since.
     Written,
-    /// The start behind them is written and sure, and may be selected.
+    /// The start behind them is durable, and may be selected.
     Sure,
 }

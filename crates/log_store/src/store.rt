@@ -39,7 +39,7 @@ pub struct LogStore<A: Allocator + Copy> {
     second: bool,
     index: LogIndex<A>,
     stage: HomeStage,
-    // The commits that are written home. In the stage `Resting` it is done with.
+    // The commits that are written home. In the stage `Resting` this work is done.
     work: HomeWork<A>,
 }
 
@@ -66,7 +66,7 @@ impl<A: Allocator + Copy> Model for LogStore<A> {
     }) };
 }
 
-// The number of blocks of the descriptor of a commit of this many records, if there is one.
+// Returns the number of blocks of the descriptor of a commit with this many records, if such a commit is possible.
 fn head_of(log: &LogGeometry, records: usize) -> Option<u32>
     ensures some { IfSome result (λ n. (n ≡ log_descriptor_blocks records) × IsCommitSize log.now.ring records) }
     ensures none { IfNone result (IsCommitSize log.now.ring records → ⊥) }
@@ -77,7 +77,8 @@ fn head_of(log: &LogGeometry, records: usize) -> Option<u32>
     log.descriptor_blocks(records as u32)
 }
 
-// Makes a commit, which selects the start behind old commits if there are some here. `second` says which start counts.
+// Makes a commit. If `select` has old commits, the commit also selects the start behind them. `second` is true if the
+// second start counts.
 fn make<D: Device>(
     tail: &mut LogTail,
     device: &mut D,
@@ -96,7 +97,7 @@ fn make<D: Device>(
         → DidAll D.Device device.old (works_selecting tail.old second select homes.now (records_in homes.now room.old))
         (is_ok result) device.new }
 
-    // Each list that a crash may leave before holds the log. A start that is selected is ready.
+    // These require that each crash state before the call holds the log, and that a selected start is ready.
     ensures leaves { (contents : ℕ → List ℕ) (ds younger : List LogDescriptor) → D.is_honest device.old
         → HasCommits D.Device second tail.old contents (ds ++ younger) device.old
         → IsSelectable D.Device second tail.old contents ds younger select device.old
@@ -117,7 +118,7 @@ fn make<D: Device>(
     }
 }
 
-// Which start counts once such a commit is made.
+// Whether the second start counts after such a commit.
 fn second_by(second: bool, select: Option<OldCommits>) -> bool
     ensures { result ≡ second_by second select }
 {
@@ -127,7 +128,7 @@ fn second_by(second: bool, select: Option<OldCommits>) -> bool
     }
 }
 
-// How far old commits are written home then.
+// How far old commits are written home after such a commit.
 fn stage_by(stage: HomeStage, select: Option<OldCommits>) -> HomeStage
     ensures { result ≡ stage_by stage select }
 {
@@ -140,7 +141,7 @@ fn stage_by(stage: HomeStage, select: Option<OldCommits>) -> HomeStage
     }
 }
 
-// Forgets the records of the old commits that a commit freed.
+// Forgets the records of the old commits whose blocks a commit freed.
 fn forget_freed<A: Allocator + Copy>(index: &mut LogIndex<A>, select: Option<OldCommits>)
     ensures { (b : ℕ) → find_in index.new b ≡ unless_old select (find_in index.old b) }
 {
@@ -150,7 +151,7 @@ fn forget_freed<A: Allocator + Copy>(index: &mut LogIndex<A>, select: Option<Old
     }
 }
 
-// The block of the next record that a work copies, if it copies one.
+// Returns the block of the record that the work copies next, if any.
 fn copied_from<A: Allocator + Copy>(work: &HomeWork<A>, index: &LogIndex<A>) -> Option<u32>
     ensures { result ≡ copied_from (next_copy work.now index.now) }
 {
@@ -161,7 +162,7 @@ fn copied_from<A: Allocator + Copy>(work: &HomeWork<A>, index: &LogIndex<A>) -> 
 }
 
 impl<A: Allocator + Copy> LogStore<A> {
-    /// That of a log without commits, where this start counts: the second one or the first one.
+    /// Makes the store of a log without commits. `second` is true if the second start counts.
     pub fn new(alloc: A, tail: LogTail, second: bool) -> Self
         requires { tail.start.number ≤ tail.number }
         ensures { result ≡ fresh_store tail second }
@@ -176,7 +177,7 @@ impl<A: Allocator + Copy> LogStore<A> {
         }
     }
 
-    /// Where the volume has its parts.
+    /// Returns the geometry of the volume.
     pub fn log(&self) -> LogGeometry
         ensures value { result ≡ self.now.tail.log }
         ensures store { IsStore self.now }
@@ -184,15 +185,15 @@ impl<A: Allocator + Copy> LogStore<A> {
         self.tail.log()
     }
 
-    /// The number of commits in the log: those that aren't all written home.
+    /// Returns the number of commits in the log: those that aren't all written home.
     pub fn commits(&self) -> u64
         ensures { result ≡ self.now.tail.number - self.now.tail.start.number }
     {
         self.tail.commits()
     }
 
-    /// The block that the next step reads, or of which it writes a part: that of the record that it copies; block 1,
-    /// where it selects the start.
+    /// Returns the block that the next step reads or writes in part, if any. When a step copies a record, this is the
+    /// record's block. When a step selects the start, this is block 1.
     pub fn step_block(&self) -> Option<u32>
         ensures { result ≡ step_block self.now }
     {
@@ -204,9 +205,9 @@ impl<A: Allocator + Copy> LogStore<A> {
         }
     }
 
-    /// The two blocks of the log of which the next commit of this many records writes a part, where a byte seals: its
-    /// first block, and the block behind it. None where a digest seals, or a commit has no such number of records.
-    /// A commit that selects a start also writes a byte of block 1.
+    /// Returns the two blocks of the log that the next commit of this many records writes in part: its first block, and
+    /// the block behind it. Returns `None` if a digest seals commits, or if a commit can't have this many records. A
+    /// commit that selects a start also writes a byte of block 1.
     pub fn commit_edges(&self, records: u32) -> Option<(u32, u32)>
         ensures some { IsCommitSize self.now.tail.log.ring records → result ≡ commit_edges self.now.tail records }
         ensures none { (IsCommitSize self.now.tail.log.ring records → ⊥) → result ≡ None }
@@ -225,14 +226,14 @@ impl<A: Allocator + Copy> LogStore<A> {
         }
     }
 
-    /// The number of the next commit.
+    /// Returns the number of the next commit.
     pub fn number(&self) -> u64
         ensures { result ≡ self.now.tail.number }
     {
         self.tail.number()
     }
 
-    /// The blocks of the ring that commits use, from the start on.
+    /// Returns the number of blocks of the ring that commits use, counted from the start.
     pub fn used(&self) -> u32
         ensures { result ≡ self.now.tail.used }
     {
@@ -246,21 +247,21 @@ impl<A: Allocator + Copy> LogStore<A> {
         self.tail.is_spent()
     }
 
-    /// How far the oldest commits are written home.
+    /// Returns how far the oldest commits are written home.
     pub fn stage(&self) -> HomeStage
         ensures { result ≡ self.now.stage }
     {
         self.stage
     }
 
-    /// Whether each commit is home, and none is being written home.
+    /// Whether each commit is written home, and none is being written home.
     pub fn is_idle(&self) -> bool
         ensures { IsTrue result ↔ ((self.now.tail.used ≡ 0) × (self.now.stage ≡ Resting)) }
     {
         self.used() == 0 && self.stage == HomeStage::Resting
     }
 
-    // The old commits behind which the next commit selects the start.
+    // Returns the old commits if the next commit selects the start behind them.
     fn selection(&self) -> Option<OldCommits>
         ensures { result ≡ selection self.now }
     {
@@ -275,11 +276,11 @@ impl<A: Allocator + Copy> LogStore<A> {
         }
     }
 
-    /// Commits records for home blocks, as `LogTail::commit`. The next steps write them home. `OutOfMemory` if there is
-    /// no memory to note where the records lie; then no device call was made.
+    /// Commits records for home blocks, as `LogTail::commit` does. The next steps write them home. Fails with
+    /// `OutOfMemory` if there is no memory to note where the records are; then no device call was made.
     ///
-    /// A written start goes along: a sync of the commit makes sure of it. Where a byte seals, the same commit selects
-    /// it, and where a digest seals, the next one does. Then the room of the old commits is free.
+    /// If the start behind old commits is written, a sync of this commit makes it durable. If a byte seals, the same
+    /// commit selects this start. If a digest seals, the next commit does. Then the room of the old commits is free.
     pub fn commit<D: Device>(
         &mut self,
         device: &mut D,
@@ -301,7 +302,7 @@ impl<A: Allocator + Copy> LogStore<A> {
         ensures len { length (D.seen device.new) ≡ length (D.seen device.old) }
         ensures honest { D.is_honest device.new ↔ D.is_honest device.old }
 
-        // The store is over the device: each list that a crash may leave holds its log, with these contents.
+        // If the store is over the device, each crash state holds its log, with these contents.
         ensures leaves { (contents : ℕ → List ℕ) → D.is_honest device.old
             → IsStoreOver D.Device self.old contents device.old
             → CommitLeaves D.Device (committing_tail self.old) contents homes.now (records_in homes.now room.old)
@@ -337,7 +338,7 @@ impl<A: Allocator + Copy> LogStore<A> {
         }
     }
 
-    // The block that has a home block's bytes.
+    // Returns the block with the current bytes of a home block.
     fn store_block(&self, home: u32) -> u32
         ensures { result ≡ store_block self.now home }
     {
@@ -347,7 +348,8 @@ impl<A: Allocator + Copy> LogStore<A> {
         }
     }
 
-    /// Reads a home block, as the commits so far left it: its newest record, else the block itself. One device call.
+    /// Reads a home block as the commits so far left it: its newest record, or else the block itself. Makes one device
+    /// call. Fails with `Range` if the block lies outside the volume, and with `Device` if the device call failed.
     pub fn read<D: Device>(
         &self,
         device: &mut D,
@@ -438,7 +440,7 @@ impl<A: Allocator + Copy> LogStore<A> {
         }
     }
 
-    // Makes sure of the start.
+    // Makes the start durable.
     fn make_sure<D: Device>(&mut self, device: &mut D) -> Result<Progress, StoreFault>
         requires stage { self.old.stage ≡ Written }
         ensures step { MakesStoreStep D.Device self.old Written result self.new device.old device.new }
@@ -453,7 +455,7 @@ impl<A: Allocator + Copy> LogStore<A> {
         }
     }
 
-    // Selects the start, which is sure.
+    // Selects the start, which is durable.
     fn select<D: Device>(&mut self, device: &mut D) -> Result<Progress, StoreFault>
         requires long { 4096 * self.old.tail.log.blocks ≤ length (D.seen device.old) }
         requires stage { self.old.stage ≡ Sure }
@@ -472,10 +474,10 @@ impl<A: Allocator + Copy> LogStore<A> {
         }
     }
 
-    /// The next step by which commits are written home: it begins with all commits so far, copies their home blocks,
-    /// one a step, and moves the start behind them, in three steps: it writes the start, makes sure of it, and selects
-    /// it and makes sure of that. Commits may come between two steps. Once the start is written, they carry the rest of
-    /// the move, and no step makes a sync.
+    /// Makes the next step of writing commits home. The first step begins with all commits so far. Then each step
+    /// copies one of their home blocks. Then three steps move the start behind these commits. The first writes the
+    /// start, the second makes it durable, and the third selects it durably. Commits may be made between two steps.
+    /// Once the start is written, they do the rest of the move, and no step makes a sync.
     pub fn step<D: Device>(&mut self, device: &mut D) -> Result<Progress, StoreFault>
         requires long { 4096 * self.old.tail.log.blocks ≤ length (D.seen device.old) }
         ensures step { MakesStoreStep D.Device self.old self.old.stage result self.new device.old device.new }

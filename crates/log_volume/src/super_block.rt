@@ -1,4 +1,5 @@
-// The super block of a volume with a log: it is that of layout 1 with one slot, but for its first 32 bytes.
+// The super block of a volume with a log. Apart from its first 32 bytes, it is the super block of layout 1 with one
+// slot.
 ghost use Rattle.std.specs.Prelude.{◌≡◌, ◌≢◌, ◌⊎◌, ◌+◌, ◌<◌, ◌≤◌, ◌++◌, ◌^◌, IfOk, IfErr, IfSome, IfNone, List, ℕ, length, take, drop, codes};
 ghost use Rattle.volume_codec.specs.Text.{number_text, number_in, zeros};
 ghost use Rattle.volume_codec.specs.Super.{block_count};
@@ -13,7 +14,8 @@ use std::alloc::Allocator;
 use std::marker::Model;
 use volume_codec::{Layout, Super, one_reading, read_super};
 
-/// What the super block of a volume with a log says: the table of its files, and where the log and the home blocks lie.
+/// The contents of the super block of a volume with a log: the table of its files, and where the log and the home
+/// blocks lie.
 #[derive(Drop)]
 pub struct LogSuper<A: Allocator + Copy> {
     table: Super<A>,
@@ -35,7 +37,7 @@ impl<A: Allocator + Copy> Model for LogSuper<A> {
     } in (s.table ≡ table_of v) × (s.log ≡ log_of v) };
 }
 
-/// The key of a kind of seal; zero where a byte seals.
+/// Returns the key of a kind of seal; zero if a byte seals.
 fn key_in(sealing: Sealing) -> u64
     ensures value { result ≡ key_of sealing }
     ensures small { key_of sealing < 2 ^ 64 }
@@ -46,7 +48,7 @@ fn key_in(sealing: Sealing) -> u64
     }
 }
 
-/// The first eight bytes of a super block.
+/// Returns the first eight bytes of a super block.
 fn magic_in(sealing: Sealing) -> [u8; 8]
     ensures { result ≡ log_magic sealing }
 {
@@ -57,8 +59,8 @@ fn magic_in(sealing: Sealing) -> [u8; 8]
 }
 
 impl<A: Allocator + Copy> LogSuper<A> {
-    /// A table of files, which is one of layout 1 with one slot, in a volume with a log, if the volume has as many
-    /// blocks as both take.
+    /// Combines a table of files with the geometry of a log. Returns `None` unless the table is in layout 1 with one
+    /// slot, and the volume's number of blocks matches both.
     pub fn new(table: Super<A>, log: LogGeometry) -> Option<LogSuper<A>>
         ensures some { IfSome result (λ s. (table ≡ table_of s) × (log ≡ log_of s)) }
         ensures none { IfNone result ((v : LogSuperValue) → table ≡ table_of v → log ≡ log_of v → ⊥) }
@@ -74,15 +76,15 @@ impl<A: Allocator + Copy> LogSuper<A> {
         Some(LogSuper { table, log })
     }
 
-    /// The table of files. In the volume, a file's home blocks lie behind those that the table says, by the blocks of
-    /// the log and one for the lengths.
+    /// Returns the table of files. A file's home blocks lie behind those in the table. The distance is the number of
+    /// the log's blocks, and one for the lengths block.
     pub fn table(&self) -> &Super<A>
         ensures { result.now ≡ table_of self.now }
     {
         &self.table
     }
 
-    /// Where the volume has its parts.
+    /// Returns the geometry of the volume.
     pub fn log(&self) -> LogGeometry
         ensures value { result ≡ log_of self.now }
         ensures log { IsLog (log_of self.now) }
@@ -91,7 +93,7 @@ impl<A: Allocator + Copy> LogSuper<A> {
         self.log
     }
 
-    /// The block that says this.
+    /// Returns the super block with these contents.
     pub fn to_block(&self) -> [u8; 4096]
         ensures text { result ≡ log_super_text self.now }
         ensures says { IsLogSuper self.now result }
@@ -108,7 +110,7 @@ impl<A: Allocator + Copy> LogSuper<A> {
     }
 }
 
-/// How a volume seals its commits, by its super block, if that begins with the magic of layout 5 or 6.
+/// Returns how a volume seals its commits, if its super block begins with the magic of layout 5 or 6.
 fn sealing_of(block: &[u8; 4096]) -> Option<Sealing>
     ensures some { IfSome result (λ sealing. (take 8 block.now ≡ log_magic sealing)
         × (key_of sealing < 2 ^ 64)) }
@@ -126,7 +128,7 @@ fn sealing_of(block: &[u8; 4096]) -> Option<Sealing>
     None
 }
 
-/// The block with the first 32 bytes of a volume in layout 1 with one slot and this many blocks.
+/// Returns the block with its first 32 bytes replaced by those of layout 1 with one slot and this many blocks.
 fn as_table(block: &[u8; 4096], blocks: u32) -> [u8; 4096]
     ensures { result ≡ (codes "FAMSYNC1" ++ take 4 (drop 8 block.now) ++ number_text 4 1 ++ number_text 4 blocks
         ++ zeros 12) ++ drop 32 block.now }
@@ -140,7 +142,7 @@ fn as_table(block: &[u8; 4096], blocks: u32) -> [u8; 4096]
     table
 }
 
-/// What a block is whose table was refused: damaged, or memory was refused.
+/// Returns the refusal for a block whose table was refused: `OutOfMemory` or `Damaged`.
 fn damage_of(refusal: Refusal) -> Refusal
     ensures memory { refusal ≡ Refusal.OutOfMemory → result ≡ Refusal.OutOfMemory }
     ensures names { (result ≡ Refusal.OutOfMemory) ⊎ (result ≡ Refusal.Damaged) }
@@ -151,7 +153,7 @@ fn damage_of(refusal: Refusal) -> Refusal
     }
 }
 
-/// The table of a super block that is in a volume of layout 1 with this many blocks.
+/// Reads the table of a super block as that of a volume in layout 1 with this many blocks.
 fn read_table<A: Allocator + Copy>(
     alloc: A,
     block: &[u8; 4096],
@@ -170,8 +172,8 @@ fn read_table<A: Allocator + Copy>(
     }
 }
 
-/// What a super block of a volume with a log says. `NotAVolume` where it begins with no magic of these; `Damaged` where
-/// it breaks any other rule of the grammar. Either may be `OutOfMemory`.
+/// Reads the super block of a volume with a log. Fails with `NotAVolume` if it doesn't begin with the magic of layout 5
+/// or 6. Fails with `Damaged` if it breaks another rule of the grammar. `OutOfMemory` may replace either error.
 pub fn read_log_super<A: Allocator + Copy>(
     alloc: A,
     block: &[u8; 4096],

@@ -1,4 +1,4 @@
-// Super blocks whose bytes were written by hand: a log of nine blocks, and files of 5,000 and of 4,096 bytes.
+// Super blocks that were written by hand: a log of nine blocks, and files of 5,000 and of 4,096 bytes.
 use crate::{LogSuper, read_log_super};
 use log_codec::{LogGeometry, Sealing};
 use page_entry::Refusal;
@@ -8,7 +8,7 @@ use volume_codec::{FileSpec, Super};
 
 const KEY: u64 = 0x0123_4567_89ab_cdef;
 
-// Writes bytes of a block, if they are in it.
+// Writes bytes of a block. Skips bytes that lie outside.
 fn put_bytes(block: &mut [u8; 4096], at: usize, bytes: &[u8]) {
     for i in 0..bytes.len() {
         if at < 4096 && i < 4096 - at {
@@ -17,7 +17,7 @@ fn put_bytes(block: &mut [u8; 4096], at: usize, bytes: &[u8]) {
     }
 }
 
-// The block of a volume of seventeen blocks, in layout 5 or 6.
+// The super block of a volume of seventeen blocks, in layout 5 or 6.
 fn written(sealing: Sealing) -> [u8; 4096] {
     let mut block = [0; 4096];
     match sealing {

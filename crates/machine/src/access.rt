@@ -1,4 +1,4 @@
-// Loads and stores, and what a TLB caches and drops unasked.
+// Loads and stores, and what a TLB caches and drops on its own.
 ghost use Rattle.cpu.specs.Access.{IsReachable};
 ghost use Rattle.machine.specs.declared.act.Act.TheVariants.{Load, Store, Fill, Evict};
 ghost use Rattle.machine.specs.Rules.{Reaches};
@@ -11,7 +11,7 @@ use page_entry::{PageNumber, ProcessorNumber, Refusal};
 use std::alloc::Allocator;
 
 impl<D: Device, A: Allocator + Copy> Layers<D, A> {
-    // Bytes are read from an address of a processor's current space.
+    // Reads bytes at an address of a processor's current space.
     pub(crate) fn load(&mut self, p: ProcessorNumber, va: u64, count: u8) -> Result<Reply, Refusal>
         requires { IsReachable (state_in self.old).hardware }
         ensures rules { Reaches (state_in self.old) p (Load va count) (reply_to result) (state_in self.new) }
@@ -28,7 +28,7 @@ impl<D: Device, A: Allocator + Copy> Layers<D, A> {
         Ok(Reply::Bytes(FewBytes::of(bytes)))
     }
 
-    // Bytes are written to an address of a processor's current space.
+    // Writes bytes at an address of a processor's current space.
     pub(crate) fn store(
         &mut self,
         p: ProcessorNumber,
@@ -50,7 +50,7 @@ impl<D: Device, A: Allocator + Copy> Layers<D, A> {
         Ok(Reply::Stored)
     }
 
-    // A page of a processor's current space is cached, if it has an entry.
+    // Caches a page of a processor's current space, if it has an entry.
     pub(crate) fn fill(&mut self, p: ProcessorNumber, page: PageNumber) -> Result<Reply, Refusal>
         ensures rules { Reaches (state_in self.old) p (Fill page) (reply_to result) (state_in self.new) }
         ensures quiet { IsQuiet self.old self.new }
@@ -59,7 +59,7 @@ impl<D: Device, A: Allocator + Copy> Layers<D, A> {
         Ok(reply_if(filled, Reply::Filled))
     }
 
-    // The entry in a slot of a processor's TLB is dropped, if there is such a slot.
+    // Drops the entry in a slot of a processor's TLB, if there is such a slot.
     pub(crate) fn evict(&mut self, p: ProcessorNumber, slot: u8) -> Result<Reply, Refusal>
         ensures rules { Reaches (state_in self.old) p (Evict slot) (reply_to result) (state_in self.new) }
         ensures quiet { IsQuiet self.old self.new }

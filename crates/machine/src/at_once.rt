@@ -10,10 +10,10 @@ use page_entry::ProcessorNumber;
 use std::alloc::Allocator;
 
 impl<D: Device, A: Allocator + Copy> Machine<D, A> {
-    /// Loads up to `count` bytes at once from an address of a processor's current space, up to the end of its page,
-    /// where the processor goes on with loads and stores and has cached an entry of the page. They are what as many
-    /// loads by steps answer, so that all that holds of steps holds of them; the machine stays as it is. Otherwise it
-    /// lends no byte, and `enter` says why.
+    /// Returns up to `count` bytes from an address of a processor's current space, up to the end of its page. The
+    /// processor must be able to load and store, and its TLB must have an entry of the page. The result equals the
+    /// replies to separate load steps, so whatever holds of steps holds of it. The machine stays unchanged. Otherwise
+    /// returns no bytes, and `enter` reports the reason.
     pub fn load_run(&self, p: ProcessorNumber, va: u64, count: usize) -> &[u8]
         ensures loaded { StepsTaken D.Device self.now (load_steps p va result.now) (load_replies result.now) self.now }
         ensures count { length result.now
@@ -22,10 +22,10 @@ impl<D: Device, A: Allocator + Copy> Machine<D, A> {
         cpu::load_run(&self.layers.shootdown, &self.layers.frames, p, va, count)
     }
 
-    /// Stores bytes at once to an address of a processor's current space, up to the end of its page, where the
-    /// processor goes on with loads and stores and has cached an entry of the page that is writable and dirty, as it
-    /// has after a store there. Answers how many were stored: they are as if each had been stored by a step, so that
-    /// all that holds of steps holds of them. Otherwise it stores none, and `enter` says why.
+    /// Stores bytes at an address of a processor's current space, up to the end of its page, and returns the number of
+    /// bytes stored. The processor must be able to load and store. Its TLB must have a writable and dirty entry of the
+    /// page, as it has after a store there. The effect equals that of separate store steps, so whatever holds of steps
+    /// holds of it. Otherwise stores nothing, and `enter` reports the reason.
     pub fn store_run(&mut self, p: ProcessorNumber, va: u64, bytes: &[u8]) -> usize
         ensures stored { StepsTaken D.Device self.old (store_steps p va (take result bytes.now))
             (store_replies (take result bytes.now)) self.new }

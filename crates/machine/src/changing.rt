@@ -1,4 +1,4 @@
-// Changes that are made, once nobody uses what they affect.
+// Makes changes, once nobody uses what they affect.
 ghost use Rattle.std.specs.Prelude.{◌≡◌, ◌↔◌, ℕ, List, Some, Ok, IsTrue, IfSome, IfNone};
 ghost use Rattle.shootdown.specs.Calls.{HandsOut};
 ghost use Rattle.checkpoint.specs.Checkpoint.{Holds};
@@ -17,7 +17,7 @@ use spaces::Change;
 use std::alloc::Allocator;
 
 impl<D: Device, A: Allocator + Copy> Layers<D, A> {
-    // The pages of a range are mapped no more.
+    // Unmaps the pages of a range.
     fn end_unmap(&mut self, p: ProcessorNumber, pcid: Pcid, range: PageRange) -> Reply
         requires sound { IsSound (state_in self.old) }
         requires reserved { AreReserved self.old.shootdown.lock self.old.spaces.prepared }
@@ -30,7 +30,7 @@ impl<D: Device, A: Allocator + Copy> Layers<D, A> {
         Reply::Unmapped
     }
 
-    // The pages of a range have their new rights.
+    // Sets the rights of the pages of a range.
     fn end_protect(
         &mut self,
         p: ProcessorNumber,
@@ -49,8 +49,8 @@ impl<D: Device, A: Allocator + Copy> Layers<D, A> {
         Reply::Protected
     }
 
-    // Whether the page in a frame is clean, its batches are done, and it has zeros past its file's end, so that its
-    // home block has its bytes.
+    // Whether the page's home block has its bytes: the page is clean, its batches are done, and it has zeros past its
+    // file's end.
     fn is_at_home(&self, page: FilePage, frame: FrameNumber) -> bool
         requires sound { IsSound (state_in self.now) }
         requires page { IsPageOf self.now.table page }
@@ -66,7 +66,7 @@ impl<D: Device, A: Allocator + Copy> Layers<D, A> {
     }
 
     // Rule: kept
-    // The frame of a page, if the page may leave memory.
+    // Returns the frame of a page, if the page may leave memory.
     fn frame_to_free(&self, page: FilePage) -> Option<FrameNumber>
         requires sound { IsSound (state_in self.now) }
         requires page { IsPageOf self.now.table page }
@@ -84,7 +84,7 @@ impl<D: Device, A: Allocator + Copy> Layers<D, A> {
         }
     }
 
-    // A page leaves memory, if it may.
+    // Removes a page from memory, if it may leave.
     fn end_reclaim(&mut self, p: ProcessorNumber, page: FilePage) -> Reply
         requires sound { IsSound (state_in self.old) }
         requires held { HandsOut self.old.shootdown p (Ok (Some (Change.Reclaim page))) }
@@ -101,7 +101,7 @@ impl<D: Device, A: Allocator + Copy> Layers<D, A> {
         Reply::Reclaimed
     }
 
-    // The length of a file becomes another.
+    // Sets the length of a file.
     fn end_resize(&mut self, p: ProcessorNumber, file: FileNumber, length: u64) -> Reply
         requires sound { IsSound (state_in self.old) }
         requires held { HandsOut self.old.shootdown p (Ok (Some (Change.SetLength file length))) }
@@ -117,7 +117,7 @@ impl<D: Device, A: Allocator + Copy> Layers<D, A> {
         Reply::Resized
     }
 
-    // The change that a processor began is made.
+    // Makes the change that a processor began.
     pub(crate) fn change(&mut self, p: ProcessorNumber) -> Result<Reply, Refusal>
         requires sound { IsSound (state_in self.old) }
         requires reserved { AreReserved self.old.shootdown.lock self.old.spaces.prepared }

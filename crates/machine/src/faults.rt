@@ -1,4 +1,4 @@
-// Page faults that are served.
+// Serves page faults.
 ghost use Rattle.std.specs.Prelude.{◌≡◌, ◌*◌, ◌≤◌, ℕ, List, length, true, false, is_err, IfOk};
 ghost use Rattle.volume_codec.specs.Super.{block_count};
 ghost use Rattle.fault.specs.Fixing.{ReadsOnce};
@@ -17,12 +17,13 @@ use page_entry::{FilePage, PAGE, ProcessorNumber, Refusal};
 use std::alloc::Allocator;
 
 impl<D: Device, A: Allocator + Copy> Layers<D, A> {
-    // A fault at an address of a processor's current space is served.
+    // Serves a fault at an address of a processor's current space.
     pub(crate) fn fix(&mut self, p: ProcessorNumber, va: u64, write: bool) -> Result<Reply, Refusal>
         requires sound { IsSound (state_in self.old) }
         requires long { 4096 * block_count self.old.table ≤ length (D.seen self.old.device) }
 
-        // The rules hold for some bytes of the page that was read, and of an honest device for its own.
+        // The rules hold for some bytes of the page that was read. On an honest device they hold for the device's own
+        // bytes.
         ensures rules { AnswersBy (D.is_honest self.old.device)
             (λ d d'. Answers (state_in self.old) d p (Fix va write) (reply_to result) (state_in self.new) × (d' ≡ d))
             (D.seen self.old.device) (D.seen self.new.device) }

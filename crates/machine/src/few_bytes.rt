@@ -46,7 +46,7 @@ impl Eq for FewBytes {
 }
 
 impl FewBytes {
-    /// These bytes, if they are at most 8.
+    /// Makes a `FewBytes` of these bytes. Returns `None` if there are more than 8.
     pub fn new(bytes: &[u8]) -> Option<Self>
         ensures few { IsSome result ↔ (length bytes.now ≤ 8) }
         ensures same { IfSome result (λ few. few ≡ bytes.now) }
@@ -58,7 +58,7 @@ impl FewBytes {
         }
     }
 
-    // These bytes, which are at most 8.
+    // Makes a `FewBytes` of these bytes. There must be at most 8.
     pub(crate) fn of(bytes: &[u8]) -> Self
         requires { length bytes.now ≤ 8 }
         ensures { result ≡ bytes.now }
@@ -71,7 +71,7 @@ impl FewBytes {
         }
     }
 
-    /// The bytes, in the order of their addresses.
+    /// Returns the bytes, in the order of their addresses.
     pub fn as_slice(&self) -> &[u8]
         ensures same { result.now ≡ self.now }
         ensures few { length result.now ≤ 8 }

@@ -1,4 +1,4 @@
-// Steps of write-outs.
+// Makes the steps of write-outs.
 ghost use Rattle.std.specs.Prelude.{◌≡◌, ◌*◌, ◌≤◌, ◌<◌, ℕ, List, length, true, not};
 ghost use Rattle.device.specs.Did.{Did};
 ghost use Rattle.volume_codec.specs.Super.{block_count};
@@ -24,7 +24,7 @@ use page_entry::{FilePage, PAGE, ProcessorNumber, Refusal};
 use std::alloc::Allocator;
 use volume_codec::write_lengths;
 
-// What a step of a write-out is answered.
+// The reply for the result of a write-out's step.
 fn reply_to_flush(answer: Flushed) -> Result<Reply, Refusal>
     requires { HasSmallMark answer }
     ensures { result ≡ reply_of_flush answer }
@@ -38,14 +38,15 @@ fn reply_to_flush(answer: Flushed) -> Result<Reply, Refusal>
     }
 }
 
-// Where the bytes for a step are: in a block, or in memory, those of a page as they were at its mark.
+// Where the bytes for a step are: in a block, or in memory as a page's bytes at its mark.
 #[derive(Clone, Copy)]
 enum Source<'a> {
     Block(&'a [u8; 4096]),
     Page(FilePage),
 }
 
-// The bytes of a page in memory as they were at its mark: those of its copy, or of its frame if it wasn't copied.
+// Returns the bytes of a page in memory as they were at its mark: those of its copy, or of its frame if it wasn't
+// copied.
 fn bytes_at_mark<A: Allocator + Copy>(frames: &Frames<A>, page: FilePage) -> &[u8; 4096]
     requires memory { IsMemory frames.now }
     requires there { is_in_memory frames.now page ≡ true }
@@ -60,7 +61,7 @@ fn bytes_at_mark<A: Allocator + Copy>(frames: &Frames<A>, page: FilePage) -> &[u
     }
 }
 
-// The bytes for a step.
+// Returns the bytes for a step.
 fn bytes_from<'a, A: Allocator + Copy>(frames: &'a Frames<A>, source: Source<'a>) -> &'a [u8; 4096]
     requires memory { IsMemory frames.now }
     requires there { IsThere frames.now source }
@@ -73,8 +74,8 @@ fn bytes_from<'a, A: Allocator + Copy>(frames: &'a Frames<A>, source: Source<'a>
 }
 
 impl<D: Device, A: Allocator + Copy> Layers<D, A> {
-    // What becomes of frozen pages by a step of a write-out: one whose record was written is released, and all are
-    // where a device call failed.
+    // Releases frozen pages after a step of a write-out: the page whose record was written, or all if a device call
+    // failed.
     fn release_by(&mut self, writes_record: bool, answer: Flushed)
         requires some { writes_record ≡ true → 0 < length self.old.checkpoint.frozen }
         requires copies { AreCopiesOfFrozen self.old.frames self.old.checkpoint }
@@ -100,8 +101,8 @@ impl<D: Device, A: Allocator + Copy> Layers<D, A> {
         }
     }
 
-    // The next step of the write-outs, of which some aren't done. If it writes a record, it is given its bytes;
-    // `writes_record` says whether that is a page's.
+    // Makes the next step of the write-outs, which must not all be done. `source` contains the bytes of the record that
+    // the step writes, if any. `writes_record` is true if this is a page's record.
     fn step_with(&mut self, writes_record: bool, source: Source) -> Result<Reply, Refusal>
         requires record { writes_record ≡ is_page_next (state_in self.old) }
         requires there { IsThere self.old.frames source }
@@ -116,8 +117,9 @@ impl<D: Device, A: Allocator + Copy> Layers<D, A> {
         reply_to_flush(answer)
     }
 
-    // The next step of the write-outs, which writes the record of the first frozen page: its bytes at its mark up to
-    // the file's end, then zeros. A page that ends before the file does is written from where it lies.
+    // Makes the next step of the write-outs, which writes the record of the first frozen page. The record has the
+    // page's bytes at its mark up to the file's end, then zeros. A page that ends before the file does is written
+    // without a copy.
     fn step_record(&mut self) -> Result<Reply, Refusal>
         requires record { is_page_next (state_in self.old) ≡ true }
         requires ready { CanStep D.seen self.old }
@@ -135,7 +137,7 @@ impl<D: Device, A: Allocator + Copy> Layers<D, A> {
         self.step_with(true, Source::Block(&block))
     }
 
-    // The next step of the write-outs, of which some aren't done.
+    // Makes the next step of the write-outs, which must not all be done.
     fn step_write_outs(&mut self) -> Result<Reply, Refusal>
         requires { CanStep D.seen self.old }
         ensures { IsStepped D.Device self.old (reply_to result) self.new }
@@ -143,12 +145,12 @@ impl<D: Device, A: Allocator + Copy> Layers<D, A> {
         if self.is_page_next() {
             return self.step_record();
         }
-        // Any other record is that of the lengths, and a step that writes none may be given any bytes.
+        // Any other record is that of the lengths. A step that writes no record may get any bytes.
         let block = write_lengths(&self.lengths);
         self.step_with(false, Source::Block(&block))
     }
 
-    // The next step of the write-outs, if there are any.
+    // Makes the next step of the write-outs, if there is any.
     pub(crate) fn flush(&mut self, p: ProcessorNumber) -> Result<Reply, Refusal>
         requires sound { IsSound (state_in self.old) }
         requires long { 4096 * block_count self.old.table ≤ length (D.seen self.old.device) }

@@ -1,4 +1,4 @@
-// Whether a machine is as it was made.
+// Checks whether a machine is as it was made.
 ghost use Rattle.std.specs.Prelude.{◌≡◌, ◌↔◌, IsTrue};
 ghost use Rattle.std.specs.List.{All};
 ghost use Rattle.std.specs.FinMap as maps;
@@ -12,7 +12,7 @@ use spaces::Spaces;
 use std::alloc::Allocator;
 
 impl<D: Device, A: Allocator + Copy> Layers<D, A> {
-    // The shape that a machine with these layers would have if it was just made.
+    // Returns the shape that a machine with these layers would have if it was just made.
     pub(crate) fn shape(&self) -> Shape
         ensures { result ≡ shape_of (state_in self.now) }
     {
@@ -24,7 +24,7 @@ impl<D: Device, A: Allocator + Copy> Layers<D, A> {
         }
     }
 
-    // Whether each layer is as it was made, and space 0 is alone.
+    // Whether each layer is as it was made, and space 0 is the only space.
     pub(crate) fn look_fresh(&self) -> bool
         ensures { IsTrue result ↔ LooksFresh (state_in self.now) }
     {
@@ -38,7 +38,7 @@ impl<D: Device, A: Allocator + Copy> Layers<D, A> {
     }
 }
 
-// Whether there is no space but space 0.
+// Whether space 0 is the only space.
 fn is_first_alone<A: Allocator + Copy>(spaces: &Spaces<A>) -> bool
     ensures { IsTrue result ↔ All (λ pcid. pcid ≡ 0) (maps.keys spaces.now.map) }
 {

@@ -1,4 +1,4 @@
-// What follows of a run: how many device calls it made, and what a crash leaves of it.
+// Consequences of a run: how many device calls it made, and what a crash leaves of it.
 ghost use Rattle.std.specs.Prelude.{ℕ, ◌≡◌, ◌+◌, ◌-◌, ◌*◌, ◌^◌, ◌<◌, List, [], ◌∷◌, ◌++◌, length, sum_by};
 ghost use Rattle.volume_codec.specs.Files.{File};
 ghost use Rattle.volume_codec.specs.Layout.{descriptor_blocks};
@@ -19,9 +19,11 @@ ghost use Rattle.machine.specs.Observed.{observe_all};
 
 use device::Device;
 
-/// What holds of each run over an honest device, whatever is known of its last machine: what `Machine::keeps_the_laws`
-/// says (`headline`, `lawful`, `left`); and a crash since any machine of the run leaves what reads back as the files
-/// after a durable prefix of what was observed by the steps up to that one and by some of the later ones (`since`).
+/// What holds of each run over an honest device, even if nothing is known of its last machine.
+///
+/// - `headline`, `lawful` and `left`: The laws of `Machine::keeps_the_laws` hold.
+/// - `since`: A crash since any machine of the run leaves bytes that read back as the files after a durable prefix. It
+///   is a prefix of the history observed up to that machine, extended by some of the later steps.
 pub fn runs_keep_the_laws<D: Device>(device: &D)
     ensures headline { (files : List File) (start last : Whole D) (steps : List Step) (replies : List Reply)
         → IsReached D.Device files start steps replies last
@@ -38,22 +40,22 @@ pub fn runs_keep_the_laws<D: Device>(device: &D)
         → ReadsBackSince files (observe_all (observed_first files start.state) earlier replied) later more c }
 {}
 
-/// Where steps were made, and further ones after them, all of them were made one after the other.
+/// Steps that were made, and further steps after them, are one run of steps.
 pub fn steps_after_steps<D: Device>(device: &D)
     ensures { (old mid new : Whole D) (steps later : List Step) (replies replied : List Reply)
         → StepsTaken D.Device old steps replies mid → StepsTaken D.Device mid later replied new
         → StepsTaken D.Device old (steps ++ later) (replies ++ replied) new }
 {}
 
-/// Of steps over any device, honest or not: a fault that is served is served, so that the access of its page by the
-/// same processor answers, if it follows at once.
+/// Over any device, honest or not, a fault that was served is really served. If the same processor's access to the page
+/// follows at once, it is answered.
 pub fn faults_are_served<D: Device>(device: &D)
     ensures { (old new : Whole D) (steps : List Step) (replies : List Reply)
         → StepsTaken D.Device old steps replies new → FaultsAreServed steps replies }
 {}
 
-/// The device calls of steps that were made one after the other are the sum of what each step makes, and so are those
-/// that failed; where the counts, at two calls for each step, stay below the end of 64 bits.
+/// The number of device calls of consecutive steps is the sum of what each step makes. The same holds of the failed
+/// calls. Both counts, at two calls for each step, must stay below the end of 64 bits.
 pub fn calls_of_steps<D: Device>(device: &D)
     ensures { (old new : Whole D) (steps : List Step) (replies : List Reply)
         → D.calls_made old.device + 2 * length steps < 2 ^ 64 - 2
@@ -61,11 +63,16 @@ pub fn calls_of_steps<D: Device>(device: &D)
         → StepsTaken D.Device old steps replies new → CallsAddUp D.Device old steps replies new }
 {}
 
-/// The count of each write-out of a run. After a mark that writes k home blocks, in a volume whose descriptors have d
-/// blocks, the steps up to the one that answers that the mark is committed make k + d + 3 device calls for its
-/// write-out, one each; those up to the one that answers that it is done make 3k + d + 6, in 2k + d + 6 steps of it.
-/// Whatever other steps stand between them, also another write-out's. A sync that write-outs share counts for each of
-/// them, so that the counts are the same in all layouts.
+/// The number of steps and device calls of each write-out of a run. Let a mark write k home blocks, in a volume whose
+/// descriptors have d blocks.
+///
+/// - `committed`: The steps up to the reply that the mark is committed make k + d + 3 device calls for its write-out,
+///   one call each.
+/// - `done`: The steps up to the reply that the write-out is done make 3k + d + 6 device calls for it. They are in 2k +
+///   d + 6 steps of the write-out.
+///
+/// This holds with any other steps between them, even of another write-out. A shared sync counts for each write-out
+/// that shares it, so the counts are the same in all layouts.
 pub fn counts_of_a_write_out<D: Device>(device: &D)
     ensures committed { (files : List File) (start old marked last new : Whole D) (earlier steps : List Step)
         (replied replies : List Reply) (p number : ℕ) (mark : MarkMade old.state p number marked.state) (step : Step)

@@ -30,14 +30,14 @@ pub(crate) struct Layers<D: Device, A: Allocator + Copy> {
     pub(crate) frames: Frames<A>,
     pub(crate) checkpoint: Checkpoint<A>,
     pub(crate) write_outs: WriteOuts<A>,
-    // How many marks were made since boot.
+    // The number of marks since boot.
     pub(crate) marks: u32,
     // Whether a length was set since the last mark.
     pub(crate) resized: bool,
     pub(crate) device: D,
 }
 
-// The reply where something was done, and `Nothing` where there was nothing to do.
+// Returns the reply if something was done, or else `Nothing`.
 pub(crate) fn reply_if(done: bool, reply: Reply) -> Reply
     ensures { result ≡ (if done then reply else Reply.Nothing) }
 {
@@ -45,7 +45,7 @@ pub(crate) fn reply_if(done: bool, reply: Reply) -> Reply
 }
 
 impl<D: Device, A: Allocator + Copy> Layers<D, A> {
-    // The length of a file in bytes.
+    // Returns the length of a file in bytes.
     pub(crate) fn file_length(&self, file: FileNumber) -> u64
         requires sound { IsSound (state_in self.now) }
         requires there { file < length self.now.table.files }
@@ -54,7 +54,7 @@ impl<D: Device, A: Allocator + Copy> Layers<D, A> {
         length_at(&self.lengths, file)
     }
 
-    // Layers that are sound go with each other: processors with page tables, and these with frames.
+    // Sound layers are coherent: processors with page tables, and page tables with frames.
     pub(crate) fn are_coherent(&self)
         requires sound { IsSound (state_in self.now) }
         ensures coheres { Coheres self.now.spaces.map self.now.shootdown }

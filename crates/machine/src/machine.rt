@@ -1,4 +1,4 @@
-// The machine: how it is made, what can be asked of it, and one step of it.
+// The machine: how it is made, its queries, and its step.
 ghost use Rattle.std.specs.Prelude.{◌≡◌, ◌≢◌, ◌↔◌, ℕ, List, length, false, IsTrue, IfOk, IfErr, OnOk};
 ghost use Rattle.shootdown.specs.Shootdown.{is_there, state_of, IsShootdown};
 ghost use Rattle.shootdown.specs.Coherence.{Coheres};
@@ -24,7 +24,7 @@ use std::alloc::Allocator;
 use std::marker::Model;
 use volume_codec::Super;
 
-/// A machine over a volume: processors with TLBs, address spaces, frames, and the write-outs that aren't done.
+/// A machine over a volume: processors with TLBs, address spaces, frames, and unfinished write-outs.
 #[derive(Drop)]
 pub struct Machine<D: Device, A: Allocator + Copy> {
     pub(crate) layers: Layers<D, A>,
@@ -46,7 +46,7 @@ impl<D: Device, A: Allocator + Copy> Model for Machine<D, A> {
     ghost invariant = { λ m. AreLayers D.seen m.layers };
 }
 
-// The reply to what an act is answered.
+// The reply for the result of an act.
 fn reply_to(answer: Result<Reply, Refusal>) -> Reply
     ensures { result ≡ reply_to answer }
 {
@@ -57,11 +57,11 @@ fn reply_to(answer: Result<Reply, Refusal>) -> Reply
 }
 
 impl<D: Device, A: Allocator + Copy> Machine<D, A> {
-    /// A machine over an opened volume: each processor is active in space 0, which maps nothing, with an empty TLB; no
-    /// page is in memory, and nothing was begun.
+    /// Boots a machine over an opened volume. Each processor is active in space 0, which maps nothing, and its TLB is
+    /// empty. No page is in memory, and nothing was begun. Makes no device call.
     ///
-    /// `BadShape` where the shape's numbers aren't within their limits, which is judged before memory is taken;
-    /// `OutOfMemory` where memory is refused. A refusal hands the volume back. No device call is made.
+    /// Fails with `BadShape`, before any memory is taken, if the shape's numbers exceed their limits. Fails with
+    /// `OutOfMemory` if there is too little memory. A refusal returns the volume.
     pub fn boot(
         alloc: A,
         volume: Volume<D, A>,
@@ -82,7 +82,7 @@ impl<D: Device, A: Allocator + Copy> Machine<D, A> {
         }
     }
 
-    // A machine of this shape over a volume, in its room.
+    // Makes a machine of this shape over a volume, from its memory.
     fn over(volume: Volume<D, A>, room: Room<A>, shape: Shape) -> Self
         requires shaped { IsShape volume.table shape }
         requires room { IsRoom volume.table volume.lengths shape room }
@@ -113,21 +113,21 @@ impl<D: Device, A: Allocator + Copy> Machine<D, A> {
         }
     }
 
-    /// Whether it is as `boot` makes one over its volume, of its shape.
+    /// Whether the machine is as `boot` makes a machine of its shape over its volume.
     pub fn is_fresh(&self) -> bool
         ensures { IsTrue result ↔ IsFresh self.now.state }
     {
         self.layers.shape().fits(&self.layers.table) && self.layers.look_fresh()
     }
 
-    /// How many processors the machine has, 1 to 16; they are numbered from 0.
+    /// Returns the number of processors, 1 to 16. They are numbered from 0.
     pub fn processors(&self) -> u8
         ensures { result ≡ length self.now.state.hardware.shootdown.processors }
     {
         self.layers.shootdown.processors()
     }
 
-    /// What a processor is doing. `Einval` where there is none with this number.
+    /// Returns the state of a processor. Fails with `Einval` if there is no processor with this number.
     pub fn state(&self, p: ProcessorNumber) -> Result<ProcState, Refusal>
         ensures ok { IfOk result (λ state. IsTrue (is_there self.now.state.hardware.shootdown p)
             × (state ≡ state_of self.now.state.hardware.shootdown p)) }
@@ -137,10 +137,13 @@ impl<D: Device, A: Allocator + Copy> Machine<D, A> {
         self.layers.shootdown.state(p)
     }
 
-    /// Of every machine, whatever was done with it: a cached entry that may still be used agrees with the page table,
-    /// and each entry of the tables maps a frame that holds its page, writable only where its mapping allows it and the
-    /// page isn't held. The processor that holds the lock initiates and no other does, and none is interrupted while
-    /// the lock is free (`phases`).
+    /// States what holds of every machine, whatever was done with it:
+    ///
+    /// - A cached entry that may still be used agrees with the page table (`coheres`).
+    /// - Each entry of the tables maps a frame that contains its page (`backed`). It is writable only if its mapping
+    ///   allows writing and the page isn't held.
+    /// - The processor that holds the lock initiates, and no other does. None is interrupted while the lock is free
+    ///   (`phases`).
     pub fn is_coherent(&self)
         ensures coheres { Coheres self.now.state.hardware.spaces self.now.state.hardware.shootdown }
         ensures backed { AreBacked self.now.state.hardware.memory self.now.state.checkpoint
@@ -150,10 +153,10 @@ impl<D: Device, A: Allocator + Copy> Machine<D, A> {
         self.layers.are_coherent();
     }
 
-    /// One act of one processor. Whatever act it is, it returns, and what it refuses changes nothing but what the rules
-    /// say.
+    /// Makes one act of one processor, and returns the reply. Every act returns. A refused act changes nothing except
+    /// what the rules allow.
     pub fn step(&mut self, step: &Step) -> Reply
-        // Over any device there are bytes for which the rules hold.
+        // Over any device the rules hold for some bytes.
         ensures rules { (disk disk' : List ℕ) × Rules self.old.state disk step.now result self.new.state disk' }
         ensures made { D.is_honest self.old.device → StepMade D.Device self.old step.now result self.new }
         ensures device { DeviceAfter D.Device self.old.state step.now.p step.now.act result self.old.device
@@ -169,7 +172,7 @@ impl<D: Device, A: Allocator + Copy> Machine<D, A> {
         reply_to(self.layers.act(step))
     }
 
-    // Makes the steps one after the other, and puts each one's reply into its place.
+    // Makes the steps in order, and stores the reply of each at its place.
     pub(crate) fn make_all(&mut self, steps: &[Step], replies: &mut [Reply])
         requires { length replies.old ≡ length steps.now }
         ensures steps { StepsTaken D.Device self.old steps.now replies.new self.new }
@@ -181,21 +184,21 @@ impl<D: Device, A: Allocator + Copy> Machine<D, A> {
         }
     }
 
-    /// The table of the volume's files.
+    /// Returns the table of the volume's files.
     pub fn table(&self) -> &Super<A>
         ensures { result.now ≡ self.now.state.table }
     {
         &self.layers.table
     }
 
-    /// The machine's device, to look at.
+    /// Returns the machine's device, for reading.
     pub fn device(&self) -> &D
         ensures { result.now ≡ self.now.device }
     {
         &self.layers.device
     }
 
-    /// The machine's device, as it is.
+    /// Returns the machine's device as it is.
     pub fn into_device(self) -> D
         ensures { result ≡ self.device }
     {

@@ -14,7 +14,7 @@ use page_entry::{Pcid, ProcessorNumber, Refusal};
 use std::alloc::Allocator;
 
 impl<D: Device, A: Allocator + Copy> Layers<D, A> {
-    // A space is made, of the lowest PCID that is free.
+    // Makes a space with the lowest free PCID.
     pub(crate) fn create(&mut self, p: ProcessorNumber) -> Result<Reply, Refusal>
         ensures rules { (disk : List ℕ)
             → Answers (state_in self.old) disk p Create (reply_to result) (state_in self.new) }
@@ -25,7 +25,7 @@ impl<D: Device, A: Allocator + Copy> Layers<D, A> {
         Ok(Reply::Space(space))
     }
 
-    // A space that no processor is in goes, with its mappings and its entries.
+    // Destroys a space that no processor is in, with its mappings and its entries.
     pub(crate) fn destroy(&mut self, p: ProcessorNumber, space: Pcid) -> Result<Reply, Refusal>
         requires { HasNotes self.old.spaces.map (length self.old.checkpoint.notes) }
         ensures rules { (disk : List ℕ)
@@ -39,7 +39,7 @@ impl<D: Device, A: Allocator + Copy> Layers<D, A> {
         Ok(Reply::Destroyed)
     }
 
-    // Pages of a space are mapped to pages of a file, as the act asks.
+    // Maps pages of a space to pages of a file, as the act requests.
     pub(crate) fn map(&mut self, p: ProcessorNumber, act: &Act) -> Result<Reply, Refusal>
         requires { IsMap act.now }
         ensures rules { (disk : List ℕ)

@@ -1,4 +1,4 @@
-// Marks: all stores so far belong to one.
+// Marks, to each of which all stores so far belong.
 ghost use Rattle.std.specs.Prelude.{ℕ, List, ◌≡◌, ◌<◌, length, Some, Ok};
 ghost use Rattle.std.specs.List.{All};
 ghost use Rattle.spaces.specs.declared.change.Change.TheVariants.{Checkpoint};
@@ -17,8 +17,8 @@ use page_entry::ProcessorNumber;
 use std::alloc::Allocator;
 
 impl<D: Device, A: Allocator + Copy> Layers<D, A> {
-    // The lengths, if one was set, and the frozen pages are written out as a batch of the last mark, if there is
-    // anything to write.
+    // Begins to write out a batch of the last mark, if there is anything to write. The batch has the frozen pages, and
+    // the lengths if one was set.
     fn write_out(&mut self)
         requires pages { All (HasHome self.old.table) self.old.checkpoint.frozen }
         requires batch { 0 < length (mark_homes (state_in self.old) self.old.checkpoint.frozen)
@@ -38,8 +38,8 @@ impl<D: Device, A: Allocator + Copy> Layers<D, A> {
     }
 
     // Rule: empty mark
-    // All stores so far belong to the next mark. The dirty pages are gathered, and can't be stored to until their
-    // records are written.
+    // Makes the next mark, to which all stores so far belong. The dirty pages are gathered. Stores can't reach them
+    // until their records are written.
     pub(crate) fn mark(&mut self, p: ProcessorNumber) -> Reply
         requires sound { IsSound (state_in self.old) }
         requires held { HandsOut self.old.shootdown p (Ok (Some Checkpoint)) }

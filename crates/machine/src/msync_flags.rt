@@ -1,11 +1,10 @@
-// The flags with which a commit is asked for.
+// The flags of a request for a commit.
 ghost use Rattle.std.specs.Prelude.{⊤, ◌≡◌, [], ◌∷◌, codes};
 ghost use Rattle.machine.specs.Refusals.{are_of_msync};
 
 use bitflags::{Flag, Flags, bitflag_items};
 
-/// The flags of `msync` (POSIX.1-2024), as bits. Any bits are kept; which of them ask for a commit is the machine's to
-/// judge.
+/// The flags of `msync` (POSIX.1-2024), as bits. Keeps any bits. The machine judges whether they may request a commit.
 #[derive(Clone, Copy, Debug, PartialEq, Eq)]
 pub struct MsyncFlags(u8);
 
@@ -43,7 +42,7 @@ impl Flags for MsyncFlags {
 }
 
 impl MsyncFlags {
-    // Whether a commit may be asked for by these: exactly one of `ASYNC` and `SYNC`, with `INVALIDATE` or without.
+    // Whether these flags may request a commit: exactly one of `ASYNC` and `SYNC`, with or without `INVALIDATE`.
     pub(crate) fn are_of_msync(self) -> bool
         ensures { result ≡ are_of_msync self }
     {

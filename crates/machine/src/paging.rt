@@ -1,4 +1,4 @@
-// Pages of files: their home blocks, and how many of their bytes are the file's.
+// Pages of files: their home blocks, and the number of their bytes that belong to the file.
 ghost use Rattle.std.specs.Prelude.{◌≡◌, ◌↔◌, ◌<◌, length, take, replicate, slice_index_or, IsTrue};
 ghost use Rattle.volume_codec.specs.Super.{block_count, pages_of};
 ghost use Rattle.volume_codec.specs.Text.{padded};
@@ -9,7 +9,7 @@ use page_entry::{FileNumber, FilePage, PAGE};
 use std::alloc::Allocator;
 use volume_codec::Super;
 
-/// How many pages a file of the table has.
+/// Returns the number of pages of a file of the table.
 pub(crate) fn pages_in_file<A: Allocator + Copy>(table: &Super<A>, file: FileNumber) -> u32
     requires { file < length table.now.files }
     ensures { result ≡ pages_in_file table.now.files file }
@@ -17,14 +17,14 @@ pub(crate) fn pages_in_file<A: Allocator + Copy>(table: &Super<A>, file: FileNum
     table.pages(file as usize)
 }
 
-/// How many pages so many bytes take.
+/// Returns the number of pages that this many bytes need.
 pub(crate) fn pages_for(length: u64) -> u64
     ensures { result ≡ pages_of length }
 {
     length / PAGE + u64::from(length % PAGE != 0)
 }
 
-/// The length of a file in bytes, of these lengths.
+/// Returns the length of a file in bytes, from these lengths.
 pub(crate) fn length_at(lengths: &[u64], file: FileNumber) -> u64
     requires { file < length lengths.now }
     ensures { result ≡ slice_index_or lengths.now file 0 }
@@ -32,7 +32,7 @@ pub(crate) fn length_at(lengths: &[u64], file: FileNumber) -> u64
     lengths[file as usize]
 }
 
-/// The home block of a page of a file.
+/// Returns the home block of a page of a file.
 pub(crate) fn home_block<A: Allocator + Copy>(table: &Super<A>, page: FilePage) -> u32
     requires file { page.file < length table.now.files }
     requires page { page.page < pages_in_file table.now.files page.file }
@@ -43,14 +43,13 @@ pub(crate) fn home_block<A: Allocator + Copy>(table: &Super<A>, page: FilePage) 
     table.first_home(page.file as usize) + page.page
 }
 
-// Makes every byte zero.
 fn clear(bytes: &mut [u8])
     ensures { bytes.new ≡ replicate (length bytes.old) 0 }
 {
     bytes.fill(0);
 }
 
-/// Keeps a page's first bytes, and makes those after them zero.
+/// Keeps a page's first `left` bytes, and sets those after them to zero.
 #[tactic(auto, unfolding(volume_codec::specs::Text::zeros))]
 pub(crate) fn cut_off(page: &mut [u8; 4096], left: u64)
     ensures { page.new ≡ padded 4096 (take left page.old) }
@@ -60,7 +59,7 @@ pub(crate) fn cut_off(page: &mut [u8; 4096], left: u64)
     }
 }
 
-/// Whether a page has zeros after its first bytes.
+/// Whether a page has only zeros after its first `left` bytes.
 pub(crate) fn is_cut(page: &[u8; 4096], left: u64) -> bool
     ensures { IsTrue result ↔ (page.now ≡ padded 4096 (take left page.now)) }
 {

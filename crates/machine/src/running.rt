@@ -1,4 +1,4 @@
-// Runs: steps one at a time, and what holds of all of them together.
+// Runs: makes steps one at a time, and states what holds of all of them together.
 ghost use Rattle.std.specs.Prelude.{ℕ, ◌≡◌, ◌≢◌, ◌↔◌, ◌++◌, ◌≤◌, true, false, List, [], ◌∷◌, length, Contains};
 ghost use Rattle.page_entry.specs.declared.numbers.FilePage.{FilePage};
 ghost use Rattle.page_entry.specs.declared.refusal.Refusal.{Refusal};
@@ -26,17 +26,19 @@ use device::Device;
 use std::alloc::Allocator;
 
 impl<D: Device, A: Allocator + Copy> Machine<D, A> {
-    /// A machine as it was booted over a volume at rest is reached by a run that has made no step yet.
+    /// A machine that was just booted over a volume at rest is reached by a run without steps.
     pub fn begin(&self)
         ensures { (files : List File) → Begins D.Device files self.now
             → IsReached D.Device files self.now [] [] self.now }
     {}
 
-    /// One step, for a caller that makes one at a time. Whatever steps led to the machine, from whatever start and over
-    /// whatever device, this one and its reply come after them (`longer`), so that a machine that a run reached is
-    /// reached by a longer one. After a run, a crash within this very step leaves what reads back by the history before
-    /// it, and one after it what reads back by the history with it (`safe`); which of a write-out's files, the old or
-    /// the new ones, its stage says (`stops`).
+    /// Makes one step and returns its reply, for a caller that makes one step at a time. The step and its reply extend
+    /// any steps that led to this machine, from any start and over any device (`longer`). So a machine that a run
+    /// reached is reached by a longer run.
+    ///
+    /// After a run, a crash within this step leaves bytes that read back by the history before it. A crash after the
+    /// step leaves bytes that read back by the history with it (`safe`). The stage of the write-out determines whether
+    /// a crash within the step leaves its old or its new files (`stops`).
     pub fn enter(&mut self, step: &Step) -> Reply
         ensures not_full { result ≢ Reply.Refused Refusal.TraceFull }
         ensures memory { result ≡ Reply.Refused Refusal.OutOfMemory
@@ -57,10 +59,13 @@ impl<D: Device, A: Allocator + Copy> Machine<D, A> {
         self.step(step)
     }
 
-    /// After a run: each reply is by the rules, and a crash at any moment of any step, and after it, leaves what
-    /// recovers to the files after a durable prefix of the history up to that moment (`headline`), as does what a crash
-    /// leaves now (`left`); loads, stores and faults are answered by what was observed before them (`lawful`); and a
-    /// fault that is served is served, so that the access that follows it at once answers (`served`).
+    /// States the laws of a run, once it has led to this machine:
+    ///
+    /// - `headline`: Each reply obeys the rules. A crash at any moment of any step, or after it, leaves bytes that
+    ///   recover to the files after a durable prefix. It is a prefix of the history up to that moment.
+    /// - `lawful`: Loads, stores and faults are answered by what was observed before them.
+    /// - `left`: A crash now leaves bytes that recover to the files after a durable prefix of the history.
+    /// - `served`: A fault that was served is really served. An access to its page that follows at once is answered.
     pub fn keeps_the_laws(&self)
         ensures headline { (files : List File) (start : Whole D) (steps : List Step) (replies : List Reply)
             → IsReached D.Device files start steps replies self.now
@@ -76,10 +81,17 @@ impl<D: Device, A: Allocator + Copy> Machine<D, A> {
             → FaultsAreServed steps replies }
     {}
 
-    /// After a run, by the write-out of the mark that isn't committed, or if there is none by the oldest: until the
-    /// step that writes its gate begins, a crash leaves what recovers to the files after a durable prefix of the
-    /// history without its mark; until the mark is committed, to these or to those with it; and from then on to those
-    /// with it. (Of a crash within a step `enter` says so.)
+    /// States what a crash leaves after a run. Consider the write-out of the mark that isn't committed, or else the
+    /// oldest write-out. A durable prefix without its mark gives the old files, and a durable prefix with it the new
+    /// files.
+    ///
+    /// - Until the step that writes its gate begins, a crash leaves the old files.
+    /// - From then on until the mark is committed, a crash leaves the old or the new files.
+    /// - Once the mark is committed, a crash leaves the new files.
+    /// - If there is no write-out, a crash leaves the files at the last acknowledged mark.
+    /// - If a device call failed, the same holds as within the step that failed.
+    ///
+    /// For a crash within a step, see `enter`.
     pub fn commits_at_once(&self)
         ensures { (files : List File) (start : Whole D) (steps : List Step) (replies : List Reply) (c : List ℕ)
             → IsReached D.Device files start steps replies self.now → D.may_leave self.now.device c
@@ -87,17 +99,17 @@ impl<D: Device, A: Allocator + Copy> Machine<D, A> {
             self.now.state.write_outs c }
     {}
 
-    /// After a run, no store reaches a page that was gathered by a mark until its record is written, its
-    /// bytes are copied, or a device call of a write-out has failed.
+    /// After a run, stores can't reach a page that a mark gathered until one of these happens: its record is written,
+    /// its bytes are copied, or a device call of a write-out fails.
     pub fn protects_frozen_pages(&self)
         ensures { (files : List File) (start : Whole D) (steps : List Step) (replies : List Reply)
             → IsReached D.Device files start steps replies self.now
             → AreFrozenProtected self.now.state }
     {}
 
-    /// After a run, each page of a file, in memory or not, that a mark doesn't gather: whatever of the device
-    /// a crash leaves recovers to contents that have, up to the file's end, the bytes that the page has after the
-    /// history (`kept`). A page in memory has these bytes in its frame (`framed`).
+    /// After a run, consider a page of a file that a mark doesn't gather, in memory or not. Each crash state of the
+    /// device recovers to contents with the page's bytes after the history, up to the file's end (`kept`). If a page is
+    /// in memory, its frame contains these bytes (`framed`).
     pub fn keeps_other_pages(&self)
         ensures kept { (files : List File) (start : Whole D) (steps : List Step) (replies : List Reply)
             (p number : ℕ) (new : State) (mark : MarkMade self.now.state p number new) (owner : FilePage) (c : List ℕ)
@@ -115,9 +127,10 @@ impl<D: Device, A: Allocator + Copy> Machine<D, A> {
             (observe_all (observed_first files start.state) steps replies).history owner.file owner.page) }
     {}
 
-    /// After a run, the pages that a mark gathers are those that a store or a growth of their file touched
-    /// since the mark before it, or since the start, and that begin before their file's end, and no other (`pages`).
-    /// It writes nothing exactly where the history has no store and no change of a length since then (`nothing`).
+    /// After a run, a mark gathers the pages that a store or a growth of their file touched since the previous mark.
+    /// Before the first mark, since the start. The pages must begin before their file's end, and it gathers no others
+    /// (`pages`). A mark writes nothing exactly if the history has no store and no change of a length since then
+    /// (`nothing`).
     pub fn gathers_what_was_stored(&self)
         ensures pages { (files : List File) (start : Whole D) (steps : List Step) (replies : List Reply)
             (p number : ℕ) (new : State) (mark : MarkMade self.now.state p number new) (owner : FilePage)
@@ -131,16 +144,16 @@ impl<D: Device, A: Allocator + Copy> Machine<D, A> {
             (observe_all (observed_first files start.state) steps replies).history ≡ false) }
     {}
 
-    /// Makes the steps one after the other, and puts each one's reply into its place.
+    /// Makes the steps in order, and stores the reply of each at its place.
     ///
-    /// On a machine as it was booted over a volume at rest, on an honest device: each reply is by the rules
-    /// (`headline`) and by what was observed before it (`lawful`, `served`); and whatever the steps are, also where
-    /// device calls fail, a crash at any moment of any step, and after it, leaves what recovers to the files after a
-    /// durable prefix of the history up to that moment (`headline`).
+    /// Let the machine be just booted over a volume at rest, on an honest device. Then each reply obeys the rules
+    /// (`headline`) and what was observed before it (`lawful`, `served`). A crash at any moment of any step, or after
+    /// it, leaves bytes that recover to the files after a durable prefix. It is a prefix of the history up to that
+    /// moment (`headline`). This holds for any steps, even if device calls fail.
     pub fn run(&mut self, steps: &[Step], replies: &mut [Reply])
         requires { length replies.old ≡ length steps.now }
         ensures sized { length replies.new ≡ length steps.now }
-        // Over any device.
+        // These hold over any device.
         ensures taken { StepsTaken D.Device self.old steps.now replies.new self.new }
         ensures honest { D.is_honest self.new.device ↔ D.is_honest self.old.device }
         ensures len { length (D.seen self.new.device) ≡ length (D.seen self.old.device) }
@@ -151,7 +164,7 @@ impl<D: Device, A: Allocator + Copy> Machine<D, A> {
             → EachStep (IsLawful files) (observed_first files self.old.state) steps.now replies.new }
         ensures served { (files : List File) → Begins D.Device files self.old
             → FaultsAreServed steps.now replies.new }
-        // Also in the middle of a run.
+        // This also holds in the middle of a run.
         ensures longer { (start : Whole D) (earlier : List Step) (replied : List Reply)
             → StepsTaken D.Device start earlier replied self.old
             → StepsTaken D.Device start (earlier ++ steps.now) (replied ++ replies.new) self.new }

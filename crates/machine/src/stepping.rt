@@ -1,4 +1,4 @@
-// One act of the layers.
+// Makes one act of the layers.
 ghost use Rattle.machine.specs.inside.Layers.{reply_to, AreLayers};
 ghost use Rattle.machine.specs.inside.Acting.{ActDone};
 
@@ -9,7 +9,7 @@ use page_entry::{FilePage, Refusal};
 use std::alloc::Allocator;
 
 impl<D: Device, A: Allocator + Copy> Layers<D, A> {
-    // One act of one processor.
+    // Makes one act of one processor.
     pub(crate) fn act(&mut self, step: &Step) -> Result<Reply, Refusal>
         requires { AreLayers D.seen self.old }
         ensures { ActDone D.Device self.old step.now (reply_to result) self.new }

@@ -10,7 +10,7 @@ use page_entry::{Pcid, ProcessorNumber, Refusal};
 use std::alloc::Allocator;
 
 impl<D: Device, A: Allocator + Copy> Layers<D, A> {
-    // Another space becomes the current one.
+    // Makes another space the current one.
     pub(crate) fn switch(
         &mut self,
         p: ProcessorNumber,
@@ -23,28 +23,28 @@ impl<D: Device, A: Allocator + Copy> Layers<D, A> {
         Ok(Reply::Switched)
     }
 
-    // An interrupted processor stalls.
+    // Stalls an interrupted processor.
     pub(crate) fn acknowledge(&mut self, p: ProcessorNumber) -> Result<Reply, Refusal>
         ensures { IsAnsweredQuietly self.old p Ack (reply_to result) self.new }
     {
         Ok(reply_if(self.shootdown.ack(p)?, Reply::Acked))
     }
 
-    // A stalled processor goes on.
+    // Resumes a stalled processor.
     pub(crate) fn resume(&mut self, p: ProcessorNumber) -> Result<Reply, Refusal>
         ensures { IsAnsweredQuietly self.old p Resume (reply_to result) self.new }
     {
         Ok(reply_if(self.shootdown.resume(p)?, Reply::Resumed))
     }
 
-    // An idle processor wakes.
+    // Wakes an idle processor.
     pub(crate) fn wake(&mut self, p: ProcessorNumber) -> Result<Reply, Refusal>
         ensures { IsAnsweredQuietly self.old p Wake (reply_to result) self.new }
     {
         Ok(reply_if(self.shootdown.wake(p)?, Reply::Woken))
     }
 
-    // A processor goes to sleep.
+    // Puts a processor to sleep.
     pub(crate) fn idle(&mut self, p: ProcessorNumber) -> Result<Reply, Refusal>
         ensures { IsAnsweredQuietly self.old p Idle (reply_to result) self.new }
     {

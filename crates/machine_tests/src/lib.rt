@@ -1,5 +1,6 @@
-//! What no reply of a run says of a machine: its processors' states, whether it is as it was booted, that it can be
-//! sent to a thread, steps that are made at once, how much memory it takes, and what it does where memory is refused.
+//! Tests of a machine that replies can't show. They check its processors' states, whether it is as it was booted, and
+//! that it can be sent to a thread. They check steps made at once, its memory use, and its behaviour when memory is
+//! refused.
 #![tactic(auto)]
 
 #[cfg(test)]

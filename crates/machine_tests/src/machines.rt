@@ -1,5 +1,5 @@
-// Machines over the files `a` of 5,000 bytes and `b` of 4,096 in layout 1. What their steps are answered is in the runs
-// as text of the same names.
+// Machines over the files `a` of 5,000 bytes and `b` of 4,096 bytes in layout 1. The runs as text of the same names
+// have the replies to their steps.
 use device::{Device, MemDisk};
 use machine::{Act, FewBytes, Machine, MsyncFlags, Reply, Shape, Step};
 use mappings::Rights;
@@ -22,7 +22,7 @@ const TWO: Shape = Shape {
     copies: 2,
 };
 
-// A volume of zeros, opened.
+// Opens a volume of zeros.
 fn volume<R: Abort + AllocGlobal>(rt: &R) -> Volume<Disk, Global> {
     let mut disk = MemDisk::new(rt.alloc(), 40_960).expect(rt, "a disk");
     format_as(rt.alloc(), &mut disk, 1, &SPECS, 4).expect(rt, "a volume");
@@ -32,7 +32,7 @@ fn volume<R: Abort + AllocGlobal>(rt: &R) -> Volume<Disk, Global> {
     }
 }
 
-// A machine of two processors over it.
+// Boots a machine with two processors over this volume.
 fn booted<R: Abort + AllocGlobal>(rt: &R) -> Trial {
     match Machine::boot(rt.alloc(), volume(rt), TWO) {
         Ok(machine) => machine,
@@ -40,12 +40,12 @@ fn booted<R: Abort + AllocGlobal>(rt: &R) -> Trial {
     }
 }
 
-// The reply to an act of a processor.
+// Makes an act of a processor, and returns the reply.
 fn reply_to(machine: &mut Trial, p: ProcessorNumber, act: Act) -> Reply {
     machine.step(&Step { p, act })
 }
 
-// A commit of nothing that is asked for.
+// A request to commit no bytes.
 const MSYNC: Act = Act::Msync {
     va: 0,
     len: 0,
@@ -62,7 +62,7 @@ fn has_two(machine: &Trial) -> bool {
     machine.processors() == 2 && machine.state(2) == Err(Refusal::Einval)
 }
 
-// Makes each step, after which the processors have to be in its states.
+// Makes each step, and checks the states of the processors after it.
 fn tell_states<R: Abort>(rt: &R, machine: &mut Trial) {
     for (p, act, wanted, states) in [
         (
@@ -107,7 +107,7 @@ fn tell_states<R: Abort>(rt: &R, machine: &mut Trial) {
     }
 }
 
-// A processor tells its state.
+// Checks the reported states of the processors.
 #[test]
 fn processors_tell_their_states(rt: HostRuntime) {
     let mut machine = booted(&rt);
@@ -149,7 +149,7 @@ fn store(bytes: FewBytes) -> Step {
     }
 }
 
-// A space that maps that page, and a store that faults, is served and is made.
+// Returns these steps: make a space that maps this page, store with a fault, serve the fault, and store again.
 fn steps_of_a_store(bytes: FewBytes) -> [Step; 6] {
     [
         by_first(Act::Create),
@@ -170,19 +170,19 @@ const REPLIES: [Reply; 6] = [
     Reply::Stored,
 ];
 
-// The replies to these steps at once.
+// Makes these steps at once, and returns the replies.
 fn run_at_once(machine: &mut Trial, steps: &[Step; 6]) -> [Reply; 6] {
     let mut replies = [Reply::Nothing; 6];
     machine.run(steps, &mut replies);
     replies
 }
 
-// Whether a machine answers these steps at once as one by one, and a step after them.
+// Whether a machine answers these steps at once as it answers them one by one, and then makes another step.
 fn is_made_at_once(machine: &mut Trial, steps: &[Step; 6]) -> bool {
     run_at_once(machine, steps) == REPLIES && reply_to(machine, 0, Act::Create) == Reply::Space(2)
 }
 
-// A run of steps at once is answered as they are one by one.
+// Checks that steps made at once are answered as they are one by one.
 #[test]
 fn steps_are_made_at_once(rt: HostRuntime) {
     let steps = steps_of_a_store(FewBytes::new(&[65]).expect(&rt, "a byte"));
@@ -191,10 +191,10 @@ fn steps_are_made_at_once(rt: HostRuntime) {
     let _disk = machine.into_device();
 }
 
-// Only what can be sent to a thread can be given to this.
+// Accepts only a value that can be sent to a thread.
 fn sends<T: Send>(_sent: &T) {}
 
-// Whether a machine has two processors, and can be sent.
+// Whether a machine has two processors, and can be sent to a thread.
 fn can_be_sent(machine: &Trial) -> bool {
     sends(machine);
     machine.processors() == 2
@@ -207,7 +207,7 @@ fn a_machine_can_be_sent_to_a_thread(rt: HostRuntime) {
     let _disk = machine.into_device();
 }
 
-// Steps that leave a machine as it was booted: each of them is refused, or finds nothing to do.
+// Steps that leave a machine as it was booted: each is refused, or has nothing to do.
 const FRESH: [Act; 6] = [
     Act::Load { va: 4096, count: 1 },
     Act::Fix {
@@ -220,7 +220,7 @@ const FRESH: [Act; 6] = [
     Act::Evict { slot: 0 },
 ];
 
-// Whether a machine is as it was booted after steps that leave it so, and then these.
+// Whether a machine is as it was booted, after the steps in `FRESH` and then these.
 fn is_fresh_after<R: Abort + AllocGlobal>(rt: &R, steps: &[(ProcessorNumber, Act)]) -> bool {
     let mut machine = booted(rt);
     for act in FRESH {
@@ -234,7 +234,7 @@ fn is_fresh_after<R: Abort + AllocGlobal>(rt: &R, steps: &[(ProcessorNumber, Act
     fresh
 }
 
-// A machine tells whether it is as it was booted.
+// Checks that a machine reports whether it is as it was booted.
 #[test]
 fn a_machine_is_fresh_until_a_mark(rt: HostRuntime) {
     assert!(rt; is_fresh_after(&rt, &[]));

@@ -1,5 +1,5 @@
-// How much memory a machine takes, and what it answers where memory is refused, by an allocator that counts and
-// refuses.
+// Tests how much memory a machine takes, and its replies when memory is refused. The allocator counts requests and
+// refuses some.
 use counting_alloc::CountingAllocator;
 use device::MemDisk;
 use machine::{Act, Machine, Reply, Shape, Step};
@@ -30,14 +30,14 @@ const TWO: Shape = Shape {
     copies: 2,
 };
 
-// A disk with a volume of zeros, whose memory isn't counted.
+// Makes a disk with a volume of zeros. Its memory isn't counted.
 fn formatted<R: Abort + AllocGlobal>(rt: &R) -> Disk {
     let mut disk = MemDisk::new(rt.alloc(), 40_960).expect(rt, "a disk");
     format_as(rt.alloc(), &mut disk, 1, &SPECS, 4).expect(rt, "a volume");
     disk
 }
 
-// The volume on it, opened with memory that is counted.
+// Opens the volume on this disk, with memory that is counted.
 fn volume<'a, R: Abort + AllocGlobal>(rt: &R, alloc: &'a Counting) -> Volume<Disk, &'a Counting> {
     match open(alloc, formatted(rt)) {
         Ok(volume) => volume,
@@ -45,7 +45,7 @@ fn volume<'a, R: Abort + AllocGlobal>(rt: &R, alloc: &'a Counting) -> Volume<Dis
     }
 }
 
-// A machine over it, whose memory is counted.
+// Boots a machine over this volume, with memory that is counted.
 fn booted<'a, R: Abort + AllocGlobal>(rt: &R, alloc: &'a Counting) -> Trial<'a> {
     match Machine::boot(alloc, volume(rt, alloc), TWO) {
         Ok(machine) => machine,
@@ -53,12 +53,12 @@ fn booted<'a, R: Abort + AllocGlobal>(rt: &R, alloc: &'a Counting) -> Trial<'a> 
     }
 }
 
-// The reply to an act of a processor.
+// Makes an act of a processor, and returns the reply.
 fn reply_to(machine: &mut Trial, p: ProcessorNumber, act: Act) -> Reply {
     machine.step(&Step { p, act })
 }
 
-// A mapping of so many pages of file 0 to a space from an address on.
+// Returns an act that maps `pages` pages of file 0 to a space from an address on.
 fn map(space: Pcid, va: u64, pages: u32) -> Act {
     Act::Map {
         space,
@@ -77,8 +77,8 @@ fn makes_space(machine: &mut Trial, space: Pcid) -> bool {
         && reply_to(machine, 0, map(space, 4096, 4)) == Reply::Mapped
 }
 
-// Each of 4,095 spaces, with a mapping of 4 pages, takes 4 nodes of its table and little more. The first node is asked
-// for twice: it moves when the table first grows.
+// Each of 4,095 spaces with a mapping of 4 pages takes 4 nodes of its table and little more. The first node is
+// requested twice, because it moves when the table first grows.
 #[test]
 fn a_machine_with_all_spaces_takes_under_80_megabytes(rt: HostRuntime) {
     let alloc = Counting::new(rt.alloc());
@@ -95,7 +95,7 @@ fn a_machine_with_all_spaces_takes_under_80_megabytes(rt: HostRuntime) {
     assert!(rt; alloc.held() == 0);
 }
 
-// The bytes that a mapping of 65,536 pages from an address on asks for, holds, and holds at most.
+// For a mapping of 65,536 pages from an address on: the bytes requested, the bytes held, and the most bytes held.
 fn bytes_of_a_large_mapping<R: Abort + AllocGlobal>(rt: &R, va: u64) -> [u64; 3] {
     let alloc = Counting::new(rt.alloc());
     let mut machine = booted(rt, &alloc);
@@ -121,7 +121,7 @@ fn a_mapping_of_65536_pages_takes_under_1200_kilobytes(rt: HostRuntime) {
     }
 }
 
-// Opens the volume on a disk and boots a machine over it, if both are granted their memory, and hands the disk back.
+// Opens the volume on a disk, boots a machine over it, and returns the disk. Either may be refused memory.
 fn boots(alloc: &Counting, disk: Disk) -> (Result<(), Refusal>, Disk) {
     match open(alloc, disk) {
         Ok(volume) => boots_over(alloc, volume),
@@ -139,7 +139,8 @@ fn boots_over<'a>(
     }
 }
 
-// Boots where the `n`th request for memory is refused, and if it was made, at once again. Answers whether it was.
+// Boots with the `n`th request for memory refused. If there was such a request, boots again at once. Returns whether
+// there was.
 fn is_refused_to_boot(rt: &impl Abort, alloc: &Counting, disk: Disk, n: u64) -> (bool, Disk) {
     alloc.restart();
     alloc.refuse_nth(n);
@@ -154,7 +155,7 @@ fn is_refused_to_boot(rt: &impl Abort, alloc: &Counting, disk: Disk, n: u64) -> 
     (true, disk)
 }
 
-// A volume is opened, and a machine booted over it, by 29 requests for memory. Each of them is refused once.
+// Opening a volume and booting a machine over it makes 29 requests for memory. Each of them is refused once.
 #[test]
 fn a_refused_boot_can_be_made_at_once(rt: HostRuntime) {
     let alloc = Counting::new(rt.alloc());
@@ -176,7 +177,7 @@ fn descriptor() -> [u8; 4096] {
     block
 }
 
-// A super block is written; it is read, too; or a descriptor is read after that.
+// Writes a super block. For `which` = 1, also reads it. For `which` = 2, also reads a descriptor after that.
 fn codes(alloc: &Counting, which: u8) -> Result<(), Refusal> {
     let files = [("a", 5000), ("b", 4096)];
     let block = write_super(alloc, &files, 4)?;
@@ -191,7 +192,8 @@ fn codes(alloc: &Counting, which: u8) -> Result<(), Refusal> {
     Ok(())
 }
 
-// How many requests for memory that makes, where each of them is refused once, and then it succeeds at once.
+// Returns the number of requests for memory that `codes` makes. Each of them is refused once, and then `codes` succeeds
+// at once.
 fn requests_to_code(rt: &impl Abort, alloc: &Counting, which: u8) -> u64 {
     for n in 1..99 {
         alloc.restart();

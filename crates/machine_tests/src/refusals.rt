@@ -1,5 +1,5 @@
-// A machine over the disk of a file, which takes no memory itself: which acts ask for memory, and how often; and what
-// comes of a run in which one of these requests is refused, for each of them.
+// Tests of a machine over the disk of a file, which takes no memory itself. They check which acts request memory, and
+// how often. They also check the result of a run for each request that may be refused.
 use counting_alloc::CountingAllocator;
 use device::{Device, FileDisk, MemDisk};
 use machine::{Act, Machine, Reply, Shape, Step};
@@ -14,7 +14,7 @@ use std::process::Abort;
 use std::rt::Files;
 use volume_codec::FileSpec;
 
-// What the tests ask of the runtime.
+// What the tests need from the runtime.
 trait Host: Files<File = File> + AllocGlobal + Abort {}
 
 impl<R: Files<File = File> + AllocGlobal + Abort> Host for R {}
@@ -25,8 +25,8 @@ type Disk = FileDisk<File>;
 
 type Trial<'a> = Machine<Disk, &'a Counting>;
 
-// A line of the scripts below: a step, what it is answered where memory is ample, how often it is made, and how many
-// requests for memory it makes. It is made once, and makes none, where the line has no number of either.
+// A line of the scripts below: a step, its reply when memory is ample, the number of times it is made, and the number
+// of its requests for memory. The defaults are once and no requests.
 #[derive(Clone, Copy)]
 struct Row<'a> {
     step: &'a str,
@@ -48,14 +48,14 @@ impl<'a> Row<'a> {
     }
 }
 
-// The number that stands before a word, if a text is both.
+// Returns the number before a word, if the text contains the word.
 fn number_before<R: Host>(rt: &R, text: &str, word: &str) -> Option<u64> {
     let (number, _) = text.split_once(word)?;
     Some(number.parse().ok().expect(rt, "a number"))
 }
 
-// A commit of what both processors stored, the second one also after it was interrupted, until it is done; holes in a
-// mapping, and in the rights of another; a second space, and each act that takes no memory.
+// A commit of stores by both processors, until it is done. The second processor also stores after it was interrupted.
+// Then holes in a mapping, and in the rights of another; a second space; and each act that takes no memory.
 const LAYOUT_ONE: &str = r#"[0,"create"] -> space 1, 3 requests
 [0,"map",1,4096,12288,0,0,"rw","rw"] -> mapped, 3 requests
 [0,"map",1,16384,4096,1,0,"rw","rw"] -> mapped
@@ -105,8 +105,8 @@ const LAYOUT_ONE: &str = r#"[0,"create"] -> space 1, 3 requests
 [0,"setlength",0,5000] -> einval
 [0,"create"] -> space 2, 3 requests"#;
 
-// Four mappings of three pages, the first of which an unmap splits; three far apart; a protect that splits the second;
-// one more beside them; spaces until their list grows; and an unmap that takes the end of a mapping away.
+// Four mappings of three pages, of which an unmap splits the first. Three mappings far apart. A protect that splits the
+// second mapping, and one more mapping beside them. Spaces until their list grows. An unmap of the end of a mapping.
 const SPLITS: &str = r#"[0,"create"] -> space 1, 3 requests
 [0,"map",1,4096,12288,0,0,"rw","rw"] -> mapped, 3 requests
 [0,"map",1,20480,12288,0,0,"rw","rw"] -> mapped
@@ -127,7 +127,7 @@ const SPLITS: &str = r#"[0,"create"] -> space 1, 3 requests
 [0,"unmap",1,61440,4096] -> begun
 [0,"change"] -> unmapped"#;
 
-// A file grows by a page, and is cut again; the commit in between has its length and its pages.
+// A file grows by a page, and shrinks again. The commit in between contains its length and its pages.
 const LAYOUT_THREE: &str = r#"[0,"create"] -> space 1, 3 requests
 [0,"map",1,4096,12288,0,0,"rw","rw"] -> mapped, 3 requests
 [0,"switch",1,"drop"] -> switched
@@ -155,8 +155,8 @@ const LAYOUT_THREE: &str = r#"[0,"create"] -> space 1, 3 requests
 [0,"change"] -> resized
 [1,"resume"] -> resumed"#;
 
-// A run: the volume's layout, the capacity of its file `a` and its bytes; the machine's frames; the steps; and how many
-// device calls they make with those of the opening.
+// A run: the volume's layout, the capacity and the bytes of its file `a`, the machine's frames, and the steps. `calls`
+// is the number of device calls of the opening and the steps.
 #[derive(Clone, Copy)]
 struct Run {
     layout: u64,
@@ -195,7 +195,7 @@ const THIRD: Run = Run {
 };
 
 impl Run {
-    // The bytes of its volume, which has files of zeros.
+    // Returns the bytes of the run's volume, which has files of zeros.
     fn image<R: Host>(&self, rt: &R) -> Vec<u8> {
         let specs = [
             FileSpec {
@@ -224,7 +224,7 @@ impl Run {
         }
     }
 
-    // How many requests for memory all its steps make; those that are made often make none.
+    // Returns the number of requests for memory of all steps. A step that is made several times makes none.
     fn requests<R: Host>(&self, rt: &R) -> u64 {
         let mut sum: u64 = 0;
         for line in self.steps.lines() {
@@ -233,8 +233,8 @@ impl Run {
         sum
     }
 
-    // Makes its steps on a file with these bytes, where the request of this number is refused, if it isn't 0, and
-    // gives the bytes that are left.
+    // Makes the steps on a file with these bytes, and returns the file's bytes afterwards. Refuses the request of this
+    // number, unless it is 0.
     fn left<R: Host>(&self, rt: &R, path: &str, image: &[u8], refused: u64) -> Vec<u8> {
         let alloc = Counting::new(rt.alloc());
         let volume = opened(rt, &alloc, disk_over(rt, path, image));
@@ -251,7 +251,8 @@ impl Run {
         fs::read(rt, path).ok().expect(rt, "the file")
     }
 
-    // Refuses each request in turn: all replies but one, and all bytes, are as where memory is ample. Gives the bytes.
+    // Refuses each request in turn, and returns the file's bytes. All bytes, and all replies but one, must be as with
+    // ample memory.
     fn refuse_each<R: Host>(&self, rt: &R, path: &str) -> Vec<u8> {
         let image = self.image(rt);
         let ample = self.left(rt, path, &image, 0);
@@ -264,7 +265,7 @@ impl Run {
     }
 }
 
-// A disk over the file at a path, to which these bytes are written first.
+// Writes these bytes to the file at a path, and returns a disk over the file.
 fn disk_over<R: Host>(rt: &R, path: &str, image: &[u8]) -> Disk {
     assert!(rt; fs::write(rt, path, image).is_ok());
     let file = OpenOptions::new()
@@ -279,7 +280,7 @@ fn disk_over<R: Host>(rt: &R, path: &str, image: &[u8]) -> Disk {
     }
 }
 
-// The volume on it, opened with memory that is counted.
+// Opens the volume on this disk, with memory that is counted.
 fn opened<'a, R: Host>(rt: &R, alloc: &'a Counting, disk: Disk) -> Volume<Disk, &'a Counting> {
     match open(alloc, disk) {
         Ok(volume) => volume,
@@ -287,7 +288,7 @@ fn opened<'a, R: Host>(rt: &R, alloc: &'a Counting, disk: Disk) -> Volume<Disk, 
     }
 }
 
-// A machine over it, whose memory is counted.
+// Boots a machine over this volume, with memory that is counted.
 fn booted<'a, R: Host>(
     rt: &R,
     alloc: &'a Counting,
@@ -300,7 +301,7 @@ fn booted<'a, R: Host>(
     }
 }
 
-// The step that a text is.
+// Reads a step from its text.
 fn step_of<R: Host>(rt: &R, text: &str) -> Step {
     let Ok(value) = parsed(rt.alloc(), text) else {
         panic!(rt; "{text}");
@@ -311,18 +312,18 @@ fn step_of<R: Host>(rt: &R, text: &str) -> Step {
     }
 }
 
-// Whether a reply is printed so.
+// Whether a reply is printed as this text.
 fn is_printed<R: Host>(rt: &R, reply: &Reply, wanted: &str) -> bool {
     let printed = format!(in rt.alloc(); "{reply}").expect(rt, "memory");
     printed.as_str() == wanted
 }
 
-// What both processors are doing.
+// Returns the states of both processors.
 fn states(machine: &Trial) -> [Result<ProcState, Refusal>; 2] {
     [machine.state(0), machine.state(1)]
 }
 
-// Makes a step, again where its request was refused, and compares what it is answered.
+// Makes a step, and once more if its request was refused. Checks the reply.
 fn make<R: Host>(rt: &R, alloc: &Counting, machine: &mut Trial, row: Row) {
     let text = row.step;
     let step = step_of(rt, text);
@@ -344,7 +345,7 @@ fn make<R: Host>(rt: &R, alloc: &Counting, machine: &mut Trial, row: Row) {
     assert!(rt; is_printed(rt, &reply, row.wanted), "{text}: {reply}");
 }
 
-// Makes each step as often as its line wants.
+// Makes each step the number of times in its line.
 fn make_all<R: Host>(rt: &R, alloc: &Counting, machine: &mut Trial, steps: &str) {
     for line in steps.lines() {
         let row = Row::read(rt, line);
@@ -354,12 +355,12 @@ fn make_all<R: Host>(rt: &R, alloc: &Counting, machine: &mut Trial, steps: &str)
     }
 }
 
-// The reply to a step.
+// Makes a step, and returns the reply.
 fn reply_to(machine: &mut Trial, step: &Step) -> Reply {
     machine.step(step)
 }
 
-// Whether no change is under way. Where one is, another processor is told that the lock is held.
+// Whether no change is under way. Otherwise another processor is refused, because the lock is held.
 fn is_unlocked(machine: &mut Trial) -> bool {
     let change = Step {
         p: 1,
@@ -368,7 +369,7 @@ fn is_unlocked(machine: &mut Trial) -> bool {
     reply_to(machine, &change) == Reply::Nothing
 }
 
-// The length of the first file of a volume with these bytes, and the file's first bytes.
+// Returns the length of the first file of a volume with these bytes, and the file's first bytes.
 fn first_file<R: Host>(rt: &R, bytes: Vec<u8>) -> (u64, [u8; 3]) {
     let disk = MemDisk::from_bytes(rt.alloc(), bytes).expect(rt, "memory");
     let Ok(mut volume) = open(rt.alloc(), disk) else {
@@ -385,14 +386,14 @@ fn first_file<R: Host>(rt: &R, bytes: Vec<u8>) -> (u64, [u8; 3]) {
     (length, first)
 }
 
-// The commit has what was stored before the other processor stalled.
+// The commit contains the stores made before the other processor stalled.
 #[test]
 fn a_commit_and_splits_are_refused_memory(rt: HostRuntime) {
     let left = FIRST.refuse_each(&rt, "a_commit_and_splits_are_refused_memory");
     assert!(rt; first_file(&rt, left) == (5000, [65, 66, 0]));
 }
 
-// Nothing is stored where mappings are split.
+// This run splits mappings, and stores nothing.
 #[test]
 fn splits_of_mappings_are_refused_memory(rt: HostRuntime) {
     let left = SPLIT.refuse_each(&rt, "splits_of_mappings_are_refused_memory");

@@ -12,7 +12,8 @@ use page_entry::PageNumber;
 use std::alloc::Allocator;
 use std::ops::Range;
 
-/// How many mappings end at the page or before it: the place of the first one that ends after it.
+/// Returns the number of mappings that end at the page or before it. This is the place of the first mapping that ends
+/// after the page.
 pub(crate) fn first_after(list: &[Mapping], page: PageNumber) -> usize
     requires { IsOrdered 0 list.now }
     ensures { IsFirstAfter list.now page result }
@@ -20,8 +21,8 @@ pub(crate) fn first_after(list: &[Mapping], page: PageNumber) -> usize
     list.partition_point(|mapping| mapping.end <= page)
 }
 
-/// The places of the mappings that end after the range begins and begin before it ends: those that have pages of it,
-/// unless it is empty.
+/// Returns the places of the mappings that end after the range begins, and begin before it ends. Unless the range is
+/// empty, these are the mappings with pages in it.
 pub(crate) fn meeting(list: &[Mapping], range: PageRange) -> Range<usize>
     requires { IsOrdered 0 list.now }
     ensures { IsMeeting list.now range.first (range.first + range.count) result.start result.end }
@@ -31,7 +32,7 @@ pub(crate) fn meeting(list: &[Mapping], range: PageRange) -> Range<usize>
     from..to.max(from)
 }
 
-/// The mapping that has pages on both sides of the page's begin, if there is one.
+/// Returns the mapping with pages on both sides of the page's beginning, if there is one.
 pub(crate) fn inside(list: &[Mapping], page: PageNumber) -> Option<Mapping>
     requires { IsKept list.now }
     ensures found { IfSome result (λ mapping. IsAround list.now page mapping) }
@@ -49,7 +50,7 @@ pub(crate) fn inside(list: &[Mapping], page: PageNumber) -> Option<Mapping>
     }
 }
 
-/// Whether one mapping has the range, the page before it and the page after it.
+/// Whether one mapping contains the range, the page before it and the page after it.
 pub(crate) fn is_within(list: &[Mapping], range: PageRange) -> bool
     requires { IsKept list.now }
     ensures { result ≡ is_within (places_of list.now) range.first range.count }
@@ -86,8 +87,8 @@ pub(crate) fn any_forbids(list: &[Mapping], rights: Rights) -> bool
         .any(|mapping| !mapping.place.access.allows(rights))
 }
 
-// The pages of the mapping that has pages on both sides of the page's begin, if it has the rights; else none, at the
-// page.
+// Returns the pages of the mapping with pages on both sides of the page's beginning, if it has these rights. Otherwise
+// returns an empty range at the page.
 fn pages_around(list: &[Mapping], page: PageNumber, rights: Rights) -> Range<PageNumber>
     requires { IsKept list.now }
     ensures { HaveRightsAround list.now page rights result.start result.end }
@@ -98,7 +99,7 @@ fn pages_around(list: &[Mapping], page: PageNumber, rights: Rights) -> Range<Pag
     }
 }
 
-/// The range with all pages of the mappings at its ends that have the rights already.
+/// Returns the range, extended by all pages of the mappings at its ends that have the rights already.
 pub(crate) fn widened(list: &[Mapping], range: PageRange, rights: Rights) -> PageRange
     requires kept { IsKept list.now }
     requires fits { range.first + range.count < 2 ^ 64 }
@@ -112,8 +113,7 @@ pub(crate) fn widened(list: &[Mapping], range: PageRange, rights: Rights) -> Pag
     }
 }
 
-// Splits the mapping that has pages on both sides of the page's begin, if there is one, into the part before and the
-// part from the page on. It takes no memory.
+// Splits the mapping with pages on both sides of the page's beginning, if there is one, at this page. Takes no memory.
 fn split<A: Allocator>(list: &mut Vec<Mapping, A>, page: PageNumber)
     requires ordered { IsOrdered 0 list.old.items }
     requires room { length (split_at page list.old.items) ≤ vec_capacity list.old }
@@ -133,7 +133,7 @@ fn split<A: Allocator>(list: &mut Vec<Mapping, A>, page: PageNumber)
     }
 }
 
-/// Splits the mappings that the ends of the range are within, so that each lies within the range or outside. It takes
+/// Splits the mappings that contain an end of the range, so that each mapping lies within the range or outside. Takes
 /// no memory.
 pub(crate) fn split_ends<A: Allocator>(list: &mut Vec<Mapping, A>, range: PageRange)
     requires kept { IsKept list.old.items }
@@ -156,7 +156,7 @@ pub(crate) fn remove_range<A: Allocator>(list: &mut Vec<Mapping, A>, places: Ran
     list.drain(places);
 }
 
-// Puts a mapping at a place, if there is one. It takes no memory.
+// Inserts the mapping at a place, if there is one. Takes no memory.
 fn put<A: Allocator>(list: &mut Vec<Mapping, A>, at: usize, mapping: Option<Mapping>)
     requires within { at ≤ vec_len list.old }
     requires room { IsSome mapping → vec_len list.old < vec_capacity list.old }
@@ -170,7 +170,7 @@ fn put<A: Allocator>(list: &mut Vec<Mapping, A>, at: usize, mapping: Option<Mapp
     }
 }
 
-/// Takes the pages of the range out of the mappings. It takes no memory.
+/// Removes the pages of the range from the mappings. Takes no memory.
 pub(crate) fn take_out<A: Allocator>(list: &mut Vec<Mapping, A>, range: PageRange)
     requires kept { IsKept list.old.items }
     requires room { splits (places_of list.old.items) range None ≤ vec_capacity list.old - vec_len list.old }
@@ -191,7 +191,7 @@ pub(crate) fn take_out<A: Allocator>(list: &mut Vec<Mapping, A>, range: PageRang
     put(list, from, before);
 }
 
-/// Gives the rights to the mappings.
+/// Sets the rights of the mappings.
 pub(crate) fn set_rights(list: &mut [Mapping], rights: Rights)
     ensures { list.new ≡ map (given_rights rights) list.old }
 {
@@ -200,8 +200,8 @@ pub(crate) fn set_rights(list: &mut [Mapping], rights: Rights)
     }
 }
 
-// Makes each two mappings of which the second goes on where the first ends one. The mappings that are left are the
-// first ones of the list; how many.
+// Merges adjacent mappings that continue each other. The remaining mappings are the first ones of the list. Returns
+// their number.
 fn merge(list: &mut [Mapping]) -> usize
     requires { IsOrdered 0 list.old }
     ensures within { result ≤ length list.old }
@@ -226,8 +226,8 @@ fn merge(list: &mut [Mapping]) -> usize
     kept + 1
 }
 
-/// Makes each two mappings of which the second goes on where the first ends one, where only those at the places and
-/// their neighbours can. It looks at no others.
+/// Merges adjacent mappings that continue each other. Only those at these places and their neighbours may do so. Looks
+/// at no others.
 pub(crate) fn merge_around<A: Allocator>(list: &mut Vec<Mapping, A>, places: Range<usize>)
     requires ordered { IsOrdered 0 list.old.items }
     requires forward { places.start ≤ places.end }

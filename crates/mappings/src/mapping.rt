@@ -6,7 +6,8 @@ ghost use Rattle.mappings.specs.inside.Listed.{covers, place_in, page_in, joins,
 use crate::{PageRange, Place, Rights};
 use page_entry::{FileNumber, PageIndex, PageNumber};
 
-/// The pages from `first` up to `end`, which map one page of a file after the other, the first of them at `place`.
+/// The pages from `first` up to `end`, exclusive. They map consecutive pages of a file, of which the first is at
+/// `place`.
 #[derive(Clone, Copy, Debug)]
 pub(crate) struct Mapping {
     pub(crate) first: PageNumber,
@@ -15,7 +16,7 @@ pub(crate) struct Mapping {
 }
 
 impl Mapping {
-    /// What a page maps, if it is one of the mapping's.
+    /// Returns what a page maps, if it belongs to the mapping.
     pub(crate) fn place_of(self, page: PageNumber) -> Option<Place>
         requires { self.place.page + (self.end - self.first) ≤ 2 ^ 32 }
         ensures { result ≡ (if covers self page then Some (place_in self page) else None) }
@@ -29,14 +30,14 @@ impl Mapping {
         }
     }
 
-    /// Whether it begins before the range ends.
+    /// Whether the mapping begins before the range ends.
     pub(crate) fn begins_before_end(&self, range: PageRange) -> bool
         ensures { result ≡ nat_lt self.now.first (range.first + range.count) }
     {
         self.first < range.first || self.first - range.first < range.count
     }
 
-    /// Whether it goes on where another one ends, with the next page, at the next page of the same file, with the same
+    /// Whether the mapping continues another one: with the next page, the next page of the same file, and the same
     /// rights and access.
     pub(crate) fn goes_on_from(self, before: Mapping) -> bool
         requires pages { IsMapping before }
@@ -50,7 +51,7 @@ impl Mapping {
             && before.place.access == self.place.access
     }
 
-    /// The part of it from one of its pages on.
+    /// Returns the part of the mapping from one of its pages on.
     pub(crate) fn from_page(self, page: PageNumber) -> Mapping
         requires pages { IsMapping self }
         requires inside { IsTrue (covers self page) }
@@ -67,7 +68,7 @@ impl Mapping {
         }
     }
 
-    /// The part of it below a page, if there is one.
+    /// Returns the part of the mapping below a page, if there is one.
     pub(crate) fn part_below(self, page: PageNumber) -> Option<Mapping>
         ensures { result ≡ part_below page self }
     {
@@ -78,7 +79,7 @@ impl Mapping {
         }
     }
 
-    /// The part of it from a page on, if there is one.
+    /// Returns the part of the mapping from a page on, if there is one.
     pub(crate) fn part_from(self, page: PageNumber) -> Option<Mapping>
         requires pages { IsMapping self }
         requires begins { self.first ≤ page }
@@ -91,7 +92,7 @@ impl Mapping {
         }
     }
 
-    /// The mapping with these rights.
+    /// Returns the mapping with these rights.
     pub(crate) fn with_rights(self, rights: Rights) -> Mapping
         ensures { result ≡ given_rights rights self }
     {
@@ -104,7 +105,7 @@ impl Mapping {
         }
     }
 
-    /// The page that maps this page of this file, if one of the mapping's does.
+    /// Returns the page of the mapping that maps this page of this file, if there is one.
     pub(crate) fn page_of(self, file: FileNumber, page: PageIndex) -> Option<PageNumber>
         requires { IsMapping self }
         ensures { result ≡ page_in self file page }

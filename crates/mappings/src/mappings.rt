@@ -15,8 +15,8 @@ use page_entry::{FileNumber, PageIndex, PageNumber, Refusal};
 use std::alloc::Allocator;
 use std::marker::Model;
 
-/// Which pages of an address space map which pages of files, at most one each. A mapping is kept as its range, so the
-/// memory that it takes doesn't depend on its pages.
+/// The pages of an address space that map pages of files, at most one file page each. A mapping is stored as its range,
+/// so its memory doesn't depend on its number of pages.
 #[derive(Drop)]
 pub struct Mappings<A: Allocator + Copy> {
     list: Vec<Mapping, A>,
@@ -38,7 +38,7 @@ impl<A: Allocator + Copy> Model for Mappings<A> {
 }
 
 impl<A: Allocator + Copy> Mappings<A> {
-    /// No page is mapped. It takes no memory.
+    /// Makes mappings in which no page is mapped. Takes no memory.
     pub fn new(alloc: A) -> Self
         ensures { result.places ≡ fin_map.empty }
     {
@@ -47,7 +47,7 @@ impl<A: Allocator + Copy> Mappings<A> {
         }
     }
 
-    /// What the page maps, if it is mapped.
+    /// Returns what the page maps, if it is mapped.
     pub fn where_is(&self, page: PageNumber) -> Option<Place>
         ensures { result ≡ fin_map.get self.now.places page }
     {
@@ -59,11 +59,14 @@ impl<A: Allocator + Copy> Mappings<A> {
         }
     }
 
-    /// Whether the pages of the range may be mapped to the pages of a file from the place on, one after the other.
+    /// Whether the pages of the range may be mapped to consecutive pages of a file, from the place on.
     ///
-    /// `Einval` if the range has no pages or more than 65,536, isn't within bytes 4,096 to 2^47, or a file page is
-    /// beyond 2^32 - 1; `Eacces` if writing is asked with read-only access; `Overlap` if a page of the range is mapped
-    /// already.
+    /// Fails with:
+    ///
+    /// - `Einval` if the range has no pages or more than 65,536.
+    /// - `Einval` if the range isn't within bytes 4,096 to 2^47, or a file page is beyond 2^32 - 1.
+    /// - `Eacces` if writing is requested with read-only access.
+    /// - `Overlap` if a page of the range is mapped already.
     pub fn may_add(&self, range: PageRange, place: Place) -> Result<(), Refusal>
         ensures { result ≡ answer_unless (add_refusal self.now.places range place) }
     {
@@ -81,7 +84,8 @@ impl<A: Allocator + Copy> Mappings<A> {
 
     /// Reserves the memory that one later `add` may need: room for one more mapping.
     ///
-    /// `OutOfMemory` if such room is missing and is refused. No mapping changes, whatever the answer.
+    /// Fails with `OutOfMemory` if there is no such room and memory is refused. No mapping changes, even if the call
+    /// fails.
     pub fn reserve_one(&mut self) -> Result<(), Refusal>
         ensures reserved { OnOk result (0 < self.new.spare) }
         ensures refused { IfErr result (λ why. why ≡ OutOfMemory) }
@@ -92,11 +96,11 @@ impl<A: Allocator + Copy> Mappings<A> {
         self.list.reserve(1).map_err(|_| Refusal::OutOfMemory)
     }
 
-    /// Maps the pages of the range to the pages of a file from the place on, one after the other. A mapping that goes
-    /// on from its neighbour becomes one with it.
+    /// Maps the pages of the range to consecutive pages of a file, from the place on. A mapping that continues its
+    /// neighbour is merged with it.
     ///
-    /// It is refused as `may_add` says, and then with `OutOfMemory` if memory for one more mapping is refused. After an
-    /// error nothing has changed.
+    /// Fails as `may_add` does, and then with `OutOfMemory` if memory for one more mapping is refused. After a failure
+    /// nothing has changed.
     pub fn add(&mut self, range: PageRange, place: Place) -> Result<(), Refusal>
         ensures added { OnOk result (self.new.places ≡ with_range self.old.places range.first range.count place) }
         ensures allowed { OnOk result (add_refusal self.old.places range place ≡ None) }
@@ -142,7 +146,7 @@ impl<A: Allocator + Copy> Mappings<A> {
         0 < range.count && any_forbids(&self.list[meeting(&self.list, range)], rights)
     }
 
-    // Whether a mapping with other rights goes on from the page before this one.
+    // Whether a mapping with other rights contains this page and the page before it.
     fn is_cut(&self, page: PageNumber, rights: Rights) -> bool
         ensures { result ≡ is_cut self.now.places page rights }
     {
@@ -152,7 +156,8 @@ impl<A: Allocator + Copy> Mappings<A> {
         }
     }
 
-    // How many mappings are split where the range gets the rights, or without any is unmapped.
+    // Returns the number of mappings that a call for the range splits: a `protect` with the rights, or without any a
+    // `remove`.
     fn splits(&self, range: PageRange, rights: Option<Rights>) -> usize
         ensures { result ≡ splits self.now.places range rights }
     {
@@ -160,7 +165,7 @@ impl<A: Allocator + Copy> Mappings<A> {
         match rights {
             None => usize::from(is_within(list, range)),
             Some(rights) => {
-                // No page from 2^35 on is mapped, so where the sum is past the last number, none is cut at the end.
+                // No page from 2^35 on is mapped. So if the sum overflows, no mapping is cut at the end.
                 let end = range.first.saturating_add(range.count);
                 usize::from(self.is_cut(range.first, rights))
                     + usize::from(self.is_cut(end, rights))
@@ -169,10 +174,12 @@ impl<A: Allocator + Copy> Mappings<A> {
     }
 
     /// Reserves the memory that one later `protect` of the range with the rights needs, or without any a `remove`. A
-    /// `remove` needs room for one more mapping where one has a page on both sides of the range, and else none; a
-    /// `protect` for each end of the range that is within a mapping with other rights, which is split there.
+    /// `remove` needs room for one more mapping if a mapping has a page on both sides of the range, and otherwise none.
+    /// A `protect` splits a mapping at each end of the range that is within a mapping with other rights. It needs room
+    /// for one more mapping for each such end.
     ///
-    /// `OutOfMemory` if such room is missing and is refused. No mapping changes, whatever the answer.
+    /// Fails with `OutOfMemory` if there is no such room and memory is refused. No mapping changes, even if the call
+    /// fails.
     pub fn reserve(&mut self, range: PageRange, rights: Option<Rights>) -> Result<(), Refusal>
         ensures reserved { OnOk result (splits self.new.places range rights ≤ self.new.spare) }
         ensures refused { IfErr result (λ why. why ≡ OutOfMemory) }
@@ -184,10 +191,11 @@ impl<A: Allocator + Copy> Mappings<A> {
         self.list.reserve(splits).map_err(|_| Refusal::OutOfMemory)
     }
 
-    /// Unmaps each page of the range that is mapped. A mapping of which it takes the begin or the end becomes shorter,
-    /// and one of which it takes a part in the middle becomes two. It takes no memory.
+    /// Unmaps each page of the range that is mapped. If the range covers the beginning or the end of a mapping, the
+    /// mapping becomes shorter. If it covers only a part in the middle, the mapping becomes two. Takes no memory.
     ///
-    /// `Einval` if the range has no pages or isn't within bytes 4,096 to 2^47. After an error nothing has changed.
+    /// Fails with `Einval` if the range has no pages or isn't within bytes 4,096 to 2^47. After a failure nothing has
+    /// changed.
     pub fn remove(&mut self, range: PageRange) -> Result<(), Refusal>
         requires { splits self.old.places range None ≤ self.old.spare }
         ensures judged { result ≡ answer_unless (remove_refusal range) }
@@ -201,10 +209,13 @@ impl<A: Allocator + Copy> Mappings<A> {
         Ok(())
     }
 
-    /// Whether the mappings of the range may be given the rights.
+    /// Whether the rights of the range's mappings may be set to these.
     ///
-    /// `Einval` if the range has no pages or isn't within bytes 4,096 to 2^47; `Enomem` if a page of the range isn't
-    /// mapped; `Eacces` if writing is asked and a mapping of the range has read-only access.
+    /// Fails with:
+    ///
+    /// - `Einval` if the range has no pages or isn't within bytes 4,096 to 2^47.
+    /// - `Enomem` if a page of the range isn't mapped.
+    /// - `Eacces` if writing is requested and a mapping of the range has read-only access.
     pub fn may_protect(&self, range: PageRange, rights: Rights) -> Result<(), Refusal>
         ensures { result ≡ answer_unless (protect_refusal self.now.places range rights) }
     {
@@ -220,10 +231,10 @@ impl<A: Allocator + Copy> Mappings<A> {
         Ok(())
     }
 
-    /// Gives the rights to the mappings of the range's pages, and to no others. Mappings that then go on from their
-    /// neighbours become one with them. It takes no memory.
+    /// Sets the rights of the range's pages, and of no others. Mappings that then continue their neighbours are merged
+    /// with them. Takes no memory.
     ///
-    /// It is refused as `may_protect` says. After an error nothing has changed.
+    /// Fails as `may_protect` does. After a failure nothing has changed.
     pub fn protect(&mut self, range: PageRange, rights: Rights) -> Result<(), Refusal>
         requires { splits self.old.places range (Some rights) ≤ self.old.spare }
         ensures judged { result ≡ answer_unless (protect_refusal self.old.places range rights) }
@@ -240,7 +251,7 @@ impl<A: Allocator + Copy> Mappings<A> {
         Ok(())
     }
 
-    /// The pages that map this page of this file, in rising order. It takes no memory.
+    /// Returns the pages that map this page of this file, in ascending order. Takes no memory.
     pub fn pages_of(&self, file: FileNumber, page: PageIndex) -> PagesOf<'_>
         ensures { result ≡ pages_mapping self.now.places file page }
     {

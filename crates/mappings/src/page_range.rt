@@ -1,10 +1,10 @@
-// Ranges of pages, and the ranges of bytes that calls name.
+// Ranges of pages, and the ranges of bytes in calls.
 ghost use Rattle.std.specs.Prelude.{◌≡◌};
 ghost use Rattle.mappings.specs.Judgement.{is_user_range, is_mappable, range_of_bytes, mapped_pages_of};
 
 use page_entry::{PAGE, PageIndex, PageNumber, Refusal};
 
-/// The most pages that one mapping may have.
+/// The greatest number of pages of one mapping.
 pub const MAX_PAGES: u64 = 65_536;
 
 /// The end of the user addresses, 2^47 (Intel SDM volume 3, canonical addresses), in pages.
@@ -22,9 +22,10 @@ pub struct PageRange {
 
 impl PageRange {
     // Rule: rounded length
-    /// The pages of the `len` bytes from `va` on, rounded up to whole pages.
+    /// Returns the pages of the `len` bytes from `va` on, rounded up to whole pages.
     ///
-    /// `Einval` if `va` isn't a multiple of 4,096, `len` is 0, or the pages aren't within bytes 4,096 to 2^47.
+    /// Fails with `Einval` if `va` isn't a multiple of 4,096, `len` is 0, or the pages aren't within bytes 4,096 to
+    /// 2^47.
     pub fn of_bytes(va: u64, len: u64) -> Result<PageRange, Refusal>
         ensures { result ≡ range_of_bytes va len }
     {
@@ -39,7 +40,7 @@ impl PageRange {
         }
     }
 
-    /// Whether it has pages, and all of them are within bytes 4,096 to 2^47.
+    /// Whether the range has pages, and all of them are within bytes 4,096 to 2^47.
     pub fn is_user(self) -> bool
         ensures { result ≡ is_user_range self }
     {
@@ -49,8 +50,7 @@ impl PageRange {
             && self.count <= END_PAGE - self.first
     }
 
-    /// Whether it may be mapped from this file page on: a range of user pages, at most 65,536, on file pages below
-    /// 2^32.
+    /// Whether the range may be mapped from this file page on: at most 65,536 user pages, on file pages below 2^32.
     pub fn is_mappable(self, page: u64) -> bool
         ensures { result ≡ is_mappable self page }
     {
@@ -61,11 +61,14 @@ impl PageRange {
     }
 }
 
-/// The pages of the `len` bytes from `va` on, which are to be mapped from `offset` bytes into a file on, and the file
-/// page of the first.
+/// Returns the pages of a mapping of the `len` bytes from `va` on, and the file page of the first. The mapping begins
+/// at byte `offset` of the file.
 ///
-/// `Einval` if `va` or `offset` isn't a multiple of 4,096, `len` is 0, the pages aren't within bytes 4,096 to 2^47 or
-/// are more than 65,536, or a file page is beyond 2^32 - 1.
+/// Fails with:
+///
+/// - `Einval` if `va` or `offset` isn't a multiple of 4,096, or `len` is 0.
+/// - `Einval` if the pages aren't within bytes 4,096 to 2^47, or are more than 65,536.
+/// - `Einval` if a file page is beyond 2^32 - 1.
 pub fn mapped_pages(va: u64, len: u64, offset: u64) -> Result<(PageRange, PageIndex), Refusal>
     ensures { result ≡ mapped_pages_of va len offset }
 {

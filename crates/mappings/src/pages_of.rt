@@ -7,7 +7,7 @@ use crate::mapping::Mapping;
 use page_entry::{FileNumber, PageIndex, PageNumber};
 use std::marker::Model;
 
-/// The pages that map one page of a file, in rising order.
+/// The pages that map one page of a file, in ascending order.
 #[derive(Drop)]
 pub struct PagesOf<'a> {
     rest: &'a [Mapping],

@@ -4,8 +4,8 @@ ghost use Rattle.mappings.specs.Places.{may_write, allows, follows};
 
 use page_entry::{FileNumber, PageIndex};
 
-/// What may be done through a mapping (`PROT_READ`, `PROT_READ | PROT_WRITE`) or a file description (`O_RDONLY`,
-/// `O_RDWR`). Writing alone counts as both.
+/// The rights of a mapping (`PROT_READ`, `PROT_READ | PROT_WRITE`) or a file description (`O_RDONLY`, `O_RDWR`).
+/// Writing alone counts as both.
 #[derive(Clone, Copy, Debug, PartialEq, Eq)]
 pub enum Rights {
     Read,
@@ -13,7 +13,7 @@ pub enum Rights {
 }
 
 impl Rights {
-    /// Whether they allow writing.
+    /// Whether the rights allow writing.
     pub fn may_write(self) -> bool
         ensures { result ≡ may_write self }
     {
@@ -31,7 +31,8 @@ impl Rights {
     }
 }
 
-/// The file page that a page maps, the rights of its mapping, and the access with which the file was opened for it.
+/// The file page that a page maps, the rights of its mapping, and the access of the file description that it was mapped
+/// with.
 #[derive(Clone, Copy, Debug, PartialEq, Eq)]
 pub struct Place {
     pub file: FileNumber,
@@ -41,7 +42,7 @@ pub struct Place {
 }
 
 impl Place {
-    // Whether it is the place right after the other in one file, with the same rights and access.
+    // Whether this place comes right after the other in one file, with the same rights and access.
     pub(crate) fn follows(self, before: Place) -> bool
         ensures { result ≡ follows (Some before) (Some self) }
     {

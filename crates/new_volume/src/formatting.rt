@@ -1,4 +1,4 @@
-// A volume is made on a device whose bytes are all 0.
+// Makes a volume on a device whose bytes are all 0.
 ghost use Rattle.std.specs.Prelude.{◌≡◌, ◌*◌, ◌≤◌, ℕ, length, slice_index, is_ok, OnOk};
 ghost use Rattle.device.specs.Did.{Did};
 ghost use Rattle.volume_codec.specs.Files.{asked_by, lengths_asked};
@@ -14,13 +14,16 @@ use recovery::shape;
 use std::alloc::Allocator;
 use volume_codec::{FileSpec, Geometry, Super, write_lengths_of};
 
-/// Makes a volume on a device whose bytes are all 0, as `recovery::format_as` makes one, but writes only the lengths
-/// and the table: it writes the lengths block where the layout has one, syncs, writes the super block and syncs. No
-/// other byte changes, whatever is answered.
+/// Makes a volume on a device whose bytes are all 0, like `recovery::format_as`, but writes only the lengths and the
+/// table. It writes the lengths block if the layout has one, and syncs. Then it writes the super block and syncs. No
+/// other byte changes, even if the call fails.
 ///
-/// `BadShape`, before any memory is taken and any device call is made, where no volume has these files and slots or the
-/// device is shorter than its blocks. `OutOfMemory` before any device call. `Device` where a device call failed: the
-/// later ones weren't made.
+/// Fails with:
+///
+/// - `BadShape` if no volume has these files and slots, or if the device is shorter than the volume. Then no memory was
+///   taken and no device call was made.
+/// - `OutOfMemory` before any device call.
+/// - `Device` if a device call failed. Then the later calls weren't made.
 pub fn format_new<D: Device, A: Allocator + Copy>(
     alloc: A,
     device: &mut D,
@@ -64,8 +67,7 @@ fn write_new<D: Device, A: Allocator + Copy>(
     finish_new(device, &block)
 }
 
-/// Writes the super block of a volume, all the rest of which was written: that is synced, and then the block is written
-/// and synced.
+/// Writes the super block of a volume, of which everything else is written. Syncs, writes the block, and syncs again.
 pub fn finish_new<D: Device>(device: &mut D, block: &[u8; 4096]) -> Result<(), DeviceFault>
     requires { 4096 ≤ length (D.seen device.old) }
     ensures { DidAll D.Device device.old (super_works block.now) (is_ok result) device.new }
@@ -81,7 +83,7 @@ pub fn finish_new<D: Device>(device: &mut D, block: &[u8; 4096]) -> Result<(), D
     make_durable(device)
 }
 
-// Writes the block of lengths, where the layout has one.
+// Writes the lengths block, if the layout has one.
 fn put_lengths<D: Device>(
     device: &mut D,
     geometry: &Geometry,

@@ -1,4 +1,4 @@
-//! What is made where all bytes are 0, by writing no more than what isn't: a volume on a device, and a file with holes.
+//! Makes a volume on a device, or a file with holes, whose bytes are all 0 at first. Only writes what isn't zero.
 #![tactic(auto)]
 
 mod formatting;

@@ -1,4 +1,4 @@
-// A file over another whose bytes are all 0.
+// A file over another file whose bytes are all 0.
 ghost use Rattle.std.specs.Prelude.{◌≡◌, ◌↔◌, ◌==◌, length, IsTrue, OnOk};
 ghost use Rattle.std.specs.List.{list_all};
 ghost use Rattle.new_volume.specs.Formatting.{IsZero};
@@ -8,9 +8,9 @@ use std::fs::File;
 use std::io;
 use std::marker::Model;
 
-/// A file without bytes, which is given its length.
+/// A new file without bytes, whose length can be set.
 pub trait EmptyFile: BlockFile {
-    /// Gives it so many bytes, all 0 (POSIX.1-2024, `ftruncate`).
+    /// Sets the file's length in bytes. All of them are 0 (POSIX.1-2024, `ftruncate`).
     fn lengthen(&mut self, bytes: u64) -> io::Result<()>
         ensures { Self.is_honest self.new
             → OnOk result ((length (Self.seen self.new) ≡ bytes) × IsZero (Self.seen self.new)) };
@@ -22,12 +22,12 @@ impl EmptyFile for File {
     }
 }
 
-/// Hears what is written to a file.
+/// Listens to the writes of a file.
 pub trait WriteListener {
-    /// So many bytes are going to be written in all, more or less.
+    /// Called with the approximate number of bytes that will be written in all.
     fn expect(&mut self, bytes: u64);
 
-    /// So many bytes are about to be written, or left out.
+    /// Called with the number of bytes that are about to be written or left out.
     fn hear_write(&mut self, bytes: u64);
 }
 
@@ -41,8 +41,8 @@ impl<W: WriteListener> WriteListener for &mut W {
     }
 }
 
-/// A file over another whose bytes are all 0. It leaves out each write of zeros past all that was written, so the other
-/// file keeps its holes there. Each other call is the other file's. A listener hears of each write.
+/// A file over another file whose bytes are all 0. It leaves out each write of zeros past everything written so far, so
+/// the other file keeps its holes there. It passes each other call to the other file. A listener hears of each write.
 #[derive(Drop)]
 pub struct NewFile<F: BlockFile, W: WriteListener> {
     inner: F,
@@ -65,7 +65,7 @@ impl<F: BlockFile, W: WriteListener> Model for NewFile<F, W> {
 }
 
 impl<F: BlockFile, W: WriteListener> NewFile<F, W> {
-    /// A file over this one, all of whose bytes are 0.
+    /// Makes a file over this one, whose bytes are all 0.
     pub fn over(inner: F, listener: W) -> Self
         requires { F.is_honest inner → IsZero (F.seen inner) }
         ensures { result.inner ≡ inner }
@@ -79,7 +79,7 @@ impl<F: BlockFile, W: WriteListener> NewFile<F, W> {
         }
     }
 
-    /// The other file, as the calls left it, and the listener.
+    /// Returns the other file, as the calls left it, and the listener.
     pub fn into_parts(self) -> (F, W)
         ensures { result.0 ≡ self.inner }
     {

@@ -1,4 +1,4 @@
-// A page-table entry, as the bits that the processor reads.
+// A page-table entry, with the bits that the processor reads.
 ghost use Rattle.std.specs.Prelude.{⊤, ◌≡◌, ◌==◌, ◌↔◌, ◌^◌, ◌<◌, None, [], ◌∷◌, codes, is_some, IsSome, IfSome};
 ghost use Rattle.std.specs.Int.RustNames.{bit_and};
 ghost use Rattle.page_entry.specs.Entry.{IsEntry, entry_of, bits_of, is_writable, is_accessed, is_dirty, frame_of, with_present_of, with_writable_of, with_accessed_of, with_dirty_of, with_frame_of, protected_of};
@@ -45,7 +45,7 @@ impl Flags for EntryFlags {
     }
 }
 
-// What a present entry says by one bit.
+// A bit of a present entry.
 #[derive(Clone, Copy)]
 enum EntryFlag {
     // Whether a store is allowed.
@@ -56,7 +56,7 @@ enum EntryFlag {
     Dirty,
 }
 
-// The bit by which it is said.
+// Returns the bit of a flag.
 fn bit_of(flag: EntryFlag) -> EntryFlags
     ensures { result.0 ≡ 2 ^ bit_of flag }
 {
@@ -67,8 +67,8 @@ fn bit_of(flag: EntryFlag) -> EntryFlags
     }
 }
 
-/// An entry of a page table: absent, or a frame with the right to write and what the processor noted of its use.
-/// An absent entry is 0; a present one has the user bit, and all bits without a name are 0.
+/// An entry of a page table: absent, or a frame with the right to write and the processor's record of its use. An
+/// absent entry is 0. A present entry has the user bit. All bits without a name are 0.
 #[derive(Clone, Copy, Debug, PartialEq, Eq)]
 pub struct Entry(u64);
 
@@ -91,15 +91,19 @@ impl Model for Entry {
 }
 
 impl Entry {
-    /// The entry that maps nothing.
+    /// Returns the entry that maps nothing.
     pub fn absent() -> Self
         ensures { result ≡ None }
     {
         Entry(0)
     }
 
-    /// The entry that these bits are. None where a bit without a name is set, a present entry lacks the user bit, an
-    /// absent one isn't 0, or the frame's number has more than 32 bits.
+    /// Returns the entry with these bits. Returns `None` in these cases:
+    ///
+    /// - A bit without a name is set.
+    /// - A present entry lacks the user bit.
+    /// - An absent entry isn't 0.
+    /// - The frame's number has more than 32 bits.
     pub fn from_bits(bits: u64) -> Option<Self>
         ensures some { IsSome result ↔ IsEntry bits }
         ensures read { IfSome result (λ entry. entry ≡ entry_of bits) }
@@ -119,7 +123,7 @@ impl Entry {
         }
     }
 
-    /// The entry that bits which are known to be an entry's are; `from_bits` is for bits that may not be.
+    /// Returns the entry with these bits, which must be those of an entry. If they may not be, use `from_bits`.
     pub fn of_bits(bits: u64) -> Self
         requires { IsEntry bits }
         ensures { result ≡ entry_of bits }
@@ -127,7 +131,8 @@ impl Entry {
         Entry(bits)
     }
 
-    /// The entry as the processor reads it: bit 0 present, 1 writable, 2 user, 5 accessed, 6 dirty, 51:12 the frame.
+    /// Returns the entry as the processor reads it: bit 0 present, 1 writable, 2 user, 5 accessed, 6 dirty, 51:12 the
+    /// frame.
     pub fn bits(self) -> u64
         ensures bits { result ≡ bits_of self }
         ensures entry { IsEntry result }
@@ -163,14 +168,15 @@ impl Entry {
         self.flag(EntryFlag::Dirty)
     }
 
-    /// The frame that is mapped; 0 in an absent entry.
+    /// Returns the mapped frame; 0 for an absent entry.
     pub fn frame(self) -> FrameNumber
         ensures { result ≡ frame_of self }
     {
         (self.0 / PAGE) as FrameNumber
     }
 
-    /// The entry made present, blank where it wasn't, or made absent.
+    /// Returns the entry made present or absent. An entry that wasn't present becomes blank: its frame is 0, and only
+    /// the present and user bits are set.
     pub fn with_present(self, present: bool) -> Self
         ensures { result ≡ with_present_of self present }
     {
@@ -181,35 +187,35 @@ impl Entry {
         }
     }
 
-    /// The entry with or without the right to write. An absent entry stays absent, here and below.
+    /// Returns the entry with or without the right to write. An absent entry stays absent.
     pub fn with_writable(self, writable: bool) -> Self
         ensures { result ≡ with_writable_of self writable }
     {
         self.with_flag(EntryFlag::Writable, writable)
     }
 
-    /// The entry with the accessed bit set or clear.
+    /// Returns the entry with the accessed bit set or clear. An absent entry stays absent.
     pub fn with_accessed(self, accessed: bool) -> Self
         ensures { result ≡ with_accessed_of self accessed }
     {
         self.with_flag(EntryFlag::Accessed, accessed)
     }
 
-    /// The entry with the dirty bit set or clear.
+    /// Returns the entry with the dirty bit set or clear. An absent entry stays absent.
     pub fn with_dirty(self, dirty: bool) -> Self
         ensures { result ≡ with_dirty_of self dirty }
     {
         self.with_flag(EntryFlag::Dirty, dirty)
     }
 
-    // What the entry says by a flag; an absent one says nothing.
+    // Whether a flag of the entry is set. An absent entry has no flags.
     fn flag(self, flag: EntryFlag) -> bool
         ensures { result ≡ flag_of flag self }
     {
         EntryFlags(self.0).contains(bit_of(flag))
     }
 
-    // The entry with a flag set or clear.
+    // Returns the entry with a flag set or clear. An absent entry stays absent.
     fn with_flag(self, flag: EntryFlag, set: bool) -> Self
         ensures { result ≡ with_flag_of flag self set }
     {
@@ -221,7 +227,7 @@ impl Entry {
         Entry(flags.bits())
     }
 
-    /// The entry mapping another frame.
+    /// Returns the entry with another frame. An absent entry stays absent.
     pub fn with_frame(self, frame: FrameNumber) -> Self
         ensures { result ≡ with_frame_of self frame }
     {
@@ -231,7 +237,7 @@ impl Entry {
         Entry(self.0 % PAGE + frame as u64 * PAGE)
     }
 
-    /// The entry without the right to write and the dirty bit, bits 1 and 6, and nothing else changed.
+    /// Returns the entry without the right to write and without the dirty bit (bits 1 and 6). Nothing else changes.
     pub fn protected(self) -> Self
         ensures { result ≡ protected_of self }
     {

@@ -1,15 +1,17 @@
-// Why a call was refused.
+// The reasons for which a call is refused.
 use std::error::Error;
 use std::fmt;
 
-/// Why a call was refused. Where several hold, the first of this order is answered: `Einval` for a processor that isn't
-/// there, `Stalled`, `Locked`, other `Einval`, `NoFile`, `Enomem`, `Eacces`, `Overlap`, `Broken`, `Busy`,
-/// `NotResident`, `NoFrame`, `OutOfMemory`. `BadShape` is tested before any memory is taken and before any read, write
-/// or sync of a device.
+/// The reason for which a call was refused.
+///
+/// If several reasons hold, the reply is the first in this order: `Einval` for a missing processor, `Stalled`,
+/// `Locked`, other `Einval`, `NoFile`, `Enomem`, `Eacces`, `Overlap`, `Broken`, `Busy`, `NotResident`, `NoFrame`,
+/// `OutOfMemory`. `BadShape` is checked before any memory is taken, and before any read, write or sync of a device.
+///
 /// Serving a fault has an order of its own after `Locked`: `Einval`, `SegvMapErr`, `SegvAccErr`, `BusAdrErr`, `Held`,
 /// `NoFrame`, `Device`.
 ///
-/// The names in capitals after `E` and the three of signals are those of POSIX.1-2024 (`mmap`, `mprotect`, `msync`,
+/// The names in capitals after `E`, and the three of signals, are those of POSIX.1-2024 (`mmap`, `mprotect`, `msync`,
 /// `<signal.h>`).
 #[derive(Clone, Copy, Debug, PartialEq, Eq)]
 pub enum Refusal {
@@ -17,7 +19,7 @@ pub enum Refusal {
     Stalled,
     /// The machine's lock is held.
     Locked,
-    /// So many processors are still interrupted.
+    /// This number of processors are still interrupted.
     NotYet(u32),
     /// A page fault, with its error code: bit 0 a protection violation, bit 1 a write, bit 2 a user access.
     Fault(u8),
@@ -33,27 +35,27 @@ pub enum Refusal {
     NoFrame,
     /// A device call failed.
     Device,
-    /// A device call of a write-out failed earlier; the volume has to be opened again.
+    /// A device call of a write-out failed earlier. The volume must be opened again.
     Broken,
     /// An argument is outside its range.
     Einval,
     /// A page of the range isn't mapped, or there is no free address space.
     Enomem,
-    /// Write access to a file that was opened read-only.
+    /// Write access was requested to a file that was opened read-only.
     Eacces,
     /// A page of the range is mapped already.
     Overlap,
     /// There is no such file.
     NoFile,
-    /// The call has to wait for another: a write-out isn't done, or the space is in use; or no mark's number is left.
+    /// The call must wait: a write-out isn't done, or the space is in use. Or no mark's number is left.
     Busy,
-    /// A change of a file's length needs the file's last page in memory, and it isn't.
+    /// A change of a file's length needs the file's last page in memory, but the page isn't there.
     NotResident,
     /// The trace is full.
     TraceFull,
-    /// Memory was refused.
+    /// There was too little memory.
     OutOfMemory,
-    /// The device holds no volume.
+    /// The device contains no volume.
     NotAVolume,
     /// The volume's bytes break its grammar.
     Damaged,
@@ -67,7 +69,7 @@ impl fmt::Display for Refusal {
 
     ghost output = { λ refusal. Some (words_of refusal) };
 
-    /// The name in lower case without spaces, and after `notyet` and `fault` one space and the number.
+    /// Writes the name in lower case without spaces. After `notyet` and `fault`, writes one space and the number.
     fn fmt<W: fmt::Write>(&self, f: &mut fmt::Formatter<W>) -> fmt::Result {
         match self {
             Refusal::Stalled => f.write_str("stalled"),

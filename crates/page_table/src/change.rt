@@ -1,22 +1,22 @@
-// What is done to the entries of a range.
+// The changes that can be made to the entries of a range.
 ghost use Rattle.std.specs.Prelude.{◌≡◌};
 ghost use Rattle.page_table.specs.Table.{is_marked};
 ghost use Rattle.page_table.specs.inside.Changes.{changed_by};
 
 use page_entry::{Entry, FrameNumber};
 
-/// What is done to the entries of a range.
+/// A change to the entries of a range.
 #[derive(Clone, Copy)]
 pub(crate) enum Change<'a> {
-    /// They become absent.
+    /// The entries become absent.
     Clear,
-    /// They lose the right to write.
+    /// The entries become read-only.
     MakeReadOnly,
-    /// Those that map a marked frame lose the right to write and the dirty bit.
+    /// The entries that map a marked frame become read-only, and their dirty bit is cleared.
     Protect(&'a [bool]),
 }
 
-/// What the change leaves of an entry.
+/// Returns the entry after the change.
 pub(crate) fn changed(change: Change, entry: Entry) -> Entry
     ensures { result ≡ changed_by change.entry entry }
 {
@@ -33,7 +33,7 @@ pub(crate) fn changed(change: Change, entry: Entry) -> Entry
     }
 }
 
-// Whether the frame with this number is marked.
+// Whether the frame with this number is marked. A frame past the end of the list isn't.
 fn is_marked(marked: &[bool], frame: FrameNumber) -> bool
     ensures { result ≡ is_marked marked.now frame }
 {

@@ -1,4 +1,4 @@
-// The pages of a range whose entries are dirty.
+// An iterator over the pages of a range whose entries are dirty.
 ghost use Rattle.std.specs.Prelude.{◌≡◌, ◌≤◌, ◌<◌, ◌/◌, ◌^◌, IfSome};
 ghost use Rattle.std.specs.Iterator.{YieldsFirst, item_count};
 ghost use Rattle.page_table.specs.Table.{dirty_among};
@@ -10,12 +10,12 @@ use page_entry::PageNumber;
 use std::marker::Model;
 use std::ops::Range;
 
-/// The pages of a range whose entries are dirty, in rising order. It takes no memory.
+/// An iterator over the pages of a range whose entries are dirty, in rising order. It allocates no memory.
 #[derive(Drop)]
 pub struct DirtyPages<'a> {
     words: &'a [u64],
     range: Range<PageNumber>,
-    // The dirty mask of the leaf that the range's first page is in.
+    // The dirty mask of the leaf that contains the range's first page.
     mask: [u64; 8],
 }
 
@@ -31,7 +31,7 @@ impl<'a> Model for DirtyPages<'a> {
     ghost invariant = { λ d. AreDirtyPages d.words.now d.range.start d.mask };
 }
 
-// The dirty mask of the leaf of a block of 512 pages; no bit is set where it has none.
+// Returns the dirty mask of the leaf of a block of 512 pages. If the block has no leaf, no bit is set.
 fn leaf_mask(words: &[u64], block: u64) -> [u64; 8]
     requires { IsTable words.now }
     ensures { IsLeafMask words.now block result }
@@ -47,7 +47,7 @@ fn leaf_mask(words: &[u64], block: u64) -> [u64; 8]
     dirty_mask(entries)
 }
 
-// The dirty mask of the leaf of a page, where that of a block is known.
+// Returns the dirty mask of the leaf of a page. `mask` is that of `block`, so within this block no leaf is read again.
 fn mask_at(words: &[u64], mask: [u64; 8], block: u64, page: PageNumber) -> [u64; 8]
     requires table { IsTable words.now }
     requires mask { IsLeafMask words.now block mask }
@@ -60,7 +60,7 @@ fn mask_at(words: &[u64], mask: [u64; 8], block: u64, page: PageNumber) -> [u64;
     }
 }
 
-// The first dirty page of the range that is in the same leaf as its first page, by that leaf's mask.
+// Returns the first dirty page of the range that is in the same leaf as `start`. `mask` is this leaf's dirty mask.
 fn first_of_leaf(mask: &[u64; 8], start: PageNumber, end: PageNumber) -> Option<PageNumber>
     requires pages { start < end }
     requires small { end ≤ 2 ^ 36 }
@@ -71,7 +71,7 @@ fn first_of_leaf(mask: &[u64; 8], start: PageNumber, end: PageNumber) -> Option<
     if page < end { Some(page) } else { None }
 }
 
-// The first dirty page of the range, whose first page is in the leaf of this mask.
+// Returns the first dirty page of the range. `mask` is the dirty mask of the leaf that contains `start`.
 fn first_dirty(
     words: &[u64],
     mask: &[u64; 8],
@@ -102,7 +102,7 @@ fn first_dirty(
 }
 
 impl<'a> DirtyPages<'a> {
-    /// Those of the range.
+    /// Returns the iterator over the dirty pages of the range.
     pub(crate) fn new(words: &'a [u64], range: Range<PageNumber>) -> Self
         requires { IsTable words.now }
         ensures { result ≡ dirty_among (present_from (lookup words.now) 0 (2 ^ 36)) range.start range.end }

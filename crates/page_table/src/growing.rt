@@ -1,11 +1,11 @@
-// How a table grows: how many nodes a range needs, and how they are linked once they are made.
+// The growth of a table: counts the nodes that a range needs, and links new nodes.
 ghost use Rattle.std.specs.Prelude.{◌≡◌, ◌≤◌, ◌<◌, ◌+◌, ◌-◌, ◌*◌, ◌/◌, ◌^◌, ℕ, length};
 ghost use Rattle.page_table.specs.inside.Nodes.{read_by_walk, IsWalkable, IsTree, missing, needed, LinksBlocks, GrowsPages};
 
 use crate::nodes::{MIDDLE_BLOCK, NODE, ROOT_BLOCK, walk};
 use page_entry::PageNumber;
 
-// How many of the blocks from `first` up to `end` have no node.
+// Returns the number of blocks from `first` up to, but not including, `end` that have no node at this depth.
 fn missing(words: &[u64], depth: u64, first: u64, end: u64) -> u64
     requires words { IsWalkable words.now }
     requires depth { depth ≤ 3 }
@@ -21,7 +21,7 @@ fn missing(words: &[u64], depth: u64, first: u64, end: u64) -> u64
     count
 }
 
-// Links the node that is next, which nothing leads to yet, as that of the block.
+// Links the next unused node to the block. No node refers to it before.
 fn link(words: &mut [u64], depth: u64, block: u64, used: u64)
     requires tree { IsTree words.old used }
     requires room { (used + 1) * 512 ≤ length words.old }
@@ -35,7 +35,8 @@ fn link(words: &mut [u64], depth: u64, block: u64, used: u64)
     words[((parent - 1) * NODE + block % NODE) as usize] = used + 1;
 }
 
-// Links a node for each of the blocks from `first` up to `end` that has none, and answers how many nodes are linked.
+// Links a new node to each block from `first` up to, but not including, `end` that has none. Returns the number of all
+// nodes that are then linked.
 fn link_blocks(words: &mut [u64], depth: u64, first: u64, end: u64, used: u64) -> u64
     requires tree { IsTree words.old used }
     requires depth { 0 < depth }
@@ -56,7 +57,7 @@ fn link_blocks(words: &mut [u64], depth: u64, first: u64, end: u64, used: u64) -
     made
 }
 
-/// How many nodes have to be made so that each page of the range has a leaf.
+/// Returns the number of nodes that are missing until each page of the range has a leaf.
 pub(crate) fn needed(words: &[u64], start: PageNumber, end: PageNumber) -> u64
     requires words { IsWalkable words.now }
     requires pages { start < end }
@@ -70,7 +71,7 @@ pub(crate) fn needed(words: &[u64], start: PageNumber, end: PageNumber) -> u64
         + missing(words, 3, start / NODE, last / NODE + 1)
 }
 
-/// Links the nodes that are made and that nothing leads to yet, which are as many as the range needs.
+/// Links the unused nodes so that each page of the range has a leaf. The range must need exactly all of them.
 pub(crate) fn link_pages(words: &mut [u64], start: PageNumber, end: PageNumber, used: u64)
     requires tree { IsTree words.old used }
     requires pages { start < end }

@@ -1,4 +1,4 @@
-// Which entries of a node are dirty, tested eight at a time.
+// Finds the dirty entries of a node, eight at a time.
 ghost use Rattle.std.specs.Prelude.{◌≡◌, ◌<◌, ◌≤◌, ◌*◌, ◌/◌, ◌%◌, ℕ, length, map, slice_index_or};
 ghost use Rattle.page_table.specs.Bits.{IsFirstSet};
 ghost use Rattle.std.specs.Simd.Lanes.{mask_l};
@@ -9,7 +9,7 @@ use std::simd::prelude::*;
 /// The dirty bit of an entry, bit 6 (Intel SDM volume 3, "4-Level Paging").
 const DIRTY: u64 = 64;
 
-// A bit for each of eight entries, the first lowest: whether it is dirty.
+// Returns a bit for each of eight entries, the first entry's bit lowest. The bit is set if the entry is dirty.
 fn dirty_lanes(entries: u64x8) -> u64
     ensures { result ≡ mask_l (map (λ entry. has_bit entry 6) entries) }
 {
@@ -18,7 +18,7 @@ fn dirty_lanes(entries: u64x8) -> u64
         .to_bitmask()
 }
 
-// A bit for each of 64 entries, the first lowest: whether it is dirty.
+// Returns a bit for each of 64 entries, the first entry's bit lowest. The bit is set if the entry is dirty.
 fn dirty_word(entries: &[u64]) -> u64
     requires { length entries.now ≡ 64 }
     ensures { result ≡ mask_l (map (λ entry. has_bit entry 6) entries.now) }
@@ -32,7 +32,7 @@ fn dirty_word(entries: &[u64]) -> u64
     word
 }
 
-/// A bit for each entry of a node: bit i of word w is the dirty bit, bit 6, of entry 64w+i.
+/// Returns a bit for each entry of a node: bit i of word w is the dirty bit (bit 6) of entry 64w+i.
 pub fn dirty_mask(entries: &[u64; 512]) -> [u64; 8]
     ensures { (i : ℕ) → i < 512
         → has_bit (slice_index_or result (i / 64) 0) (i % 64) ≡ has_bit (slice_index_or entries.now i 0) 6 }
@@ -44,8 +44,8 @@ pub fn dirty_mask(entries: &[u64; 512]) -> [u64; 8]
     mask
 }
 
-/// The first bit of a mask from `from` on and below `end` that is set; bit i is bit i % 64 of word i / 64. It goes over
-/// words, not over bits.
+/// Returns the first bit that is set from `from` up to, but not including, `end`. Bit i of the mask is bit i % 64 of
+/// word i / 64. Zero words are skipped whole.
 pub fn first_set(mask: &[u64], from: u64, end: u64) -> Option<u64>
     requires within { end ≤ length mask.now * 64 }
     requires whole { end % 64 ≡ 0 }

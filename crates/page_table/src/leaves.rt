@@ -1,4 +1,4 @@
-// What is done to the entries of a range of pages.
+// Changes to the entries of a range of pages.
 ghost use Rattle.std.specs.Prelude.{◌≡◌, ◌≤◌, ◌<◌, ◌+◌, ◌/◌, ◌^◌, ℕ, Some, None, nat_lt, if◌then◌else◌};
 ghost use Rattle.page_entry.specs.Entry.{IsEntry};
 ghost use Rattle.page_table.specs.inside.Nodes.{read_by_walk, IsTable, EditsPages};
@@ -35,14 +35,14 @@ pub(crate) fn set_page(
     mark(in_use, node, used);
 }
 
-// The page, if it is below `end`.
+// Returns the page if it is below `end`.
 fn below(page: PageNumber, end: PageNumber) -> Option<PageNumber>
     ensures { result ≡ (if nat_lt page end then Some page else None) }
 {
     if page < end { Some(page) } else { None }
 }
 
-// The first page of the range whose entry is present. It goes over leaves and missing blocks, not over pages.
+// Returns the first page of the range whose entry is present. Visits leaves and missing blocks, not single pages.
 fn next_present(
     words: &[u64],
     present: &[u64],
@@ -66,7 +66,7 @@ fn next_present(
     None
 }
 
-/// Changes the entries of the range. It goes over leaves, missing blocks and present entries.
+/// Changes the entries of the range. Visits leaves, missing blocks and present entries, not absent entries.
 pub(crate) fn change_pages(
     words: &mut [u64],
     present: &mut [u64],

@@ -1,5 +1,5 @@
-//! A page table as a map from page to entry. Its growth is made before entries are set, so that a change of an entry
-//! takes no memory.
+//! A page table as a map from page to entry. The table grows before entries are set, so a change of an entry allocates
+//! no memory.
 #![tactic(auto)]
 
 mod change;

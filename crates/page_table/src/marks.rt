@@ -1,4 +1,4 @@
-// Which words of a table's nodes are present entries, as bits, and what is done to these entries alone.
+// Bit masks of the present entries in a table's nodes, and changes to these entries alone.
 ghost use Rattle.std.specs.Prelude.{◌≡◌, ◌≤◌, ◌<◌, ◌+◌, ◌*◌, ◌^◌, ℕ, false, length};
 ghost use Rattle.page_table.specs.inside.Nodes.{IsTable, EditsPages};
 ghost use Rattle.page_table.specs.inside.Changes.{changed_bits};
@@ -10,7 +10,7 @@ use crate::lanes::first_set;
 use crate::nodes::NODE;
 use page_entry::Entry;
 
-/// Sets or clears a bit of a mask: bit i % 64 of its word i / 64.
+/// Sets or clears bit `place` of a mask, which is bit `place` % 64 of word `place` / 64.
 pub fn mark(mask: &mut [u64], place: u64, set: bool)
     requires { place < length mask.old * 64 }
     ensures { Marks place set mask.old mask.new }
@@ -20,7 +20,7 @@ pub fn mark(mask: &mut [u64], place: u64, set: bool)
     mask[at] = if set { mask[at] | bit } else { mask[at] & !bit };
 }
 
-/// Whether one of so many nodes is in use.
+/// Whether a node is in use. Returns false only if none of the first `nodes` nodes is.
 pub(crate) fn has_used(in_use: &[u64], nodes: u64) -> bool
     requires ample { nodes ≤ length in_use.now * 64 }
     requires small { nodes < 2 ^ 62 }
@@ -44,8 +44,8 @@ fn change_node(words: &mut [u64], present: &[u64], node: u64, change: Change)
     }
 }
 
-/// Changes every present entry, which leaves absent ones as they are. It goes over the nodes in use and the present
-/// entries alone.
+/// Changes every present entry. Absent entries stay absent, since the change leaves them so (`kept`). Visits only the
+/// nodes in use and their present entries.
 pub(crate) fn change_present(words: &mut [u64], present: &[u64], in_use: &[u64], change: Change)
     requires table { IsTable words.old }
     requires marks { HasMarks words.old present.now in_use.now }
@@ -61,7 +61,7 @@ pub(crate) fn change_present(words: &mut [u64], present: &[u64], in_use: &[u64],
     }
 }
 
-// Notes the frames that the present entries of one node map as dirty.
+// Sets the note of each frame that a dirty entry of one node maps.
 fn note_node(words: &[u64], present: &[u64], node: u64, notes: &mut [bool])
     requires node { (node + 1) * 512 ≤ length words.now }
     requires ample { length words.now ≤ length present.now * 64 }
@@ -80,7 +80,7 @@ fn note_node(words: &[u64], present: &[u64], node: u64, notes: &mut [bool])
     }
 }
 
-/// Notes the frames that present entries map as dirty. It goes over the nodes in use and the present entries alone.
+/// Sets the note of each frame that a dirty entry maps. Visits only the nodes in use and their present entries.
 pub(crate) fn note_present(words: &[u64], present: &[u64], in_use: &[u64], notes: &mut [bool])
     requires table { IsTable words.now }
     requires marks { HasMarks words.now present.now in_use.now }

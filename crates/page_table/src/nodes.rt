@@ -1,22 +1,22 @@
-// The nodes of a table: how a walk goes down from the root, and which pages have a leaf.
+// The nodes of a table: walks from the root, and the pages that have a leaf.
 ghost use Rattle.std.specs.Prelude.{◌≡◌, ◌≤◌, ◌<◌, ◌+◌, ◌-◌, ◌*◌, ◌/◌, ◌^◌, ℕ, length};
 ghost use Rattle.page_table.specs.inside.Nodes.{word, read_by_walk, IsWalkable, IsPastGap, IsFirstGrown};
 
 use page_entry::PageNumber;
 
-/// Words of a node.
+/// The number of words in a node.
 pub(crate) const NODE: u64 = 512;
 
-/// The pages that four levels can have: those of addresses of 48 bits.
+/// The number of pages that four levels can map, with addresses of 48 bits.
 pub(crate) const PAGES: PageNumber = 1 << 36;
 
-/// Pages below a word of the root.
+/// The number of pages below one word of the root.
 pub(crate) const ROOT_BLOCK: PageNumber = 1 << 27;
 
-/// Pages below a word of a node of the second level.
+/// The number of pages below one word of a second-level node.
 pub(crate) const MIDDLE_BLOCK: PageNumber = 1 << 18;
 
-// A word of a node; 0 where there is no node.
+// Returns a word of a node, or 0 if `node` is 0 (no node).
 fn word(words: &[u64], node: u64, place: u64) -> u64
     requires node { node * 512 ≤ length words.now }
     requires place { place < 512 }
@@ -28,7 +28,8 @@ fn word(words: &[u64], node: u64, place: u64) -> u64
     words[((node - 1) * NODE + place) as usize]
 }
 
-/// What a walk over so many levels reads that leads to the block.
+/// Returns the word that a walk of `depth` levels to the block reads. Up to depth 3 this is the number of a node, or 0
+/// for none. At depth 4 it is the bits of an entry, or 0.
 pub(crate) fn walk(words: &[u64], depth: u64, block: u64) -> u64
     requires words { IsWalkable words.now }
     requires depth { depth ≤ 4 }
@@ -40,7 +41,8 @@ pub(crate) fn walk(words: &[u64], depth: u64, block: u64) -> u64
     word(words, walk(words, depth - 1, block / NODE), block % NODE)
 }
 
-// The first page after the largest block that has no node and has this page; the page itself if it has a leaf.
+// Returns `page` if it has a leaf. Otherwise returns a later page, and no page before that one, from `page` on, has a
+// leaf. It is the end of the largest block without a node that contains `page`.
 fn past_gap(words: &[u64], page: PageNumber) -> PageNumber
     requires words { IsWalkable words.now }
     requires page { page < 2 ^ 36 }
@@ -58,7 +60,8 @@ fn past_gap(words: &[u64], page: PageNumber) -> PageNumber
     page
 }
 
-/// The first page from `start` on and below `end` that has a leaf. It goes over missing blocks, not over pages.
+/// Returns the first page from `start` up to, but not including, `end` that has a leaf. Visits missing blocks, not
+/// single pages.
 pub(crate) fn first_grown(words: &[u64], start: PageNumber, end: PageNumber) -> Option<PageNumber>
     requires words { IsWalkable words.now }
     requires end { end ≤ 2 ^ 36 }

@@ -1,4 +1,4 @@
-// The table: a map from page to entry that grows by ranges.
+// The page table: a map from page to entry that grows by ranges.
 ghost use Rattle.std.specs.Prelude.{◌≡◌, ◌≤◌, ◌<◌, ◌^◌, ◌↔◌, ◌⊎◌, ℕ, true, false, length, slice_index_or, Some, IsTrue, IfOk, OnOk, OnErr, IfErr, Ok};
 ghost use Rattle.std.specs.FinMap as maps;
 ghost use Rattle.page_entry.specs.Entry.{Mapped};
@@ -17,15 +17,15 @@ use std::alloc::{AllocError, Allocator};
 use std::marker::Model;
 use std::ops::Range;
 
-/// Words of the marks of a node, a bit for each of its words.
+/// The number of words in the marks of a node, one bit for each of its words.
 const MARKS: u64 = NODE / 64;
 
-/// A page table: a map from page to entry, absent where nothing was set. Pages are those of user addresses, below
-/// 2^35 (Intel SDM volume 3, "4-Level Paging"). It is made of nodes of 512 words in four levels, which stay until the
-/// table is dropped.
+/// A page table: a map from page to entry. An entry that was never set is absent. Pages are those of user addresses,
+/// below 2^35 (Intel SDM volume 3, "4-Level Paging"). The table consists of nodes of 512 words in four levels. A node
+/// is freed only when the table is dropped.
 #[derive(Drop)]
 pub struct Table<A: Allocator + Copy> {
-    // The words of all nodes, one node after the other, the root first.
+    // The words of all nodes, one node after another, starting with the root.
     words: Vec<u64, A>,
     // A bit for each word: whether it is a present entry.
     present: Vec<u64, A>,
@@ -49,7 +49,7 @@ impl<A: Allocator + Copy> Model for Table<A> {
 }
 
 impl<A: Allocator + Copy> Table<A> {
-    /// A table that maps nothing and has grown nowhere: a root alone. Fails where memory is refused.
+    /// Returns a table that maps nothing and has only a root. Fails if memory runs out.
     pub fn new(alloc: A) -> Result<Self, AllocError>
         ensures { IfOk result (λ table. table ≡ empty_table) }
     {
@@ -66,19 +66,19 @@ impl<A: Allocator + Copy> Table<A> {
         })
     }
 
-    /// How many nodes there are.
+    /// Returns the number of nodes, including the root.
     pub fn nodes(&self) -> u64
         ensures { result ≡ self.now.nodes }
     {
         self.words.len() as u64 / NODE
     }
 
-    /// Makes all growth that `set` of a page of the range needs; no entry changes. Every node that the range needs is
-    /// made before the first one is linked, so where memory is refused the table stays as it was. It takes memory only
-    /// where a page of the range hasn't grown yet.
+    /// Makes the nodes that `set` needs for each page of the range. No entry changes. All missing nodes are allocated
+    /// before the first one is linked, so a failure leaves the table unchanged. Allocates memory only if a page of the
+    /// range hasn't grown yet.
     ///
     /// # Errors
-    /// `OutOfMemory`.
+    /// Fails with `OutOfMemory` if memory runs out.
     pub fn grow(&mut self, range: Range<PageNumber>) -> Result<(), Refusal>
         requires { range.end ≤ 2 ^ 35 }
         ensures ok { OnOk result (GrowsOver range.start range.end self.old self.new) }
@@ -106,14 +106,14 @@ impl<A: Allocator + Copy> Table<A> {
         Ok(())
     }
 
-    /// The page's entry.
+    /// Returns the page's entry.
     pub fn get(&self, page: PageNumber) -> Entry
         ensures { result ≡ maps.get self.now.entries page }
     {
         Entry::of_bits(walk(&self.words, 4, page))
     }
 
-    /// Sets the entry of a page that has grown; an absent one leaves the page without an entry. It takes no memory.
+    /// Sets the entry of a page that has grown. An absent entry leaves the page unmapped. Allocates no memory.
     pub fn set(&mut self, page: PageNumber, entry: Entry)
         requires { IsTrue (is_grown self.old page) }
         ensures { self.new ≡ record self.old { entries = put_entry self.old.entries page entry } }
@@ -127,14 +127,14 @@ impl<A: Allocator + Copy> Table<A> {
         );
     }
 
-    /// Makes every entry of the range absent. It takes no memory, and what has grown stays.
+    /// Makes every entry of the range absent. The table's nodes stay. Allocates no memory.
     pub fn clear(&mut self, range: Range<PageNumber>)
         ensures { self.new ≡ record self.old { entries = outside_range self.old.entries range.start range.end } }
     {
         self.change(&range, Change::Clear);
     }
 
-    /// Takes the right to write from every entry of the range. It takes no memory.
+    /// Makes every entry of the range read-only. Allocates no memory.
     pub fn make_read_only(&mut self, range: Range<PageNumber>)
         ensures { self.new ≡ record self.old { entries = range_read_only self.old.entries range.start range.end } }
     {
@@ -154,8 +154,8 @@ impl<A: Allocator + Copy> Table<A> {
         );
     }
 
-    /// Takes the right to write and the dirty bit from every entry that maps a marked frame: one whose number is below
-    /// the length of `marked`, with true at its place. It takes no memory.
+    /// Makes each entry that maps a marked frame read-only, and clears its dirty bit. A frame is marked if `marked` is
+    /// true at the frame's number. Frames past the end of `marked` aren't marked. Allocates no memory.
     pub fn protect_frames(&mut self, marked: &[bool])
         ensures { self.new ≡ record self.old { entries = frames_protected self.old.entries marked.now } }
     {
@@ -167,7 +167,7 @@ impl<A: Allocator + Copy> Table<A> {
         );
     }
 
-    /// Notes the frame of each dirty entry. It takes no memory.
+    /// Sets the note of each frame that a dirty entry maps. The other notes stay. Allocates no memory.
     pub fn note_dirty(&self, notes: &mut [bool])
         requires { (page : ℕ) (entry : Mapped) → maps.get self.now.entries page ≡ Some entry
             → entry.frame < length notes.old }
@@ -179,14 +179,14 @@ impl<A: Allocator + Copy> Table<A> {
         note_present(&self.words, &self.present, &self.in_use, notes);
     }
 
-    /// Whether there may be a present entry: false only where there is none. It looks at a bit for each node.
+    /// Whether an entry may be present. Returns false only if no entry is present. Reads one bit for each node.
     pub fn may_have_entries(&self) -> bool
         ensures { (page : ℕ) (entry : Mapped) → maps.get self.now.entries page ≡ Some entry → result ≡ true }
     {
         has_used(&self.in_use, self.words.len() as u64 / NODE)
     }
 
-    /// The pages of the range whose entries are dirty, in rising order.
+    /// Returns an iterator over the pages of the range whose entries are dirty, in rising order.
     pub fn dirty_pages<'a>(&'a self, range: Range<PageNumber>) -> DirtyPages<'a>
         ensures { result ≡ dirty_in self.now.entries range.start range.end }
     {
@@ -194,7 +194,7 @@ impl<A: Allocator + Copy> Table<A> {
     }
 }
 
-// Makes the list at least so long, with zeros; after an error it is as it was.
+// Extends the list with zeros to at least `count` words. After an error the list is unchanged.
 fn extend<A: Allocator + Copy>(words: &mut Vec<u64, A>, count: u64) -> Result<(), AllocError>
     requires { count < 2 ^ 60 }
     ensures ok { OnOk result (Extends count words.old.items words.new.items) }

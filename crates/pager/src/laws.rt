@@ -1,4 +1,4 @@
-// What follows of the calls.
+// Theorems that follow from the contracts of the calls.
 ghost use Rattle.std.specs.Prelude.{◌≡◌, ℕ, false, List, ◌++◌, None};
 ghost use Rattle.device.specs.Device.{LeavesOnly};
 ghost use Rattle.page_entry.specs.declared.numbers.FilePage.{FilePage};
@@ -14,11 +14,14 @@ ghost use Rattle.pager.specs.Runs.{ReadsBackAmong};
 
 use device::Device;
 
-/// Whatever calls led to a pager, from a volume at rest with these files on. A crash after them leaves what recovers to
-/// the files after a durable prefix of their history. That prefix is empty or ends with a mark, and has every mark that
-/// was acknowledged (`left`). The same holds of a crash at any moment within the next step, also where a device call of
-/// it fails (`within`). While no call of a write-out failed, each page has for callers the bytes that were put last
-/// (`reads`).
+/// Holds for each pager that calls have led to, from a volume at rest with these files.
+///
+/// `left`: a crash after the calls leaves bytes that recover to the files after a durable prefix of their history. This
+/// prefix is empty or ends with a mark. It contains every acknowledged mark.
+///
+/// `within`: the same holds of a crash at any moment within the next step, even if one of its device calls fails.
+///
+/// `reads`: while no device call of a write-out has failed, callers see in each page the bytes after the whole history.
 pub fn what_pagers_leave<D: Device>(device: &D)
     ensures left { (files : List File) (history : List Event) (s : PagerState D)
         → HasCome D.Device files history s → (c : List ℕ) → D.may_leave s.device c → ReadsBack files history c }
@@ -31,11 +34,16 @@ pub fn what_pagers_leave<D: Device>(device: &D)
         ≡ up_to_end s.lengths owner (after (memory_of files) history owner.file owner.page) }
 {}
 
-/// Runs lead from one state of a pager to another. One that follows the calls that led to its first state adds its
-/// events to their history (`come`), and two runs, one after the other, are one (`on`). A crash between a run's first
-/// state and its last one leaves what recovers to the files after a durable prefix of the history and of some of the
-/// run's events (`since`). The same holds up to any moment within the step that follows, also where a device call of it
-/// fails (`within`).
+/// A run leads from one state of a pager to another.
+///
+/// `come`: if a run follows the calls that led to its first state, its events are added to their history.
+///
+/// `on`: two runs, one after the other, form one run.
+///
+/// `since`: a crash between a run's first and last state leaves bytes that recover to the files after a durable prefix.
+/// It is a prefix of the history and some of the run's events.
+///
+/// `within`: the same holds up to any moment within the step that follows, even if one of its device calls fails.
 #[tactic(auto, using(crate::proofs::Runs::come_on))]
 pub fn what_runs_leave<D: Device>(device: &D)
     ensures come { (files : List File) (history events : List Event) (s t : PagerState D)

@@ -1,4 +1,5 @@
-//! A page store over a volume: whole pages of files, committed together, found again after a crash.
+//! A page store over a volume. Callers put whole pages of files and commit them together. They are found again after a
+//! crash.
 #![tactic(auto)]
 
 mod laws;

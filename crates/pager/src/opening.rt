@@ -1,4 +1,4 @@
-// How a pager is made.
+// Opens a pager over a device.
 ghost use Rattle.std.specs.Prelude.{◌≡◌, ◌⊎◌, min, IfOk, IfErr, Ok, Err};
 ghost use Rattle.volume_codec.specs.Layout.{max_frames};
 ghost use Rattle.recovery.specs.Opening.{Opens};
@@ -16,7 +16,7 @@ use recovery::Volume;
 use std::alloc::{AllocError, Allocator};
 use volume_codec::Super;
 
-/// The memory that a pager takes when it is made.
+/// The memory that a pager allocates when it is opened.
 #[derive(Drop)]
 pub(crate) struct Room<A: Allocator + Copy> {
     pub(crate) lengths: Vec<u64, A>,
@@ -25,7 +25,7 @@ pub(crate) struct Room<A: Allocator + Copy> {
     pub(crate) homes: Vec<u32, A>,
 }
 
-// Room for a pager over a volume.
+// Allocates the memory for a pager over a volume.
 fn room_for<D: Device, A: Allocator + Copy>(
     alloc: A,
     volume: &Volume<D, A>,
@@ -41,7 +41,8 @@ fn room_for<D: Device, A: Allocator + Copy>(
     })
 }
 
-/// The most pages that a commit takes: so many, or as many as the volume's journals take.
+/// Returns the largest number of pages in a commit: `most`, or the number that the volume's journals can hold, if that
+/// is less.
 pub(crate) fn most_pages<A: Allocator + Copy>(table: &Super<A>, most: u32) -> u32
     ensures { result ≡ min most (max_frames table.now.layout table.now.slots) }
 {
@@ -50,9 +51,11 @@ pub(crate) fn most_pages<A: Allocator + Copy>(table: &Super<A>, most: u32) -> u3
 }
 
 impl<D: Device, A: Allocator + Copy> Pager<D, A> {
-    /// Opens the volume of a device, as `recovery::open` does, whose commits take so many pages at most, or as many as
-    /// its journals have room for. Nothing is put then, and each commit is done. `OutOfMemory` where there is no memory
-    /// for the lists that it keeps. A refusal hands the device back.
+    /// Opens the volume of a device as `recovery::open` does. A commit takes at most `most` pages, or fewer if the
+    /// journals have room for fewer. After the opening no page is put, and each commit is done.
+    ///
+    /// Fails as `recovery::open` does, or with `OutOfMemory` if memory for the pager's lists runs out. A failure
+    /// returns the device.
     pub fn open(alloc: A, device: D, most: u32) -> Result<Self, (Refusal, D)>
         ensures opens { IfOk result (λ pager. Opens D.Device device (Ok pager.table) pager.device) }
         ensures fresh { IfOk result (λ pager. pager ≡ newly_opened (volume_in pager)

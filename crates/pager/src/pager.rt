@@ -1,4 +1,4 @@
-// The pager.
+// The pager, its calls and its fields.
 ghost use Rattle.std.specs.Prelude.{min, ◌≡◌, ◌≢◌, ◌↔◌, ◌⊎◌, ℕ, List, ◌+◌, ◌-◌, ◌^◌, ◌*◌, ◌%◌, ◌==◌, ◌&&◌, ◌∷◌, ◌<◌, ◌≤◌, false, true, not, is_some, is_none, if◌then◌else◌, [], length, slice_index_or, IsTrue, Some, None, IfOk, IfErr, IfSome, IfNone, OnSome, OnOk, OnErr, IsErr, MatchResult};
 ghost use Rattle.std.specs.Option.{option_copied};
 ghost use Rattle.std.specs.List.{AllByRecursion, sum_by};
@@ -37,23 +37,24 @@ use std::marker::Model;
 use std::mem;
 use volume_codec::Super;
 
-/// A page store over a volume: pages are put, committed together, and then written out, a device call at a time.
+/// A page store over a volume. Pages are put and then committed together. Each step writes out a part of the commits,
+/// in general with one device call.
 #[derive(Drop)]
 pub struct Pager<D: Device, A: Allocator + Copy> {
     alloc: A,
     table: Super<A>,
     // The length of each file in bytes.
     lengths: Vec<u64, A>,
-    // The most pages of files that a commit takes.
+    // The largest number of pages of files in a commit.
     most: u32,
     // The blocks that were put since the last commit began.
     staged: Blocks<A>,
     write_outs: WriteOuts<A>,
-    // The blocks of the write-outs that aren't done, the oldest first.
+    // The blocks of each write-out that isn't done, the oldest first.
     records: Vec<Blocks<A>, A>,
-    // Room for the numbers of a commit's blocks.
+    // Scratch memory for the home block numbers of a commit.
     homes: Vec<u32, A>,
-    // How many commits began since the opening.
+    // The number of commits that began since the opening.
     marks: u32,
     pub(crate) device: D,
 }
@@ -72,7 +73,7 @@ impl<D: Device, A: Allocator + Copy> Model for Pager<D, A> {
     ghost invariant = { λ p. IsPager D.seen (state_of p) (vec_capacity p.records) (vec_capacity p.homes) };
 }
 
-// The bytes of a home block in the newest list that has it.
+// Returns the bytes of a home block in the newest list that contains it.
 fn newest<A: Allocator + Copy>(records: &[Blocks<A>], home: u32) -> Option<&[u8; 4096]>
     ensures { option_copied result ≡ newest_in records.now home }
 {
@@ -86,7 +87,8 @@ fn newest<A: Allocator + Copy>(records: &[Blocks<A>], home: u32) -> Option<&[u8;
     found
 }
 
-// The same are copied; false where no list has it, and then nothing is.
+// Copies the bytes of a home block from the newest list that contains it. Returns false, and copies nothing, if no list
+// does.
 fn copy_newest<A: Allocator + Copy>(
     records: &[Blocks<A>],
     home: u32,
@@ -104,7 +106,7 @@ fn copy_newest<A: Allocator + Copy>(
     }
 }
 
-// The bytes of a step that writes the record of this home block, if it writes one.
+// Returns the bytes for the next step: those of the home block whose record it writes, or zeros if it writes no record.
 fn record_for<A: Allocator + Copy>(records: &[Blocks<A>], home: Option<u32>) -> &[u8; 4096]
     ensures { result.now ≡ record_for records.now home }
 {
@@ -117,7 +119,7 @@ fn record_for<A: Allocator + Copy>(records: &[Blocks<A>], home: Option<u32>) -> 
     }
 }
 
-// The blocks of a write-out that is done go.
+// Removes the blocks of the oldest write-out if it is done.
 fn conclude<A: Allocator + Copy>(records: &mut Vec<Blocks<A>, A>, answer: Flushed)
     ensures items { records.new.items ≡ records_after answer records.old.items }
     ensures room { vec_capacity records.new ≡ vec_capacity records.old }
@@ -130,7 +132,7 @@ fn conclude<A: Allocator + Copy>(records: &mut Vec<Blocks<A>, A>, answer: Flushe
 }
 
 impl<D: Device, A: Allocator + Copy> Pager<D, A> {
-    // A pager over a volume, in its room.
+    // Makes a pager over a volume from the allocated memory.
     pub(crate) fn over(alloc: A, volume: Volume<D, A>, room: Room<A>, most: u32) -> Self
         requires { IsRoom volume.table volume.lengths room }
         ensures fresh { result ≡ newly_opened volume (min most (max_frames volume.table.layout volume.table.slots)) }
@@ -158,7 +160,7 @@ impl<D: Device, A: Allocator + Copy> Pager<D, A> {
         }
     }
 
-    // The home block of a page that begins before its file's end.
+    // Returns the home block of a page that begins before its file's end.
     fn admit_page(&self, page: FilePage) -> Result<u32, Refusal>
         ensures ok { OnOk result (page_refusal self.now.lengths page ≡ None) }
         ensures home { IfOk result (λ home. home ≡ home_of self.now.table page) }
@@ -177,7 +179,7 @@ impl<D: Device, A: Allocator + Copy> Pager<D, A> {
         Ok(home_block(&self.table, &self.lengths, page))
     }
 
-    // How many bytes the file has from the page's begin on.
+    // Returns the number of the file's bytes from the start of the page on, or 0 if the page starts past its end.
     fn left(&self, page: FilePage) -> u64
         requires { page.file < length self.now.lengths }
         ensures { result ≡ file_length self.now.lengths page.file - 4096 * page.page }
@@ -193,7 +195,7 @@ impl<D: Device, A: Allocator + Copy> Pager<D, A> {
         self.table.layout().lengths_blocks() as usize
     }
 
-    // How many blocks of the next commit are reserved for the lengths.
+    // Returns the number of blocks of the next commit that are reserved for the lengths.
     fn reserved(&self) -> usize
         ensures value { result ≡ reserved self.now.table self.now.staged }
         ensures few { result ≤ 1 }
@@ -222,7 +224,7 @@ impl<D: Device, A: Allocator + Copy> Pager<D, A> {
         self.staged.len() + self.reserved() >= self.most as usize + self.lengths_blocks()
     }
 
-    // The first bytes of a page, and zeros after them, are kept for the next commit.
+    // Stages a page for the next commit: its first `left` bytes, then zeros.
     fn stage(&mut self, home: u32, bytes: &[u8; 4096], left: u64) -> Result<(), Refusal>
         requires low { first_home self.old.table.layout self.old.table.slots ≤ home }
         requires within { home < block_count self.old.table }
@@ -242,10 +244,16 @@ impl<D: Device, A: Allocator + Copy> Pager<D, A> {
         }
     }
 
-    /// The page has these bytes from now on, up to its file's end. The next commit takes it. No device call is made.
+    /// Puts a page: it has these bytes from now on, up to its file's end. The next commit takes it. Makes no device
+    /// call.
     ///
-    /// `NoFile` and `Einval` for a page that isn't there, `Broken` after a device call of a commit failed, `NoFrame`
-    /// where the next commit takes no further page, `OutOfMemory`. A refusal changes nothing.
+    /// A failure changes nothing. Fails with:
+    ///
+    /// - `NoFile` if there is no such file;
+    /// - `Einval` if the page begins at or past its file's end;
+    /// - `Broken` if a device call of a commit has failed;
+    /// - `NoFrame` if the next commit has no room for the page;
+    /// - `OutOfMemory` if memory runs out.
     pub fn put(&mut self, page: FilePage, bytes: &[u8; 4096]) -> Result<(), Refusal>
         ensures ok { OnOk result (put_refusal self.old page ≡ None) }
         ensures put { OnOk result (self.new ≡ after_put self.old page bytes.now) }
@@ -262,7 +270,7 @@ impl<D: Device, A: Allocator + Copy> Pager<D, A> {
         self.stage(home, bytes, self.left(page))
     }
 
-    // A commit of what was put begins under the next mark.
+    // Begins a commit of all staged blocks under the next mark.
     fn begin(&mut self)
         requires whole { self.old.write_outs.broken ≡ false }
         requires free { is_busy self.old.write_outs ≡ false }
@@ -277,16 +285,17 @@ impl<D: Device, A: Allocator + Copy> Pager<D, A> {
         self.write_outs
             .begin_blocks(u64::from(self.marks), &self.homes);
         let blocks = mem::replace(&mut self.staged, Blocks::new(self.alloc));
-        // There is room for a list in each journal.
+        // The capacity is one list for each journal, so this cannot fail.
         let _ = self.records.push(blocks);
     }
 
-    /// Begins a commit of all that was put since the last one, under the next mark, which is answered. It is written
-    /// out by steps. Where nothing was put, no step follows, and the mark is acknowledged at once. No device call is
-    /// made.
+    /// Begins a commit of all pages that were put since the last one, and returns its mark. Steps write the commit out.
+    /// If nothing was put, no step follows, and the mark is acknowledged at once. Makes no device call.
     ///
-    /// `Broken` after a device call of a commit failed, `Busy` while the last commit isn't acknowledged, no journal is
-    /// free, or marks have come to 2^32 - 1. A refusal changes nothing.
+    /// A failure changes nothing. Fails with:
+    ///
+    /// - `Broken` if a device call of a commit has failed;
+    /// - `Busy` if the last commit isn't acknowledged, no journal is free, or the number of marks has reached 2^32 - 1.
     pub fn commit(&mut self) -> Result<u32, Refusal>
         ensures ok { OnOk result (commit_refusal self.old ≡ None) }
         ensures mark { IfOk result (λ mark. mark ≡ self.old.marks + 1) }
@@ -310,7 +319,7 @@ impl<D: Device, A: Allocator + Copy> Pager<D, A> {
         Ok(self.marks)
     }
 
-    // The next step of write-outs that aren't done.
+    // Makes the next step of the write-outs that aren't done.
     fn advance(&mut self) -> Flushed
         requires { self.old.write_outs.batches ≢ [] }
         ensures answer { (result ≡ next_answer self.old.write_outs) ⊎ (result ≡ Flushed.Device) }
@@ -330,9 +339,10 @@ impl<D: Device, A: Allocator + Copy> Pager<D, A> {
         answer
     }
 
-    /// Makes the next device call of the commits that aren't done; two where a page is copied to its home block. `None`
-    /// where each commit is done, and then nothing changes. `Committed` acknowledges a mark, `Done` says that its pages
-    /// are at home. `Device` where a call failed: then no further call is made, and every later step answers `Broken`.
+    /// Makes the next device call of the commits that aren't done, or two calls if a page is copied to its home block.
+    /// Returns `None`, and changes nothing, if each commit is done. `Committed` acknowledges a mark. `Done` means that
+    /// the commit's pages are in their home blocks. `Device` means that a call failed. No further call is made then,
+    /// and each later step returns `Broken`.
     pub fn step(&mut self) -> Option<Flushed>
         ensures none { IfNone result ((self.old.write_outs.batches ≡ []) × (self.new ≡ self.old)) }
         ensures some { OnSome result (self.old.write_outs.batches ≢ []) }
@@ -352,7 +362,7 @@ impl<D: Device, A: Allocator + Copy> Pager<D, A> {
         Some(self.advance())
     }
 
-    // Copies the bytes of a home block that are kept in memory; false where none are, and then nothing is copied.
+    // Copies the bytes of a home block that are kept in memory. Returns false, and copies nothing, if none are kept.
     fn copy_kept(&self, home: u32, buffer: &mut [u8; 4096]) -> bool
         ensures { kept_bytes self.now.staged self.now.records home ≡ (if result then Some buffer.new else None) }
     {
@@ -365,7 +375,7 @@ impl<D: Device, A: Allocator + Copy> Pager<D, A> {
         }
     }
 
-    // Reads a home block.
+    // Reads a home block from the device.
     fn read_home(&mut self, home: u32, buffer: &mut [u8; 4096]) -> Result<(), Refusal>
         requires within { home < block_count self.old.table }
         ensures bytes { D.is_honest self.old.device
@@ -380,10 +390,12 @@ impl<D: Device, A: Allocator + Copy> Pager<D, A> {
         read(&mut self.device, PAGE * u64::from(home), buffer)
     }
 
-    /// Copies a page, with zeros past its file's end: the bytes that were put last, else those of the newest commit
-    /// that isn't done and has the page, else those of its home block, which takes a device call.
+    /// Copies a page to the buffer, with zeros past its file's end. The bytes are those that were put last. Otherwise
+    /// they are those of the newest commit that isn't done and contains the page. Otherwise they are those of its home
+    /// block, which takes one device call.
     ///
-    /// `NoFile` and `Einval` for a page that isn't there, `Device` where the call failed.
+    /// Fails with `NoFile` if there is no such file, or `Einval` if the page begins at or past its file's end. Fails
+    /// with `Device` if the device call fails.
     pub fn read(&mut self, page: FilePage, buffer: &mut [u8; 4096]) -> Result<(), Refusal>
         ensures there { OnOk result (page_refusal self.old.lengths page ≡ None) }
         ensures bytes { D.is_honest self.old.device → OnOk result (buffer.new ≡ up_to_end self.old.lengths page
@@ -405,7 +417,8 @@ impl<D: Device, A: Allocator + Copy> Pager<D, A> {
         Ok(())
     }
 
-    // Whether a file may have this length.
+    // Fails if the file can't have this length, whatever is staged: the layout has no lengths, there is no such file,
+    // or the length is above its capacity.
     fn admit_length(&self, file: FileNumber, to: u64) -> Result<(), Refusal>
         ensures may { OnOk result (MayHaveLength self.now.table file to) }
         ensures ok { OnOk result (set_length_refusal self.now file to
@@ -445,7 +458,7 @@ impl<D: Device, A: Allocator + Copy> Pager<D, A> {
         self.staged.len() + more + self.reserved() > self.most as usize + self.lengths_blocks()
     }
 
-    // The bytes of the page in which a file ends; zeros where it ends with a page.
+    // Returns the bytes of the page in which a file ends, or zeros if it ends at a page boundary.
     fn read_last(&mut self, file: FileNumber, from: u64) -> Result<[u8; 4096], Refusal>
         requires file { file < length self.old.table.files }
         requires from { from ≡ file_length self.old.lengths file }
@@ -472,7 +485,7 @@ impl<D: Device, A: Allocator + Copy> Pager<D, A> {
         Ok(last)
     }
 
-    // A file grows, where the page in which it ended has these bytes.
+    // Grows a file. `last` contains the bytes of the page in which the file ended.
     fn put_growth(&mut self, file: FileNumber, to: u64, last: &[u8; 4096]) -> Result<(), Refusal>
         requires may { MayHaveLength self.old.table file to }
         requires more { file_length self.old.lengths file < to }
@@ -501,7 +514,6 @@ impl<D: Device, A: Allocator + Copy> Pager<D, A> {
         }
     }
 
-    // A file grows.
     fn grow(&mut self, file: FileNumber, from: u64, to: u64) -> Result<(), Refusal>
         requires may { MayHaveLength self.old.table file to }
         requires from { from ≡ file_length self.old.lengths file }
@@ -526,7 +538,6 @@ impl<D: Device, A: Allocator + Copy> Pager<D, A> {
         self.put_growth(file, to, &last)
     }
 
-    // A file shrinks.
     fn shrink(&mut self, file: FileNumber, from: u64, to: u64) -> Result<(), Refusal>
         requires may { MayHaveLength self.old.table file to }
         requires from { from ≡ file_length self.old.lengths file }
@@ -556,15 +567,22 @@ impl<D: Device, A: Allocator + Copy> Pager<D, A> {
     }
 
     /// Sets the length of a file in bytes, from 0 to its capacity (POSIX.1-2024, `ftruncate`). The next commit takes
-    /// the change. A file that grows has zeros from its old end on: each page that it gets, and the one in which it
-    /// ended, is put, and counts among the pages of the next commit. When a file shrinks, its pages past the new end
-    /// are no longer put. The page in which it ends then has zeros from there on, if it is put. To grow from inside a
-    /// page that isn't kept in memory takes one device call. Nothing else takes one. If the file has this length
-    /// already, nothing changes.
+    /// the change. If the file has this length already, nothing changes.
     ///
-    /// `Einval` where the volume's layout has no block for lengths (1 and 2), `NoFile`, `Einval` past the file's
-    /// capacity, `Broken` after a device call of a commit failed, `NoFrame` where the next commit doesn't take so many
-    /// pages, `Device` where the device call failed, `OutOfMemory`. A refusal changes nothing.
+    /// A file that grows has zeros from its old end on. Each page that it gets is put, and so is the page in which it
+    /// ended. These count among the pages of the next commit. When a file shrinks, its pages past the new end are no
+    /// longer put. If the page in which it then ends is put, it has zeros from there on. Growth from inside a page that
+    /// isn't kept in memory takes one device call. Nothing else takes one.
+    ///
+    /// A failure leaves the pager's state unchanged. Fails with:
+    ///
+    /// - `Einval` if the volume's layout has no block for lengths (layouts 1 and 2), or the length is above the file's
+    ///   capacity;
+    /// - `NoFile` if there is no such file;
+    /// - `Broken` if a device call of a commit has failed;
+    /// - `NoFrame` if the next commit has no room for the pages;
+    /// - `Device` if the device call fails;
+    /// - `OutOfMemory` if memory runs out.
     pub fn set_length(&mut self, file: FileNumber, length: u64) -> Result<(), Refusal>
         ensures ok { OnOk result (set_length_refusal self.old file length ≡ None) }
         ensures set { D.is_honest self.old.device → OnOk result (self.new ≡ after_length self.old file length
@@ -593,14 +611,14 @@ impl<D: Device, A: Allocator + Copy> Pager<D, A> {
         }
     }
 
-    /// The table of the files.
+    /// Returns the table of the files.
     pub fn table(&self) -> &Super<A>
         ensures { result.now ≡ self.now.table }
     {
         &self.table
     }
 
-    /// The length of each file in bytes, in the table's order. None is above its file's capacity.
+    /// Returns the length of each file in bytes, in the table's order. No length is above its file's capacity.
     pub fn lengths(&self) -> &[u64]
         ensures value { result.now ≡ self.now.lengths }
         ensures each { AreLengths self.now.table self.now.lengths }
@@ -608,14 +626,15 @@ impl<D: Device, A: Allocator + Copy> Pager<D, A> {
         &self.lengths
     }
 
-    /// How many blocks were put since the last commit began.
+    /// Returns the number of blocks that were put since the last commit began.
     pub fn staged(&self) -> usize
         ensures { result ≡ length self.now.staged }
     {
         self.staged.len()
     }
 
-    /// The number of pages of files that the next commit takes: the blocks that were put, but for that of the lengths.
+    /// Returns the number of pages of files in the next commit: the blocks that were put, without the block of the
+    /// lengths.
     pub fn staged_pages(&self) -> usize
         ensures { result ≡ length self.now.staged
             - (lengths_blocks self.now.table.layout - reserved self.now.table self.now.staged) }
@@ -631,7 +650,7 @@ impl<D: Device, A: Allocator + Copy> Pager<D, A> {
         self.write_outs.is_empty()
     }
 
-    /// The device as it is; of commits that aren't done an opening finds what a crash would have left.
+    /// Returns the device as it is. For commits that aren't done, an opening finds what a crash would have left.
     pub fn into_device(self) -> D
         ensures { result ≡ self.device }
     {
@@ -656,35 +675,36 @@ impl<D: Device, A: Allocator + Copy> Pager<D, A> {
         device
     }
 
-    /// The most pages of files that a commit takes.
+    /// Returns the largest number of pages of files that a commit takes.
     pub fn most(&self) -> u32
         ensures { result ≡ self.now.most }
     {
         self.most
     }
 
-    /// How many commits began since the opening.
+    /// Returns the number of commits that began since the opening.
     pub fn marks(&self) -> u32
         ensures { result ≡ self.now.marks }
     {
         self.marks
     }
 
-    /// Whether a device call of a commit failed. Then no page is put and no commit begins any more.
+    /// Whether a device call of a commit failed. Then no page can be put, and no commit can begin.
     pub fn is_broken(&self) -> bool
         ensures { result ≡ self.now.write_outs.broken }
     {
         self.write_outs.is_broken()
     }
 
-    /// Whether the last commit isn't acknowledged, or no journal is free. Then no further commit begins.
+    /// Whether the last commit isn't acknowledged, or no journal is free. Then no further commit can begin.
     pub fn is_busy(&self) -> bool
         ensures { result ≡ is_busy self.now.write_outs }
     {
         self.write_outs.is_busy()
     }
 
-    /// Whether a page that is there was put since the last commit began.
+    /// Whether the page was put since the last commit began. Returns false for a page that begins at or past its file's
+    /// end.
     pub fn is_staged(&self, page: FilePage) -> bool
         ensures { result ≡ (is_none (page_refusal self.now.lengths page)
             && is_some (bytes_in self.now.staged (home_of self.now.table page))) }
@@ -695,7 +715,7 @@ impl<D: Device, A: Allocator + Copy> Pager<D, A> {
         }
     }
 
-    /// The number of blocks in the commits that aren't done, or 2^64 - 1 if there are more.
+    /// Returns the number of blocks in the commits that aren't done, or 2^64 - 1 if there are more.
     pub fn unwritten(&self) -> usize
         ensures { result ≡ min (2 ^ 64 - 1) (sum_by (λ blocks. length blocks) self.now.records) }
     {
@@ -703,7 +723,7 @@ impl<D: Device, A: Allocator + Copy> Pager<D, A> {
     }
 }
 
-// The number of blocks in these lists, or 2^64 - 1 if there are more.
+// Returns the number of blocks in these lists, or 2^64 - 1 if there are more.
 fn count_blocks<A: Allocator + Copy>(records: &[Blocks<A>]) -> usize
     ensures { result ≡ min (2 ^ 64 - 1) (sum_by (λ blocks. length blocks) records.now) }
 {

@@ -1,4 +1,4 @@
-// Pages of files: their home blocks, and how many of their bytes are the file's.
+// Pages of files: their home blocks, and the number of the file's bytes in them.
 ghost use Rattle.std.specs.Prelude.{◌≡◌, ◌+◌, ◌*◌, ◌<◌, ◌≤◌, length, slice_index_or, slice_set};
 ghost use Rattle.volume_codec.specs.Layout.{first_home};
 ghost use Rattle.volume_codec.specs.Super.{block_count, capacities_in, first_home_of, pages_of};
@@ -11,7 +11,7 @@ use page_entry::{FileNumber, FilePage, PAGE};
 use std::alloc::Allocator;
 use volume_codec::{Super, write_lengths};
 
-/// The length of a file in bytes, of these lengths.
+/// Returns the length of a file in bytes.
 pub fn length_at(lengths: &[u64], file: FileNumber) -> u64
     requires { file < length lengths.now }
     ensures { result ≡ file_length lengths.now file }
@@ -19,7 +19,7 @@ pub fn length_at(lengths: &[u64], file: FileNumber) -> u64
     lengths[file as usize]
 }
 
-/// The home block of a page that begins before its file's end.
+/// Returns the home block of a page that begins before its file's end.
 pub fn home_block<A: Allocator + Copy>(table: &Super<A>, lengths: &[u64], page: FilePage) -> u32
     requires lengths { AreLengths table.now lengths.now }
     requires file { page.file < length lengths.now }
@@ -33,7 +33,7 @@ pub fn home_block<A: Allocator + Copy>(table: &Super<A>, lengths: &[u64], page: 
     table.first_home(page.file as usize) + page.page
 }
 
-/// The capacity of a file in bytes.
+/// Returns the capacity of a file in bytes.
 pub fn capacity_at<A: Allocator + Copy>(table: &Super<A>, file: FileNumber) -> u64
     requires { file < length table.now.files }
     ensures { result ≡ slice_index_or (capacities_in table.now) file 0 }
@@ -41,7 +41,8 @@ pub fn capacity_at<A: Allocator + Copy>(table: &Super<A>, file: FileNumber) -> u
     table.capacity(file as usize)
 }
 
-/// The home block of the page in which a file of this length ends, or that begins at its end; it is below its capacity.
+/// Returns the home block of the page that contains offset `end`, the end of a file of this length. `end` is below the
+/// file's capacity.
 #[tactic(auto, using(crate::proofs::Capacities::last_within))]
 pub fn last_block<A: Allocator + Copy>(table: &Super<A>, file: FileNumber, end: u64) -> u32
     requires file { file < length table.now.files }
@@ -53,7 +54,7 @@ pub fn last_block<A: Allocator + Copy>(table: &Super<A>, file: FileNumber, end: 
     table.first_home(file as usize) + (end / PAGE) as u32
 }
 
-/// The home block after those of a file of this length.
+/// Returns the number of the first block after the home blocks of a file of this length.
 pub fn block_after<A: Allocator + Copy>(table: &Super<A>, file: FileNumber, end: u64) -> u32
     requires file { file < length table.now.files }
     requires fits { end ≤ slice_index_or (capacities_in table.now) file 0 }
@@ -64,7 +65,7 @@ pub fn block_after<A: Allocator + Copy>(table: &Super<A>, file: FileNumber, end:
     table.first_home(file as usize) + end.div_ceil(PAGE) as u32
 }
 
-/// The block of these lengths where a file has another one; the lengths stay.
+/// Returns the block of the lengths with file `file` at length `to`. The lengths themselves are unchanged.
 pub fn text_with<A: Allocator + Copy>(
     lengths: &mut Vec<u64, A>,
     file: FileNumber,

@@ -7,14 +7,14 @@ use kept_blocks::Tender;
 use std::alloc::Allocator;
 
 impl<D: Device, A: Allocator + Copy> Pager<D, A> {
-    /// The device.
+    /// Returns the device.
     pub fn device(&self) -> &D
         ensures { result.now ≡ self.now.device }
     {
         &self.device
     }
 
-    /// Hands the device to a tender. The pager's other parts stay as they are.
+    /// Passes the device to a tender. The pager's other parts stay unchanged.
     pub fn tend<T: Tender<D>>(&mut self, tender: &mut T)
         ensures state { self.new ≡ record self.old { device = self.new.device } }
         ensures tended { T.tends tender.old self.old.device self.new.device tender.new }

@@ -1,4 +1,4 @@
-//! The translation lookaside buffer of one processor: a list of cached page entries, tagged with process-context
+//! The translation lookaside buffer (TLB) of one processor: a list of cached page entries, tagged with process-context
 //! identifiers (PCIDs).
 #![tactic(auto)]
 
@@ -9,7 +9,7 @@ use page_entry::{FrameNumber, PageNumber, Pcid};
 use std::alloc::{AllocError, Allocator, Global};
 use std::marker::Model;
 
-/// What a TLB caches of a present page entry.
+/// The part of a present page entry that a TLB caches.
 #[derive(Clone, Copy, Debug, PartialEq, Eq)]
 pub struct CachedEntry {
     pub pcid: Pcid,
@@ -19,8 +19,8 @@ pub struct CachedEntry {
     pub dirty: bool,
 }
 
-/// What an INVPCID instruction invalidates, in the order of its types 0 to 3 (Intel SDM volume 2, "INVPCID"). No
-/// translation here is global, so the last two do the same.
+/// The entries that an INVPCID instruction invalidates, in the order of its types 0 to 3 (Intel SDM volume 2,
+/// "INVPCID"). No translation here is global, so the last two do the same.
 #[derive(Clone, Copy, Debug, PartialEq, Eq)]
 pub enum Invpcid {
     /// Type 0, individual-address invalidation: the translation of one page for one PCID.
@@ -33,8 +33,8 @@ pub enum Invpcid {
     AllContexts,
 }
 
-/// A TLB of a fixed capacity: the cached entries, oldest first, at most one for each page of each PCID. It takes its
-/// memory when it is made.
+/// A TLB of a fixed capacity: the cached entries, the oldest first, at most one for each page of each PCID. All memory
+/// is allocated when the TLB is made.
 #[derive(Drop)]
 pub struct Tlb<A: Allocator + Copy = Global> {
     capacity: usize,
@@ -55,7 +55,7 @@ impl<A: Allocator + Copy> Model for Tlb<A> {
 }
 
 impl<A: Allocator + Copy> Tlb<A> {
-    /// An empty TLB for at most `capacity` entries, at least 1. Fails where memory is refused.
+    /// Returns an empty TLB for at most `capacity` entries, at least 1. Fails if memory runs out.
     pub fn new(alloc: A, capacity: usize) -> Result<Self, AllocError>
         requires { 0 < capacity }
         ensures { IfOk result (λ tlb. tlb ≡ record { capacity = capacity; entries = [] }) }
@@ -66,14 +66,14 @@ impl<A: Allocator + Copy> Tlb<A> {
         })
     }
 
-    /// How many entries are cached.
+    /// Returns the number of cached entries.
     pub fn len(&self) -> usize
         ensures { result ≡ length self.now.entries }
     {
         self.entries.len()
     }
 
-    /// How many entries it can cache.
+    /// Returns the largest number of entries that the TLB can cache.
     pub fn capacity(&self) -> usize
         ensures { result ≡ self.now.capacity }
     {
@@ -87,7 +87,7 @@ impl<A: Allocator + Copy> Tlb<A> {
         self.entries.is_empty()
     }
 
-    /// The cached entry of a page of a PCID, if there is one.
+    /// Returns the cached entry of a page of a PCID, if there is one.
     pub fn lookup(&self, pcid: Pcid, page: PageNumber) -> Option<CachedEntry>
         ensures found { result ≡ cached self.now pcid page }
         ensures sound { IsTlb self.now }
@@ -99,8 +99,8 @@ impl<A: Allocator + Copy> Tlb<A> {
     }
 
     // Rule: full TLB
-    /// Caches an entry as the newest. It replaces one of its page and PCID; where the TLB is full without such a one,
-    /// the oldest is dropped.
+    /// Caches an entry as the newest. It replaces the cached entry of the same page and PCID, if there is one.
+    /// Otherwise, if the TLB is full, the oldest entry is dropped.
     pub fn fill(&mut self, entry: CachedEntry)
         ensures { self.new ≡ filled self.old entry }
     {
@@ -111,7 +111,7 @@ impl<A: Allocator + Copy> Tlb<A> {
         self.entries.push_reserved(entry);
     }
 
-    /// Drops the entry in a slot, counted from 0, the oldest; false where there is no such slot.
+    /// Drops the entry in a slot, and returns whether there was one. Slots are counted from 0, the oldest entry.
     pub fn evict(&mut self, slot: usize) -> bool
         ensures dropped { result ≡ nat_lt slot (length self.old.entries) }
         ensures rest { self.new ≡ evicted self.old slot }
@@ -123,22 +123,22 @@ impl<A: Allocator + Copy> Tlb<A> {
         true
     }
 
-    /// Drops the entry of a page of a PCID, as INVLPG does where that PCID is current (Intel SDM volume 3, "Operations
-    /// that Invalidate TLBs and Paging-Structure Caches", as for the next two).
+    /// Drops the entry of a page of a PCID, as INVLPG does if that PCID is current. The source of this call and the
+    /// next two is the Intel SDM volume 3, "Operations that Invalidate TLBs and Paging-Structure Caches".
     pub fn invlpg(&mut self, pcid: Pcid, page: PageNumber)
         ensures { self.new ≡ without_page self.old pcid page }
     {
         self.invpcid(Invpcid::IndividualAddress(pcid, page));
     }
 
-    /// Drops the entries that INVPCID invalidates; the others survive.
+    /// Drops the entries that this INVPCID invalidates. The others stay.
     pub fn invpcid(&mut self, kind: Invpcid)
         ensures { self.new ≡ invalidated self.old kind }
     {
         self.entries.retain(|e| !drops(kind, e));
     }
 
-    /// Loads CR3 with a PCID: drops that PCID's entries unless bit 63 of the new value keeps them.
+    /// Loads CR3 with a PCID. Drops that PCID's entries, unless bit 63 of the new value (`keep`) is set.
     pub fn load_cr3(&mut self, pcid: Pcid, keep: bool)
         ensures { self.new ≡ cr3_loaded self.old pcid keep }
     {
@@ -148,7 +148,7 @@ impl<A: Allocator + Copy> Tlb<A> {
     }
 }
 
-/// Whether one form of INVPCID drops an entry.
+/// Whether this INVPCID drops the entry.
 fn drops(kind: Invpcid, e: &CachedEntry) -> bool
     ensures { result ≡ drops kind e.now }
 {

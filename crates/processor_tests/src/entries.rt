@@ -1,15 +1,15 @@
-// The bits of page entries, and the names of refusals.
+// Tests the bits of page entries, and the names of refusals.
 use page_entry::{Entry, Refusal};
 use std::alloc::Global;
 
-// Whether an entry has these bits, and they are its own.
+// Whether an entry has exactly these bits, and they convert back to it.
 fn has_bits(entry: Entry, bits: u64) -> bool {
     entry.bits() == bits && Entry::from_bits(bits) == Some(entry)
 }
 
-// Frame 3 as a fault maps it, after a load, after a store, and as a checkpoint leaves it; and a blank present entry of
-// the last frame. Bits that are no entry: the frame after it, an absent entry that isn't 0, a present one without the
-// user bit, and one with bit 8, which would make it global.
+// Valid: frame 3 as a fault maps it, after a load, after a store, and as a checkpoint leaves it; and a blank present
+// entry of the last frame. Invalid: the frame after the last one; an absent entry that isn't 0; a present one without
+// the user bit; and one with bit 8, which would make it global.
 #[test]
 fn entries_have_their_bits(rt: HostRuntime) {
     let present = Entry::absent().with_present(true);

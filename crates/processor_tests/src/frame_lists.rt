@@ -1,4 +1,4 @@
-// Frames and copies that are taken and given back.
+// Tests how frames and copies are taken and given back.
 use frames::{CopyNumber, Frames};
 use page_entry::{FilePage, FrameNumber, Refusal};
 
@@ -6,7 +6,7 @@ const FIRST: FilePage = FilePage { file: 1, page: 7 };
 
 const SECOND: FilePage = FilePage { file: 0, page: 9 };
 
-// Takes a frame for a page; `Overlap` where a frame has it.
+// Takes a frame for a page. Fails with `Overlap` if the page has a frame.
 fn take(frames: &mut Frames, page: FilePage) -> Result<FrameNumber, Refusal> {
     if frames.find(page).is_some() {
         return Err(Refusal::Overlap);
@@ -14,7 +14,7 @@ fn take(frames: &mut Frames, page: FilePage) -> Result<FrameNumber, Refusal> {
     frames.take(page)
 }
 
-// Takes a frame for a page, filled with a byte; `Overlap` where a frame has it.
+// Takes a frame for a page, and fills it with a byte. Fails with `Overlap` if the page has a frame.
 fn take_filled(frames: &mut Frames, page: FilePage, byte: u8) -> Result<FrameNumber, Refusal> {
     if frames.find(page).is_some() {
         return Err(Refusal::Overlap);
@@ -22,7 +22,7 @@ fn take_filled(frames: &mut Frames, page: FilePage, byte: u8) -> Result<FrameNum
     frames.take_with(page, &[byte; 4096])
 }
 
-// Copies the frame of a page; `NoFile` where none has it, and `Overlap` where a copy has it.
+// Copies the frame of a page. Fails with `NoFile` if the page has no frame, and `Overlap` if it has a copy.
 fn copy(frames: &mut Frames, page: FilePage) -> Result<CopyNumber, Refusal> {
     let Some(frame) = frames.find(page) else {
         return Err(Refusal::NoFile);
@@ -33,7 +33,7 @@ fn copy(frames: &mut Frames, page: FilePage) -> Result<CopyNumber, Refusal> {
     frames.copy_out(frame)
 }
 
-// Gives back a frame, if it is in use. Whether it was, and neither it has a page now, nor its page a frame.
+// Gives back a frame that is in use. Returns false if it wasn't, or if the page still has the frame.
 fn give(frames: &mut Frames, frame: FrameNumber) -> bool {
     let Some(page) = frames.owner(frame) else {
         return false;
@@ -42,7 +42,7 @@ fn give(frames: &mut Frames, frame: FrameNumber) -> bool {
     frames.owner(frame).is_none() && frames.find(page).is_none()
 }
 
-// Gives back the copy of a page, if it has one. Whether it had, and has none now.
+// Gives back the copy of a page. Returns false if it had none, or still has one.
 fn give_copy(frames: &mut Frames, page: FilePage) -> bool {
     let Some(copy) = frames.copy_of(page) else {
         return false;
@@ -51,7 +51,8 @@ fn give_copy(frames: &mut Frames, page: FilePage) -> bool {
     frames.copy_of(page).is_none()
 }
 
-// Writes bytes to the end of a frame, if it is in use. Whether it is.
+// Writes bytes to the end of a frame that is in use. Returns false, and writes nothing, if it isn't or the bytes are
+// too many.
 fn write_end(frames: &mut Frames, frame: FrameNumber, bytes: &[u8]) -> bool {
     let used = frames.owner(frame).is_some() && bytes.len() <= 4096;
     if used {
@@ -60,12 +61,12 @@ fn write_end(frames: &mut Frames, frame: FrameNumber, bytes: &[u8]) -> bool {
     used
 }
 
-// Whether a frame is in use, and ends with these bytes.
+// Whether a frame is in use and ends with these bytes.
 fn ends_with(frames: &Frames, frame: FrameNumber, bytes: [u8; 3]) -> bool {
     frames.owner(frame).is_some() && &frames.bytes(frame)[4093..] == bytes.as_slice()
 }
 
-// Whether a page has a copy, which ends with these bytes.
+// Whether a page has a copy that ends with these bytes.
 fn copy_ends_with(frames: &Frames, page: FilePage, bytes: [u8; 3]) -> bool {
     match frames.copy_of(page) {
         Some(copy) => &frames.copy_bytes(copy)[4093..] == bytes.as_slice(),
@@ -73,12 +74,12 @@ fn copy_ends_with(frames: &Frames, page: FilePage, bytes: [u8; 3]) -> bool {
     }
 }
 
-// How many frames there are, how many copies, and how many frames are free.
+// Returns the number of frames, of copies, and of free frames.
 fn counts(frames: &Frames) -> (u32, u32, u32) {
     (frames.count(), frames.copy_count(), frames.free_count())
 }
 
-// Whether these are the frames in use, by their pages.
+// Whether these are the frames in use, in the order of their pages.
 fn are_in_order(frames: &Frames, expected: &[FrameNumber]) -> bool {
     let order = frames.in_order();
     if order.len() != expected.len() {
@@ -92,8 +93,8 @@ fn are_in_order(frames: &Frames, expected: &[FrameNumber]) -> bool {
     true
 }
 
-// Whether two frames without copies are taken for the first page and then the second one, and no third one; the second
-// is given back, and taken again.
+// Checks that two pages get the two frames, and a third page gets none. Checks that the second frame can then be given
+// back and taken again.
 fn take_each_once(frames: &mut Frames) -> bool {
     let third = FilePage { file: 2, page: 0 };
     let (Ok(first), Ok(second)) = (take(frames, FIRST), take(frames, SECOND)) else {
@@ -118,7 +119,7 @@ fn takes_each_frame_once(rt: HostRuntime) {
     assert!(rt; take_each_once(&mut frames));
 }
 
-// Whether a copy that is made between two writes to a frame keeps what the first one wrote, until it is given back.
+// Checks that a copy made between two writes to a frame keeps the bytes of the first write.
 fn copy_between_writes(frames: &mut Frames) -> bool {
     let unused = frames.is_unused();
     let Ok(frame) = take_filled(frames, FIRST, 64) else {

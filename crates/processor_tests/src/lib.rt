@@ -1,5 +1,5 @@
-//! The processors' side of a machine, crate by crate: page entries, TLBs, frames, page tables, mappings, spaces, and
-//! what is queued for a processor. Accesses, shootdowns, checkpoints and faults are in the runs as text.
+//! Tests of the processors' side of a machine, crate by crate: page entries, TLBs, frames, page tables, mappings,
+//! spaces, and the queues of processors. The runs as text test accesses, shootdowns, checkpoints and faults.
 #![tactic(auto)]
 
 #[cfg(test)]

@@ -1,4 +1,4 @@
-// The calls with ample memory, and the same calls beside a program that keeps each page by itself.
+// Tests the calls with ample memory, and compares them with a program that stores each page separately.
 use mappings::{Mappings, PageRange, Place, Rights, mapped_pages};
 use page_entry::{FileNumber, PageNumber, Refusal};
 use std::alloc::Global;
@@ -55,18 +55,17 @@ fn pages_to_map(rt: HostRuntime) {
     }
 }
 
-// Unmaps pages. Whether it isn't refused.
+// Unmaps pages. Returns whether this succeeds.
 fn remove(space: &mut Mappings<Global>, chosen: PageRange) -> bool {
     space.reserve(chosen, None).is_ok() && space.remove(chosen).is_ok()
 }
 
-// Sets the rights of pages.
 fn protect(space: &mut Mappings<Global>, chosen: PageRange, rights: Rights) -> Result<(), Refusal> {
     space.reserve(chosen, Some(rights))?;
     space.protect(chosen, rights)
 }
 
-// Whether both ends of a mapping stay where its middle is unmapped.
+// Whether both ends of a mapping stay if its middle is unmapped.
 fn keeps_both_ends(space: &mut Mappings<Global>) -> bool {
     let first = place(0, 0, READ_WRITE, READ_WRITE);
     space.add(range(1, 3), first) == Ok(())
@@ -77,7 +76,7 @@ fn keeps_both_ends(space: &mut Mappings<Global>) -> bool {
         && !space.has_mapped(range(2, 1))
 }
 
-// Whether the rights of one page of a mapping change.
+// Whether the rights of one page of a mapping change, and those of the other page stay.
 fn changes_one(space: &mut Mappings<Global>) -> bool {
     space.add(range(16, 2), place(0, 0, READ_WRITE, READ_WRITE)) == Ok(())
         && protect(space, range(16, 1), Rights::Read) == Ok(())
@@ -85,7 +84,7 @@ fn changes_one(space: &mut Mappings<Global>) -> bool {
         && space.where_is(17) == Some(place(0, 1, READ_WRITE, READ_WRITE))
 }
 
-// Whether these are the pages that map a page of a file, in their order.
+// Whether these are the pages that map a page of a file, in this order.
 fn are_pages_of(
     space: &Mappings<Global>,
     file: FileNumber,
@@ -101,8 +100,7 @@ fn are_pages_of(
     pages.next().is_none()
 }
 
-// Whether the most pages that one mapping may have are mapped, where one page more is refused, to the file pages that
-// they are to map.
+// Checks that a mapping can have 65,536 pages and no more, and that its last page maps the right page of the file.
 fn maps_the_most(space: &mut Mappings<Global>) -> bool {
     let (all, more) = (range(1, 65_536), range(1, 65_537));
     let first = place(3, 5, READ_WRITE, READ_WRITE);
@@ -116,8 +114,7 @@ fn maps_the_most(space: &mut Mappings<Global>) -> bool {
         && are_pages_of(space, 3, 65_540, &[65_536])
 }
 
-// Whether two pages map a page of a file, one of them to be loaded alone; and what is refused to be mapped over them,
-// and which rights they are refused.
+// Maps a page of a file twice, once read-only. Checks which mappings over it and which changes of rights are refused.
 fn refuses(space: &mut Mappings<Global>) -> bool {
     let both = place(1, 0, READ_WRITE, READ_WRITE);
     let (second, fourth) = (range(2, 1), range(4, 1));
@@ -143,13 +140,13 @@ fn pages_are_mapped_as_they_were_asked_for(rt: HostRuntime) {
     );
 }
 
-// How many of the pages are mapped.
+// Returns the number of these pages that are mapped.
 fn mapped_among(pages: &[Option<Place>], first: usize, count: usize) -> usize {
     let inside = pages.iter().skip(first).take(count);
     inside.filter(|page| page.is_some()).count()
 }
 
-// A call that maps (0), unmaps (1), or takes the right to store from (2) so many pages from the first one on.
+// A call that maps (0), unmaps (1), or makes read-only (2): its kind, the first page, and the number of pages.
 type Call = (u8, usize, usize);
 
 // Makes a call on the list of pages.
@@ -168,8 +165,9 @@ fn change_list(pages: &mut [Option<Place>], call: Call) {
     }
 }
 
-// Makes a call on both, and not on the list where it has to be refused: pages are mapped where none of them is, and the
-// right is taken where all of them are mapped. Whether it was answered so, and each page is as in the list then.
+// Makes a call on the mappings, and on the list if it has to succeed. Pages can be mapped if none of them is mapped.
+// They can be made read-only if all of them are mapped. Returns whether the call's result is right, and each page is
+// then as in the list.
 fn changes_both(space: &mut Mappings<Global>, pages: &mut [Option<Place>], call: Call) -> bool {
     let (kind, first, count) = call;
     let mapped = mapped_among(pages, first, count);

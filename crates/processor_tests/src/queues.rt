@@ -1,5 +1,5 @@
-// One processor beside a plain program, which scans a list of entries and keeps all that it was told, while another
-// processor changes mappings.
+// Compares a processor with a plain program, while another processor changes mappings. The plain program scans a list
+// of entries, and stores each invalidation of which it is notified.
 ghost use Rattle.std.specs.Prelude.{◌≤◌, ◌+◌, ◌^◌};
 ghost use Rattle.shootdown.specs.Calls.{HasUserPages};
 
@@ -18,11 +18,12 @@ struct Plain {
     space: Pcid,
     entries: Vec<CachedEntry>,
     notified: Vec<Invpcid>,
-    // Of each PCID, whether it was switched to and not dropped whole since.
+    // For each PCID: whether it was loaded, and not invalidated whole since.
     known: [bool; 4],
 }
 
-// Whether an invalidation drops the entry of a page of a PCID; of no page, whether it drops the PCID whole.
+// Whether an invalidation drops the entry of a page of a PCID. Without a page: whether it drops all entries of the
+// PCID.
 fn drops(action: Invpcid, pcid: Pcid, page: Option<PageNumber>) -> bool {
     match action {
         Invpcid::IndividualAddress(named, number) => named == pcid && page == Some(number),
@@ -41,7 +42,7 @@ impl Plain {
         None
     }
 
-    // Drops what an invalidation names.
+    // Drops the entries that an invalidation names.
     fn invalidate(&mut self, action: Invpcid) {
         self.entries
             .retain(|entry| !drops(action, entry.pcid, Some(entry.page)));
@@ -60,7 +61,7 @@ impl Plain {
         Ok(())
     }
 
-    // Whether there was an entry in this place.
+    // Drops the entry in a slot. Returns whether there was one.
     fn evict(&mut self, slot: usize) -> bool {
         let is_there = slot < self.entries.len();
         if is_there {
@@ -69,7 +70,7 @@ impl Plain {
         is_there
     }
 
-    // It is told of what it may have cached something of.
+    // Queues an invalidation if it concerns a PCID of which an entry may be cached.
     fn notify(&mut self, action: Invpcid) -> Result<(), AllocError> {
         let concerned = match action {
             Invpcid::IndividualAddress(pcid, _) | Invpcid::SingleContext(pcid) => {
@@ -83,7 +84,7 @@ impl Plain {
         Ok(())
     }
 
-    // Up to 4 pages are told one by one.
+    // Up to 4 pages are invalidated one by one, and more pages by their PCID.
     fn notify_range(&mut self, pcid: Pcid, first: u64, count: u64) -> Result<(), AllocError> {
         if count > 4 {
             return self.notify(Invpcid::SingleContext(pcid));
@@ -94,7 +95,7 @@ impl Plain {
         Ok(())
     }
 
-    // What nine or more invalidations name isn't told apart: they drop everything.
+    // A queue has room for 8 invalidations. More of them drop everything.
     fn drain(&mut self) {
         if self.notified.len() > 8 {
             self.invalidate(Invpcid::AllContexts);
@@ -120,7 +121,7 @@ impl Plain {
     }
 }
 
-// Processor 0 with the plain program beside it, and processor 1, which stays in space 0.
+// Processor 0 and the plain program that it is compared with. Processor 1 stays in space 0.
 #[derive(Drop)]
 struct Pair {
     shootdown: Shootdown,
@@ -142,7 +143,7 @@ impl Pair {
         }
     }
 
-    // Whether both cache an entry that this number chooses.
+    // Makes both cache an entry that this number chooses. Returns whether this succeeds.
     fn fill(&mut self, number: u64) -> bool {
         if self.shootdown.state(0).is_err() {
             return false;
@@ -158,13 +159,13 @@ impl Pair {
         self.plain.fill(entry).is_ok()
     }
 
-    // Whether both have an entry in this place, or neither has.
+    // Drops the entry in a slot of both. Returns whether both had one, or neither.
     fn evict(&mut self, slot: usize) -> bool {
         self.shootdown.state(0).is_ok() && self.shootdown.evict(0, slot) == self.plain.evict(slot)
     }
 
-    // Processor 1 makes a change, for which processor 0 stalls if it is interrupted. Whether it was; none where a call
-    // is refused.
+    // Makes a change on processor 1. Processor 0 stalls if it is interrupted. Returns whether it was, or `None` if a
+    // call is refused.
     fn change(&mut self, change: Change) -> Option<bool>
         requires { HasUserPages change }
     {
@@ -180,7 +181,8 @@ impl Pair {
         }
     }
 
-    // Processor 0 acknowledges the change, which is made then, and resumes. Whether none of that is refused.
+    // Acknowledges the change on processor 0, makes it on processor 1, and resumes processor 0. Returns whether all of
+    // this succeeds.
     fn make_change(&mut self) -> bool {
         let acked = self.shootdown.ack(0).is_ok();
         let made = match self.shootdown.change(1) {
@@ -194,7 +196,7 @@ impl Pair {
         acked && made && self.shootdown.resume(0).is_ok()
     }
 
-    // Some pages of a space are unmapped. Whether its own processor alone was interrupted, which drops them then.
+    // Unmaps pages of a space. Returns whether processor 0 was interrupted exactly if it is in this space.
     fn unmap(&mut self, pcid: Pcid, first: u64, count: u64) -> bool
         requires { first + count ≤ 2 ^ 35 }
     {
@@ -208,7 +210,7 @@ impl Pair {
         notified && interrupted == Some(is_here)
     }
 
-    // A mark, or another length of a file: all are interrupted.
+    // Makes a change that interrupts every processor: a mark, or a change of a file's length.
     fn drop_all(&mut self, change: Change) -> bool
         requires { HasUserPages change }
     {
@@ -218,7 +220,7 @@ impl Pair {
         notified && interrupted == Some(true)
     }
 
-    // A space goes, if nobody is in it.
+    // Removes a space in which no processor is.
     fn forget(&mut self, pcid: Pcid) -> bool {
         if self.shootdown.is_current(pcid) {
             return true;
@@ -232,7 +234,7 @@ impl Pair {
         self.shootdown.switch(0, &self.spaces, pcid, keep).is_ok()
     }
 
-    // A step that this number chooses. Whether both answer alike.
+    // Makes a step that this number chooses. Returns whether both answer alike.
     fn step(&mut self, number: u64) -> bool {
         let argument = number / 16;
         let pcid = (argument % 3 + 1) as Pcid;
@@ -250,7 +252,7 @@ impl Pair {
         }
     }
 
-    // Whether both cache the same for each page, and may cache the same PCIDs.
+    // Whether both cache the same entry for each page, and may cache the same PCIDs.
     fn agrees(&self) -> bool {
         if self.shootdown.state(0).is_err() {
             return false;
@@ -268,8 +270,8 @@ impl Pair {
         true
     }
 
-    // Whether they agree after each of so many steps, in three spaces, which a fixed run of pseudo-random numbers
-    // chooses.
+    // Whether both agree after each of `steps` steps in three spaces. A fixed sequence of pseudo-random numbers chooses
+    // the steps.
     fn agree_for(&mut self, steps: u32) -> bool {
         let mut seed: u64 = 1989;
         for pcid in 1..4 {

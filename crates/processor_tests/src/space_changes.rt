@@ -1,4 +1,4 @@
-// The spaces at their limits.
+// Tests the spaces at their limits.
 use mappings::{PageRange, Place, Rights};
 use page_entry::{Entry, PAGE, PageNumber, Pcid, Refusal};
 use spaces::{ALL_PAGES, Spaces};
@@ -11,12 +11,12 @@ const PLACE: Place = Place {
     access: Rights::ReadWrite,
 };
 
-// Makes a space, of the lowest PCID that is free.
+// Makes a space with the lowest free PCID.
 fn create(spaces: &mut Spaces) -> Result<Pcid, Refusal> {
     spaces.create()
 }
 
-// Whether all spaces can be made in the order of their PCIDs, and no more.
+// Whether all spaces can be made, in the order of their PCIDs, and no more.
 fn create_all(spaces: &mut Spaces) -> bool {
     for pcid in 1..4096 {
         if create(spaces) != Ok(pcid) {
@@ -26,7 +26,7 @@ fn create_all(spaces: &mut Spaces) -> bool {
     create(spaces) == Err(Refusal::Enomem) && spaces.pcids().last() == Some(4095)
 }
 
-// Removes a space, if it is there. Whether it was, and isn't now.
+// Removes a space. Returns false if there was none, or there still is one.
 fn remove(spaces: &mut Spaces, pcid: Pcid) -> bool {
     if pcid == 0 || !spaces.has(pcid) {
         return false;
@@ -35,7 +35,7 @@ fn remove(spaces: &mut Spaces, pcid: Pcid) -> bool {
     !spaces.has(pcid)
 }
 
-// Whether all spaces are made, and three of them are removed and made again, in the order of their PCIDs.
+// Whether all spaces can be made, and three of them can be removed and made again, in the order of their PCIDs.
 fn create_again(spaces: &mut Spaces) -> bool {
     create_all(spaces)
         && remove(spaces, 4095)
@@ -68,7 +68,7 @@ fn unmap(spaces: &mut Spaces, pcid: Pcid, page: u32, pages: u32) -> Result<(), R
     Ok(())
 }
 
-// Sets the entry of a page, if it is mapped. Whether it is.
+// Sets the entry of a page that is mapped. Returns whether it is.
 fn set(spaces: &mut Spaces, pcid: Pcid, page: PageNumber, entry: Entry) -> bool {
     let mapped = spaces.place(pcid, page).is_some();
     if mapped {
@@ -77,7 +77,7 @@ fn set(spaces: &mut Spaces, pcid: Pcid, page: PageNumber, entry: Entry) -> bool 
     mapped
 }
 
-// The first dirty page of a space, if it is there and has one.
+// Returns the first dirty page of a space, if there is a space and it has one.
 fn first_dirty(spaces: &Spaces, pcid: Pcid) -> Option<PageNumber> {
     if spaces.has(pcid) {
         spaces.dirty_pages(pcid, ALL_PAGES).next()
@@ -86,7 +86,7 @@ fn first_dirty(spaces: &Spaces, pcid: Pcid) -> Option<PageNumber> {
     }
 }
 
-// The last page of a mapping of the most pages, what it maps, and the pages between the first one and it.
+// The last page of a mapping of 65,536 pages, its place, and the pages between the first and the last one.
 const LAST: PageNumber = 16 + 65_535;
 
 const LAST_PLACE: Place = Place {
@@ -101,7 +101,7 @@ const INNER: PageRange = PageRange {
     count: 65_534,
 };
 
-// Whether the most pages that a mapping may have are mapped, and none after them.
+// Checks that a mapping can have 65,536 pages and no more, and that its last page has the right place.
 fn map_most(spaces: &mut Spaces) -> bool {
     create(spaces) == Ok(1)
         && map(spaces, 1, 65_537) == Err(Refusal::Einval)
@@ -112,8 +112,8 @@ fn map_most(spaces: &mut Spaces) -> bool {
         && spaces.place(1, LAST) == Some(LAST_PLACE)
 }
 
-// Whether the last page is the first dirty one after a store to it, and all pages between the first and the last one
-// can be unmapped, which stay as they were.
+// Stores to the last page, and unmaps all pages between the first and the last one. Checks that the last page is the
+// first dirty one, and that both ends stay mapped.
 fn unmap_inner(spaces: &mut Spaces, stored: Entry) -> bool {
     set(spaces, 1, LAST, stored)
         && spaces.entry(1, LAST) == stored

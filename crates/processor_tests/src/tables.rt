@@ -1,4 +1,4 @@
-// The table beside a plain program, which scans the list of all changes.
+// Compares the table with a plain program that scans the list of all changes.
 ghost use Rattle.std.specs.Prelude.{◌≤◌, ◌^◌};
 ghost use Rattle.page_table.specs.Table.{GrowsOver};
 
@@ -8,7 +8,7 @@ use std::alloc::Global;
 use std::ops::Range;
 use std::process::Abort;
 
-// A present entry of a frame.
+// Returns a present entry of a frame.
 fn entry(frame: u32, accessed: bool, dirty: bool) -> Entry {
     Entry::absent()
         .with_present(true)
@@ -17,12 +17,12 @@ fn entry(frame: u32, accessed: bool, dirty: bool) -> Entry {
         .with_dirty(dirty)
 }
 
-// An empty table.
+// Returns an empty table.
 fn empty(rt: &impl Abort, alloc: Global) -> Table<Global> {
     Table::new(alloc).expect(rt, "memory for a root")
 }
 
-// What the changes say of a page, the last first: a range was cleared, then each page has the entry that it was set to.
+// Returns the entry that a page has after these changes. The newest change counts, and the range was cleared last.
 fn scanned(
     changes: &[(PageNumber, Entry)],
     from: PageNumber,
@@ -50,7 +50,8 @@ fn grow(rt: &impl Abort, table: &mut Table<Global>, range: Range<PageNumber>)
     };
 }
 
-// Sets entries of a table that grows before and meanwhile, and clears a range. What was set comes back, in its order.
+// Sets entries of a table, which grows before and in between, and clears a range. Returns the entries that were set, in
+// this order.
 fn change(
     rt: &impl Abort,
     table: &mut Table<Global>,
@@ -79,8 +80,8 @@ fn change(
     ]
 }
 
-// Changes an empty table. Whether each page has the entry then that the list of what was set says, and those of pages
-// 11 and 12 are listed as dirty that are so by it.
+// Changes an empty table. Returns whether each page has the same entry as by the list of changes, and `dirty_pages`
+// lists the same dirty pages of 11 and 12.
 fn agrees(
     rt: &impl Abort,
     table: &mut Table<Global>,
@@ -128,7 +129,7 @@ fn grow_by_many(rt: &impl Abort, table: &mut Table<Global>, stored: Entry) {
     table.set(END - 1, stored);
 }
 
-// Whether these are the dirty pages of a range, in their order.
+// Whether these are the dirty pages of a range, in this order.
 fn lists(table: &Table<Global>, range: Range<PageNumber>, expected: &[PageNumber]) -> bool {
     let mut listed = table.dirty_pages(range);
     for page in expected {
@@ -139,8 +140,8 @@ fn lists(table: &Table<Global>, range: Range<PageNumber>, expected: &[PageNumber
     listed.next().is_none()
 }
 
-// Whether an empty table grows by one page, which has no entry; by many; and by pages of which each has grown already
-// then, in two nodes that touch.
+// Checks that an empty table grows by one page, which has no entry, and by many pages. Then checks that it grows by
+// pages of two adjacent nodes.
 fn grows(rt: &impl Abort, table: &mut Table<Global>, stored: Entry) -> bool {
     let empty = table.get(5) == Entry::absent()
         && table.grow(3..3) == Ok(())
@@ -154,7 +155,7 @@ fn grows(rt: &impl Abort, table: &mut Table<Global>, stored: Entry) -> bool {
         && table.get(65_535) == stored
 }
 
-// Sets two neighbouring pages to two entries, and the last page to the first one.
+// Sets two adjacent pages to two entries, and the last page to the first of these entries.
 fn set_three(rt: &impl Abort, table: &mut Table<Global>, first: Entry, second: Entry) {
     grow(rt, table, 7..10);
     table.set(7, first);
@@ -163,8 +164,8 @@ fn set_three(rt: &impl Abort, table: &mut Table<Global>, first: Entry, second: E
     table.set(END - 1, first);
 }
 
-// Whether the first entry of three is protected, and the other one isn't, where frame 1 is marked, and the list has no
-// place for frame 2; and is then made read-only.
+// Marks frame 1, in a list that is too short for frame 2. Checks that both entries of frame 1 are protected, and that
+// of frame 2 isn't until it is made read-only.
 fn protects(rt: &impl Abort, table: &mut Table<Global>, first: Entry, second: Entry) -> bool {
     set_three(rt, table, first, second);
     table.protect_frames(&[true, true]);
@@ -176,7 +177,7 @@ fn protects(rt: &impl Abort, table: &mut Table<Global>, first: Entry, second: En
     protected && table.get(8) == second.with_writable(false) && lists(table, 0..END, &[8])
 }
 
-// Grows a table by the page of an address. How many nodes it has then.
+// Grows a table by the page of an address. Returns the number of nodes that it then has.
 fn nodes_to(rt: &impl Abort, table: &mut Table<Global>, address: u64) -> u64 {
     let page = address / PAGE;
     assert!(rt; page < END);
@@ -184,9 +185,9 @@ fn nodes_to(rt: &impl Abort, table: &mut Table<Global>, address: u64) -> u64 {
     table.nodes()
 }
 
-// Whether a table is a root alone at first; the first page of user addresses has a node on each of the three levels
-// below it; the fifth page shares them, the page behind the first 2 MiB has a leaf of its own, and the last one has
-// three nodes.
+// Checks the number of nodes. A new table is a root. The first page has a node on each of the three levels below it,
+// and the fifth page shares them. The page after the first 2 MiB has a leaf of its own. The last page has three nodes
+// of its own.
 fn needs_nodes(rt: &impl Abort, table: &mut Table<Global>) -> bool {
     table.nodes() == 1
         && nodes_to(rt, table, 4_096) == 4

@@ -1,4 +1,4 @@
-// What a TLB caches and drops.
+// Tests which entries a TLB caches and drops.
 use pcid_tlb::{CachedEntry, Invpcid, Tlb};
 use std::alloc::Global;
 
@@ -28,8 +28,8 @@ const WRITTEN: CachedEntry = CachedEntry {
     dirty: true,
 };
 
-// Whether a TLB of two entries drops that of another space, which came after the first one, since the first one is
-// written then and so is the newest.
+// Checks that a full TLB of two entries drops the entry of the other space. It came second, but the first entry was
+// written after it and so is newer.
 fn drops_the_oldest(tlb: &mut Tlb<Global>) -> bool {
     tlb.fill(FIRST);
     tlb.fill(OTHER);
@@ -46,7 +46,8 @@ fn full_tlb_drops_the_oldest(rt: HostRuntime) {
     assert!(rt; drops_the_oldest(&mut tlb));
 }
 
-// Whether a page is invalidated, then the other space's entries, where CR3 is loaded without keeping them, then all.
+// Invalidates a page, then the other space's entries by a load of CR3 that doesn't keep them, then all entries. Checks
+// which entries are dropped.
 fn drops_what_is_named(tlb: &mut Tlb<Global>) -> bool {
     tlb.fill(FIRST);
     tlb.fill(OTHER);

@@ -1,4 +1,4 @@
-// The device calls that volumes are made and opened by, with a fault as a refusal.
+// The device calls that formatting and opening make. A fault becomes the refusal `Device`.
 ghost use Rattle.std.specs.Prelude.{◌≡◌, ◌+◌, ◌*◌, ◌≤◌, length, slice_range, is_ok, IfOk, IfErr, OnOk};
 ghost use Rattle.device.specs.Did.{Did};
 ghost use Rattle.device.specs.Work.{Sync, WriteAt};
@@ -11,14 +11,14 @@ ghost use Rattle.recovery.specs.inside.Writing.{DidBoth};
 use device::{Device, make_durable, write_at};
 use page_entry::{PAGE, Refusal};
 
-/// A block of zeros.
+/// Returns a block of zeros.
 pub fn zero_block() -> [u8; 4096]
     ensures { result ≡ zeros 4096 }
 {
     [0; 4096]
 }
 
-/// Reads as many bytes as the buffer has, from an offset on.
+/// Fills the buffer with the device's bytes from offset `at` on. Fails with `Device` if the device call fails.
 pub fn read<D: Device>(device: &mut D, at: u64, buffer: &mut [u8]) -> Result<(), Refusal>
     requires { at + length buffer.old ≤ length (D.seen device.old) }
 
@@ -37,7 +37,7 @@ pub fn read<D: Device>(device: &mut D, at: u64, buffer: &mut [u8]) -> Result<(),
     }
 }
 
-/// The bytes of a block.
+/// Returns the bytes of a block. Fails with `Device` if the device call fails.
 pub fn read_block<D: Device>(device: &mut D, block: u32) -> Result<[u8; 4096], Refusal>
     requires { 4096 * block + 4096 ≤ length (D.seen device.old) }
 
@@ -52,7 +52,8 @@ pub fn read_block<D: Device>(device: &mut D, block: u32) -> Result<[u8; 4096], R
     Ok(bytes)
 }
 
-/// Reads so many blocks from one on into a buffer of that size, by one device call.
+/// Reads `count` blocks, from `block` on, into a buffer of that size. Makes one device call. Fails with `Device` if it
+/// fails.
 pub fn read_blocks<D: Device>(
     device: &mut D,
     block: u32,
@@ -74,7 +75,7 @@ pub fn read_blocks<D: Device>(
     Ok(())
 }
 
-/// Writes bytes from an offset on.
+/// Writes bytes from offset `at` on. Fails with `Device` if the device call fails.
 pub fn write<D: Device>(device: &mut D, at: u64, bytes: &[u8]) -> Result<(), Refusal>
     requires { at + length bytes.now ≤ length (D.seen device.old) }
     ensures did { Did D.Device device.old (WriteAt at bytes.now) (is_ok result) device.new }
@@ -86,7 +87,7 @@ pub fn write<D: Device>(device: &mut D, at: u64, bytes: &[u8]) -> Result<(), Ref
     }
 }
 
-/// Makes durable what was written.
+/// Makes all written bytes durable. Fails with `Device` if the device call fails.
 pub fn sync<D: Device>(device: &mut D) -> Result<(), Refusal>
     ensures did { Did D.Device device.old Sync (is_ok result) device.new }
     ensures fault { IfErr result (λ refusal. refusal ≡ Refusal.Device) }
@@ -97,7 +98,7 @@ pub fn sync<D: Device>(device: &mut D) -> Result<(), Refusal>
     }
 }
 
-/// Writes bytes from an offset on, and makes sure of them.
+/// Writes bytes from offset `at` on, and makes them durable. Fails with `Device` if a device call fails.
 pub fn write_synced<D: Device>(device: &mut D, at: u64, bytes: &[u8]) -> Result<(), Refusal>
     requires { at + length bytes.now ≤ length (D.seen device.old) }
     ensures did { DidBoth D.Device device.old (WriteAt at bytes.now) Sync (is_ok result) device.new }

@@ -1,4 +1,4 @@
-// A volume is made on a device.
+// Makes a volume on a device.
 ghost use Rattle.std.specs.Prelude.{◌≡◌, ◌⊎◌, ◌+◌, ◌-◌, ◌*◌, ◌/◌, ◌<◌, ◌≤◌, ℕ, length, slice_index, IfOk, IfErr, OnOk};
 ghost use Rattle.device.specs.Device.{Only, LeavesOnly};
 ghost use Rattle.volume_codec.specs.Files.{asked_by, asked_by_pairs, lengths_asked};
@@ -19,11 +19,11 @@ use volume_codec::{
     write_lengths_of,
 };
 
-/// How many bytes are erased by one device call.
+/// The largest number of bytes that one device call erases or copies.
 pub(crate) const PIECE: usize = 32_768;
 
-/// The number of blocks of a volume in the layout of this number, with these files and with so many record slots for
-/// each journal. `BadShape` where no volume has them. Takes no memory.
+/// Returns the number of blocks of a volume in layout `layout`, with these files and `slots` record slots for each
+/// journal. Fails with `BadShape` if there is no such volume. Allocates no memory.
 pub fn blocks_as(layout: u64, files: &[FileSpec], slots: u64) -> Result<u64, Refusal>
     ensures ok { IfOk result (λ blocks.
         (v : SuperValue) × IsAsked layout (asked_by files.now) slots v × (blocks ≡ block_count v)) }
@@ -33,8 +33,8 @@ pub fn blocks_as(layout: u64, files: &[FileSpec], slots: u64) -> Result<u64, Ref
     block_count_as(layout, files, slots)
 }
 
-/// The number of blocks of a volume in layout 1 with these files, each with its name and its length in bytes, and
-/// with so many record slots. `BadShape` where no volume has them. Takes no memory.
+/// Returns the number of blocks of a volume in layout 1, with these files and `slots` record slots. Each file has a
+/// name and a length in bytes. Fails with `BadShape` if there is no such volume. Allocates no memory.
 pub fn blocks(files: &[(&str, u64)], slots: u64) -> Result<u64, Refusal>
     ensures ok { IfOk result (λ blocks.
         (v : SuperValue) × IsAsked 1 (asked_by_pairs files.now) slots v × (blocks ≡ block_count v)) }
@@ -44,14 +44,14 @@ pub fn blocks(files: &[(&str, u64)], slots: u64) -> Result<u64, Refusal>
     block_count_of(files, slots)
 }
 
-/// As many zeros as one device call erases.
+/// Returns the zeros for one device call that erases.
 pub(crate) fn zero_piece() -> [u8; PIECE]
     ensures { result ≡ zeros PIECE }
 {
     [0; PIECE]
 }
 
-/// Writes zeros from one place to before another.
+/// Writes zeros from offset `from` up to, but not including, `to`.
 fn erase<D: Device>(device: &mut D, from: u64, to: u64) -> Result<(), Refusal>
     requires order { from ≤ to }
     requires room { to ≤ length (D.seen device.old) }
@@ -70,7 +70,7 @@ fn erase<D: Device>(device: &mut D, from: u64, to: u64) -> Result<(), Refusal>
     Ok(())
 }
 
-/// Writes the block of lengths, where the layout has one.
+/// Writes the lengths block, if the layout has one.
 fn put_lengths<D: Device>(
     device: &mut D,
     geometry: &Geometry,
@@ -91,7 +91,7 @@ fn put_lengths<D: Device>(
     write(device, PAGE * u64::from(home), lengths)
 }
 
-/// Writes the home blocks of a volume with these files: their lengths, where a block has them, and zeros.
+/// Writes the home blocks of a volume with these files: the lengths block, if the layout has one, and zeros.
 fn empty_homes<D: Device>(
     device: &mut D,
     geometry: &Geometry,
@@ -127,8 +127,8 @@ fn close_gates<D: Device>(device: &mut D, geometry: &Geometry) -> Result<(), Ref
     Ok(())
 }
 
-/// Lays out a volume over a device that is long enough: the home blocks, with the lengths of these files and zeros, and
-/// the gates closed. Block 0 stays, so it is no volume with this table before `finish`.
+/// Lays out a volume on a device that is long enough: the lengths of these files, zeros in their home blocks, and
+/// closed gates. Block 0 is unchanged, so the device has no volume with this table until `finish`.
 pub(crate) fn lay_out<D: Device, A: Allocator + Copy>(
     device: &mut D,
     table: &Super<A>,
@@ -146,8 +146,8 @@ pub(crate) fn lay_out<D: Device, A: Allocator + Copy>(
     close_gates(device, &geometry)
 }
 
-/// Finishes a volume that was laid out: what was written is synced, and then the table is written to block 0 and
-/// synced.
+/// Finishes a volume that was laid out. Makes the written bytes durable, then writes the table to block 0 and makes it
+/// durable.
 pub(crate) fn finish<D: Device, A: Allocator + Copy>(
     device: &mut D,
     table: &Super<A>,
@@ -161,8 +161,8 @@ pub(crate) fn finish<D: Device, A: Allocator + Copy>(
     write_synced(device, 0, &table.to_block())
 }
 
-/// Writes a table over a device that is long enough: the home blocks, with the lengths of these files, and the gates
-/// closed, both synced before the super block is written.
+/// Writes a volume with this table to a device that is long enough. The home blocks, with the lengths of these files,
+/// and the closed gates are durable before the super block is written.
 fn write_table<D: Device, A: Allocator + Copy>(
     device: &mut D,
     table: &Super<A>,
@@ -187,9 +187,11 @@ fn write_table<D: Device, A: Allocator + Copy>(
     finish(device, table)
 }
 
-/// The table of these files on a device of so many bytes, in the layout of this number and with so many record slots
-/// for each journal. `BadShape`, before any memory is taken, where no volume has them or the device is shorter than its
-/// blocks.
+/// Returns the table of these files on a device of `bytes` bytes, in layout `layout`, with `slots` record slots for
+/// each journal.
+///
+/// Fails with `BadShape`, before it allocates memory, if there is no such volume or the device is shorter than its
+/// blocks. Fails with `OutOfMemory` if memory runs out.
 pub fn shape<A: Allocator + Copy>(
     alloc: A,
     bytes: u64,
@@ -208,15 +210,22 @@ pub fn shape<A: Allocator + Copy>(
     Super::new(alloc, layout, files, slots)
 }
 
-/// Makes a volume in the layout of this number, with these files, as long as asked and all their bytes zero, and with
-/// so many record slots for each journal. `BadShape`, before any memory is taken and any device call is made, where no
-/// volume has them or the device is shorter than its blocks. `Device` where a device call failed. What lies past the
-/// volume stays, also then.
+/// Makes a volume in layout `layout`, with these files and `slots` record slots for each journal. Each file has the
+/// length that was asked for, and all its bytes are zero. Bytes past the volume stay, even after a failure.
 ///
-/// It writes zeros over all home blocks, 32,768 bytes at a time, then the lengths block where the layout has one,
-/// closes each gate, syncs, writes the super block and syncs. A crash meanwhile leaves block 0 as it was, or any bytes
-/// in it and all the rest of the volume empty: the lengths that were asked for, home blocks of zeros, and closed gates.
-/// Where it is refused it makes no more device calls than where it is not.
+/// Writes zeros over all home blocks, at most 32,768 bytes at a time. Then writes the lengths block, if the layout has
+/// one, and closes each gate. Then syncs, writes the super block, and syncs again. A failed call makes no more device
+/// calls than a successful one.
+///
+/// A crash meanwhile changes only bytes of the volume. Block 0 is as it was, or else all other blocks of the volume are
+/// empty. They then contain the lengths that were asked for, home blocks of zeros, and closed gates.
+///
+/// Fails with:
+///
+/// - `BadShape` if there is no such volume or the device is shorter than its blocks, before it allocates memory or
+///   makes a device call;
+/// - `OutOfMemory` if memory runs out, before it makes a device call;
+/// - `Device` if a device call fails.
 pub fn format_as<D: Device, A: Allocator + Copy>(
     alloc: A,
     device: &mut D,
@@ -243,8 +252,8 @@ pub fn format_as<D: Device, A: Allocator + Copy>(
     write_table(device, &table, files)
 }
 
-/// Makes a volume in layout 1 with these files, each with its name and its length in bytes, all their bytes zero, and
-/// with so many record slots, by the rules of `format_as`.
+/// Makes a volume in layout 1 with these files and `slots` record slots, by the rules of `format_as`. Each file has a
+/// name and a length in bytes, and all its bytes are zero.
 pub fn format<D: Device, A: Allocator + Copy>(
     alloc: A,
     device: &mut D,

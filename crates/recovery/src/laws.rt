@@ -1,4 +1,4 @@
-// What follows of an opening's contract and of the definitions.
+// Theorems that follow from an opening's contract and from the definitions.
 ghost use Rattle.std.specs.Prelude.{◌≡◌, ◌⊎◌, ℕ, Bool, true, List, Result, MatchResult, IfOk};
 ghost use Rattle.page_entry.specs.declared.refusal.Refusal.{Refusal};
 ghost use Rattle.volume_codec.specs.Files.{File, AskedFile};
@@ -13,14 +13,14 @@ ghost use Rattle.recovery.specs.Openings.{IsMade, IsLater, RecoversAs, AllRecove
 
 use device::Device;
 
-/// Bytes that recover to files are neither those of no volume nor of a damaged one, and no bytes are of both.
+/// Bytes that recover to files contain a volume, and it isn't damaged. No bytes both lack a volume and are damaged.
 pub fn kinds_of_bytes()
     ensures volume { (bytes : List ℕ) (files : List File) → RecoversTo bytes files
         → IsNotAVolume bytes ⊎ IsDamaged bytes → ⊥ }
     ensures refused { (bytes : List ℕ) → IsNotAVolume bytes → IsDamaged bytes → ⊥ }
 {}
 
-/// The files of a volume that was opened are those that the device's bytes recovered to before.
+/// The files of an opened volume are those to which the device's bytes recovered before the opening.
 pub fn opened_as_recovered<D: Device>(device: &D)
     ensures contents { (before after : D) (table : SuperValue) → HasOpened D.Device before table after
         → Recovers table (block_at (D.seen after)) (D.seen before) }
@@ -28,8 +28,12 @@ pub fn opened_as_recovered<D: Device>(device: &D)
         → RecoversTo (D.seen before) (files_of table (D.seen after)) }
 {}
 
-/// A crash at any moment since an opening of an honest device began leaves a list that recovers to what one left
-/// before recovers to: each test of files that all those before pass, all these pass.
+/// Covers a crash at any moment since an opening of an honest device began.
+///
+/// `left`: the crash leaves bytes that recover to the same files as some crash state from before the opening, if that
+/// state recovers.
+///
+/// `tested`: if all crash states from before the opening pass a test of files, all these crash states pass it.
 pub fn crashed_since_opening<D: Device>(device: &D)
     ensures left { (before after : D) (result : Result SuperValue Refusal) (c : List ℕ) → D.is_honest before
         → Opens D.Device before result after → D.left_since after (D.moment before) c
@@ -39,10 +43,16 @@ pub fn crashed_since_opening<D: Device>(device: &D)
         → AllRecover test (D.left_since after (D.moment before)) }
 {}
 
-/// After any number of openings of an honest device, each with a crash or none within it or after it, what a crash
-/// may leave recovers to what the first device might have recovered to. Where all that the first device might leave
-/// recovers, each later opening finds one of these, or meets a device call that failed, or no memory: none finds a
-/// damaged volume or none.
+/// Covers any number of openings of an honest device, each with or without a crash within it or after it. The device
+/// stays honest.
+///
+/// `left`: a crash afterwards leaves bytes that recover to the same files as some crash state of the first device, if
+/// that state recovers.
+///
+/// `tested`: if all crash states of the first device pass a test of files, all later ones pass it.
+///
+/// `finds`: in that case each later opening finds what one of these crash states recovers to, and this passes the test.
+/// Otherwise a device call fails, or memory runs out. No opening finds a damaged volume, or none.
 pub fn opened_again<D: Device>(device: &D)
     ensures honest { (n : ℕ) (first later : D) → D.is_honest first → IsLater D.Device n first later
         → D.is_honest later }
@@ -57,8 +67,8 @@ pub fn opened_again<D: Device>(device: &D)
         × IfOk result (λ table. test (files_of table (D.seen after)) ≡ true) }
 {}
 
-/// After a device was formatted, each later opening, to any depth, finds the files that were asked for, all their
-/// bytes zero, or meets a device call that failed, or no memory.
+/// After a device was formatted, each later opening finds the files that were asked for, with all their bytes zero.
+/// Otherwise a device call fails, or memory runs out. Any number of openings and crashes may come before it.
 pub fn opened_after_formatting<D: Device>(device: &D)
     ensures { (layout slots n : ℕ) (files : List AskedFile) (old new later after : D)
         (result : Result SuperValue Refusal) → D.is_honest new → HasFormatted D.Device layout files slots old new
@@ -68,22 +78,21 @@ pub fn opened_after_formatting<D: Device>(device: &D)
         (λ refusal. (refusal ≡ Refusal.Device) ⊎ (refusal ≡ Refusal.OutOfMemory)) }
 {}
 
-/// What formatting makes of an honest device is a volume that was made with the files that were asked for, all their
-/// bytes zero.
+/// Formatting an honest device makes a volume with the files that were asked for, with all their bytes zero.
 pub fn made_by_formatting<D: Device>(device: &D)
     ensures { (layout slots : ℕ) (files : List AskedFile) (old new : D) → D.is_honest new
         → HasFormatted D.Device layout files slots old new → IsMade D.Device (zero_files files) new }
 {}
 
-/// What migrating a volume makes of an honest device is a volume that was made with that volume's files.
+/// Migrating a volume to an honest device makes a volume with the old volume's files.
 pub fn made_by_migrating<D: Device, E: Device>(device: &D, other: &E)
     ensures { (layout slots : ℕ) (volume : VolumeState D) (before after : E) → E.is_honest after
         → HasMigrated D.Device E.Device layout slots volume before after
         → IsMade E.Device (files_of volume.table (D.seen volume.device)) after }
 {}
 
-/// After a device was made a volume with some files, each later opening, to any depth, finds these files, or meets a
-/// device call that failed, or no memory.
+/// After a volume with some files was made on a device, each later opening finds these files. Otherwise a device call
+/// fails, or memory runs out. Any number of openings and crashes may come before it.
 pub fn opened_after_making<D: Device>(device: &D)
     ensures { (n : ℕ) (files : List File) (made later after : D) (result : Result SuperValue Refusal)
         → IsMade D.Device files made → IsLater D.Device n made later → Opens D.Device later result after

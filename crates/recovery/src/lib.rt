@@ -1,4 +1,4 @@
-//! Making a volume on a device, opening one again, whatever a crash left of it, and reading its files.
+//! Makes volumes on devices, opens them after a crash, and reads their files.
 #![tactic(auto)]
 
 mod calls;

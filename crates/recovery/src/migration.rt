@@ -1,4 +1,4 @@
-// A volume becomes one of another layout, on another device.
+// Copies a volume to another device, in another layout.
 ghost use Rattle.std.specs.Prelude.{◌≡◌, ◌⊎◌, ◌+◌, ◌-◌, ◌*◌, ◌^◌, ◌<◌, ◌≤◌, ℕ, List, length, take, slice_index};
 ghost use Rattle.std.specs.Prelude.{slice_range, IfOk, IfErr, OnOk};
 ghost use Rattle.device.specs.Device.{written, Torn, TornFrom, LeavesOnly};
@@ -20,7 +20,7 @@ use page_entry::{PAGE, Refusal};
 use std::alloc::Allocator;
 use volume_codec::{FileSpec, Super, block_count_as};
 
-/// The files of a volume as they are asked for, in the first places.
+/// Returns the files of a volume as they are asked for, in the first elements of the array.
 pub fn specs_of<D: Device, A: Allocator + Copy>(volume: &Volume<D, A>) -> [FileSpec<'_>; 64]
     ensures specs { asked_by (take (length volume.now.table.files) result) ≡ asked_of volume.now }
     ensures well_formed { IsWellFormed D.Device volume.now }
@@ -40,8 +40,8 @@ pub fn specs_of<D: Device, A: Allocator + Copy>(volume: &Volume<D, A>) -> [FileS
     specs
 }
 
-/// The number of blocks of the volume that `migrate` makes of this one in the layout of this number, with so many
-/// record slots for each journal. `BadShape` where there is none. Takes no memory.
+/// Returns the number of blocks of the volume that `migrate` makes from this one, in layout `layout`, with `slots`
+/// record slots for each journal. Fails with `BadShape` if there is no such volume. Allocates no memory.
 pub fn migrated_blocks<D: Device, A: Allocator + Copy>(
     volume: &Volume<D, A>,
     layout: u64,
@@ -56,7 +56,7 @@ pub fn migrated_blocks<D: Device, A: Allocator + Copy>(
     block_count_as(layout, &specs[..volume.file_count()], slots)
 }
 
-/// Lays out, on a device, the volume of the layout of this number that has the files of another volume.
+/// Lays out a volume in layout `layout`, with the files of another volume, on a device.
 fn begin<D: Device, E: Device, A: Allocator + Copy>(
     alloc: A,
     old: &Volume<D, A>,
@@ -84,7 +84,7 @@ fn begin<D: Device, E: Device, A: Allocator + Copy>(
     Ok(table)
 }
 
-/// Copies so many bytes of a file, from one offset on, to an offset of another device.
+/// Copies `size` bytes of a file, from offset `at` on, to offset `to` of another device.
 fn copy_piece<D: Device, E: Device, A: Allocator + Copy>(
     old: &mut Volume<D, A>,
     new: &mut E,
@@ -109,7 +109,7 @@ fn copy_piece<D: Device, E: Device, A: Allocator + Copy>(
     write(new, to, part)
 }
 
-/// Copies the bytes of a file to an offset of another device.
+/// Copies the bytes of a file to offset `to` of another device.
 fn copy_file<D: Device, E: Device, A: Allocator + Copy>(
     old: &mut Volume<D, A>,
     new: &mut E,
@@ -135,7 +135,7 @@ fn copy_file<D: Device, E: Device, A: Allocator + Copy>(
     Ok(())
 }
 
-/// The first block of a file, where the files' blocks begin at this one.
+/// Returns the first block of a file on a device on which the blocks of all files begin at block `first`.
 fn file_home<D: Device, A: Allocator + Copy>(volume: &Volume<D, A>, first: u32, file: usize) -> u64
     requires { file < length volume.now.table.files }
     ensures home { result ≡ home_at first volume.now.table.files file }
@@ -146,11 +146,11 @@ fn file_home<D: Device, A: Allocator + Copy>(volume: &Volume<D, A>, first: u32, 
     u64::from(first) + u64::from(before)
 }
 
-/// Copies the bytes of all files of a volume to another device, one file after another from this block on: each file
-/// has as many blocks there as in the volume. `Device` where a call of one of the two devices failed.
+/// Copies the bytes of all files of a volume to another device, one file after another from block `first` on. Each file
+/// has as many blocks there as in the volume.
 ///
-/// The volume isn't written. On the other device no more than each file's bytes is written, 32,768 of them at a time;
-/// they aren't synced.
+/// The volume isn't written. On the other device only the bytes of each file are written, at most 32,768 at a time.
+/// They aren't synced. Fails with `Device` if a call of one of the two devices fails.
 pub fn copy_files<D: Device, E: Device, A: Allocator + Copy>(
     old: &mut Volume<D, A>,
     new: &mut E,
@@ -172,17 +172,24 @@ pub fn copy_files<D: Device, E: Device, A: Allocator + Copy>(
     Ok(())
 }
 
-/// Makes, on another device, a volume in the layout of this number with the files of this one, the same names, lengths,
-/// capacities and bytes, and with so many record slots for each journal. `BadShape`, before any memory is taken and any
-/// device call is made, where no volume has them (so a file that is shorter than its capacity goes to no layout without
-/// a lengths block), or the other device is shorter than its blocks. `OutOfMemory` before any device call. `Device`
-/// where a call of one of the two devices failed.
+/// Makes a volume in layout `layout` on another device, with the files of this volume and `slots` record slots for each
+/// journal. The files have the same names, lengths, capacities and bytes.
 ///
-/// The volume isn't written at any moment, whatever the other device is and whatever is answered. What lies past the
-/// new volume stays. The new volume is laid out as `format_as` does it, then the files are copied, 32,768 bytes at a
-/// time and each up to its length, and both are synced before the super block is written and synced. A crash meanwhile
-/// leaves block 0 of the other device as it was, or any bytes in it and all the rest of the volume filled: the lengths,
-/// the files' bytes with zeros past them, and closed gates.
+/// The old volume isn't written at any moment, even if the call fails or the other device isn't honest. Bytes past the
+/// new volume stay. The new volume is laid out as by `format_as`. Then each file is copied up to its length, at most
+/// 32,768 bytes at a time. Both are synced before the super block is written and synced.
+///
+/// A crash meanwhile changes only bytes of the new volume. Block 0 of the other device is as it was, or else all other
+/// blocks of the new volume are filled. They then contain the lengths, the files' bytes with zeros past them, and
+/// closed gates.
+///
+/// Fails with:
+///
+/// - `BadShape` if there is no such volume, or the other device is shorter than its blocks. This is checked before any
+///   allocation or device call. So a file that is shorter than its capacity can't go to a layout without a lengths
+///   block;
+/// - `OutOfMemory` if memory runs out, before it makes a device call;
+/// - `Device` if a call of one of the two devices fails.
 pub fn migrate<D: Device, E: Device, A: Allocator + Copy>(
     alloc: A,
     old: &mut Volume<D, A>,
@@ -193,7 +200,7 @@ pub fn migrate<D: Device, E: Device, A: Allocator + Copy>(
     ensures migrated { D.is_honest old.old.device → E.is_honest new.old
         → OnOk result (HasMigrated D.Device E.Device layout slots old.old new.old new.new) }
 
-    // The volume stays, and nothing of it is written, at no moment.
+    // The old volume is unchanged, and isn't written at any moment.
     ensures table { old.new.table ≡ old.old.table }
     ensures lengths { old.new.lengths ≡ old.old.lengths }
     ensures unwritten { D.is_honest old.old.device → IsUnwritten D.Device old.old.device old.new.device }

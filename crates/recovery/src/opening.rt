@@ -1,4 +1,4 @@
-// A volume is opened, whatever a crash left of it: the batches of open journals are carried out first.
+// Opens a volume, whatever a crash left of it. The batches of open journals are carried out first.
 ghost use Rattle.std.specs.Prelude.{◌≡◌, ◌↔◌, ◌+◌, ◌*◌, ◌≤◌, ◌<◌, List, [], ◌∷◌, ℕ, true, false, length, slice_index, slice_index_or, IsTrue, IfOk, IfErr, IfSome, OnOk, unwrap_or};
 ghost use Rattle.std.specs.List.{AllByRecursion};
 ghost use Rattle.device.specs.Device.{Only};
@@ -26,14 +26,15 @@ use volume_codec::{
     Descriptor, Geometry, OPEN_GATE, Super, capacities, read_descriptor, read_lengths, read_super,
 };
 
-/// A journal whose gate is open, counted from 0, and what its descriptor says.
+/// A journal whose gate is open: its number, from 0, and the contents of its descriptor.
 #[derive(Drop)]
 pub struct OpenJournal<A: Allocator + Copy> {
     journal: u32,
     descriptor: Descriptor<A>,
 }
 
-/// The table of a device's super block. `NotAVolume` and `Damaged` judge the device's length and its block 0.
+/// Returns the table of a device's super block. Fails with `NotAVolume` or `Damaged` because of the device's length or
+/// its block 0.
 pub fn read_table<D: Device, A: Allocator + Copy>(
     alloc: A,
     device: &mut D,
@@ -59,7 +60,7 @@ pub fn read_table<D: Device, A: Allocator + Copy>(
 }
 
 // Rule: gate byte
-/// Whether the gate of each journal is open.
+/// Returns, for each journal, whether its gate is open.
 fn read_gates<D: Device>(device: &mut D, geometry: &Geometry) -> Result<[bool; 4], Refusal>
     requires { 4096 * geometry.now.blocks ≤ length (D.seen device.old) }
     ensures gates { D.is_honest device.old → IfOk result (λ gates. (j : ℕ) → j < journals_of geometry.now.layout
@@ -81,7 +82,8 @@ fn read_gates<D: Device>(device: &mut D, geometry: &Geometry) -> Result<[bool; 4
     Ok(gates)
 }
 
-/// What the descriptor of a journal says, read into a buffer of as many blocks. `Damaged` where it breaks the grammar.
+/// Returns the contents of a journal's descriptor. The buffer has room for all its blocks. Fails with `Damaged` if the
+/// descriptor breaks the grammar.
 pub fn read_journal<D: Device, A: Allocator + Copy>(
     alloc: A,
     device: &mut D,
@@ -109,7 +111,8 @@ pub fn read_journal<D: Device, A: Allocator + Copy>(
     read_descriptor(alloc, geometry, buffer)
 }
 
-/// The place of a journal with this mark among these, the newest first. `Damaged` where one of them has this mark.
+/// Returns the place at which a journal with this mark belongs among the found journals, the newest first. Fails with
+/// `Damaged` if one of them has this mark.
 fn place_of<A: Allocator + Copy>(found: &[OpenJournal<A>], mark: u64) -> Result<usize, Refusal>
     ensures place { IfOk result (IsPlaceOf mark (batches_of found.now)) }
     ensures equal { IfErr result (λ refusal. (refusal ≡ Refusal.Damaged) × HasMark mark (batches_of found.now)) }
@@ -129,7 +132,7 @@ fn place_of<A: Allocator + Copy>(found: &[OpenJournal<A>], mark: u64) -> Result<
 }
 
 // Rule: equal marks
-/// Adds an open journal to those found before it, the newest first. `Damaged` where one of them has its mark.
+/// Adds an open journal to those found before it, the newest first. Fails with `Damaged` if one of them has its mark.
 fn add_journal<A: Allocator + Copy>(
     found: &mut Vec<OpenJournal<A>, A>,
     opened: OpenJournal<A>,
@@ -145,9 +148,9 @@ fn add_journal<A: Allocator + Copy>(
     Ok(())
 }
 
-/// Reads the descriptor of a journal if its gate is open, into a buffer of as many blocks, and adds the journal to
-/// those found before it, the newest first. `Damaged` where the descriptor breaks the grammar, or one of them has its
-/// mark.
+/// Reads the descriptor of a journal if its gate is open, and adds the journal to those found before it, the newest
+/// first. The buffer has room for all blocks of the descriptor. Fails with `Damaged` if the descriptor breaks the
+/// grammar, or another journal has its mark.
 fn read_if_open<D: Device, A: Allocator + Copy>(
     alloc: A,
     device: &mut D,
@@ -191,8 +194,8 @@ fn read_if_open<D: Device, A: Allocator + Copy>(
     Ok(())
 }
 
-/// The open journals, the newest first, each descriptor read into a buffer of as many blocks. `Damaged` where the
-/// descriptor of one breaks the grammar, or two have one mark.
+/// Returns the open journals, the newest first. The buffer has room for all blocks of a descriptor. Fails with
+/// `Damaged` if a descriptor breaks the grammar, or two journals have the same mark.
 fn read_journals<D: Device, A: Allocator + Copy>(
     alloc: A,
     device: &mut D,
@@ -227,8 +230,8 @@ fn read_journals<D: Device, A: Allocator + Copy>(
     Ok(found)
 }
 
-/// The open journals, the newest first. `Damaged` where the descriptor of one breaks the grammar, or two have one mark.
-/// It takes memory to read descriptors only where they have several blocks.
+/// Returns the open journals, the newest first. Fails with `Damaged` if a descriptor breaks the grammar, or two
+/// journals have the same mark. Allocates memory for a descriptor only if it has several blocks.
 fn read_described<D: Device, A: Allocator + Copy>(
     alloc: A,
     device: &mut D,
@@ -259,7 +262,8 @@ fn read_described<D: Device, A: Allocator + Copy>(
     read_journals(alloc, device, geometry, gates, &mut room)
 }
 
-/// The open journals, the newest first. `Damaged` where the descriptor of one breaks the grammar, or two have one mark.
+/// Returns the open journals, the newest first. Fails with `Damaged` if a descriptor breaks the grammar, or two
+/// journals have the same mark.
 pub fn read_open<D: Device, A: Allocator + Copy>(
     alloc: A,
     device: &mut D,
@@ -282,8 +286,8 @@ pub fn read_open<D: Device, A: Allocator + Copy>(
     Ok(found)
 }
 
-/// The table of a device's volume, and its open journals, the newest first. What was written before is made sure of.
-/// Nothing is written.
+/// Returns the table of a device's volume, and its open journals, the newest first. Makes earlier writes durable, and
+/// writes nothing.
 fn judge<D: Device, A: Allocator + Copy>(
     alloc: A,
     device: &mut D,
@@ -312,14 +316,14 @@ fn judge<D: Device, A: Allocator + Copy>(
 }
 
 impl<A: Allocator + Copy> OpenJournal<A> {
-    // The block of its record for a home block, if it has one.
+    // Returns the block of the journal's record for a home block, if it has one.
     fn record_of(&self, geometry: &Geometry, home: u32) -> Option<u32>
         requires { IsBatch geometry.now (batch_of self.now) }
         ensures value { (older : List Batch) → recovered_block geometry.now.slots (batch_of self.now ∷ older) home
             ≡ unwrap_or result (recovered_block geometry.now.slots older home) }
         ensures within { IfSome result (λ block. block < geometry.now.blocks) }
     {
-        // No journal has more slots than a number of 4 bytes counts.
+        // By the contract of `first_home` the slots are few enough for a record's index to fit into a `u32`.
         let _ = geometry.first_home();
         match self.descriptor.homes().binary_search(&home) {
             Ok(record) => Some(geometry.record_block(self.journal, record as u32)),
@@ -329,7 +333,8 @@ impl<A: Allocator + Copy> OpenJournal<A> {
 }
 
 // Rule: recovered lengths
-/// The block that has the recovered bytes of a home block, where these journals are open, the newest first.
+/// Returns the block that contains the recovered bytes of a home block. `found` are the open journals, the newest
+/// first.
 pub fn find_block<A: Allocator + Copy>(
     geometry: &Geometry,
     found: &[OpenJournal<A>],
@@ -348,7 +353,7 @@ pub fn find_block<A: Allocator + Copy>(
     home
 }
 
-/// The lengths that this block of a device says. `Damaged` where it breaks the grammar.
+/// Returns the lengths that this block of a device contains. Fails with `Damaged` if it breaks the grammar.
 fn read_lengths_at<D: Device, A: Allocator + Copy>(
     alloc: A,
     device: &mut D,
@@ -369,8 +374,8 @@ fn read_lengths_at<D: Device, A: Allocator + Copy>(
     read_lengths(alloc, table, &block)
 }
 
-/// The lengths of the files, each in bytes, as the volume recovers to, where these journals are open, the newest first.
-/// `Damaged` where a block has them and breaks the grammar.
+/// Returns the length in bytes to which each file recovers. `found` are the open journals, the newest first. Fails with
+/// `Damaged` if the layout has a lengths block and its recovered bytes break the grammar.
 pub fn find_lengths<D: Device, A: Allocator + Copy>(
     alloc: A,
     device: &mut D,
@@ -408,8 +413,8 @@ pub fn find_lengths<D: Device, A: Allocator + Copy>(
     Ok(lengths)
 }
 
-// How many device calls opening makes of an open journal: it reads its descriptor, reads and writes each record, syncs,
-// closes the gate and syncs.
+// Returns the number of device calls that an opening makes for an open journal. It reads the descriptor, reads and
+// writes each record, syncs, closes the gate and syncs.
 fn carrying_calls<A: Allocator + Copy>(journal: &OpenJournal<A>) -> u64
     ensures { Rises (2 * length journal.now.descriptor.homes + 4) 0 result }
 {
@@ -417,7 +422,8 @@ fn carrying_calls<A: Allocator + Copy>(journal: &OpenJournal<A>) -> u64
     records.saturating_mul(2).saturating_add(4)
 }
 
-/// How many device calls opening makes of a volume with this table, where these journals are open.
+/// Returns the number of device calls that a successful opening of a volume with this table and these open journals
+/// makes.
 pub fn opening_calls<A: Allocator + Copy>(table: &Super<A>, found: &[OpenJournal<A>]) -> u64
     ensures { Rises (calls_of table.now (batches_of found.now)) 0 result }
 {
@@ -429,8 +435,8 @@ pub fn opening_calls<A: Allocator + Copy>(table: &Super<A>, found: &[OpenJournal
     all
 }
 
-/// The table of a device's volume, its open journals, the newest first, and the lengths of its files. What was written
-/// before is made sure of. Nothing is written, and all memory that an opening needs is taken.
+/// Returns the table of a device's volume, its open journals, the newest first, and the lengths of its files. Makes
+/// earlier writes durable, and writes nothing. Allocates all memory that an opening needs.
 fn judge_all<D: Device, A: Allocator + Copy>(
     alloc: A,
     device: &mut D,
@@ -461,8 +467,8 @@ fn judge_all<D: Device, A: Allocator + Copy>(
     Ok((table, found, lengths))
 }
 
-/// Finishes the batch of an open journal, the oldest one: its records are written to their home blocks, which are
-/// synced; then its gate is closed, and that is synced.
+/// Finishes the batch of the oldest open journal. Its records are written to their home blocks and synced. Then its
+/// gate is closed and synced.
 fn carry_out<D: Device, A: Allocator + Copy>(
     device: &mut D,
     geometry: &Geometry,
@@ -485,7 +491,7 @@ fn carry_out<D: Device, A: Allocator + Copy>(
 }
 
 // Rule: closing order
-/// Carries out all open journals, the oldest first: each gate is closed before the next journal's records are written.
+/// Carries out all open journals, the oldest first. Each gate is closed before the next journal's records are written.
 fn carry_out_all<D: Device, A: Allocator + Copy>(
     device: &mut D,
     geometry: &Geometry,
@@ -504,7 +510,7 @@ fn carry_out_all<D: Device, A: Allocator + Copy>(
     Ok(())
 }
 
-/// Makes a device ready, and gives its table and the lengths of its files: the rules of `open`.
+/// Makes a device ready, and returns its table and the lengths of its files, by the rules of `open`.
 fn recover<D: Device, A: Allocator + Copy>(
     alloc: A,
     device: &mut D,
@@ -518,18 +524,35 @@ fn recover<D: Device, A: Allocator + Copy>(
     Ok((table, lengths))
 }
 
-/// Opens the volume of a device. The device's length and its block 0 are judged; what was written before is made
-/// durable; the gate of each journal is read, and the descriptors of the open ones are judged. Where the layout has a
-/// lengths block, the block that it recovers to is judged: the newest open journal's record of it, else the block
-/// itself. Then each open journal, the one with the lowest mark first, is carried out: its records are written to their
-/// home blocks and synced, its gate is closed and synced. `NotAVolume` where the device is shorter than a block or
-/// begins with no layout's magic; `Damaged` where its super block, the descriptor of an open journal or the lengths
-/// break the grammar, two open journals have one mark, or the device is shorter than its volume; nothing is written
-/// then. `Device` where a device call failed. `OutOfMemory` may come in the place of these, and nothing is written then
-/// either. An `Err` hands the device back. With no open journal it makes 3 device calls in layout 1, 4 in layout 2, 5
-/// in layout 3 and 7 in layout 4, and 2k + 4 more for each open journal of k records: a descriptor is read by one call,
-/// however many blocks it has. Where it is refused it makes no more than that; one where block 0 holds no table, and
-/// where nothing is written 4 in layout 1, 6 in layout 2, 7 in layout 3 and 11 in layout 4.
+/// Opens the volume of a device. The opening has these parts:
+///
+/// 1. It checks the device's length and its block 0.
+/// 2. It makes earlier writes durable.
+/// 3. It reads the gate of each journal, and checks the descriptors of the open ones.
+/// 4. If the layout has a lengths block, it checks the block to which this one recovers. That is its record in the
+///    newest open journal that has one, or else the block itself.
+/// 5. It carries out each open journal, the one with the lowest mark first. It writes the records to their home blocks
+///    and syncs. Then it closes the gate and syncs.
+///
+/// An error contains the device. Fails with:
+///
+/// - `NotAVolume` if the device is shorter than a block, or doesn't begin with the magic of a layout;
+/// - `Damaged` if the super block, the descriptor of an open journal or the lengths break the grammar. Also if two open
+///   journals have the same mark, or the device is shorter than its volume;
+/// - `Device` if a device call fails;
+/// - `OutOfMemory` if memory runs out, perhaps before one of these reasons is found.
+///
+/// Nothing is written unless all checks succeed. So nothing is written by an opening that fails with `NotAVolume`,
+/// `Damaged` or `OutOfMemory`.
+///
+/// | Device calls | Layout 1 | Layout 2 | Layout 3 | Layout 4 |
+/// | --- | --- | --- | --- | --- |
+/// | With no open journal | 3 | 4 | 5 | 7 |
+/// | If it fails and writes nothing, at most | 4 | 6 | 7 | 11 |
+///
+/// Each open journal of k records takes 2k + 4 calls more. A descriptor is read by one call, however many blocks it
+/// has. An opening makes at most 1 call if block 0 contains no table. If carrying out the journals fails, the opening
+/// makes no more calls than a successful one.
 pub fn open<D: Device, A: Allocator + Copy>(
     alloc: A,
     mut device: D,

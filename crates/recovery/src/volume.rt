@@ -1,4 +1,4 @@
-// A volume that was opened, and its files.
+// An opened volume and its files.
 ghost use Rattle.std.specs.Prelude.{◌≡◌, ◌==◌, ◌+◌, ◌≤◌, ◌<◌, if◌then◌else◌, length, slice_get, slice_index, slice_range, Some, OnOk, IfErr};
 ghost use Rattle.volume_codec.specs.Super.{names_in, capacities_in};
 ghost use Rattle.recovery.specs.Counts.{Rises, IsAccounted};
@@ -12,8 +12,8 @@ use std::alloc::Allocator;
 use std::marker::Model;
 use volume_codec::{Layout, Super};
 
-/// A volume on a device, as `open` made it: the table of its files and their lengths, with the gates closed and the
-/// device synced. Files are counted from 0, in the table's order.
+/// A volume on a device, as `open` returns it: the table of its files, their lengths, and the device. The gates are
+/// closed and the device is synced. Files are counted from 0, in the table's order.
 #[derive(Drop)]
 pub struct Volume<D: Device, A: Allocator + Copy> {
     table: Super<A>,
@@ -33,7 +33,7 @@ impl<D: Device, A: Allocator + Copy> Model for Volume<D, A> {
 }
 
 impl<D: Device, A: Allocator + Copy> Volume<D, A> {
-    /// The volume of a device that was made ready, with the length of each file in bytes.
+    /// Makes a volume from a device that is ready, its table, and the length of each file in bytes.
     pub(crate) fn new(table: Super<A>, lengths: Vec<u64, A>, device: D) -> Self
         requires { IsWellFormed D.Device (record { table = table; lengths = lengths.items; device = device }) }
         ensures { result ≡ record { table = table; lengths = lengths.items; device = device } }
@@ -45,14 +45,14 @@ impl<D: Device, A: Allocator + Copy> Volume<D, A> {
         }
     }
 
-    /// The volume's layout.
+    /// Returns the volume's layout.
     pub fn layout(&self) -> Layout
         ensures { result ≡ self.now.table.layout }
     {
         self.table.layout()
     }
 
-    /// The number of files, 1 to 64.
+    /// Returns the number of files, 1 to 64.
     pub fn file_count(&self) -> usize
         ensures value { result ≡ length self.now.table.files }
         ensures well_formed { IsWellFormed D.Device self.now }
@@ -60,7 +60,7 @@ impl<D: Device, A: Allocator + Copy> Volume<D, A> {
         self.table.file_count()
     }
 
-    /// The name of a file.
+    /// Returns the name of a file.
     pub fn name(&self, file: usize) -> &str
         requires { file < length self.now.table.files }
         ensures { slice_get (names_in self.now.table) file ≡ Some result.now }
@@ -68,7 +68,7 @@ impl<D: Device, A: Allocator + Copy> Volume<D, A> {
         self.table.name(file)
     }
 
-    /// The length of a file in bytes.
+    /// Returns the length of a file in bytes.
     pub fn length(&self, file: usize) -> u64
         requires { file < length self.now.table.files }
         ensures { slice_get self.now.lengths file ≡ Some result }
@@ -76,7 +76,7 @@ impl<D: Device, A: Allocator + Copy> Volume<D, A> {
         self.lengths[file]
     }
 
-    /// The length of each file in bytes, in the table's order.
+    /// Returns the length of each file in bytes, in the table's order.
     pub fn lengths(&self) -> &[u64]
         ensures lengths { result.now ≡ self.now.lengths }
         ensures well_formed { IsWellFormed D.Device self.now }
@@ -84,7 +84,7 @@ impl<D: Device, A: Allocator + Copy> Volume<D, A> {
         &self.lengths
     }
 
-    /// The number of bytes to which a file may grow, from 1.
+    /// Returns the capacity of a file: the largest length in bytes that it can have, at least 1.
     pub fn capacity(&self, file: usize) -> u64
         requires { file < length self.now.table.files }
         ensures { slice_get (capacities_in self.now.table) file ≡ Some result }
@@ -92,8 +92,8 @@ impl<D: Device, A: Allocator + Copy> Volume<D, A> {
         self.table.capacity(file)
     }
 
-    /// Reads as many bytes of a file as the buffer has, from an offset on. The caller stays within the file's length.
-    /// One device call where bytes are asked, none else; `Device` where it failed.
+    /// Fills the buffer with the bytes of a file from offset `at` on. The range must lie within the file's length.
+    /// Makes one device call, or none if the buffer is empty. Fails with `Device` if it fails.
     pub fn read_file(&mut self, file: usize, at: u64, buffer: &mut [u8]) -> Result<(), Refusal>
         requires there { file < length self.old.table.files }
         requires within { at + length buffer.old ≤ slice_index self.old.lengths file }
@@ -102,7 +102,7 @@ impl<D: Device, A: Allocator + Copy> Volume<D, A> {
             ≡ slice_range (bytes_of (files_of self.old.table (D.seen self.old.device)) file)
             at (at + length buffer.old)) }
 
-        // Nothing is written, and the volume stays.
+        // Nothing is written, and the volume is unchanged.
         ensures table { self.new.table ≡ self.old.table }
         ensures lengths { self.new.lengths ≡ self.old.lengths }
         ensures unwritten { D.is_honest self.old.device → IsUnwritten D.Device self.old.device self.new.device }
@@ -119,7 +119,7 @@ impl<D: Device, A: Allocator + Copy> Volume<D, A> {
         read(&mut self.device, PAGE * home + at, buffer)
     }
 
-    /// The table of the files.
+    /// Returns the table of the files.
     pub fn table(&self) -> &Super<A>
         ensures table { result.now ≡ self.now.table }
         ensures well_formed { IsWellFormed D.Device self.now }
@@ -127,7 +127,7 @@ impl<D: Device, A: Allocator + Copy> Volume<D, A> {
         &self.table
     }
 
-    /// The device, which holds the volume with its gates closed, all of it synced.
+    /// Returns the device, which contains the volume with its gates closed, all of it synced.
     pub fn into_device(self) -> D
         ensures device { result ≡ self.device }
         ensures well_formed { IsWellFormed D.Device self }
@@ -137,7 +137,7 @@ impl<D: Device, A: Allocator + Copy> Volume<D, A> {
         device
     }
 
-    /// The table and the device.
+    /// Returns the table and the device.
     pub fn into_parts(self) -> (Super<A>, D)
         ensures table { result.0 ≡ self.table }
         ensures device { result.1 ≡ self.device }

@@ -1,5 +1,5 @@
-//! The commands that make steps one after the other: of a script on the volume in a file, and of a trace on a copy of
-//! it.
+//! The commands that make steps in sequence. `run` runs a script on the volume in a file. `replay` runs a trace on a
+//! copy of such a volume.
 #![tactic(auto)]
 
 mod printer;

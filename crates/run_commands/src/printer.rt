@@ -1,4 +1,4 @@
-// Printing the replies of a run as they come.
+// Prints the replies of a run as they come.
 ghost use Rattle.std.specs.Prelude.{◌≡◌, ◌+◌, ◌<◌, ◌^◌, [], ◌∷◌, OnOk, OnErr, Some, None};
 ghost use Rattle.std.specs.Io.KnownBytes.{Appends};
 ghost use Rattle.run_commands.specs.Replies.{line_of, Prints};
@@ -8,22 +8,22 @@ use engine::Listener;
 use machine::Reply;
 use std::io;
 
-/// Prints each reply on a line of its own and flushes it, so that the reader of a pipe has it before the next step is
-/// made; but for `going`, which tells its reader nothing and comes with the next reply. Where the output fails, it says
-/// to stop. It keeps no reply, but the number of the first that says that the device failed.
+/// Prints each reply on its own line and flushes it, so the reader of a pipe has it before the next step is made. The
+/// reply `going` isn't flushed, since it informs of nothing; it comes with the next reply. If the output fails, the run
+/// stops. The printer keeps no replies, only the number of the first one that reports that the device failed.
 #[derive(Drop)]
 pub struct Printer<W: io::Write + Drop> {
     pub out: W,
-    /// How many replies were printed.
+    /// The number of replies that were printed.
     pub count: u64,
-    /// The number, counted from 1, of the first reply that says that the device failed.
+    /// The number, counted from 1, of the first reply that reports that the device failed.
     pub failure: Option<u64>,
-    /// Why the output failed.
+    /// The error of the output, if it failed.
     pub fault: Option<io::Error>,
 }
 
 impl<W: io::Write + Drop> Printer<W> {
-    /// Nothing was printed yet.
+    /// Returns a printer that has printed nothing.
     pub fn new(out: W) -> Self
         ensures { result ≡ record { out = out; count = 0; failure = None; fault = None } }
     {
@@ -56,7 +56,7 @@ impl<W: io::Write + Drop> Listener for Printer<W> {
     }
 }
 
-// Writes a reply on a line of its own, and flushes it unless it is `going`.
+// Writes a reply on its own line, and flushes it unless it is `going`.
 fn print_line<W: io::Write>(out: &mut W, reply: &Reply) -> io::Result<()>
     ensures { OnOk result (Appends (W.contents out.old) (W.contents out.new) (line_of reply.now)) }
 {
@@ -67,7 +67,7 @@ fn print_line<W: io::Write>(out: &mut W, reply: &Reply) -> io::Result<()>
     print_flushed(out, reply)
 }
 
-// Stands apart, so that the room and the checks of its formatting aren't paid for by each `going`.
+// A separate function, so that `going` doesn't pay for the stack space and the checks of formatting.
 #[inline(never)]
 fn print_flushed<W: io::Write>(out: &mut W, reply: &Reply) -> io::Result<()>
     ensures { OnOk result (Appends (W.contents out.old) (W.contents out.new) (line_of reply.now)) }

@@ -1,4 +1,4 @@
-// Running a trace again, on a copy of the disk in memory.
+// Runs a trace again, on a copy of the disk in memory.
 ghost use Rattle.std.specs.Prelude.{◌≡◌, ◌<◌, ◌≤◌, List, map, length, take, slice_get, true, false, Some, None, IfOk, IfErr, IfSome, IsTrue};
 ghost use Rattle.machine.specs.declared.act.Reply.{Reply};
 ghost use Rattle.machine.specs.Words.{reply_text};
@@ -19,27 +19,27 @@ use std::rt::Files;
 use traces::{Line, Trace, TraceFault};
 use volume_files::{Access, SyncNote, has_log, open_disk, place, read_file};
 
-/// What is said of a trace that was run again.
+/// The verdict on a trace that was run again.
 #[derive(Clone, Copy, Debug, PartialEq, Eq)]
 pub enum Verdict {
-    /// Each reply has the text of its entry. So many entries there are.
+    /// Each reply has the text of its entry. Contains the number of entries.
     Same(u64),
-    /// The reply to the entry of this number, counted from 1, is the first that has another text.
+    /// The reply to the entry with this number, counted from 1, is the first that has another text.
     Differs(u64),
 }
 
-/// Compares each reply with the text of the next entry, and says to stop at the first that has another.
+/// Compares each reply with the text of the next entry. Stops the run at the first reply with another text.
 #[derive(Clone, Copy)]
 pub struct Comparer<'a> {
     global: Global,
     entries: &'a [Line],
-    /// How many replies had the texts of their entries.
+    /// The number of replies that had the text of their entry.
     same: usize,
-    /// Whether the last one had another text.
+    /// Whether the last reply had another text.
     differs: bool,
-    /// Whether memory was refused for the text of the last one.
+    /// Whether memory ran out for the text of the last reply.
     refused: bool,
-    /// The number, counted from 1, of the first reply that says that the device failed.
+    /// The number, counted from 1, of the first reply that reports that the device failed.
     failure: Option<u64>,
 }
 
@@ -77,7 +77,7 @@ impl<'a> Comparer<'a> {
         }
     }
 
-    // What it says in the end, unless memory was refused.
+    // Returns the verdict, unless memory ran out.
     fn verdict(&self) -> Option<Verdict>
         ensures { IfSome result
             (λ said. verdict_by self.now.refused self.now.differs self.now.same ≡ Some said) }
@@ -117,17 +117,17 @@ impl Listener for Comparer<'_> {
     }
 }
 
-/// What came of a trace that was run again.
+/// The result of running a trace again.
 #[derive(Clone, Copy)]
 pub struct Replayed {
-    /// Nothing is said where memory was refused.
+    /// The verdict, or `None` if memory ran out.
     pub verdict: Option<Verdict>,
-    /// The number of the first entry to which the device failed.
+    /// The number of the first entry at which the device failed.
     pub failure: Option<u64>,
 }
 
-// Opens the volume of a device, boots a machine of the shape of a trace, and makes the steps of the trace one at a
-// time, up to the first whose reply has another text. A refusal hands the device back.
+// Opens the volume of a device and boots a machine of the trace's shape. Makes the steps of the trace one at a time, up
+// to the first whose reply has another text. An error returns the device.
 fn replay_on<D: Device, A: Allocator + Copy>(
     global: Global,
     alloc: A,
@@ -154,16 +154,16 @@ fn replay_on<D: Device, A: Allocator + Copy>(
     }
 }
 
-// The steps of entries, in order.
+// Returns the steps of the entries, in order.
 fn steps_of<A: Allocator + Copy>(alloc: A, entries: &[Line]) -> Result<Vec<Step, A>, AllocError>
     ensures { IfOk result (λ steps. steps.items ≡ map (λ line. line.step) entries.now) }
 {
     entries.iter().map(|line| line.step).collect(alloc)
 }
 
-/// Runs a trace on a copy of the volume in a file, which costs memory for what it writes, and prints whether each reply
-/// has the text of its entry, or the number of the first entry that differs. Answers the status: 0 or 1. The trace is
-/// read whole before the disk is opened.
+/// Runs a trace on a copy of the volume in a file. Prints whether each reply has the text of its entry, or the number
+/// of the first entry that differs. Returns the exit status, 0 or 1. The copy needs memory for what it writes. The
+/// trace is read whole before the disk is opened.
 pub fn replay<'a, R: Files<File = File> + AllocGlobal, A: Allocator + Copy, W: io::Write>(
     rt: &R,
     alloc: A,
@@ -186,7 +186,8 @@ pub fn replay<'a, R: Files<File = File> + AllocGlobal, A: Allocator + Copy, W: i
     }
 }
 
-// Why a trace wasn't run again on a copy of the volume in a file, whose calls also fail if memory is refused.
+// Returns the error for a trace that wasn't run on a copy of the volume in a file. A call of the copy also fails if
+// memory runs out.
 fn not_replayed<'a>(path: &'a str, cause: NotBooted<'a>, is_refused_memory: bool) -> Failure<'a> {
     match cause {
         NotBooted::Disk(refused) if is_refused_memory && refused.refusal == Refusal::Device => {
@@ -196,7 +197,7 @@ fn not_replayed<'a>(path: &'a str, cause: NotBooted<'a>, is_refused_memory: bool
     }
 }
 
-// Runs a trace again on the volume of a device, with journals or with a log, and hands the device back.
+// Runs a trace again on the volume of a device, with journals or with a log. Returns the device.
 fn replay_on_any<'a, D: Device, A: Allocator + Copy>(
     global: Global,
     alloc: A,
@@ -222,7 +223,7 @@ fn replay_on_any<'a, D: Device, A: Allocator + Copy>(
     }
 }
 
-// Runs a trace again on the volume with journals of a device, and hands the device back.
+// Runs a trace again on the volume with journals of a device. Returns the device.
 fn replayed_on<'a, D: Device, A: Allocator + Copy>(
     global: Global,
     alloc: A,
@@ -258,7 +259,7 @@ where
     }
 }
 
-// Prints what is said of a trace, and answers the status.
+// Prints the verdict on a trace, and returns the exit status.
 fn said<'a, W: io::Write>(
     trace: &'a str,
     replayed: Replayed,

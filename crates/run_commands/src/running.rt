@@ -1,4 +1,4 @@
-// Running a script on the volume in a file.
+// Runs a script on the volume in a file.
 ghost use Rattle.std.specs.Prelude.{◌≡◌, ◌↔◌, IsOk, IsErr, IfErr, IsNone, IfSome};
 ghost use Rattle.engine.specs.Engine.{HasRun};
 ghost use Rattle.log_engine.specs.Runs.{HasRunOnLog};
@@ -19,8 +19,8 @@ use std::io;
 use std::rt::Files;
 use volume_files::{SyncNote, has_log, open_to_write, place, refused_to_read};
 
-/// Runs a script on the volume in a file, and prints the reply of each step before the next one is made. The script is
-/// read whole before the disk is opened. `note` gets what is to be said of syncs that failed.
+/// Runs a script on the volume in a file. Prints the reply of each step before the next one is made. The script is read
+/// whole before the disk is opened. `note` receives the note on syncs that failed.
 pub fn run<'a, R: Files<File = File> + AllocGlobal, A: Allocator + Copy, W: io::Write>(
     rt: &R,
     alloc: A,
@@ -40,7 +40,7 @@ pub fn run<'a, R: Files<File = File> + AllocGlobal, A: Allocator + Copy, W: io::
     }
 }
 
-// Runs a script on the volume of a device, with journals or with a log, and hands the device back.
+// Runs a script on the volume of a device, with journals or with a log. Returns the device.
 fn run_on_any<'a, D: Device, A: Allocator + Copy, W: io::Write + Drop>(
     alloc: A,
     mut device: D,
@@ -57,7 +57,7 @@ fn run_on_any<'a, D: Device, A: Allocator + Copy, W: io::Write + Drop>(
     }
 }
 
-// Runs a script on the volume with a log of a device, and hands the device back.
+// Runs a script on the volume with a log of a device. Returns the device.
 fn run_on_log<'a, D: Device, A: Allocator + Copy, W: io::Write + Drop>(
     alloc: A,
     device: D,
@@ -77,7 +77,8 @@ fn run_on_log<'a, D: Device, A: Allocator + Copy, W: io::Write + Drop>(
     }
 }
 
-// Why a script wasn't run on the volume with a log of a device. The disk that shows the volume has a shape's limits.
+// Returns the error for a script that wasn't run on the volume with a log of a device. For a bad shape, the disk that
+// shows the volume has the limits to report.
 fn refused_on_log<'a, D: Device, A: Allocator + Copy>(
     alloc: A,
     refusal: Refusal,
@@ -97,7 +98,7 @@ fn refused_on_log<'a, D: Device, A: Allocator + Copy>(
     }
 }
 
-// Runs a script on the volume with journals of a device, and hands the device back.
+// Runs a script on the volume with journals of a device. Returns the device.
 fn run_on<'a, D: Device, A: Allocator + Copy, W: io::Write + Drop>(
     alloc: A,
     device: D,
@@ -117,7 +118,8 @@ fn run_on<'a, D: Device, A: Allocator + Copy, W: io::Write + Drop>(
     }
 }
 
-// How a run ended that was printed: the output failed, a step was answered that the device failed, or neither.
+// Returns the outcome of a printed run. It is an error if the output failed, or a reply reported that the device
+// failed.
 fn outcome<W: io::Write + Drop>(path: &str, printer: Printer<W>) -> Result<(), Failure<'_>>
     ensures ok { IsOk result ↔ (IsNone printer.fault × IsNone printer.failure) }
     ensures failed { IfErr result (λ failure. IsNone printer.fault → IfSome printer.failure (IsFailedStep failure)) }

@@ -1,4 +1,4 @@
-// A script is run on a device, and its replies are printed as they come.
+// Runs a script on a device, and prints its replies as they come.
 ghost use Rattle.std.specs.Prelude.{◌≡◌, IfOk, IfErr};
 ghost use Rattle.engine.specs.Engine.{HasNotStarted, HasRun, KeepsDevice, handed_back};
 ghost use Rattle.log_engine.specs.Runs.{HasNotRunOnLog, HasRunOnLog};
@@ -11,8 +11,8 @@ use scripts::Script;
 use std::alloc::Allocator;
 use std::io::Write;
 
-/// Runs a script on the volume of a device, and prints the reply of each step before the next one is made, up to the
-/// last step or to where the output fails. The device is handed back, with a refusal too; then nothing was printed.
+/// Runs a script on the volume of a device. Prints the reply of each step before the next one is made. Ends after the
+/// last step, or when the output fails. Returns the device, also with an error; nothing was printed then.
 pub fn run_script<D: Device, A: Allocator + Copy, W: Write + Drop>(
     alloc: A,
     device: D,
@@ -28,7 +28,7 @@ pub fn run_script<D: Device, A: Allocator + Copy, W: Write + Drop>(
     engine::run(alloc, device, script.shape, &script.steps, printer)
 }
 
-/// The same on a volume with a log.
+/// Does the same as `run_script` on a volume with a log.
 pub fn run_script_on_log<D: Device, A: Allocator + Copy, W: Write + Drop>(
     alloc: A,
     device: D,

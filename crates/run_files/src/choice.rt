@@ -1,20 +1,20 @@
-// What a crash leaves where nothing was synced.
+// The bytes that a crash leaves in unsynced places.
 use crate::failure::Failure;
 use crate::form::{byte, text};
 use serde_json::Value;
 use std::alloc::Global;
 use std::fmt;
 
-/// What a crash leaves at the places that were written since the last sync.
+/// The bytes that a crash leaves in the places that were written since the last sync.
 #[derive(Clone, Copy)]
 pub enum Choice {
-    /// What the disk had when the run began, or the opening that is cut.
+    /// The bytes that the disk had at the start of the run, or of the opening that is cut.
     Old,
-    /// What a read gives.
+    /// The bytes that a read returns.
     New,
-    /// Of each block of 4,096 bytes the first half as a read gives it, and the second as the run found it.
+    /// For each block of 4,096 bytes, the first half as a read returns it, and the second half as the run found it.
     Halves,
-    /// What the disk had so many steps earlier.
+    /// The bytes that the disk had this number of steps earlier.
     Back(u64),
     /// This byte everywhere.
     Byte(u8),
@@ -32,7 +32,7 @@ impl fmt::Display for Choice {
     }
 }
 
-/// The choices of a list of their names.
+/// Returns the choices that the items of a list name.
 pub fn read_choices(alloc: Global, items: &[Value]) -> Result<Vec<Choice>, Failure> {
     let mut choices = Vec::new(alloc);
     for item in items {
@@ -41,7 +41,7 @@ pub fn read_choices(alloc: Global, items: &[Value]) -> Result<Vec<Choice>, Failu
     Ok(choices)
 }
 
-/// The choice that a value names.
+/// Returns the choice that a value names.
 pub fn read_choice_of(alloc: Global, value: &Value) -> Result<Choice, Failure> {
     match read_choice(text(alloc, value, "what a crash leaves")?) {
         Some(choice) => Ok(choice),
@@ -64,7 +64,7 @@ fn read_choice(name: &str) -> Option<Choice> {
     }
 }
 
-/// The first half of each block of new bytes, and the second half of each of old ones.
+/// Returns bytes with the first half of each new block and the second half of each old block.
 pub fn halves(alloc: Global, new: &[u8], old: &[u8]) -> Result<Vec<u8>, Failure> {
     let mut bytes = Vec::new(alloc);
     for (i, (new, old)) in new.iter().zip(old).enumerate() {

@@ -1,4 +1,4 @@
-// What came, compared with what is wanted.
+// Compares results with the wanted ones.
 ghost use Rattle.std.specs.Prelude.{◌≡◌, ◌↔◌, ◌+◌, ◌≤◌, IsNone, IsTrue, IsOk, OnOk, slice_range, length};
 ghost use Rattle.page_entry.specs.Refusal.{words_of};
 
@@ -7,7 +7,7 @@ use crate::image::Put;
 use page_entry::Refusal;
 use std::alloc::Global;
 
-/// The offset of the first place where bytes aren't those that are wanted.
+/// Returns the offset of the first difference between the wanted bytes and the bytes that came, if they differ.
 pub fn difference(wanted: &[u8], came: &[u8]) -> Option<u64>
     ensures { IsNone result ↔ (wanted.now ≡ came.now) }
 {
@@ -30,7 +30,7 @@ fn is_same(wanted: &[u8], came: &[u8]) -> bool
     wanted == came
 }
 
-/// Says at which offset bytes differ, if they do.
+/// Fails with the offset of the first difference if the bytes differ.
 pub fn compare_bytes(alloc: Global, what: &str, wanted: &[u8], came: &[u8]) -> Result<(), Failure>
     ensures { IsOk result ↔ (wanted.now ≡ came.now) }
 {
@@ -44,7 +44,7 @@ pub fn compare_bytes(alloc: Global, what: &str, wanted: &[u8], came: &[u8]) -> R
     }
 }
 
-/// Compares the bytes of a disk, from an offset on, with these.
+/// Compares the bytes of a disk, from offset `at` on, with the wanted bytes.
 pub fn compare_place(alloc: Global, image: &[u8], at: u64, wanted: &[u8]) -> Result<(), Failure>
     ensures within { OnOk result (at + length wanted.now ≤ length image.now) }
     ensures same { OnOk result (wanted.now ≡ slice_range image.now at (at + length wanted.now)) }
@@ -64,7 +64,7 @@ pub fn compare_place(alloc: Global, image: &[u8], at: u64, wanted: &[u8]) -> Res
     )
 }
 
-/// Compares a count.
+/// Fails if two counts differ.
 pub fn compare_count(alloc: Global, what: &str, wanted: u64, came: u64) -> Result<(), Failure>
     ensures { IsOk result ↔ (wanted ≡ came) }
 {
@@ -75,7 +75,7 @@ pub fn compare_count(alloc: Global, what: &str, wanted: u64, came: u64) -> Resul
     }
 }
 
-/// Compares a text.
+/// Fails if two texts differ.
 pub fn compare_text(alloc: Global, what: &str, wanted: &str, came: &str) -> Result<(), Failure>
     ensures { IsOk result ↔ (wanted.now ≡ came.now) }
 {
@@ -86,7 +86,7 @@ pub fn compare_text(alloc: Global, what: &str, wanted: &str, came: &str) -> Resu
     }
 }
 
-/// Compares the word of a refusal.
+/// Fails if a refusal has another word.
 pub fn compare_refusal(alloc: Global, refusal: Refusal, word: &str) -> Result<(), Failure>
     ensures { OnOk result (word.now ≡ words_of refusal) }
 {
@@ -94,7 +94,7 @@ pub fn compare_refusal(alloc: Global, refusal: Refusal, word: &str) -> Result<()
     compare_text(alloc, "the refusal", word, came.as_str())
 }
 
-/// Compares a disk with what it was before, but for these bytes.
+/// Compares a disk with its earlier bytes after these writes.
 pub fn compare_image(
     alloc: Global,
     before: &[u8],

@@ -1,8 +1,8 @@
-// What is counted over files of runs.
+// Counts over files of runs.
 ghost use Rattle.std.specs.Prelude.{◌≡◌, ◌+◌, ◌-◌, ◌^◌, min, IfSome, IfNone};
 ghost use Rattle.run_files.specs.Status.{status_of};
 
-/// How many steps were made, and how many openings.
+/// The numbers of steps and openings that were made.
 #[derive(Clone, Copy)]
 pub struct Counts {
     pub steps: u64,
@@ -10,7 +10,7 @@ pub struct Counts {
 }
 
 impl Counts {
-    /// Nothing was made yet.
+    /// Returns counts of 0.
     pub fn none() -> Self
         ensures steps { result.steps ≡ 0 }
         ensures openings { result.openings ≡ 0 }
@@ -22,7 +22,7 @@ impl Counts {
     }
 }
 
-/// How many files were judged and how many of them differ, and the counts of the others.
+/// The number of files that were judged, the number of them that differ, and the counts of the others.
 #[derive(Clone, Copy)]
 pub struct Total {
     pub files: u64,
@@ -31,7 +31,7 @@ pub struct Total {
 }
 
 impl Total {
-    /// No file was judged yet.
+    /// Returns a total of no files.
     pub fn none() -> Self
         ensures files { result.files ≡ 0 }
         ensures differ { result.differ ≡ 0 }
@@ -45,7 +45,7 @@ impl Total {
         }
     }
 
-    /// A further file: its counts, or none where it differs.
+    /// Adds a file: its counts, or `None` if it differs. No number exceeds 2^64 - 1.
     pub fn add(&mut self, judged: Option<Counts>)
         ensures files { self.new.files ≡ min (self.old.files + 1) (2 ^ 64 - 1) }
         ensures differ { IfNone judged (self.new.differ ≡ min (self.old.differ + 1) (2 ^ 64 - 1)) }
@@ -66,7 +66,7 @@ impl Total {
         }
     }
 
-    /// The exit status of a program that judged them.
+    /// Returns the exit status of a program that judged these files: 2 if there are none, 1 if one differs, or else 0.
     pub fn status(&self) -> u8
         ensures { result ≡ status_of self.now.files self.now.differ }
     {

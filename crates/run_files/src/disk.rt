@@ -1,4 +1,4 @@
-// Lines about the bytes of a disk.
+// Reads and carries out lines about the bytes of a disk.
 use crate::comparing::{compare_bytes, compare_place};
 use crate::failure::Failure;
 use crate::form::{bytes, list_of, member, number_of, number_or, only, text};
@@ -6,7 +6,7 @@ use crate::image::{Put, read_puts};
 use serde_json::{Map, Value};
 use std::alloc::Global;
 
-/// Does what a line says of a disk before a run: puts bytes, cuts it, or compares all of it.
+/// Carries out a line about a disk before a run: puts bytes, cuts the disk, or compares all of it.
 pub fn take_disk(
     alloc: Global,
     members: &Map<String, Value>,
@@ -36,7 +36,7 @@ fn read_put(alloc: Global, value: &Value) -> Result<Put, Failure> {
     }
 }
 
-// Of the disk, so many bytes are there.
+// Cuts the disk to `length` bytes.
 fn cut_to(alloc: Global, image: &mut Vec<u8>, length: u64) -> Result<(), Failure> {
     if length > image.len() as u64 {
         return Err(Failure::line(alloc, "the disk is shorter"));
@@ -45,7 +45,7 @@ fn cut_to(alloc: Global, image: &mut Vec<u8>, length: u64) -> Result<(), Failure
     Ok(())
 }
 
-// The whole disk is as these bytes say, written one after the other over zeros.
+// Compares the whole disk with these bytes, written one after another over zeros.
 fn compare_whole(alloc: Global, value: &Value, image: &[u8]) -> Result<(), Failure> {
     let mut wanted = vec![in alloc; 0; image.len()]?;
     for put in &read_puts(alloc, list_of(alloc, value, "holds")?)? {
@@ -54,7 +54,7 @@ fn compare_whole(alloc: Global, value: &Value, image: &[u8]) -> Result<(), Failu
     compare_bytes(alloc, "the disk", &wanted, image)
 }
 
-/// A line that says which bytes a disk has somewhere.
+/// Carries out a line that compares some bytes of a disk.
 pub fn compare_part(
     alloc: Global,
     members: &Map<String, Value>,

@@ -1,4 +1,4 @@
-// How a run is to end.
+// The wanted end of a run.
 ghost use Rattle.std.specs.Prelude.{◌≡◌, OnOk, IsOk, unwrap_or};
 
 use crate::comparing::{compare_count, compare_refusal};
@@ -8,8 +8,8 @@ use page_entry::Refusal;
 use serde_json::Value;
 use std::alloc::Global;
 
-/// How a run is to end: how many device calls it makes and how many of them fail, where that is said, and why it is
-/// refused, if it is.
+/// The wanted end of a run: the number of device calls and of failed calls, if the file names them, and the word of the
+/// refusal, if there is one.
 #[derive(Drop)]
 pub struct Ended {
     calls: Option<u64>,
@@ -17,7 +17,7 @@ pub struct Ended {
     refused: Option<String>,
 }
 
-/// A run whose end isn't said.
+/// Returns the end of a run for which the file names none. Any numbers of calls are right.
 pub fn any_end() -> Ended {
     Ended {
         calls: None,
@@ -26,7 +26,7 @@ pub fn any_end() -> Ended {
     }
 }
 
-/// What a line says of the end.
+/// Reads the wanted end of a run from a line.
 pub fn read_ended(alloc: Global, value: &Value) -> Result<Ended, Failure> {
     let calls = number_of(alloc, value, "ends")?;
     let faults = number_or(alloc, value, "faults", 0)?;
@@ -42,7 +42,7 @@ pub fn read_ended(alloc: Global, value: &Value) -> Result<Ended, Failure> {
 }
 
 impl Ended {
-    /// Compares why a run was refused, which else has `made`.
+    /// Compares the refusal of a run with the wanted one. `made` names what a run that isn't refused has made.
     pub fn compare_refused(
         &self,
         alloc: Global,
@@ -57,7 +57,7 @@ impl Ended {
         }
     }
 
-    /// Compares the number of device calls, and of those that failed.
+    /// Compares the numbers of device calls and of failed calls with the wanted ones.
     pub fn compare_calls(&self, alloc: Global, calls: u64, faults: u64) -> Result<(), Failure>
         ensures calls { OnOk result (unwrap_or self.now.calls calls ≡ calls) }
         ensures faults { OnOk result (unwrap_or self.now.faults faults ≡ faults) }

@@ -1,15 +1,16 @@
-// Why a file isn't as it says.
+// Failures of files of runs.
 use std::alloc::{AllocError, Global};
 use std::fmt::{self, Display};
 use thiserror::Error;
 
-/// Why a line of a file is refused, or what came otherwise. What it is shown as for debugging is its text.
+/// The reason for which a line of a file is refused, or the result that differs. `Debug` prints the text of the
+/// failure.
 #[derive(Drop, Error)]
 pub enum Failure {
-    /// The line isn't of the grammar, or asks for what can't be made.
+    /// The line breaks the grammar, or asks for something that can't be made.
     #[error("{0}")]
     Line(String),
-    /// Something else came than the line says.
+    /// The result isn't the one that the line wants.
     #[error("{0}")]
     Differs(String),
     #[error("out of memory")]
@@ -17,7 +18,7 @@ pub enum Failure {
 }
 
 impl Failure {
-    /// A line that isn't of the grammar.
+    /// Returns the failure of a line that breaks the grammar.
     pub fn line(alloc: Global, what: &str) -> Self {
         match String::from_str(alloc, what) {
             Ok(text) => Failure::Line(text),
@@ -25,7 +26,7 @@ impl Failure {
         }
     }
 
-    /// A member that isn't of its kind: a number, a text or a list.
+    /// Returns the failure of a member that isn't of its kind: a number, a text or a list.
     pub fn is_no(alloc: Global, what: &str, kind: &str) -> Self {
         match format!(in alloc; "{what} is no {kind}") {
             Ok(text) => Failure::Line(text),
@@ -33,7 +34,7 @@ impl Failure {
         }
     }
 
-    /// Something else came than what is wanted.
+    /// Returns the failure of a result that isn't the wanted one.
     pub fn differs<W: Display, C: Display>(
         alloc: Global,
         what: &str,

@@ -1,9 +1,9 @@
-// The members of a line.
+// Reads the members of a line.
 use crate::failure::Failure;
 use serde_json::{Category, Map, Value};
 use std::alloc::Global;
 
-/// The value of a line.
+/// Parses a line as JSON.
 pub fn parsed(alloc: Global, line: &str) -> Result<Value, Failure> {
     match Value::from_str(alloc, line) {
         Ok(value) => Ok(value),
@@ -14,7 +14,7 @@ pub fn parsed(alloc: Global, line: &str) -> Result<Value, Failure> {
     }
 }
 
-/// Refuses a member that has none of these names.
+/// Fails if a member has another name than these.
 pub fn only(alloc: Global, members: &Map<String, Value>, names: &[&str]) -> Result<(), Failure> {
     for name in members.keys() {
         let name = name.as_str();
@@ -25,7 +25,7 @@ pub fn only(alloc: Global, members: &Map<String, Value>, names: &[&str]) -> Resu
     Ok(())
 }
 
-/// A whole number up to 2^64 - 1.
+/// Reads a whole number up to 2^64 - 1.
 pub fn number(alloc: Global, value: &Value, what: &str) -> Result<u64, Failure> {
     match value.as_u64() {
         Some(number) => Ok(number),
@@ -33,7 +33,7 @@ pub fn number(alloc: Global, value: &Value, what: &str) -> Result<u64, Failure> 
     }
 }
 
-/// The number of this name, or `otherwise` where no member has that name.
+/// Reads the number with this name, or returns `otherwise` if there is no such member.
 pub fn number_or(alloc: Global, value: &Value, name: &str, otherwise: u64) -> Result<u64, Failure> {
     match value.get(name) {
         Some(member) => number(alloc, member, name),
@@ -41,12 +41,12 @@ pub fn number_or(alloc: Global, value: &Value, name: &str, otherwise: u64) -> Re
     }
 }
 
-/// The number of this name.
+/// Reads the number with this name.
 pub fn number_of(alloc: Global, value: &Value, name: &str) -> Result<u64, Failure> {
     number(alloc, member(alloc, value, name)?, name)
 }
 
-/// The member of this name.
+/// Returns the member with this name.
 pub fn member<'a>(alloc: Global, value: &'a Value, name: &str) -> Result<&'a Value, Failure> {
     match value.get(name) {
         Some(member) => Ok(member),
@@ -54,7 +54,7 @@ pub fn member<'a>(alloc: Global, value: &'a Value, name: &str) -> Result<&'a Val
     }
 }
 
-/// The text that a value is.
+/// Reads a value as text.
 pub fn text<'a>(alloc: Global, value: &'a Value, what: &str) -> Result<&'a str, Failure> {
     match value.as_str() {
         Some(text) => Ok(text),
@@ -62,7 +62,7 @@ pub fn text<'a>(alloc: Global, value: &'a Value, what: &str) -> Result<&'a str, 
     }
 }
 
-/// The items of a list.
+/// Returns the items of a value that is a list.
 pub fn list<'a>(alloc: Global, value: &'a Value, what: &str) -> Result<&'a [Value], Failure> {
     match value.as_array() {
         Some(items) => Ok(items),
@@ -70,7 +70,7 @@ pub fn list<'a>(alloc: Global, value: &'a Value, what: &str) -> Result<&'a [Valu
     }
 }
 
-/// The items of the list of this name, or none where no member has that name.
+/// Returns the items of the list with this name, or none if there is no such member.
 pub fn list_of<'a>(alloc: Global, value: &'a Value, name: &str) -> Result<&'a [Value], Failure> {
     match value.get(name) {
         Some(member) => list(alloc, member, name),
@@ -78,7 +78,7 @@ pub fn list_of<'a>(alloc: Global, value: &'a Value, name: &str) -> Result<&'a [V
     }
 }
 
-/// What each item of a list is read as. It is a list itself, and named `what` where it isn't one.
+/// Reads each item of a list, which must be a list itself. `what` names an item in a failure.
 pub fn read_lists<T: Drop, F: Fn(Global, &[Value]) -> Result<T, Failure>>(
     alloc: Global,
     items: &[Value],
@@ -94,14 +94,14 @@ pub fn read_lists<T: Drop, F: Fn(Global, &[Value]) -> Result<T, Failure>>(
     Ok(all)
 }
 
-/// The numbers from a first one on, up to one that isn't among them.
+/// The numbers from `first` up to, but not including, `end`.
 #[derive(Clone, Copy)]
 pub struct Span {
     pub first: u64,
     pub end: u64,
 }
 
-/// The span of this name, a list of two numbers.
+/// Reads the span with this name, a list of its first and last number. Returns `None` if there is no such member.
 pub fn span_of(alloc: Global, value: &Value, name: &str) -> Result<Option<Span>, Failure> {
     let Some(member) = value.get(name) else {
         return Ok(None);
@@ -121,7 +121,7 @@ fn read_span(alloc: Global, first: &Value, last: &Value) -> Result<Span, Failure
     }
 }
 
-/// The bytes that hexadecimal digits write, two each.
+/// Reads bytes from hexadecimal digits, two for each byte.
 pub fn bytes(alloc: Global, text: &str) -> Result<Vec<u8>, Failure> {
     let digits = text.as_bytes();
     if digits.is_empty() || digits.len() % 2 != 0 {
@@ -137,7 +137,7 @@ pub fn bytes(alloc: Global, text: &str) -> Result<Vec<u8>, Failure> {
     Ok(bytes)
 }
 
-/// The byte that two hexadecimal digits write.
+/// Reads a byte from two hexadecimal digits.
 pub fn byte(text: &str) -> Option<u8> {
     if text.len() != 2 || text.starts_with('+') {
         return None;

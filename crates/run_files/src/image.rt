@@ -13,7 +13,7 @@ pub struct File {
     pub capacity: u64,
 }
 
-/// Bytes, written so often one after the other from an offset on.
+/// Bytes that are written `times` times, one copy after another, from offset `at` on.
 #[derive(Drop)]
 pub struct Put {
     pub at: u64,
@@ -22,12 +22,12 @@ pub struct Put {
 }
 
 impl Put {
-    /// How many bytes it writes.
+    /// Returns the number of bytes that this writes.
     pub fn len(&self) -> u64 {
         self.times.saturating_mul(self.bytes.len() as u64)
     }
 
-    /// Writes them.
+    /// Writes the bytes to an image. Fails, and writes nothing, if they are empty or go past its end.
     pub fn write(&self, alloc: Global, image: &mut [u8]) -> Result<(), Failure> {
         if self.bytes.is_empty() || self.at.saturating_add(self.len()) > image.len() as u64 {
             return Err(Failure::line(alloc, "the bytes go past the end"));
@@ -45,7 +45,7 @@ impl Put {
     }
 }
 
-/// The bytes of a list: the offset, the digits, and how often, where that isn't once.
+/// Reads a put from a list: the offset, the digits, and the number of times, if that isn't 1.
 pub fn read_put(alloc: Global, items: &[Value]) -> Result<Put, Failure> {
     match items {
         [at, digits] => put_times(alloc, at, digits, 1),
@@ -62,12 +62,12 @@ fn put_times(alloc: Global, at: &Value, digits: &Value, times: u64) -> Result<Pu
     }
 }
 
-/// A list of such lists.
+/// Reads a list of puts.
 pub fn read_puts(alloc: Global, items: &[Value]) -> Result<Vec<Put>, Failure> {
     read_lists(alloc, items, "bytes", read_put)
 }
 
-/// The files of a list of names and lengths, and of capacities where those are others.
+/// Reads a list of files: name, length, and the capacity, if that isn't the length.
 pub fn read_files(alloc: Global, items: &[Value]) -> Result<Vec<File>, Failure> {
     read_lists(alloc, items, "a file", read_file)
 }
@@ -90,7 +90,7 @@ fn file_of(alloc: Global, name: &Value, length: &Value, capacity: &Value) -> Res
     })
 }
 
-/// What the files are to be.
+/// Returns the specifications of the files.
 pub fn specs_of(alloc: Global, files: &[File]) -> Result<Vec<FileSpec<'_>>, AllocError> {
     let mut specs = Vec::new(alloc);
     for file in files {

@@ -1,4 +1,4 @@
-// Files of runs, line by line.
+// Judges files of runs, line by line.
 use crate::counts::{Counts, Total};
 use crate::ended::{Ended, any_end, read_ended};
 use crate::failure::Failure;
@@ -11,21 +11,21 @@ use std::process::ExitCode;
 use std::rt::Files;
 use std::{env, str};
 
-/// Who makes the runs of a file, as its lines come.
+/// Makes the runs of a file as its lines are read.
 pub trait Judge: Drop {
-    /// No line came yet.
+    /// Returns a judge that has read no line.
     fn new(alloc: Global) -> Self;
 
-    /// A list came: a step of the run that has begun.
+    /// Takes a list: a step of the run that has begun.
     fn take_step(&mut self, items: &[Value]) -> Result<(), Failure>;
 
-    /// Whether a run has begun that hasn't ended.
+    /// Whether a run has begun and not yet ended.
     fn is_running(&self) -> bool;
 
-    /// The run that has begun ends so.
+    /// Ends the run that has begun, and compares its end with the wanted one.
     fn end(&mut self, ended: &Ended) -> Result<(), Failure>;
 
-    /// Another line came, of this number, and no run is under way.
+    /// Takes another line, with its number. No run is in progress.
     fn take_object(
         &mut self,
         line: u64,
@@ -33,12 +33,12 @@ pub trait Judge: Drop {
         value: &Value,
     ) -> Result<(), Failure>;
 
-    /// What was made so far.
+    /// Returns the counts of what was made so far.
     fn counts(&self) -> Counts;
 }
 
-/// A program that judges the files that its words name. It prints a line for each file, and a sum. Its status is 0; 1
-/// where a file differs or is refused; 2 where no file is named; and 3 where it can't print, or memory is refused.
+/// Judges the files that the program's arguments name. Prints a line for each file, and a sum. Returns the exit status:
+/// 0; 1 if a file differs or is refused; 2 if no file is named; 3 if printing fails or memory runs out.
 pub fn judge_files<J: Judge>(rt: &HostRuntime, program: &str) -> ExitCode {
     match judge_words::<J>(rt) {
         Ok(status) => ExitCode::from(status),
@@ -56,7 +56,7 @@ fn judge_words<J: Judge>(rt: &HostRuntime) -> io::Result<u8> {
     judge_all::<J, HostRuntime, BufWriter<io::Stdout>>(rt, &words, &mut out)
 }
 
-// Judges the files that the words name, but for the first, which is the program's name.
+// Judges the files that the words name. The first word is the program's name.
 fn judge_all<J, R, W>(rt: &R, words: &[String], out: &mut W) -> io::Result<u8>
 where
     J: Judge,
@@ -80,7 +80,7 @@ where
     Ok(total.status())
 }
 
-// Makes the runs of a file, and writes its line. There are no counts where it differs or is refused.
+// Makes the runs of a file, and writes the file's line. Returns no counts if the file differs or is refused.
 fn judge_file<J, R, W>(rt: &R, path: &str, out: &mut W) -> io::Result<Option<Counts>>
 where
     J: Judge,
@@ -96,7 +96,6 @@ where
     }
 }
 
-// Writes the line of a file.
 fn write_judged<W: Write>(
     path: &str,
     judged: Result<Counts, (u64, Failure)>,
@@ -115,7 +114,7 @@ fn write_judged<W: Write>(
     }
 }
 
-// Makes the runs of a file. A fault comes with the number of its line.
+// Makes the runs of a file. A failure comes with the number of its line.
 fn judge_text<J: Judge>(alloc: Global, text: &str) -> Result<Counts, (u64, Failure)> {
     let mut judge = J::new(alloc);
     let mut number = 0u64;
@@ -131,7 +130,7 @@ fn judge_text<J: Judge>(alloc: Global, text: &str) -> Result<Counts, (u64, Failu
     }
 }
 
-// Does what a line says.
+// Carries out a line.
 fn take_line<J: Judge>(
     alloc: Global,
     judge: &mut J,
@@ -166,7 +165,7 @@ fn take_members<J: Judge>(
     judge.take_object(number, members, value)
 }
 
-// A run whose end isn't said ends before the next line of its kind, or at the file's end.
+// A run without a line for its end ends before the next line of its kind, or at the file's end.
 fn close<J: Judge>(judge: &mut J) -> Result<(), Failure> {
     if judge.is_running() {
         return judge.end(&any_end());

@@ -1,5 +1,5 @@
-//! Files of runs: the grammar of their lines, the bytes of disks and files that they name, comparisons of these with
-//! what came, and a program that judges such files. A type with the trait `Judge` makes the runs.
+//! Files of runs: the grammar of their lines, the bytes of disks and files that they name, and comparisons with
+//! results. Also a program that judges such files. A type with the trait `Judge` makes the runs.
 #![tactic(auto)]
 
 mod choice;

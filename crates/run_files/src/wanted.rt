@@ -1,11 +1,11 @@
-// What an opening is to give, and how many device calls it is to make.
+// The wanted result of an opening, and its number of device calls.
 use crate::failure::Failure;
 use crate::form::{list, list_of, member, number, number_of, read_lists, text};
 use crate::image::{File, Put, read_put, read_puts};
 use serde_json::Value;
 use std::alloc::Global;
 
-/// How many calls an opening makes: so many where each gate is closed, and so many more for each open one.
+/// The number of device calls of an opening: `closed` with each gate closed, and `open` more for each open gate.
 #[derive(Clone, Copy)]
 pub struct Calls {
     closed: u64,
@@ -13,45 +13,45 @@ pub struct Calls {
 }
 
 impl Calls {
-    /// The number of calls where so many gates are open.
+    /// Returns the number of calls with this number of open gates.
     pub fn with(self, gates: u64) -> u64 {
         self.closed.saturating_add(self.open.saturating_mul(gates))
     }
 }
 
-/// Bytes of a file; all others are 0.
+/// Bytes of a file. All other bytes are 0.
 #[derive(Drop)]
 pub struct FileBytes {
     file: String,
     put: Put,
 }
 
-/// The length of a file that isn't as long as it was made.
+/// The length of a file that no longer has its first length.
 #[derive(Drop)]
 pub struct FileLength {
     file: String,
     length: u64,
 }
 
-/// What an opening is to give.
+/// The wanted result of an opening.
 #[derive(Drop)]
 pub enum Wanted {
-    /// The files have these lengths and bytes. Where `writes` is there, the opening changes these bytes of the disk and
-    /// no others.
+    /// The files have these lengths and bytes. If `writes` is there, the opening changes these bytes of the disk and no
+    /// others.
     Opens {
         calls: Option<Calls>,
         lengths: Vec<FileLength>,
         bytes: Vec<FileBytes>,
         writes: Option<Vec<Put>>,
     },
-    /// It is refused with this word, and leaves the disk as it was.
+    /// The opening is refused with this word, and leaves the disk unchanged.
     Refuses {
         word: String,
         calls: Option<u64>,
     },
 }
 
-/// What a line wants of an opening.
+/// Reads the wanted result of an opening from a line.
 pub fn read_wanted(alloc: Global, value: &Value) -> Result<Wanted, Failure> {
     match value.get("refuses") {
         Some(word) => read_refused(alloc, word, value.get("calls")),
@@ -85,19 +85,19 @@ fn read_opened(alloc: Global, value: &Value) -> Result<Wanted, Failure> {
     }
 }
 
-/// The lengths of files that a line names.
+/// Reads the lengths of files from a line.
 pub fn read_file_lengths(alloc: Global, value: &Value) -> Result<Vec<FileLength>, Failure> {
     let lengths = list_of(alloc, value, "lengths")?;
     read_lists(alloc, lengths, "a length", file_length)
 }
 
-/// The bytes of files that a line names.
+/// Reads the bytes of files from a line.
 pub fn read_file_bytes(alloc: Global, value: &Value) -> Result<Vec<FileBytes>, Failure> {
     let parts = list_of(alloc, value, "bytes")?;
     read_lists(alloc, parts, "bytes", file_bytes)
 }
 
-// What the opening changes on the disk, where that is said.
+// Reads the bytes that the opening changes on the disk, if the line names them.
 fn read_writes(alloc: Global, value: &Value) -> Result<Option<Vec<Put>>, Failure> {
     match value.get("writes") {
         Some(writes) => Ok(Some(read_puts(alloc, list(alloc, writes, "writes")?)?)),
@@ -105,7 +105,7 @@ fn read_writes(alloc: Global, value: &Value) -> Result<Option<Vec<Put>>, Failure
     }
 }
 
-// None are compared where the value is null.
+// A null value means that the calls aren't compared.
 fn read_calls(alloc: Global, value: &Value) -> Result<Option<Calls>, Failure> {
     if value.is_null() {
         return Ok(None);
@@ -139,7 +139,7 @@ fn file_bytes(alloc: Global, items: &[Value]) -> Result<FileBytes, Failure> {
     }
 }
 
-/// How long a file is to be: as it was made, where nothing else is said.
+/// Returns the wanted length of a file: its first length, unless `lengths` names another.
 pub fn length_of(file: &File, lengths: &[FileLength]) -> u64 {
     for said in lengths {
         if said.file.as_str() == file.name.as_str() {
@@ -149,7 +149,7 @@ pub fn length_of(file: &File, lengths: &[FileLength]) -> u64 {
     file.length
 }
 
-/// The bytes that a file of this length is to have.
+/// Returns the wanted bytes of a file of this length.
 pub fn file_of(
     alloc: Global,
     file: &File,

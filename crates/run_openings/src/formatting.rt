@@ -1,12 +1,12 @@
-// The bytes of a new volume.
+// Makes the bytes of a new volume.
 use device::{Device, MemDisk};
 use page_entry::Refusal;
 use run_files::{Failure, File, specs_of};
 use std::alloc::Global;
 use volume_codec::FileSpec;
 
-/// A volume of these files that is made on a disk: the number of its layout, its record slots, how long the disk is,
-/// where that isn't as many bytes as the volume's blocks, and the byte that it was filled with.
+/// A volume that is made on a disk: its layout, its record slots and its files. `length` is the length of the disk in
+/// bytes, if that isn't the length of the volume's blocks. `over` is the byte with which the disk was filled before.
 #[derive(Clone, Copy)]
 pub struct Plan<'a> {
     pub layout: u64,
@@ -16,7 +16,7 @@ pub struct Plan<'a> {
     pub over: u8,
 }
 
-/// The disk's bytes then.
+/// Returns the disk's bytes after the volume was made.
 pub fn formatted(alloc: Global, plan: Plan<'_>) -> Result<Vec<u8>, Failure> {
     let specs = specs_of(alloc, plan.files)?;
     let mut disk = filled_disk(alloc, plan, &specs)?;
@@ -26,7 +26,7 @@ pub fn formatted(alloc: Global, plan: Plan<'_>) -> Result<Vec<u8>, Failure> {
     }
 }
 
-// A disk for the volume, filled with one byte.
+// Returns a disk for the volume, filled with one byte.
 fn filled_disk(
     alloc: Global,
     plan: Plan<'_>,

@@ -1,5 +1,5 @@
-//! New volumes on disks in memory, and openings of such disks, compared call by call and byte by byte with what a line
-//! of a file of runs says.
+//! Makes new volumes on disks in memory, and opens such disks. Openings are compared, call by call and byte by byte,
+//! with a line of a file of runs.
 #![tactic(auto)]
 
 mod formatting;

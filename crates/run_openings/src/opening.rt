@@ -1,4 +1,4 @@
-// What an opening gives, and how many device calls it makes.
+// Compares the result of an opening, and its number of device calls.
 ghost use Rattle.std.specs.Prelude.{◌≡◌, length, OnOk, IsOk};
 ghost use Rattle.device.specs.Memory.{seen_of, after_stop};
 
@@ -11,10 +11,10 @@ use run_files::{
 };
 use std::alloc::Global;
 
-/// A disk in memory whose calls are counted, and whose call of a chosen number fails.
+/// A disk in memory that counts its calls. The call with a chosen number fails.
 pub type Disk = FailingDisk<MemDisk<Global>>;
 
-/// A crash that leaves these bytes.
+/// Crashes the disk, which leaves these bytes. Fails if they aren't as long as the disk.
 pub fn crash(alloc: Global, disk: &mut MemDisk<Global>, choice: &[u8]) -> Result<(), Failure>
     ensures stopped { OnOk result (disk.new ≡ after_stop disk.old choice.now) }
     ensures done { length choice.now ≡ length (seen_of disk.old) → IsOk result }
@@ -26,13 +26,13 @@ pub fn crash(alloc: Global, disk: &mut MemDisk<Global>, choice: &[u8]) -> Result
     Ok(())
 }
 
-// Opens the volume of a disk. A refusal hands it back.
+// Opens the volume of a disk. An error returns the disk.
 fn opened<D: Device>(alloc: Global, disk: D) -> Result<Volume<D, Global>, (Refusal, D)> {
     open(alloc, disk)
 }
 
-/// What an opening of a disk leaves whose call of this number fails. It is refused for that, or as the whole opening is
-/// to be refused.
+/// Opens a disk whose call with this number fails, and returns the disk. The opening has to fail for that reason, or as
+/// the whole opening is wanted to fail.
 pub fn cut(
     alloc: Global,
     disk: MemDisk<Global>,
@@ -47,7 +47,7 @@ pub fn cut(
     Ok(disk.into_inner())
 }
 
-// Compares how an opening ended whose call of this number fails.
+// Compares the end of an opening whose call with this number fails.
 fn compare_cut<D: Device>(
     alloc: Global,
     refusal: Option<Refusal>,
@@ -76,7 +76,7 @@ fn compare_cut<D: Device>(
     }
 }
 
-/// Opens a disk of these files, and compares.
+/// Opens a disk with these files, and compares the result with the wanted one.
 pub fn compare(
     alloc: Global,
     disk: MemDisk<Global>,
@@ -91,7 +91,7 @@ pub fn compare(
     }
 }
 
-// Compares a volume that was opened.
+// Compares an opened volume with the wanted result.
 fn compare_opened(
     alloc: Global,
     volume: Volume<Disk, Global>,
@@ -111,7 +111,7 @@ fn compare_opened(
     }
 }
 
-// Compares the files of a volume that was opened.
+// Compares the files of an opened volume with the wanted ones.
 fn compare_found<D: Device>(
     alloc: Global,
     volume: &mut Volume<D, Global>,
@@ -128,7 +128,8 @@ fn compare_found<D: Device>(
     }
 }
 
-// Compares how many calls an opening and reading all files made, and what they left.
+// Compares the number of device calls of the opening, and the bytes that it left. `made` includes the calls that read
+// all files.
 fn compare_left(
     alloc: Global,
     before: &[u8],
@@ -158,7 +159,7 @@ fn compare_left(
     }
 }
 
-// Compares an opening that was refused.
+// Compares an opening that was refused with the wanted result.
 fn compare_refused(
     alloc: Global,
     refusal: Refusal,
@@ -174,7 +175,7 @@ fn compare_refused(
     }
 }
 
-// Compares why an opening was refused, and after how many calls.
+// Compares the refusal of an opening, and its number of device calls.
 fn compare_refusals(
     alloc: Global,
     refusal: Refusal,
@@ -192,7 +193,8 @@ fn compare_refusals(
     }
 }
 
-// Nothing was written: also a crash that would leave another byte everywhere leaves all as it was.
+// Checks that nothing was written. A crash that leaves another byte in each unsynced place must leave the disk
+// unchanged.
 fn is_untouched(alloc: Global, disk: &mut MemDisk<Global>, before: &[u8]) -> Result<(), Failure> {
     let spoilt = vec![in alloc; 0xEE; before.len()]?;
     crash(alloc, disk, &spoilt)?;
@@ -207,7 +209,7 @@ fn is_untouched(alloc: Global, disk: &mut MemDisk<Global>, before: &[u8]) -> Res
     }
 }
 
-// How many gates are open.
+// Returns the number of open gates.
 fn open_gates(image: &[u8], gates: &[u64]) -> u64 {
     let mut count = 0u64;
     for gate in gates {
@@ -218,7 +220,7 @@ fn open_gates(image: &[u8], gates: &[u64]) -> u64 {
     count
 }
 
-// By how many calls all files are read: one of each that has a byte.
+// Returns the number of calls that read all files: one for each file that isn't empty.
 fn reads_of(files: &[File], lengths: &[FileLength]) -> u64 {
     let mut count = 0u64;
     for file in files {
@@ -229,7 +231,7 @@ fn reads_of(files: &[File], lengths: &[FileLength]) -> u64 {
     count
 }
 
-// Compares names, lengths and bytes of all files. Each that has a byte is read by one call.
+// Compares the names, lengths and bytes of all files. Reads each file that isn't empty with one call.
 fn compare_files<D: Device>(
     alloc: Global,
     volume: &mut Volume<D, Global>,
@@ -271,7 +273,7 @@ fn compare_file<D: Device>(
     compare_bytes(alloc, file.name.as_str(), &wanted, &came)
 }
 
-// The bytes of a file.
+// Reads the bytes of a file.
 fn read_whole<D: Device>(
     alloc: Global,
     volume: &mut Volume<D, Global>,

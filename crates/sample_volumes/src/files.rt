@@ -1,10 +1,10 @@
-// The files of the sample.
+// The files of the sample volume.
 use volume_codec::FileSpec;
 
 /// The names and lengths of the files.
 pub const FILES: [(&str, u64); 2] = [("a", 5000), ("b", 4096)];
 
-/// The same files, as long as they may become.
+/// The same files, with capacities equal to their lengths.
 pub const SPECS: [FileSpec; 2] = [
     FileSpec {
         name: "a",
@@ -18,7 +18,7 @@ pub const SPECS: [FileSpec; 2] = [
     },
 ];
 
-/// The same files in layout 3, where `a` may grow to 12,288 bytes.
+/// The same files in layout 3, in which `a` may grow to 12,288 bytes.
 pub const GROWING: [FileSpec; 2] = [
     FileSpec {
         name: "a",

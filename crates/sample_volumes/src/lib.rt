@@ -1,5 +1,5 @@
-//! The volume of most tests of disks and volumes, for the crates of tests above it: its two files, and the bytes of its
-//! super block and its lengths block in each layout.
+//! The sample volume of most tests of disks and volumes: its two files, and the bytes of its super block and its
+//! lengths block in each layout.
 #![tactic(auto)]
 
 mod bytes;

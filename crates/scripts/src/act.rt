@@ -1,4 +1,4 @@
-// The acts of a script.
+// Reads the acts of a script.
 ghost use Rattle.std.specs.Prelude.{◌≡◌, map, [], ◌∷◌, codes};
 ghost use Rattle.std.specs.Result.{result_ok};
 ghost use Rattle.serde_json.specs.View.{view};
@@ -9,7 +9,7 @@ use crate::script_fault::StepFault;
 use machine::Act;
 use serde_json::Value;
 
-/// The act that has this name and these arguments in a script.
+/// Reads the act with this name and these arguments.
 pub fn act(name: &str, arguments: &[Value]) -> Result<Act, StepFault>
     ensures { result_ok result ≡ act_of name.now (map view arguments.now) }
 {

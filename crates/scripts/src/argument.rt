@@ -1,4 +1,4 @@
-// The arguments of an act in a script.
+// Reads the arguments of an act in a script.
 ghost use Rattle.std.specs.Prelude.{◌≡◌, map};
 ghost use Rattle.std.specs.Result.{result_ok};
 ghost use Rattle.serde_json.specs.View.{view};
@@ -10,7 +10,8 @@ use machine::{FewBytes, MsyncFlags};
 use mappings::Rights;
 use serde_json::Value;
 
-/// A whole number up to `most`, written without a sign, a point and an exponent. `what` names it in a fault.
+/// Reads a whole number up to `most`, written without a sign, a point and an exponent. `what` names the number in a
+/// fault.
 pub fn number(value: &Value, most: u64, what: &'static str) -> Result<u64, StepFault>
     ensures { result_ok result ≡ whole_number most (view value.now) }
 {
@@ -20,42 +21,42 @@ pub fn number(value: &Value, most: u64, what: &'static str) -> Result<u64, StepF
     }
 }
 
-/// A whole number up to 255.
+/// Reads a whole number up to 255.
 pub fn byte(value: &Value, what: &'static str) -> Result<u8, StepFault>
     ensures { result_ok result ≡ byte_of (view value.now) }
 {
     Ok(number(value, 255, what)? as u8)
 }
 
-/// A whole number up to 65,535.
+/// Reads a whole number up to 65,535.
 pub fn short(value: &Value, what: &'static str) -> Result<u16, StepFault>
     ensures { result_ok result ≡ short_of (view value.now) }
 {
     Ok(number(value, 65_535, what)? as u16)
 }
 
-/// A whole number up to 2^32 - 1.
+/// Reads a whole number up to 2^32 - 1.
 pub fn page(value: &Value, what: &'static str) -> Result<u32, StepFault>
     ensures { result_ok result ≡ page_number_of (view value.now) }
 {
     Ok(number(value, 4_294_967_295, what)? as u32)
 }
 
-/// A whole number up to 2^64 - 1.
+/// Reads a whole number up to 2^64 - 1.
 pub fn long(value: &Value, what: &'static str) -> Result<u64, StepFault>
     ensures { result_ok result ≡ long_of (view value.now) }
 {
     number(value, u64::MAX, what)
 }
 
-/// Flags of `msync`: a whole number up to 255, of which all bits are kept.
+/// Reads flags of `msync`, a whole number up to 255. All its bits are kept.
 pub fn flags(value: &Value) -> Result<MsyncFlags, StepFault>
     ensures { result_ok result ≡ flags_of (view value.now) }
 {
     Ok(MsyncFlags::from_bits_retain(byte(value, "flags")?))
 }
 
-/// The rights of a mapping; writing alone counts as both.
+/// Reads the rights of a mapping. The right to write includes the right to read.
 pub fn prot(value: &Value) -> Result<Rights, StepFault>
     ensures { result_ok result ≡ prot_of (view value.now) }
 {
@@ -69,7 +70,7 @@ pub fn prot(value: &Value) -> Result<Rights, StepFault>
     }
 }
 
-/// The access with which a file was opened for a mapping.
+/// Reads the access with which a file was opened for a mapping.
 pub fn access(value: &Value) -> Result<Rights, StepFault>
     ensures { result_ok result ≡ access_of (view value.now) }
 {
@@ -83,7 +84,7 @@ pub fn access(value: &Value) -> Result<Rights, StepFault>
     }
 }
 
-/// Whether a switch keeps cached entries.
+/// Reads whether a switch keeps cached entries.
 pub fn keep(value: &Value) -> Result<bool, StepFault>
     ensures { result_ok result ≡ keep_of (view value.now) }
 {
@@ -97,7 +98,7 @@ pub fn keep(value: &Value) -> Result<bool, StepFault>
     }
 }
 
-/// Whether a fault that is to be served is of a write.
+/// Reads whether the fault to serve is that of a write.
 pub fn write(value: &Value) -> Result<bool, StepFault>
     ensures { result_ok result ≡ write_of (view value.now) }
 {
@@ -111,7 +112,7 @@ pub fn write(value: &Value) -> Result<bool, StepFault>
     }
 }
 
-/// A list of at most 8 bytes.
+/// Reads a list of at most 8 bytes.
 #[tactic(auto, using(crate::proofs::AllOf::list_of_items))]
 pub fn bytes(value: &Value) -> Option<FewBytes>
     ensures { result ≡ few_bytes_of (view value.now) }

@@ -1,4 +1,4 @@
-// The programs of a script for threads.
+// Reads the programs of a script for threads.
 ghost use Rattle.std.specs.Prelude.{◌≡◌, ◌⊎◌, map, [], ◌∷◌, IfOk, IfErr, Some, None};
 ghost use Rattle.std.specs.Result.{result_ok};
 ghost use Rattle.serde_json.specs.View.{view};
@@ -16,16 +16,17 @@ use machine::Act;
 use serde_json::Value;
 use std::alloc::{AllocError, Allocator, Global};
 
-/// What a thread is to do next.
+/// A command of a thread's program.
 #[derive(Clone, Copy)]
 pub enum Command {
-    /// An act, and what goes with it until it is done: a load, a store, a switch, a map, or the beginning of a change.
+    /// An act, with the further acts that it needs until it is done: a load, a store, a switch, a map, or the start of
+    /// a change.
     Do(Act),
-    /// To load the byte at an address again and again until it is this one.
+    /// Loads the byte at an address again and again until it has this value.
     Await { va: u64, byte: u8 },
 }
 
-/// The programs of a script for threads.
+/// Reads the programs of a script for threads.
 pub fn programs_member<A: Allocator + Copy>(
     global: Global,
     alloc: A,
@@ -38,7 +39,7 @@ pub fn programs_member<A: Allocator + Copy>(
     programs(global, alloc, list(Form::ThreadScript, value, "programs")?)
 }
 
-// All programs of a list, in order. A fault says which is refused first, counted from 1.
+// Reads all programs of a list, in order. A fault contains the number of the first refused program, counted from 1.
 #[tactic(auto, using(crate::proofs::AllOf::all_of_next, crate::proofs::AllOf::all_of_fails))]
 fn programs<A: Allocator + Copy>(
     global: Global,
@@ -59,7 +60,7 @@ fn programs<A: Allocator + Copy>(
     Ok(programs)
 }
 
-// The program of this number. A fault says which command is refused first, counted from 1.
+// Reads the program with this number. A fault contains the number of the first refused command, counted from 1.
 #[tactic(auto, using(crate::proofs::AllOf::list_of_items))]
 fn program<A: Allocator + Copy>(
     global: Global,

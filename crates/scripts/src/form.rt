@@ -1,4 +1,4 @@
-// The members that a script, a script for threads, and the first lines of a trace and of a session have.
+// The members of a script, of a script for threads, and of the first lines of a trace and of a session.
 ghost use Rattle.std.specs.Prelude.{◌≡◌, ◌⊎◌, true, false, not, find, string_bytes, IfErr, OnOk, IsSome, None, option_map};
 ghost use Rattle.std.specs.BTreeMap.{keys};
 ghost use Rattle.serde_json.specs.View.{view, members_view};
@@ -10,7 +10,7 @@ use serde_json::{Map, Value};
 use std::alloc::Global;
 use std::fmt;
 
-/// What an object is meant to be, which says what members it has.
+/// The kind of an object, which determines its members.
 #[derive(Clone, Copy)]
 pub enum Form {
     /// A script of steps.
@@ -50,7 +50,7 @@ impl fmt::Display for Form {
     }
 }
 
-/// Judges whether a value is an object that has no other members than those of a form.
+/// Checks that a value is an object with no other members than those of a form.
 pub fn judge_form(global: Global, form: Form, value: &Value) -> Result<(), ScriptFault>
     ensures ok { OnOk result (has_form form (view value.now) ≡ true) }
     ensures err { IfErr result (λ fault. IsMemory fault ⊎ (has_form form (view value.now) ≡ false)) }
@@ -73,7 +73,7 @@ fn only_members(global: Global, form: Form, members: &Map<String, Value>) -> Res
     }
 }
 
-// The first name that no member of the form has.
+// Returns the first name that isn't among the form's members.
 fn unknown_name(form: Form, members: &Map<String, Value>) -> Option<&String>
     ensures { option_map (λ name. name.now) result
         ≡ find (λ name. not (is_member form (string_bytes name))) (keys members.now) }

@@ -1,4 +1,4 @@
-// Lists, read item by item.
+// Reads lists, item by item.
 ghost use Rattle.std.specs.Prelude.{◌≡◌, ◌⊎◌, map, IfOk, IfErr, Some, None};
 ghost use Rattle.std.specs.Result.{result_ok};
 ghost use Rattle.serde_json.specs.View.{view};
@@ -10,19 +10,20 @@ use crate::script_fault::{ScriptFault, StepFault};
 use serde_json::Value;
 use std::alloc::{AllocError, Allocator, Global};
 
-/// What an item of a list is: a step, or a command of a program.
+/// An item of a list: a step, or a command of a program.
 pub trait Item: Copy {
     ghost use Rattle.std.specs.Prelude.{Option};
     ghost use Rattle.serde_json.specs.Data.{Data};
 
-    /// The item that a value is.
+    /// The item that a value represents, if it is one.
     ghost item_of: { Data → Option Self };
 
     fn read(value: &Value) -> Result<Self, StepFault>
         ensures { result_ok result ≡ item_of (view value.now) };
 }
 
-/// All items of a list, in order. A fault says which is refused first, as a step, counted from 1.
+/// Reads all items of a list, in order. A fault contains the number of the first refused item, counted from 1, as that
+/// of a step.
 #[tactic(auto, using(crate::proofs::AllOf::all_of_next, crate::proofs::AllOf::all_of_fails))]
 pub fn read_items<T: Item, A: Allocator + Copy>(
     global: Global,
@@ -45,7 +46,7 @@ pub fn read_items<T: Item, A: Allocator + Copy>(
     Ok(items)
 }
 
-// The step of this number is refused, as it stands in the script.
+// Returns the fault of a refused step. It contains the step's number and its text in the script.
 fn refused(global: Global, number: u64, value: &Value, cause: StepFault) -> ScriptFault {
     match shown(global, value) {
         Ok(found) => ScriptFault::Step {

@@ -1,5 +1,5 @@
-//! Scripts: a machine's shape and the steps to make on it, or programs for its processors, as one JSON object, read
-//! whole by its grammar or refused.
+//! Scripts: a machine's shape, and the steps to make on it or programs for its processors, as one JSON object. A script
+//! that breaks the grammar is refused as a whole.
 #![tactic(auto)]
 
 mod act;

@@ -1,4 +1,4 @@
-// The value of a text, and the members of an object.
+// Parses a text, and reads the members of an object.
 ghost use Rattle.std.specs.Prelude.{◌≡◌, ◌⊎◌, map, IfOk, IfErr, Some, None, option_map};
 ghost use Rattle.serde_json.specs.Find.{get, as_array};
 ghost use Rattle.serde_json.specs.Read.{read};
@@ -14,7 +14,7 @@ use machine::Shape;
 use serde_json::{Category, Value};
 use std::alloc::{AllocError, Global};
 
-/// The value that a text is.
+/// Parses a text as JSON.
 pub fn parsed(global: Global, text: &str) -> Result<Value, ScriptFault>
     ensures ok { IfOk result (λ value. read text.now ≡ Some (view value)) }
     ensures err { IfErr result (λ fault. IsMemory fault ⊎ (read text.now ≡ None)) }
@@ -28,7 +28,7 @@ pub fn parsed(global: Global, text: &str) -> Result<Value, ScriptFault>
     }
 }
 
-/// The shape of a machine, in an object of this form.
+/// Reads the shape of a machine from an object of this form.
 pub fn shape(global: Global, form: Form, value: &Value) -> Result<Shape, ScriptFault>
     ensures ok { IfOk result (λ shape. shape_of (view value.now) ≡ Some shape) }
     ensures err { IfErr result (λ fault. IsMemory fault ⊎ (shape_of (view value.now) ≡ None)) }
@@ -41,7 +41,7 @@ pub fn shape(global: Global, form: Form, value: &Value) -> Result<Shape, ScriptF
     })
 }
 
-/// The number that a member is, in an object of this form.
+/// Reads a member that is a number, in an object of this form.
 pub fn size(
     global: Global,
     form: Form,
@@ -65,7 +65,7 @@ fn no_number(global: Global, name: &'static str, member: &Value) -> ScriptFault 
     }
 }
 
-/// The items of the list that a member is, in an object of this form.
+/// Returns the items of a member that is a list, in an object of this form.
 #[tactic(auto, using(crate::proofs::AllOf::list_of_items))]
 pub fn list<'a>(
     form: Form,
@@ -84,7 +84,7 @@ pub fn list<'a>(
     }
 }
 
-/// A value as it stands in a script, on one line and without what goes past 60 characters.
+/// Returns the text of a value on one line. After 60 characters it is cut, and ends with `...`.
 pub fn shown(global: Global, value: &Value) -> Result<String, AllocError> {
     let whole = value.to_string(global)?;
     let mut text = String::new(global);

@@ -21,7 +21,7 @@ pub struct Script<A: Allocator + Copy> {
 }
 
 impl<A: Allocator + Copy> Script<A> {
-    /// Reads a script, whole.
+    /// Reads a whole script. Fails if it isn't UTF-8 or breaks the grammar, or if memory runs out.
     pub fn read(global: Global, alloc: A, text: &[u8]) -> Result<Self, ScriptFault>
         ensures ok { IfOk result (λ script. script_in text.now ≡ Some (script.shape, script.steps.items)) }
         ensures err { IfErr result (λ fault. IsMemory fault ⊎ (script_in text.now ≡ None) ⊎ ¬ (IsUtf8 text.now)) }

@@ -1,10 +1,10 @@
-// Why a script is refused.
+// The faults of scripts.
 use crate::form::Form;
 use std::alloc::AllocError;
 use std::fmt;
 use thiserror::Error;
 
-/// Why a script is refused, or a trace's first line. What it is shown as for debugging is its text.
+/// The reason for which a script, or the first line of a trace, is refused. `Debug` prints the text of the fault.
 #[derive(Drop, Error)]
 pub enum ScriptFault {
     #[error("it isn't UTF-8")]
@@ -65,7 +65,7 @@ impl fmt::Debug for ScriptFault {
     }
 }
 
-/// Why a step or a command is refused. What it is shown as for debugging is its text.
+/// The reason for which a step or a command is refused. `Debug` prints the text of the fault.
 #[derive(Clone, Copy, Error)]
 pub enum StepFault {
     #[error("it isn't a list of a processor, the name of an act, and arguments")]

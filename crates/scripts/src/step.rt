@@ -1,4 +1,4 @@
-// The steps of a script.
+// Reads the steps of a script.
 ghost use Rattle.std.specs.Prelude.{◌≡◌, map, IfOk, IfErr, ◌⊎◌, Some, None};
 ghost use Rattle.std.specs.Result.{result_ok};
 ghost use Rattle.serde_json.specs.View.{view};
@@ -14,7 +14,7 @@ use machine::Step;
 use serde_json::Value;
 use std::alloc::{Allocator, Global};
 
-/// All steps of a list, in order. A fault says which is refused first, counted from 1.
+/// Reads all steps of a list, in order. A fault contains the number of the first refused step, counted from 1.
 pub fn read_steps<A: Allocator + Copy>(
     global: Global,
     alloc: A,
@@ -36,7 +36,7 @@ impl Item for Step {
     }
 }
 
-/// The step that a value is.
+/// Reads a value as a step.
 #[tactic(auto, using(crate::proofs::AllOf::list_of_items))]
 pub fn read_step(value: &Value) -> Result<Step, StepFault>
     ensures { result_ok result ≡ step_of (view value.now) }

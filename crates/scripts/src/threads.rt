@@ -1,4 +1,4 @@
-// Scripts for threads: what a script has, and a program of commands for each processor.
+// Scripts for threads: the members of a script, and a program of commands for each processor.
 ghost use Rattle.std.specs.Prelude.{◌≡◌, ◌⊎◌, map, true, false, Some, None, IfOk, IfErr, OnOk, IsUtf8, nat_lt};
 ghost use Rattle.std.specs.List.{list_all};
 ghost use Rattle.serde_json.specs.View.{view};
@@ -15,19 +15,20 @@ use serde_json::Value;
 use std::alloc::{Allocator, Global};
 use std::str;
 
-/// A script for threads: a machine's shape, the room of the trace, the steps that are made first, and a program for
+/// A script for threads: a machine's shape, the capacity of the trace, the steps that are made first, and a program for
 /// each processor.
 #[derive(Drop)]
 pub struct ThreadScript<A: Allocator + Copy> {
     pub shape: Shape,
-    /// How many entries the trace has room for.
+    /// The number of entries for which the trace has room.
     pub trace: u64,
     pub steps: Vec<Step, A>,
     pub programs: Vec<Vec<Command, A>, A>,
 }
 
 impl<A: Allocator + Copy> ThreadScript<A> {
-    /// Reads a script for threads, whole. It has as many programs as processors, and steps of these processors alone.
+    /// Reads a whole script for threads. Fails if it isn't UTF-8 or breaks the grammar, or if memory runs out. There
+    /// must be one program for each processor, and each step must name one of these processors.
     pub fn read(global: Global, alloc: A, text: &[u8]) -> Result<Self, ScriptFault>
         ensures ok { IfOk result (λ script. thread_script_in text.now ≡ Some (
           script.shape,
@@ -68,7 +69,7 @@ impl<A: Allocator + Copy> ThreadScript<A> {
     }
 }
 
-// Judges whether there are as many programs as processors, and each step is of a processor that there is.
+// Checks that there is one program for each processor, and that each step names an existing processor.
 fn judge_processors<A: Allocator + Copy>(
     cpus: u64,
     steps: &[Step],
@@ -99,21 +100,21 @@ fn judge_steps(cpus: u64, steps: &[Step]) -> Result<(), ScriptFault>
     }
 }
 
-// Whether all steps are of so many processors.
+// Whether each step names one of `cpus` processors.
 fn are_of(cpus: u64, steps: &[Step]) -> bool
     ensures { result ≡ list_all (λ step. nat_lt step.p cpus) steps.now }
 {
     steps.iter().all(|step| is_of(cpus, step))
 }
 
-// Whether a step is of one of so many processors.
+// Whether a step names one of `cpus` processors.
 fn is_of(cpus: u64, step: &Step) -> bool
     ensures { result ≡ nat_lt step.now.p cpus }
 {
     u64::from(step.p) < cpus
 }
 
-// The number of the first step of a processor that there isn't, counted from 1.
+// Returns the number, counted from 1, of the first step whose processor doesn't exist, or 0 if there is no such step.
 fn first_outside(cpus: u64, steps: &[Step]) -> u64 {
     let outside = steps.iter().position(|step| !is_of(cpus, step));
     outside.map_or(0, |i| i as u64 + 1)

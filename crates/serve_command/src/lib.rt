@@ -1,4 +1,5 @@
-//! The command that answers requests: it lists the files of the volume in a file, and answers a request a line.
+//! The command that answers requests. It lists the files of the volume in a file, and then answers one request on each
+//! line.
 #![tactic(auto)]
 
 mod serving;

@@ -1,4 +1,4 @@
-// A session on the volume in a file: requests are read from the input, and answered on the output.
+// A session on the volume in a file. Requests are read from the input, and answered on the output.
 ghost use Rattle.std.specs.Prelude.{◌++◌, ◌∷◌, [], codes, OnOk};
 ghost use Rattle.std.specs.Fmt.{decimal};
 ghost use Rattle.std.specs.Io.KnownBytes.{Appends};
@@ -18,11 +18,11 @@ use std::io::{BufRead, BufReader};
 use std::rt::Files;
 use volume_files::{SyncNote, has_log, open_to_write, place};
 
-/// The name of the input in what is said of its first line.
+/// The name of the input in messages about its first line.
 const INPUT: &str = "-";
 
-/// Reads the shape of a machine, opens the volume in a file, and answers a request a line until the input ends. The
-/// first line is read before the disk is opened; `path` is the name of its file. `note` gets what is to be said of
+/// Reads the shape of a machine, opens the volume in the file `path`, and answers one request on each line until the
+/// input ends. The first line, which contains the shape, is read before the disk is opened. `note` receives the note on
 /// syncs that failed.
 pub fn serve<'a, R: Files<File = File> + Input + AllocGlobal, A: Allocator + Copy, W: io::Write>(
     rt: &R,
@@ -54,15 +54,15 @@ pub fn serve<'a, R: Files<File = File> + Input + AllocGlobal, A: Allocator + Cop
     }
 }
 
-/// How a session ended.
+/// The end of a session.
 struct Served {
-    /// Whether it answered all requests of the input.
+    /// Whether the session answered all requests of the input.
     ended: Result<(), SessionFault>,
-    /// Whether a step was answered that the device failed.
+    /// Whether a reply reported that the device failed.
     has_failed: bool,
 }
 
-/// What a session is made with, besides the device of its volume.
+/// The parts of a session besides the device of its volume.
 #[derive(Drop)]
 struct Requests<'i, A, I, W> {
     global: Global,
@@ -73,7 +73,7 @@ struct Requests<'i, A, I, W> {
 }
 
 impl<A: Allocator + Copy, I: BufRead, W: io::Write> Requests<'_, A, I, W> {
-    // Answers the requests on the volume of a device, with journals or with a log, and hands the device back.
+    // Answers the requests on the volume of a device, with journals or with a log. Returns the device.
     fn serve<'a, D: Device>(self, mut device: D) -> (Result<Served, NotBooted<'a>>, D) {
         match has_log(&mut device) {
             Ok(false) => self.serve_disk(device),
@@ -85,7 +85,7 @@ impl<A: Allocator + Copy, I: BufRead, W: io::Write> Requests<'_, A, I, W> {
         }
     }
 
-    // Answers the requests on the volume with a log of a device, and hands the device back.
+    // Answers the requests on the volume with a log of a device. Returns the device.
     fn serve_log<'a, D: Device>(self, device: D) -> (Result<Served, NotBooted<'a>>, D) {
         match show_log(self.alloc, device) {
             Ok(disk) => {
@@ -96,7 +96,7 @@ impl<A: Allocator + Copy, I: BufRead, W: io::Write> Requests<'_, A, I, W> {
         }
     }
 
-    // Answers the requests on the volume with journals of a device, and hands the device back.
+    // Answers the requests on the volume with journals of a device. Returns the device.
     fn serve_disk<'a, D: Device>(self, device: D) -> (Result<Served, NotBooted<'a>>, D) {
         let Requests {
             global,
@@ -119,7 +119,7 @@ impl<A: Allocator + Copy, I: BufRead, W: io::Write> Requests<'_, A, I, W> {
     }
 }
 
-// The shape that the first line is.
+// Reads the shape from the first line.
 fn first_line<'a, R, A, I>(rt: &R, alloc: A, input: &mut I) -> Result<Shape, Failure<'a>>
 where
     R: AllocGlobal,
@@ -144,7 +144,7 @@ where
     }
 }
 
-// Says which files there are, and answers the requests. Where it answers `Ok`, nothing else was written.
+// Lists the files, and answers the requests. On success nothing else was written to the output.
 fn serve_session<D, A, I, W>(
     global: Global,
     alloc: A,
@@ -167,7 +167,7 @@ where
     }
 }
 
-// Prints a line with the number of files, and a line with the name and the length of each.
+// Prints a line with the number of files, and a line with the name and the length of each file.
 fn greet<A: Allocator + Copy, W: io::Write>(files: &[FileLine<A>], out: &mut W) -> io::Result<()>
     ensures { OnOk result (Appends (W.contents out.old) (W.contents out.new) (greeting_text files.now)) }
 {
@@ -201,7 +201,8 @@ fn write_file<A: Allocator + Copy, W: io::Write>(file: &FileLine<A>, out: &mut W
     writeln!(out, "{} {}", file.name, file.length)
 }
 
-// How a session ended: before its input did, or with a step that was answered that the device failed, or neither.
+// Returns the outcome of a session. It is an error if the session ended before its input, or a reply reported that the
+// device failed.
 fn outcome(path: &str, served: Served) -> Result<(), Failure<'_>> {
     let Served { ended, has_failed } = served;
     match ended {

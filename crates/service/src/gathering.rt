@@ -1,4 +1,4 @@
-// What is compared when a service is gathered, and how the machine is taken out.
+// Compares the trace with the processors' calls when a service is gathered, and takes the machine out.
 ghost use Rattle.std.specs.Prelude.{ℕ, ◌≡◌, ◌↔◌, ◌+◌, ◌*◌, ◌<◌, length, IsTrue, IsSome, IfOk, IfErr};
 ghost use Rattle.service.specs.Trace.{of_processor};
 ghost use Rattle.service.specs.Gathering.{IsAmong, AreAll, AreAnswered, IsAnotherTrace, answered_calls};
@@ -14,7 +14,7 @@ use std::mem::replace;
 use std::sync::Wait;
 use std::sync::ledger::{Book, Share};
 
-// Whether these are all processors of a service that has `count` of them.
+// Whether these are all processors of a service with `count` of them.
 pub(crate) fn are_all<D: Device, A: Allocator + Copy, L: Origin<D>>(
     cpus: &[Cpu<D, A, L>],
     count: u64,
@@ -43,14 +43,14 @@ fn is_among<D: Device, A: Allocator + Copy, L: Origin<D>>(cpus: &[Cpu<D, A, L>],
     false
 }
 
-// Whether an answer is that of an entry.
+// Whether an act and its reply are those of an entry.
 fn is_answer_of(entry: &Entry, answer: &(Act, Reply)) -> bool
     ensures { IsTrue result ↔ (answer.now ≡ (entry.now.step.act, entry.now.reply)) }
 {
     answer.0.is_same(&entry.step.act) && answer.1.is_same(&entry.reply)
 }
 
-// Whether the entries of a processor are these acts with these replies, in order.
+// Whether the entries of a processor are these acts with these replies, in this order.
 fn is_answered(trace: &[Entry], p: ProcessorNumber, answered: &[(Act, Reply)]) -> bool
     ensures { IsTrue result ↔ (of_processor p trace.now ≡ answered.now) }
 {
@@ -66,7 +66,7 @@ fn is_answered(trace: &[Entry], p: ProcessorNumber, answered: &[(Act, Reply)]) -
     met == answered.len()
 }
 
-// Whether the entries of each of these processors are what it was answered.
+// Whether the entries of each of these processors are its answered calls.
 fn are_answered<D: Device, A: Allocator + Copy, L: Origin<D>>(
     trace: &[Entry],
     cpus: &[Cpu<D, A, L>],
@@ -81,7 +81,8 @@ fn are_answered<D: Device, A: Allocator + Copy, L: Origin<D>>(
     true
 }
 
-// Lends the share of each processor, and compares the book with all of them: it has counted just their calls.
+// Lends the share of each processor to `seen`, and so shows that the book has counted exactly the calls of all
+// processors.
 fn audit<D: Device, A: Allocator + Copy, L: Origin<D>>(
     calls: &mut Book<L>,
     seen: &mut Share<L>,
@@ -112,7 +113,7 @@ fn audit<D: Device, A: Allocator + Copy, L: Origin<D>>(
 }
 
 impl<D: Device, A: Allocator + Copy, L: Origin<D>> Locked<D, A, L> {
-    // The trace has as many entries as all processors were answered.
+    // Shows that the number of entries in the trace is the number of all processors' answered calls.
     fn count(&mut self, right: &mut Right<D, L>, cpus: &mut [Cpu<D, A, L>])
         requires parts { L.parts ≡ 2 * L.all + 1 }
         requires all { length cpus.old ≡ L.all }
@@ -125,7 +126,7 @@ impl<D: Device, A: Allocator + Copy, L: Origin<D>> Locked<D, A, L> {
         audit(calls, share, cpus)
     }
 
-    // Whether the trace is what all processors were answered.
+    // Whether the trace consists of the answered calls of all processors.
     fn is_answered(&mut self, right: &mut Right<D, L>, cpus: &mut [Cpu<D, A, L>]) -> bool
         requires parts { L.parts ≡ 2 * L.all + 1 }
         requires all { length cpus.old ≡ L.all }
@@ -140,8 +141,8 @@ impl<D: Device, A: Allocator + Copy, L: Origin<D>> Locked<D, A, L> {
     }
 }
 
-// What the lock keeps is taken out if its trace is what these processors were answered, and the right is left in its
-// place. Else the machine stays there.
+// Takes the machine and its trace out if the trace consists of the answered calls of these processors. The right is
+// left in its place. Otherwise the machine stays, and the right is returned.
 fn take_answered<D: Device + Drop, A: Allocator + Copy, L: Origin<D>>(
     kept: &mut Kept<D, A, L>,
     mut right: Right<D, L>,
@@ -171,7 +172,7 @@ fn take_answered<D: Device + Drop, A: Allocator + Copy, L: Origin<D>>(
     }
 }
 
-// The same of what lies under the lock of a service.
+// Takes the machine and its trace out of the lock of a service, by the rules of `take_answered`.
 pub(crate) fn take_if_answered<D: Device + Drop, A: Allocator + Copy, L: Origin<D>, R: Wait>(
     rt: &R,
     room: &Room<D, A, L>,
@@ -188,7 +189,7 @@ pub(crate) fn take_if_answered<D: Device + Drop, A: Allocator + Copy, L: Origin<
     take_answered(&mut *room.lock.wait(rt).lock(rt), right, cpus)
 }
 
-// The machine and the trace.
+// Returns the machine and the trace.
 pub(crate) fn ended<D: Device + Drop, A: Allocator + Copy, L: Origin<D>>(
     locked: Locked<D, A, L>,
 ) -> (Machine<D, A>, Vec<Entry, A>)
@@ -200,7 +201,7 @@ pub(crate) fn ended<D: Device + Drop, A: Allocator + Copy, L: Origin<D>>(
     shared.into_parts()
 }
 
-// What the lock keeps is taken out with nothing compared.
+// Takes the machine and its trace out without a comparison.
 fn take<D: Device + Drop, A: Allocator + Copy, L: Origin<D>>(
     kept: &mut Kept<D, A, L>,
     mut right: Right<D, L>,

@@ -1,8 +1,8 @@
-//! A machine that threads share: under one lock, with the trace of what was done, a step at a time. The trace is at
-//! every moment a legal run of the machine beside it, from the machine as it was booted on; and when all threads have
-//! given back what they were given, each one's calls are exactly its entries of the trace.
+//! A machine that threads share. It is under one lock, with the trace of its steps, and makes one step at a time. At
+//! every moment the trace is a legal run of the machine, from its state after boot. When the service and all processors
+//! are gathered, the calls of each processor are exactly its entries of the trace.
 //!
-//! A call that takes `rt` may wait for another thread: what it ensures holds if it returns.
+//! A call that takes `rt` may wait for another thread. Its contract holds if the call returns.
 #![tactic(auto)]
 
 mod entry;

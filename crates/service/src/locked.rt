@@ -1,4 +1,4 @@
-// What the lock of a service keeps: the shared machine with its trace, and the count of all calls.
+// The contents of a service's lock: the shared machine with its trace, and the count of all calls.
 ghost use Rattle.std.specs.Prelude.{ℕ, ◌≡◌, ◌≢◌, ◌↔◌, ◌+◌, ◌<◌, ◌≤◌, Option, None, length, IsTrue};
 ghost use Rattle.page_entry.specs.declared.refusal.Refusal.{Refusal};
 ghost use Rattle.machine.specs.declared.act.Reply.{Reply};
@@ -19,9 +19,9 @@ use std::marker::{Brand, Model, PhantomData};
 use std::sync::ledger::{Book, Ledger, Share};
 use std::sync::{Mutex, OnceLock};
 
-/// What a type that names a service stands for: the number of its processors, the machine from which it started, and
-/// the most entries that its trace may have. The ledger counts the service's calls. Each processor has one part of it,
-/// and the service all others, which are more than half.
+/// A type that names a service. It represents the number of its processors, the machine from which it started, and the
+/// largest number of entries in its trace. Its ledger counts the service's calls. Each processor has one part of the
+/// ledger. The service has all other parts, which are more than half.
 pub trait Origin<D>: Ledger {
     ghost use Rattle.std.specs.Prelude.{ℕ, Option};
     ghost use Rattle.machine.specs.State.{Whole};
@@ -32,7 +32,7 @@ pub trait Origin<D>: Ledger {
     /// The machine with which the service started.
     ghost start: { Option (Whole D) };
 
-    /// The most entries of the trace.
+    /// The largest number of entries in the trace.
     ghost capacity: { ℕ };
 }
 
@@ -46,7 +46,8 @@ impl<D> Origin<D> for Brand {
     ghost capacity = { 0 };
 }
 
-// A machine with its trace, and as many calls in the book as the trace has entries. Contracts see the first two alone.
+// A machine with its trace. The book has counted as many calls as the trace has entries. The view contains only the
+// machine and the trace.
 #[derive(Drop)]
 pub(crate) struct Locked<D: Device, A: Allocator + Copy, L: Origin<D>> {
     pub(crate) shared: Shared<D, A>,
@@ -69,9 +70,8 @@ impl<D: Device, A: Allocator + Copy, L: Origin<D>> Model for Locked<D, A, L> {
         × ServesFrom D.Device L.start L.all L.capacity l.shared };
 }
 
-/// The right to take the machine out. It has more than half of the ledger's parts, so there is only one. The service
-/// has it as long as the machine is under the lock.
-/// Contracts see nothing of it.
+/// The right to take the machine out. It has more than half of the ledger's parts, so only one right can exist. The
+/// service has it as long as the machine is under the lock. Its view in contracts is empty.
 #[derive(Drop)]
 pub(crate) struct Right<D, L: Origin<D>> {
     pub(crate) share: Share<L>,
@@ -91,10 +91,10 @@ impl<D, L: Origin<D>> Model for Right<D, L> {
     ghost invariant = { λ r. (r.share.parts ≡ L.all + 1) × (r.share.amount ≡ 0) };
 }
 
-/// What the lock keeps: the machine with its trace, or the right by which it was taken out.
+/// The contents of the lock: the machine with its trace, or the right with which it was taken out.
 pub(crate) type Kept<D, A, L> = Result<Locked<D, A, L>, Right<D, L>>;
 
-/// What the processors of a service share. The lock is set once, when the service starts.
+/// The parts of a service that its processors share. The lock is set once, when the service starts.
 #[derive(Drop)]
 pub(crate) struct Room<D: Device, A: Allocator + Copy, L: Origin<D>> {
     pub(crate) lock: OnceLock<Mutex<Kept<D, A, L>>>,
@@ -102,7 +102,7 @@ pub(crate) struct Room<D: Device, A: Allocator + Copy, L: Origin<D>> {
 }
 
 impl<D, L: Origin<D>> Right<D, L> {
-    // All parts of the ledger but those of the processors.
+    // Makes the right from all parts of the ledger except those of the processors.
     pub(crate) fn new(share: Share<L>) -> Self
         requires parts { share.parts ≡ L.all + 1 }
         requires unused { share.amount ≡ 0 }
@@ -113,7 +113,7 @@ impl<D, L: Origin<D>> Right<D, L> {
         }
     }
 
-    // Two rights together have no more parts than the ledger.
+    // Shows that two rights together have at most the parts of the ledger. So there can't be two.
     pub(crate) fn meet(&mut self, other: &mut Self)
         ensures { (L.all + 1) + (L.all + 1) ≤ L.parts }
     {
@@ -123,7 +123,7 @@ impl<D, L: Origin<D>> Right<D, L> {
     }
 }
 
-// Whether a reply says that the trace is full.
+// Whether a reply reports that the trace is full.
 pub(crate) fn is_trace_full(reply: &Reply) -> bool
     ensures { IsTrue result ↔ (reply.now ≡ Reply.Refused Refusal.TraceFull) }
 {
@@ -131,14 +131,14 @@ pub(crate) fn is_trace_full(reply: &Reply) -> bool
 }
 
 impl<D: Device, A: Allocator + Copy, L: Origin<D>> Locked<D, A, L> {
-    // Whether more entries are progress than `seen`, or the trace is full.
+    // Whether more than `seen` entries are progress, or the trace is full.
     pub(crate) fn has_moved(&self, seen: u64) -> bool
         ensures { IsTrue result → HasMoved D.Device L.start L.all L.capacity seen }
     {
         self.shared.progress() > seen || self.shared.is_full()
     }
 
-    // A machine with an empty trace, from which the service starts, and the book in which no call is counted yet.
+    // Makes the contents of the lock from a machine with an empty trace and a book that has counted no call.
     pub(crate) fn new(shared: Shared<D, A>, calls: Book<L>) -> Self
         requires started { ServesFrom D.Device L.start L.all L.capacity shared }
         requires counted { calls.total ≡ length shared.trace }
@@ -147,8 +147,8 @@ impl<D: Device, A: Allocator + Copy, L: Origin<D>> Locked<D, A, L> {
         Locked { shared, calls }
     }
 
-    // One act of a processor, which is counted with the caller's calls unless the trace is full; and what its reply
-    // raises.
+    // Makes one act of a processor. Counts it among the caller's calls unless the trace is full. Returns the reply, and
+    // the raise of the horizon that it causes.
     pub(crate) fn call(
         &mut self,
         mine: &mut Share<L>,

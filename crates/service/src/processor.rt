@@ -1,4 +1,4 @@
-// A processor of a service, which is to be moved to a thread.
+// A processor of a service. It can be moved to a thread.
 ghost use Rattle.std.specs.Prelude.{ℕ, ◌≡◌, ◌≢◌, ◌++◌, ◌∷◌, [], ◌+◌, ◌<◌, ◌≤◌, length, IsTrue};
 ghost use Rattle.page_entry.specs.declared.refusal.Refusal.{Refusal};
 ghost use Rattle.machine.specs.declared.act.Reply.{Reply};
@@ -22,8 +22,8 @@ use std::sync::ledger::Share;
 use std::sync::{Arc, Wait};
 use std::thread::yield_now;
 
-/// One processor of a service. It has the acts that it was called for, each with its reply, and what it has seen of the
-/// horizon: the greatest numbers of a mark that was stalled for and of one that is committed.
+/// A processor of a service. It contains the acts of its answered calls, each with its reply, and the numbers of the
+/// horizon that it has seen: `stalled` and `committed`.
 #[derive(Drop)]
 pub struct Cpu<D: Device, A: Allocator + Copy, L: Origin<D>> {
     pub(crate) p: ProcessorNumber,
@@ -56,22 +56,22 @@ impl<D: Device, A: Allocator + Copy, L: Origin<D>> Model for Cpu<D, A, L> {
         × (c.seen.cell ≡ (arc_value c.room).horizon) };
 }
 
-// An act with its reply.
+// Returns an act with its reply.
 fn answer_of(act: &Act, reply: &Reply) -> (Act, Reply)
     ensures { result ≡ (act.now, reply.now) }
 {
     (*act, *reply)
 }
 
-// How many turns a wait spins between two yields to other threads.
+// The number of turns after which a wait yields to other threads.
 const SPINS: u64 = 32;
 
 impl<D: Device, A: Allocator + Copy, L: Origin<D>> Cpu<D, A, L> {
-    /// One act of this processor, made under the lock, with an entry in the trace. A mark raises the horizon's stalled,
-    /// and a commit its committed, before the lock is given back; a mark with no store and no change of a length since
-    /// the mark before it raises both.
+    /// Makes one act of this processor under the lock, adds its entry to the trace, and returns the reply. Before the
+    /// lock is released, a mark raises the horizon's `stalled`, and a commit raises its `committed`. A mark raises both
+    /// if there was no store and no change of a length since the mark before it.
     ///
-    /// `TraceFull` where the trace is full, and nothing is changed. If the call returns.
+    /// Answers `TraceFull`, and changes nothing, if the trace is full. The contract holds if the call returns.
     pub fn call<R: Wait>(&mut self, rt: &R, act: Act) -> Reply
         ensures full { result ≡ Reply.Refused Refusal.TraceFull → self.new ≡ self.old }
         ensures answered { result ≢ Reply.Refused Refusal.TraceFull
@@ -101,30 +101,30 @@ impl<D: Device, A: Allocator + Copy, L: Origin<D>> Cpu<D, A, L> {
         reply
     }
 
-    // This processor's number.
+    // Returns this processor's number.
     pub(crate) fn number(&self) -> u64
         ensures { result ≡ self.now.number }
     {
         u64::from(self.p)
     }
 
-    /// How many calls were answered, other than by `TraceFull`.
+    /// Returns the number of answered calls. Calls that were answered `TraceFull` don't count.
     pub fn calls(&self) -> u64
         ensures { result ≡ length self.now.answered }
     {
         self.answered.len() as u64
     }
 
-    /// The acts of these calls, each with its reply, in order.
+    /// Returns the acts of the answered calls, each with its reply, in order.
     pub fn answered(&self) -> &[(Act, Reply)]
         ensures { result.now ≡ self.now.answered }
     {
         self.answered.as_slice()
     }
 
-    /// What this processor is doing, and how many entries of the trace are progress: entries of other acts than loads,
-    /// fills and evictions whose reply isn't `Nothing` nor a refusal other than `Device`. It adds no entry. If the call
-    /// returns.
+    /// Returns the state of this processor, and the number of entries in the trace that are progress. Loads, fills and
+    /// evictions are no progress, and neither is an entry whose reply is `Nothing` or a refusal other than `Device`.
+    /// Adds no entry. May wait for another thread.
     pub fn look<R: Wait>(&self, rt: &R) -> (ProcState, u64) {
         let guard = self.room.lock.wait(rt).lock(rt);
         match &*guard {
@@ -133,9 +133,9 @@ impl<D: Device, A: Allocator + Copy, L: Origin<D>> Cpu<D, A, L> {
         }
     }
 
-    /// Looks at most `turns` times whether more entries of the trace are progress than `seen`, or the trace is full,
-    /// and answers whether that was so. It adds no entry. A turn at which another thread has the lock sees nothing; at
-    /// every 32nd turn other threads may run on this thread's processor.
+    /// Waits for progress for at most `turns` turns. Returns true only if more than `seen` entries of the trace are
+    /// progress, or the trace is full. Adds no entry. A turn sees nothing if another thread has the lock. At every 32nd
+    /// turn other threads may run on this thread's processor.
     pub fn wait<R: Wait>(&self, _rt: &R, seen: u64, turns: u64) -> bool
         ensures { IsTrue result → HasMoved D.Device L.start L.all L.capacity seen }
     {
@@ -152,7 +152,8 @@ impl<D: Device, A: Allocator + Copy, L: Origin<D>> Cpu<D, A, L> {
         false
     }
 
-    // Whether more entries are progress than `seen`, or the trace is full, if the lock is free to look.
+    // Whether more than `seen` entries are progress, or the trace is full. Returns false if another thread has the
+    // lock.
     fn has_moved(&self, seen: u64) -> bool
         ensures { IsTrue result → HasMoved D.Device L.start L.all L.capacity seen }
     {
@@ -168,8 +169,9 @@ impl<D: Device, A: Allocator + Copy, L: Origin<D>> Cpu<D, A, L> {
         }
     }
 
-    /// The horizon: the greatest numbers of a mark that was stalled for and of one that is committed, read at one
-    /// moment without the lock. Neither is lower than this processor has seen it before. If the call returns.
+    /// Returns the horizon: the numbers of the last mark for which processors were stalled and of the last committed
+    /// mark. Both are read at one moment, without the lock. Neither is lower than this processor has seen it before.
+    /// The contract holds if the call returns.
     pub fn horizon<R: Wait>(&mut self, rt: &R) -> (u64, u64)
         ensures result { result ≡ (self.new.stalled, self.new.committed) }
         ensures ordered { self.new.committed ≤ self.new.stalled }
@@ -181,7 +183,7 @@ impl<D: Device, A: Allocator + Copy, L: Origin<D>> Cpu<D, A, L> {
     }
 }
 
-// One act under the lock, with the horizon's raises before the lock is given back.
+// Makes one act under the lock, and raises the horizon before the lock is released.
 fn call_locked<D: Device, A: Allocator + Copy, L: Origin<D>, R: Wait>(
     rt: &R,
     room: &Room<D, A, L>,
@@ -212,7 +214,7 @@ fn call_locked<D: Device, A: Allocator + Copy, L: Origin<D>, R: Wait>(
     reply
 }
 
-// Raises the horizon so far, and no further.
+// Raises the horizon exactly as `raise` describes.
 fn raise_horizon<R: Wait>(rt: &R, horizon: &Horizon, seen: &mut Seen, raise: Raise)
     requires own { seen.old.cell ≡ horizon.now }
     ensures nothing { raise ≡ Raise.Nothing → seen.new ≡ seen.old }

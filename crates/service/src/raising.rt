@@ -1,4 +1,5 @@
-// How far the horizon is raised: by the last entry of the trace, and by what of the trace no mark holds yet.
+// The raise of the horizon by the last entry of the trace. It depends on the changes in the trace that no mark contains
+// yet.
 ghost use Rattle.std.specs.Prelude.{◌≡◌};
 ghost use Rattle.service.specs.Marks.{has_unmarked};
 ghost use Rattle.service.specs.inside.Raising.{raise_by};
@@ -6,7 +7,8 @@ ghost use Rattle.service.specs.inside.Raising.{raise_by};
 use crate::Entry;
 use machine::{Outcome, Reply};
 
-// Nothing, the number of the last mark, or both numbers, to that of a mark that is acknowledged.
+// The raise of the horizon: none, or the number to which `stalled` rises, or the number to which both `stalled` and
+// `committed` rise.
 #[derive(Clone, Copy)]
 pub(crate) enum Raise {
     Nothing,
@@ -14,7 +16,8 @@ pub(crate) enum Raise {
     Committed(u64),
 }
 
-// Whether something was stored, or a length set, since the last mark of these entries, or since their start.
+// Whether these entries contain a store or a change of a length after their last mark, or after their start if there is
+// none.
 pub(crate) fn has_unmarked(trace: &[Entry]) -> bool
     ensures { result ≡ has_unmarked trace.now }
 {
@@ -29,7 +32,7 @@ pub(crate) fn has_unmarked(trace: &[Entry]) -> bool
     false
 }
 
-// What a reply raises after these entries.
+// Returns the raise of the horizon by a reply after these entries.
 pub(crate) fn raise_by(before: &[Entry], reply: &Reply) -> Raise
     ensures { result ≡ raise_by (has_unmarked before.now) reply.now }
 {

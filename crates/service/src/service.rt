@@ -1,4 +1,4 @@
-// A service: how it starts, with a processor for each thread, and how it ends.
+// A service: its start, with a processor for each thread, and its end.
 ghost use Rattle.std.specs.Prelude.{ℕ, ◌≡◌, ◌+◌, ◌*◌, ◌<◌, List, length, slice_get, Some, IfOk, IfErr, IfSome, IsSome};
 ghost use Rattle.page_entry.specs.declared.refusal.Refusal.{Refusal};
 ghost use Rattle.machine.specs.declared.act.Reply.{Reply};
@@ -21,7 +21,7 @@ use std::alloc::{Allocator, Global};
 use std::sync::ledger::Blank;
 use std::sync::{Arc, Wait};
 
-/// A machine that threads share, each by a `Cpu` of its own. `L` names the service.
+/// A machine that threads share. Each thread uses a `Cpu` of its own. `L` names the service.
 #[derive(Drop)]
 pub struct Service<D: Device, A: Allocator + Copy, L: Origin<D>> {
     pub(crate) room: Arc<Room<D, A, L>, A>,
@@ -31,16 +31,16 @@ pub struct Service<D: Device, A: Allocator + Copy, L: Origin<D>> {
 }
 
 impl<D: Device + Drop, A: Allocator + Copy, L: Origin<D>> Service<D, A, L> {
-    /// Shares a machine as it was booted, with an empty trace that may have `capacity` entries, 1 to 1,000,000, and
-    /// gives a `Cpu` for each of its processors, in order. The type `L` stands for this machine and this capacity, and
-    /// for the ledger of which `blank` is the blank, with a part for each processor.
+    /// Shares a machine that was just booted, with an empty trace of at most `capacity` entries, 1 to 1,000,000.
+    /// Returns the service, and a `Cpu` for each of the machine's processors, in order. The type `L` represents this
+    /// machine, this capacity, and the ledger that `blank` opens, with a part for each processor.
     ///
-    /// `origin` speaks of ghost members of `L`, and excludes no machine and no capacity: a caller passes `Brand`, and
-    /// its proof picks the members.
+    /// The clause `origin` is about ghost members of `L`. It excludes no machine and no capacity: a caller passes
+    /// `Brand`, and its proof chooses the members.
     ///
-    /// `BadShape` for another capacity, which is judged before memory is taken; `OutOfMemory` where memory is refused,
-    /// all of which is taken here: no call of a `Cpu` takes any for the service. A refusal hands machine and blank
-    /// back. The horizon's memory is `global`'s, and all other `alloc`'s.
+    /// Fails with `BadShape` for another capacity, before it allocates memory. Fails with `OutOfMemory` if memory runs
+    /// out. Both failures return the machine and the blank. All memory is allocated here; no call of a `Cpu` allocates
+    /// any for the service. The horizon's memory comes from `global`, and all other memory from `alloc`.
     pub fn start(
         alloc: A,
         global: Global,
@@ -71,9 +71,9 @@ impl<D: Device + Drop, A: Allocator + Copy, L: Origin<D>> Service<D, A, L> {
         }
     }
 
-    /// Takes the machine and the trace out of the service, if these are all of its `Cpu` values and the trace is what
-    /// they were answered. Otherwise `Einval`, with everything handed back. The machine is then still in the service,
-    /// since only the service's right can take it out. If the call returns.
+    /// Takes the machine and the trace out of the service. Fails with `Einval`, and returns everything, unless `cpus`
+    /// are all `Cpu` values of the service and the trace consists of their answered calls. The machine is then still in
+    /// the service, since only the service's right can take it out. The contract holds if the call returns.
     pub fn gather<R: Wait>(
         self,
         rt: &R,
@@ -107,8 +107,8 @@ impl<D: Device + Drop, A: Allocator + Copy, L: Origin<D>> Service<D, A, L> {
         }
     }
 
-    /// Takes the machine out of a service that isn't gathered. It is always there. The steps that were made of it since
-    /// the service started are a legal run, but of who made them nothing is said. If the call returns.
+    /// Takes the machine out of a service that isn't gathered. It is always there. The steps since the service started
+    /// are a legal run. The contract doesn't state which processors made them. It holds if the call returns.
     pub fn abandon<R: Wait>(self, rt: &R) -> Option<Machine<D, A>>
         ensures led { IfSome result (λ machine. (first : Whole D) × (steps : List Step) × (replies : List Reply)
             × (L.start ≡ Some first) × StepsTaken D.Device first steps replies machine) }

@@ -1,4 +1,4 @@
-// What threads share: a machine with the trace of its steps.
+// A machine with the trace of its steps, which threads share.
 ghost use Rattle.std.specs.Prelude.{ℕ, ◌≡◌, ◌==◌, ◌≢◌, ◌↔◌, ◌<◌, ◌≤◌, List, [], ◌∷◌, ◌++◌, length, false, IsTrue, IfOk, IfErr};
 ghost use Rattle.std.specs.Vec.{vec_capacity};
 ghost use Rattle.page_entry.specs.declared.refusal.Refusal.{Refusal};
@@ -22,7 +22,7 @@ use page_entry::{ProcessorNumber, Refusal};
 use std::alloc::Allocator;
 use std::marker::Model;
 
-/// A machine, the trace of its steps and how many of them were progress: what lies under the lock of a service.
+/// A machine, the trace of its steps, and the number of its entries that are progress. A service has it under its lock.
 #[derive(Drop)]
 pub struct Shared<D: Device, A: Allocator + Copy> {
     machine: Machine<D, A>,
@@ -67,10 +67,10 @@ pub(crate) fn is_capacity(capacity: u64) -> bool
 }
 
 impl<D: Device, A: Allocator + Copy> Shared<D, A> {
-    /// A machine as it was booted, with an empty trace that may have `capacity` entries, 1 to 1,000,000.
+    /// Returns a machine that was just booted, with an empty trace of at most `capacity` entries, 1 to 1,000,000.
     ///
-    /// `BadShape` for another capacity, which is judged before memory is taken; `OutOfMemory` where memory for the
-    /// trace is refused. A refusal hands the machine back. No later call takes memory for the trace.
+    /// Fails with `BadShape` for another capacity, before it allocates memory. Fails with `OutOfMemory` if memory for
+    /// the trace runs out. Both return the machine. No later call allocates memory for the trace.
     pub fn new(
         alloc: A,
         machine: Machine<D, A>,
@@ -90,7 +90,7 @@ impl<D: Device, A: Allocator + Copy> Shared<D, A> {
         }
     }
 
-    // A machine as it was booted, with an empty trace that has room.
+    // Returns a machine that was just booted, with an empty trace that has room.
     pub(crate) fn over(machine: Machine<D, A>, trace: Vec<Entry, A>, capacity: u64) -> Self
         requires fresh { IsFresh machine.state }
         requires empty { trace.items ≡ [] }
@@ -106,8 +106,8 @@ impl<D: Device, A: Allocator + Copy> Shared<D, A> {
         }
     }
 
-    /// One act of one processor, and its entry in the trace. Where the trace is full, `TraceFull`, and nothing is
-    /// changed; no other call answers that.
+    /// Makes one act of one processor, adds its entry to the trace, and returns the reply. If the trace is full, and
+    /// only then, the reply is `TraceFull`, and nothing changes.
     pub fn enter(&mut self, p: ProcessorNumber, act: Act) -> Reply
         ensures is_full { length self.old.trace ≡ self.old.capacity → result ≡ Reply.Refused Refusal.TraceFull }
         ensures full { result ≡ Reply.Refused Refusal.TraceFull
@@ -125,16 +125,16 @@ impl<D: Device, A: Allocator + Copy> Shared<D, A> {
         reply
     }
 
-    /// Whether the trace has as many entries as it may have.
+    /// Whether the trace is full.
     pub fn is_full(&self) -> bool
         ensures { result ≡ (length self.now.trace == self.now.capacity) }
     {
         self.trace.len() as u64 == self.capacity
     }
 
-    /// Whoever has a machine with its trace has this of it: the trace is a legal run of the machine, over any device,
-    /// from some start that is as boot leaves it (`IsServing`); and if that start was over a volume at rest, on an
-    /// honest device, the trace keeps the laws of machines.
+    /// Shows that the trace is a legal run of the machine, over any device, from some start as boot leaves it
+    /// (`IsServing`). If that start was over a volume at rest, on an honest device, the trace keeps the laws of
+    /// machines.
     pub fn keeps_the_laws(&self)
         ensures { (start : Whole D) × IsServing D.Device start self.now
             × ((files : List File) → Begins D.Device files start → KeepsLaws D.Device files start self.now) }
@@ -142,8 +142,8 @@ impl<D: Device, A: Allocator + Copy> Shared<D, A> {
         self.machine.keeps_the_laws();
     }
 
-    /// What a processor is doing, and how many entries of the trace are progress. `Einval` where there is no processor
-    /// with this number.
+    /// Returns the state of a processor, and the number of entries in the trace that are progress. Fails with `Einval`
+    /// if there is no processor with this number.
     pub fn look(&self, p: ProcessorNumber) -> Result<(ProcState, u64), Refusal>
         ensures ok { IfOk result (λ look. IsTrue (is_there self.now.machine.state.hardware.shootdown p)
             × (look.0 ≡ state_of self.now.machine.state.hardware.shootdown p) × (look.1 ≡ self.now.progress)) }
@@ -154,21 +154,21 @@ impl<D: Device, A: Allocator + Copy> Shared<D, A> {
         Ok((state, self.progress))
     }
 
-    /// How many entries of the trace are progress.
+    /// Returns the number of entries in the trace that are progress.
     pub fn progress(&self) -> u64
         ensures { result ≡ self.now.progress }
     {
         self.progress
     }
 
-    /// The trace: the steps that were made, each with its reply, in order.
+    /// Returns the trace: the steps that were made, each with its reply, in order.
     pub fn trace(&self) -> &[Entry]
         ensures { result.now ≡ self.now.trace }
     {
         self.trace.as_slice()
     }
 
-    // All entries but the last.
+    // Returns all entries except the last one.
     fn before_last(&self) -> &[Entry]
         requires { 0 < length self.now.trace }
         ensures { (before : List Entry) (last : Entry) → self.now.trace ≡ before ++ last ∷ []
@@ -178,7 +178,7 @@ impl<D: Device, A: Allocator + Copy> Shared<D, A> {
         &trace[..trace.len() - 1]
     }
 
-    // What the reply of the last entry raises.
+    // Returns the raise of the horizon by the reply of the last entry.
     pub(crate) fn last_raise(&self, reply: &Reply) -> Raise
         requires { 0 < length self.now.trace }
         ensures { (before : List Entry) (last : Entry) → self.now.trace ≡ before ++ last ∷ []
@@ -187,7 +187,7 @@ impl<D: Device, A: Allocator + Copy> Shared<D, A> {
         raise_by(self.before_last(), reply)
     }
 
-    // The machine and its trace.
+    // Returns the machine and its trace.
     pub(crate) fn into_parts(self) -> (Machine<D, A>, Vec<Entry, A>)
         ensures machine { result.0 ≡ self.machine }
         ensures trace { result.1.items ≡ self.trace }

@@ -1,4 +1,5 @@
-// How a service starts: all memory first, then the ledger is opened and the machine is put under the lock.
+// The start of a service. All memory is allocated first. Then the ledger is opened, and the machine is put under the
+// lock.
 ghost use Rattle.std.specs.Prelude.{ℕ, ◌≡◌, ◌+◌, ◌*◌, ◌<◌, ◌≤◌, [], length, slice_get, Some, IfOk};
 ghost use Rattle.std.specs.Arc.{arc_value};
 ghost use Rattle.std.specs.Vec.{vec_capacity, vec_len};
@@ -17,7 +18,7 @@ use std::alloc::{AllocError, Allocator, Global};
 use std::sync::ledger::{Blank, Share};
 use std::sync::{Arc, Mutex, OnceLock};
 
-// What a processor needs beside its number and its part of the ledger.
+// The parts of a processor besides its number and its part of the ledger.
 #[derive(Drop)]
 struct Seat<D: Device, A: Allocator + Copy, L: Origin<D>> {
     room: Arc<Room<D, A, L>, A>,
@@ -66,7 +67,7 @@ impl<D: Device + Drop, A: Allocator + Copy, L: Origin<D>> Seat<D, A, L> {
     }
 }
 
-// All that a service takes memory for.
+// All memory that a service needs.
 #[derive(Drop)]
 pub(crate) struct Unstarted<D: Device, A: Allocator + Copy, L: Origin<D>> {
     room: Arc<Room<D, A, L>, A>,
@@ -79,7 +80,7 @@ pub(crate) struct Unstarted<D: Device, A: Allocator + Copy, L: Origin<D>> {
 }
 
 impl<D: Device + Drop, A: Allocator + Copy, L: Origin<D>> Unstarted<D, A, L> {
-    // Room for a trace of this capacity and so many processors.
+    // Allocates the memory for a trace of this capacity and `count` processors.
     pub(crate) fn new(
         alloc: A,
         global: Global,
@@ -108,7 +109,8 @@ impl<D: Device + Drop, A: Allocator + Copy, L: Origin<D>> Unstarted<D, A, L> {
         })
     }
 
-    // Starts with this machine. Of the ledger's parts each processor gets one, and the service all others.
+    // Starts the service with this machine. Each processor gets one part of the ledger, and the service gets all
+    // others.
     pub(crate) fn started(
         self,
         machine: Machine<D, A>,
@@ -147,7 +149,7 @@ impl<D: Device + Drop, A: Allocator + Copy, L: Origin<D>> Unstarted<D, A, L> {
     }
 }
 
-// A seat for each processor.
+// Makes a seat for each processor.
 fn seats_for<D: Device + Drop, A: Allocator + Copy, L: Origin<D>>(
     alloc: A,
     room: &Arc<Room<D, A, L>, A>,
@@ -165,7 +167,7 @@ fn seats_for<D: Device + Drop, A: Allocator + Copy, L: Origin<D>>(
     Ok(seats)
 }
 
-// Opens the ledger, and puts the machine under the lock, which nobody else can have set.
+// Opens the ledger, and puts the machine under the lock. Only this call sets the lock, so this can't fail.
 fn put_in<D: Device + Drop, A: Allocator + Copy, L: Origin<D>>(
     room: &Room<D, A, L>,
     machine: Machine<D, A>,
@@ -186,7 +188,7 @@ fn put_in<D: Device + Drop, A: Allocator + Copy, L: Origin<D>>(
     all
 }
 
-// Gives each seat a number and a part of the ledger.
+// Makes a processor from each seat, with a number and a part of the ledger.
 fn seated<D: Device + Drop, A: Allocator + Copy, L: Origin<D>>(
     mut seats: Vec<Seat<D, A, L>, A>,
     mut cpus: Vec<Cpu<D, A, L>, A>,

@@ -1,5 +1,5 @@
-//! Services as threads see them: what each call answers where memory is ample, a trace that is full, `Cpu` values that
-//! are missing, threads that run at once, starts that are refused, and loads whose instructions are counted.
+//! Tests of services from the view of threads. They check the reply to each call with ample memory, full traces,
+//! missing `Cpu` values, concurrent threads and refused starts. They also make loads whose instructions are counted.
 #![tactic(auto)]
 
 #[cfg(test)]

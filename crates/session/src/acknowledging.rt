@@ -1,4 +1,4 @@
-// What follows of the steps of a session.
+// What follows from the steps of a session.
 ghost use Rattle.std.specs.Prelude.{ℕ, ◌≡◌, List, ◌++◌, Contains, codes};
 ghost use Rattle.std.specs.Fmt.{decimal};
 ghost use Rattle.volume_codec.specs.Files.{File};
@@ -16,9 +16,9 @@ ghost use Rattle.session.specs.Steps.{Makes};
 
 use device::Device;
 
-/// A mark that a commit answers is acknowledged by the history of the steps since the session's start, of which
-/// `engine` says that it survives: by those before the commit, its own, and any later ones (`mark`). So it is where the
-/// line that answers a commit is `committed` and a number (`line`).
+/// The history since the session's start acknowledges each mark that a commit returns (`mark`). This history is that of
+/// the steps before the commit, the commit's own steps, and any later ones. `engine` proves that an acknowledged mark
+/// survives. The same holds if a commit's answer line is `committed` and a number (`line`).
 pub fn acknowledges<D: Device>(device: &D)
     ensures mark { (files : List File) (start mid new : Whole D) (between after : Notes)
         (earlier steps later : List Step) (replied replies more : List Reply) (p mark : ℕ)

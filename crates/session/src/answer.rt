@@ -84,7 +84,7 @@ impl<D: Device, A: Allocator + Copy> Session<D, A> {
     }
 }
 
-// Writes the reply of this number, counted from 0.
+// Writes a reply, after `; ` unless it is the first (number 0).
 fn write_reply<W: io::Write>(number: usize, reply: &Reply, out: &mut W) -> io::Result<()>
     ensures { OnOk result (Appends (W.contents out.old) (W.contents out.new) (reply_after number reply.now)) }
 {
@@ -132,7 +132,7 @@ fn write_reached<W: io::Write>(reached: &Reached, out: &mut W) -> io::Result<()>
     }
 }
 
-// Writes digits after a space, if there are any.
+// Writes a space and the digits, or nothing if there are no digits.
 fn write_digits<W: io::Write>(digits: &str, out: &mut W) -> io::Result<()>
     ensures { OnOk result (Appends (W.contents out.old) (W.contents out.new) (text_after_space digits.now)) }
 {

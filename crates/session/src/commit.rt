@@ -1,4 +1,4 @@
-// A commit: from the beginning of its mark to the acknowledgement.
+// A commit, from the beginning of its mark to its acknowledgement.
 ghost use Rattle.std.specs.Prelude.{ℕ, ◌≡◌, ◌≢◌, ◌↔◌, true, false, IfSome, IfNone, IsTrue};
 ghost use Rattle.page_entry.specs.declared.refusal.Refusal.{Refusal};
 ghost use Rattle.spaces.specs.declared.change.Change.TheVariants.{Checkpoint};
@@ -17,8 +17,8 @@ use page_entry::{ProcessorNumber, Refusal};
 use std::alloc::Allocator;
 
 impl<D: Device, A: Allocator + Copy> Requests<D, A> {
-    /// Commits all stores. Answers the number of the mark, which is durable; or what the step was answered that stopped
-    /// the commit: a refusal, or that there was nothing to do.
+    /// Commits all stores. Returns the number of the mark, which is durable. Otherwise fails with the reply to the step
+    /// that stopped the commit: a refusal, or that there was nothing to do.
     pub fn commit(&mut self, p: ProcessorNumber) -> Result<u32, Reply>
         ensures answers { CarriesOut D.Device self.old.machine self.old.notes (AnswersCommit p self.old.notes result)
             self.new.machine self.new.notes }
@@ -43,7 +43,7 @@ impl<D: Device, A: Allocator + Copy> Requests<D, A> {
         Ok(mark)
     }
 
-    // Begins a mark. Where write-outs have to be done first, it makes steps of them.
+    // Begins a mark. If write-outs must be done first, it makes write-out steps.
     fn begin_mark(&mut self, p: ProcessorNumber) -> Reply
         ensures begins { reports_begun result ≡ true → BeginsChange D.Device self.old.machine self.old.notes
             (BeginsMark p) p Checkpoint self.new.machine self.new.notes }
@@ -71,8 +71,10 @@ impl<D: Device, A: Allocator + Copy> Requests<D, A> {
         }
     }
 
-    /// After an attempt that was busy, makes the step of the write-outs that it waits for. Answers what comes of the
-    /// attempt where no other one is to be made: that it was busy, or the refusal of that step.
+    /// Makes the write-out step that a busy attempt waits for. Returns `None` if this step was made.
+    ///
+    /// Otherwise no other attempt follows, and it returns the answer to the attempt: that it was busy, or the refusal
+    /// of this step.
     pub(crate) fn wait(&mut self, p: ProcessorNumber) -> Option<Reply>
         ensures ends { IfSome result (λ answer. CarriesOut D.Device self.old.machine self.old.notes
             (EndsWaiting p answer) self.new.machine self.new.notes) }
@@ -91,7 +93,7 @@ impl<D: Device, A: Allocator + Copy> Requests<D, A> {
         Some(flushed)
     }
 
-    // Makes steps of the write-outs until one commits the mark, or isn't made. Answers what the last one was answered.
+    // Makes write-out steps until one commits the mark, or isn't made. Returns the reply to the last one.
     fn write_out(&mut self, p: ProcessorNumber, mark: u32) -> Reply
         ensures writes { CarriesOut D.Device self.old.machine self.old.notes (WritesUntil p mark result)
             self.new.machine self.new.notes }
@@ -110,7 +112,7 @@ impl<D: Device, A: Allocator + Copy> Requests<D, A> {
     }
 }
 
-// The mark that was made, where a reply reports it.
+// Returns the mark that was made, if a reply reports it.
 fn mark_of(reply: &Reply) -> Option<u32>
     ensures some { IfSome result (λ mark. reply.now ≡ replied.Marked mark) }
     ensures none { IfNone result ((mark : ℕ) → reply.now ≢ replied.Marked mark) }
@@ -129,7 +131,7 @@ fn is_committed(reply: &Reply, mark: u32) -> bool
     matches!(reply, Reply::Committed(committed) if *committed == mark)
 }
 
-/// Whether commits have to be done first.
+/// Whether a reply is `Busy`: commits must be done first.
 pub(crate) fn is_busy(reply: &Reply) -> bool
     ensures { IsTrue result ↔ (reply.now ≡ replied.Refused Refusal.Busy) }
 {

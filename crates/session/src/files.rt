@@ -1,4 +1,4 @@
-// The files of a volume, as a session lists them, and the order in which their pages are taken out of memory.
+// The files of a volume, as a session lists them, and the order in which their pages are reclaimed.
 ghost use Rattle.std.specs.Prelude.{◌≡◌, ◌-◌, ◌^◌, min, slice_get, IfOk};
 ghost use Rattle.session.specs.Files.{AreFiles, pages_in, pages_of_line, page_after};
 
@@ -7,7 +7,7 @@ use page_entry::{FileNumber, FilePage};
 use recovery::Volume;
 use std::alloc::{AllocError, Allocator};
 
-/// A file: its name, its length in bytes, and how many pages it has.
+/// The name of a file, its length in bytes, and the number of its pages.
 #[derive(Drop)]
 pub struct FileLine<A: Allocator + Copy> {
     pub name: String<A>,
@@ -15,7 +15,7 @@ pub struct FileLine<A: Allocator + Copy> {
     pub pages: u32,
 }
 
-/// The files of a volume, in the order of their numbers, and the page that is to be taken out of memory next.
+/// The files of a volume, in the order of their numbers, and the page to be reclaimed next.
 #[derive(Drop)]
 pub struct Files<A: Allocator + Copy> {
     pub lines: Vec<FileLine<A>, A>,
@@ -23,7 +23,7 @@ pub struct Files<A: Allocator + Copy> {
 }
 
 impl<A: Allocator + Copy> Files<A> {
-    /// The files of a volume; the first page of all is to be taken out first.
+    /// Returns the files of a volume. The first page of the first file is to be reclaimed first.
     pub fn of<D: Device>(alloc: A, volume: &Volume<D, A>) -> Result<Self, AllocError>
         ensures files { IfOk result (λ files. AreFiles volume.now.table volume.now.lengths files.lines.items) }
         ensures first { IfOk result (λ files. files.next ≡ record { file = 0; page = 0 }) }
@@ -42,7 +42,7 @@ impl<A: Allocator + Copy> Files<A> {
         })
     }
 
-    /// How many pages all files may have, as far as 64 bits count.
+    /// Returns the total number of pages that the files may have, at most 2 ^ 64 - 1.
     pub fn pages(&self) -> u64
         ensures { result ≡ min (pages_in self.now.lines.items) (2 ^ 64 - 1) }
     {
@@ -53,7 +53,7 @@ impl<A: Allocator + Copy> Files<A> {
         pages
     }
 
-    /// The page after the one that was answered last; after the last page of all comes the first.
+    /// Returns the page to be reclaimed next, and turns to the page after it. The last page is followed by the first.
     pub fn turn(&mut self) -> FilePage
         ensures page { result ≡ self.old.next }
         ensures next { self.new.next ≡ page_after self.old.lines.items self.old.next }
@@ -64,7 +64,7 @@ impl<A: Allocator + Copy> Files<A> {
         now
     }
 
-    // The page after a page.
+    // Returns the page after a page.
     fn after(&self, now: FilePage) -> FilePage
         ensures { result ≡ page_after self.now.lines.items now }
     {
@@ -83,7 +83,7 @@ impl<A: Allocator + Copy> Files<A> {
         FilePage { file: 0, page: 0 }
     }
 
-    // The number of the last page of a file; 0 where it has none.
+    // Returns the number of the last page of a file, or 0 if it has none.
     fn last_page(&self, file: FileNumber) -> u32
         ensures { result ≡ pages_of_line (slice_get self.now.lines.items file) - 1 }
     {

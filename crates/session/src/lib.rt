@@ -1,4 +1,5 @@
-//! A session over any disk: requests are read from a line each, carried out on a machine, and answered by a line.
+//! A session over any disk. It reads requests, one per line, carries them out on a machine, and answers each with a
+//! line.
 #![tactic(auto)]
 
 mod acknowledging;

@@ -8,23 +8,23 @@ use std::io;
 use std::io::{BufRead, ErrorKind};
 
 // Rule: long line
-/// The most bytes of a line, without its line feed.
+/// The largest number of bytes in a line, without its line feed.
 pub const MOST_OF_LINE: u64 = 262_144;
 
-/// What an input has next.
+/// What comes next in an input.
 #[derive(Clone, Copy, Debug, PartialEq, Eq)]
 pub enum Line {
     /// A line that isn't too long.
     Whole,
-    /// A line that is too long, which was skipped.
+    /// A line that is too long, and was skipped.
     Long,
-    /// The end.
+    /// The end of the input.
     End,
 }
 
-/// Reads the next line, without its line feed, into a buffer that is cleared before.
+/// Reads the next line into `line`, without its line feed. The buffer is cleared first.
 ///
-/// Where it answers `Ok`, it has taken that line and its line feed from the input, and nothing after them.
+/// If it returns `Ok`, it has consumed this line and its line feed, and nothing after them.
 pub fn read_line<A: Allocator + Copy, I: BufRead>(
     input: &mut I,
     line: &mut Vec<u8, A>,
@@ -48,8 +48,8 @@ pub fn read_line<A: Allocator + Copy, I: BufRead>(
     Ok(Line::Long)
 }
 
-// Appends the next line, with its line feed, as far as it isn't too long, to what is empty. Of one that is too long it
-// takes one byte more than the most that a line has.
+// Appends the next line, with its line feed, to an empty buffer. If the line is too long, it appends one byte more than
+// the limit.
 fn read_start<A: Allocator + Copy, I: BufRead>(
     input: &mut I,
     line: &mut Vec<u8, A>,
@@ -65,8 +65,8 @@ fn read_start<A: Allocator + Copy, I: BufRead>(
     Err(io::Error::from(ErrorKind::TimedOut))
 }
 
-// Appends what the input has at hand of the line. Answers whether nothing more is to be read of it. A signal that
-// interrupts is none of the input's faults.
+// Appends the part of the line that the input has at hand. Returns whether the line needs no further read. A read that
+// a signal interrupts isn't an error.
 fn append_part<A: Allocator + Copy, I: BufRead>(
     input: &mut I,
     line: &mut Vec<u8, A>,
@@ -95,7 +95,7 @@ fn append_part<A: Allocator + Copy, I: BufRead>(
     Ok(ends)
 }
 
-// How many of the bytes are of one line and its line feed, up to the most; and whether that ends it.
+// Returns the number of bytes that belong to one line and its line feed, at most `most`, and whether they end it.
 fn part_of_line(bytes: &[u8], most: usize) -> (usize, bool)
     ensures { IsPart bytes.now most result.0 result.1 }
 {

@@ -1,4 +1,4 @@
-// What a session notes of the steps that were made.
+// What a session notes about the steps that were made.
 ghost use Rattle.std.specs.Prelude.{ℕ, ◌≡◌, false, List, length};
 ghost use Rattle.machine.specs.AtOnce.{store_replies};
 ghost use Rattle.session.specs.Notes.{noted_after, noted_all, failed_by};
@@ -6,17 +6,17 @@ ghost use Rattle.session.specs.Notes.{noted_after, noted_all, failed_by};
 use machine::{Outcome, Reply};
 use page_entry::Refusal;
 
-/// What a session has to know of the steps that were made before.
+/// What a session has to know about earlier steps.
 #[derive(Clone, Copy, Debug, PartialEq, Eq)]
 pub struct Notes {
-    /// Whether a store was made, or a length set, that no mark has yet.
+    /// Whether a store or a new length isn't in any mark yet.
     pub has_unmarked: bool,
-    /// Whether a step was answered that the device failed.
+    /// Whether a reply reported that the device failed.
     pub has_failed: bool,
 }
 
 impl Notes {
-    /// No step was made.
+    /// Returns the notes before any step.
     pub(crate) fn new() -> Self
         ensures { result ≡ record { has_unmarked = false; has_failed = false } }
     {
@@ -26,7 +26,7 @@ impl Notes {
         }
     }
 
-    /// These, and what one reply more says.
+    /// Returns these notes, updated by one more reply.
     pub(crate) fn after(self, reply: &Reply) -> Self
         ensures { result ≡ noted_after self reply.now }
     {
@@ -38,7 +38,7 @@ impl Notes {
 }
 
 impl Notes {
-    /// These, and what is noted of so many stores.
+    /// Returns these notes, updated by `count` stores.
     pub(crate) fn after_stores(self, count: usize) -> Self
         ensures { (bytes : List ℕ) → length bytes ≡ count → result ≡ noted_all self (store_replies bytes) }
     {
@@ -50,7 +50,7 @@ impl Notes {
     }
 }
 
-// Whether a step was answered that the device failed, after one reply more.
+// Whether the device failed in a step, after one more reply.
 fn failed_by(before: bool, reply: &Reply) -> bool
     ensures { result ≡ failed_by before reply.now }
 {

@@ -1,4 +1,4 @@
-// Steps that a session makes beside those that it was asked for: faults are served, and frames are made free.
+// Steps that a session makes beyond the requested ones: they serve faults and free frames.
 ghost use Rattle.std.specs.Prelude.{◌≡◌, ◌↔◌, [], ◌∷◌, true, false, IsTrue};
 ghost use Rattle.page_entry.specs.declared.refusal.Refusal.{Refusal};
 ghost use Rattle.spaces.specs.declared.change.Change.{Change};
@@ -22,12 +22,12 @@ use machine::{Act, ProcState, Reply, Step};
 use page_entry::{FilePage, ProcessorNumber, Refusal};
 use std::alloc::Allocator;
 
-/// The most processors that a machine has.
+/// The largest number of processors of a machine.
 const PROCESSORS: u8 = 16;
 
 impl<D: Device, A: Allocator + Copy> Requests<D, A> {
-    /// Serves a fault of a processor, and makes a frame free for it where none is. Answers `Fixed`, or why it isn't
-    /// served.
+    /// Serves a processor's fault. If no frame is free for it, frees one first. Returns `Fixed`, or the reply to the
+    /// last attempt to serve it.
     pub(crate) fn fix(&mut self, p: ProcessorNumber, va: u64, write: bool) -> Reply
         ensures served { reports_fixed result ≡ true → CarriesOut D.Device self.old.machine self.old.notes
             (InTurn self.old.files (λ _. Serves p va write) self.new.files) self.new.machine self.new.notes }
@@ -49,7 +49,7 @@ impl<D: Device, A: Allocator + Copy> Requests<D, A> {
         self.make(&fix)
     }
 
-    /// Makes a frame free, if that can be done. Answers whether one is.
+    /// Frees a frame, if this is possible. Returns whether a frame became free.
     pub(crate) fn make_room(&mut self, p: ProcessorNumber) -> bool
         ensures { CarriesOut D.Device self.old.machine self.old.notes
             (InTurn self.old.files (MakesRoom p result) self.new.files) self.new.machine self.new.notes }
@@ -60,7 +60,7 @@ impl<D: Device, A: Allocator + Copy> Requests<D, A> {
         self.make_room_later(p)
     }
 
-    // Makes a frame free, once the write-outs are done: a page that belongs to one stays in memory until then.
+    // Finishes the write-outs, then frees a frame. A page of a write-out stays in memory until the write-out is done.
     fn make_room_later(&mut self, p: ProcessorNumber) -> bool
         ensures { CarriesOut D.Device self.old.machine self.old.notes
             (InTurn self.old.files (MakesRoomLater p result) self.new.files) self.new.machine self.new.notes }
@@ -71,7 +71,7 @@ impl<D: Device, A: Allocator + Copy> Requests<D, A> {
         self.take_next_out(p)
     }
 
-    // Takes the next page that is clean out of memory. Answers whether there was one; if not, all pages were tried.
+    // Reclaims the next clean page. Returns whether there was one. If not, all pages were tried.
     fn take_next_out(&mut self, p: ProcessorNumber) -> bool
         ensures { CarriesOut D.Device self.old.machine self.old.notes
             (InTurn self.old.files (Tries p result) self.new.files) self.new.machine self.new.notes }
@@ -84,7 +84,7 @@ impl<D: Device, A: Allocator + Copy> Requests<D, A> {
         false
     }
 
-    // Makes all steps of the write-outs that are left. Answers whether there was one.
+    // Makes all write-out steps that are left. Returns whether there was one.
     fn write_home(&mut self, p: ProcessorNumber) -> bool
         ensures { CarriesOut D.Device self.old.machine self.old.notes
             (InTurn self.old.files (λ _. WritesHome p result) self.new.files) self.new.machine self.new.notes }
@@ -99,7 +99,7 @@ impl<D: Device, A: Allocator + Copy> Requests<D, A> {
         }
     }
 
-    /// Makes a step of the write-outs.
+    /// Makes a write-out step.
     pub(crate) fn flush(&mut self, p: ProcessorNumber) -> Reply
         ensures makes { Makes D.Device self.old.machine self.old.notes (record { p = p; act = acts.Flush } ∷ [])
             (result ∷ []) self.new.machine self.new.notes }
@@ -109,7 +109,7 @@ impl<D: Device, A: Allocator + Copy> Requests<D, A> {
         self.make(&flush)
     }
 
-    // Takes the page out of memory whose turn it is, if it is there and clean. Answers whether it was.
+    // Reclaims the page whose turn it is, if it is in memory and clean. Returns whether it was.
     fn try_next(&mut self, p: ProcessorNumber) -> bool
         ensures { CarriesOut D.Device self.old.machine self.old.notes
             (InTurn self.old.files (λ _. Tries p result 1) self.new.files) self.new.machine self.new.notes }
@@ -118,7 +118,7 @@ impl<D: Device, A: Allocator + Copy> Requests<D, A> {
         self.take_out(p, page)
     }
 
-    // Takes a page out of memory, if it is there and clean. Answers whether it was.
+    // Reclaims a page, if it is in memory and clean. Returns whether it was.
     fn take_out(&mut self, p: ProcessorNumber, page: FilePage) -> bool
         ensures tries { CarriesOut D.Device self.old.machine self.old.notes (TriesPage p page result)
             self.new.machine self.new.notes }
@@ -140,7 +140,8 @@ impl<D: Device, A: Allocator + Copy> Requests<D, A> {
         is_reclaimed(&changed)
     }
 
-    /// Makes the change that a processor began. Those that it interrupted stall before, and go on after it.
+    /// Makes the change that a processor began. The processors that the change interrupted stall before it, and resume
+    /// after it.
     pub(crate) fn change(&mut self, p: ProcessorNumber) -> Reply
         requires { (change : Change) × HoldsLock p change self.old.machine.state }
         ensures answers { MakesStepsThat D.Device self.old.machine self.old.notes (AnswersChange p result)
@@ -153,7 +154,7 @@ impl<D: Device, A: Allocator + Copy> Requests<D, A> {
         self.change_from(p, 0)
     }
 
-    // The same, where no processor below a number is interrupted.
+    // Does the same, if no processor below number `next` is interrupted.
     fn change_from(&mut self, p: ProcessorNumber, next: ProcessorNumber) -> Reply
         requires held { (change : Change) × HoldsLock p change self.old.machine.state }
         requires calm { AreCalm next self.old.machine.state }
@@ -185,7 +186,7 @@ impl<D: Device, A: Allocator + Copy> Requests<D, A> {
         reply
     }
 
-    // The same, where no processor is interrupted.
+    // Does the same, if no processor is interrupted.
     fn make_change(&mut self, p: ProcessorNumber) -> Reply
         requires held { (change : Change) × HoldsLock p change self.old.machine.state }
         requires calm { AreCalm 16 self.old.machine.state }
@@ -225,14 +226,14 @@ fn is_reclaimed(reply: &Reply) -> bool
     matches!(reply, Reply::Reclaimed)
 }
 
-/// Whether no frame, or too few, were free.
+/// Whether too few frames were free.
 pub(crate) fn is_no_frame(reply: &Reply) -> bool
     ensures { IsTrue result ↔ (reply.now ≡ replied.Refused Refusal.NoFrame) }
 {
     matches!(reply, Reply::Refused(Refusal::NoFrame))
 }
 
-/// Whether a step of a write-out was made.
+/// Whether a write-out step was made.
 pub(crate) fn is_flushed(reply: &Reply) -> bool
     ensures { result ≡ reports_flushed reply.now }
 {

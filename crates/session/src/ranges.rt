@@ -1,5 +1,5 @@
-// Ranges of addresses, loaded and stored: of each page a piece of up to eight bytes, for which its fault is served, and
-// then the rest at once, as far as that serves it.
+// Loads and stores of ranges of addresses. In each page, an access of up to eight bytes comes first, and its fault is
+// served. The rest of the page is then accessed at once, as far as the cached entry serves it.
 ghost use Rattle.std.specs.Prelude.{◌≡◌, ◌↔◌, ◌<◌, ◌≤◌, ◌++◌, length, [], true, false, IfOk, IfErr, IsTrue};
 ghost use Rattle.machine.specs.declared.act.Act.TheVariants as acts;
 ghost use Rattle.machine.specs.declared.act.Reply.TheVariants as replied;
@@ -21,14 +21,14 @@ use std::alloc::{AllocError, Allocator};
 pub enum Reached {
     /// All of it.
     All,
-    /// So many bytes of it, and then a step was answered so.
+    /// The accesses before this byte were made. The next step got this reply.
     Refused { count: usize, reply: Reply },
-    /// To where memory was refused.
+    /// Memory was refused before the end.
     NoMemory,
 }
 
 impl<D: Device, A: Allocator + Copy> Requests<D, A> {
-    /// Loads so many bytes from an address on.
+    /// Loads `count` bytes from the address `va` on into an empty vector. Returns how far it got.
     pub fn load(
         &mut self,
         p: ProcessorNumber,
@@ -58,7 +58,7 @@ impl<D: Device, A: Allocator + Copy> Requests<D, A> {
         Reached::All
     }
 
-    /// Stores bytes from an address on.
+    /// Stores bytes from the address `va` on. Returns how far it got.
     pub fn store(&mut self, p: ProcessorNumber, va: u64, bytes: &[u8]) -> Reached
         ensures { CarriesOut D.Device self.old.machine self.old.notes
             (InTurn self.old.files (StoresReached p va bytes.now result) self.new.files)
@@ -79,8 +79,8 @@ impl<D: Device, A: Allocator + Copy> Requests<D, A> {
         Reached::All
     }
 
-    // Appends a piece that was loaded, and loads on at once, from the byte of this number of a range, of which so many
-    // are left. Answers how many were loaded.
+    // Appends a loaded piece. Then loads at once from byte `done` of the range on, at most the `left` bytes that are
+    // missing. Returns the number of bytes that it loaded at once.
     fn load_on(
         &self,
         p: ProcessorNumber,
@@ -102,7 +102,8 @@ impl<D: Device, A: Allocator + Copy> Requests<D, A> {
         Ok(run.len())
     }
 
-    // Loads a piece from an address on. Answers its bytes, or the reply that ends the range before it.
+    // Loads a piece from an address on, and returns its bytes. Fails with the reply that ends the range before the
+    // piece.
     fn load_piece(&mut self, p: ProcessorNumber, va: u64, count: usize) -> Result<FewBytes, Reply>
         requires { IsPiece va count }
         ensures ok { IfOk result (λ bytes. CarriesOut D.Device self.old.machine self.old.notes
@@ -123,7 +124,7 @@ impl<D: Device, A: Allocator + Copy> Requests<D, A> {
         }
     }
 
-    // Stores a piece from an address on. Where it isn't stored, answers the reply that ends the range before it.
+    // Stores a piece from an address on. If it isn't stored, fails with the reply that ends the range before it.
     fn store_piece(&mut self, p: ProcessorNumber, va: u64, bytes: &[u8]) -> Result<(), Reply>
         requires { IsPiece va (length bytes.now) }
         ensures ok { IfOk result (λ _. CarriesOut D.Device self.old.machine self.old.notes
@@ -141,8 +142,8 @@ impl<D: Device, A: Allocator + Copy> Requests<D, A> {
         }
     }
 
-    // Makes a load or a store at an address, and serves its fault. Answers what it is answered in the end, which is no
-    // fault; or else why its fault isn't served.
+    // Makes a load or a store at an address, and serves its fault. Returns the final reply, which is never a fault. If
+    // the fault isn't served, fails with the reply to the last attempt.
     fn access(&mut self, p: ProcessorNumber, act: Act, va: u64, write: bool) -> Result<Reply, Reply>
         requires { IsAccessFor va write act }
         ensures ok { IfOk result (λ reply. CarriesOut D.Device self.old.machine self.old.notes
@@ -167,7 +168,8 @@ impl<D: Device, A: Allocator + Copy> Requests<D, A> {
     }
 }
 
-// How many bytes the next step of a range has, of those that are left: up to eight, inside the page of the address.
+// Returns the number of bytes of the next step, at most the `left` bytes and eight. They lie in the page of the
+// address.
 fn piece(va: u64, left: usize) -> usize
     requires { 0 < left }
     ensures piece { IsPiece va result }
@@ -177,7 +179,7 @@ fn piece(va: u64, left: usize) -> usize
     left.min(8).min(to_border)
 }
 
-// These bytes, which are at most eight.
+// Returns these bytes, which are at most eight.
 fn part(bytes: &[u8]) -> FewBytes
     requires { length bytes.now ≤ 8 }
     ensures { result ≡ bytes.now }

@@ -23,31 +23,31 @@ use serde_json::Value;
 use std::alloc::{AllocError, Allocator, Global};
 use std::str;
 
-/// The most bytes that one request loads or stores.
+/// The largest number of bytes that one request loads or stores.
 pub const MOST_BYTES: u64 = 65_536;
 
-/// What is asked for.
+/// A request.
 #[derive(Drop)]
 pub enum Request<A: Allocator + Copy> {
-    /// These steps, one after the other.
+    /// Makes these steps in order.
     Steps(Vec<Step, A>),
-    /// To load so many bytes from an address on.
+    /// Loads this number of bytes from an address on.
     Load {
         p: ProcessorNumber,
         va: u64,
         count: u64,
     },
-    /// To store bytes from an address on.
+    /// Stores bytes from an address on.
     Store {
         p: ProcessorNumber,
         va: u64,
         bytes: Vec<u8, A>,
     },
-    /// To commit all stores.
+    /// Commits all stores.
     Commit {
         p: ProcessorNumber,
     },
-    /// To set the length of a file.
+    /// Sets the length of a file.
     SetLength {
         p: ProcessorNumber,
         file: u16,
@@ -55,7 +55,8 @@ pub enum Request<A: Allocator + Copy> {
     },
 }
 
-/// The shape that the first line of a session is.
+/// Returns the shape in the first line of a session. Fails if the line isn't UTF-8 or contains no shape, or if memory
+/// is refused.
 pub fn read_shape(global: Global, line: &[u8]) -> Result<Shape, ScriptFault>
     ensures ok { IfOk result (λ shape. shape_in line.now ≡ Some shape) }
     ensures err { IfErr result (λ fault. IsNoMemory fault ⊎ (shape_in line.now ≡ None) ⊎ ¬ (IsUtf8 line.now)) }
@@ -66,7 +67,8 @@ pub fn read_shape(global: Global, line: &[u8]) -> Result<Shape, ScriptFault>
     shape(global, Form::Session, &value)
 }
 
-/// The request that a line is.
+/// Returns the request in a line. Fails with the reason if the line isn't UTF-8 or contains no request, or if memory is
+/// refused.
 pub fn read_request<A: Allocator + Copy>(
     global: Global,
     alloc: A,
@@ -103,7 +105,7 @@ fn request_of<A: Allocator + Copy>(
     }
 }
 
-// The request that a value is which is a list of these items.
+// Returns the request in a value that is a list of these items.
 fn items_request<A: Allocator + Copy>(
     global: Global,
     alloc: A,
@@ -124,7 +126,7 @@ fn items_request<A: Allocator + Copy>(
     }
 }
 
-// All steps of a list, in order. A fault says which is refused first, counted from 1.
+// Returns all steps of a list, in order. A fault contains the number of the first refused step, counted from 1.
 fn steps_together<A: Allocator + Copy>(
     global: Global,
     alloc: A,
@@ -151,7 +153,8 @@ fn steps_together<A: Allocator + Copy>(
     }
 }
 
-// A processor, a name and arguments, which are the items of this value: a range, a commit, a length, or else a step.
+// Returns the request with this processor, name and arguments, which are the items of `value`: a range, a commit, a
+// length, or else a step.
 fn named<A: Allocator + Copy>(
     alloc: A,
     value: &Value,
@@ -239,7 +242,7 @@ fn set_length_of<A: Allocator + Copy>(
     Ok(Request::SetLength { p, file, length })
 }
 
-// The processor of a request that has two arguments, and these. A fault says which are wanted.
+// Returns the processor and both arguments of a request that has two. A fault names the wanted arguments.
 fn with_two<'a>(
     p: &Value,
     arguments: &'a [Value],
@@ -267,7 +270,7 @@ fn wrong_arguments(act: &'static str, arguments: &'static str) -> StepFault {
     StepFault::Arguments { act, arguments }
 }
 
-// The bytes that a string of hexadecimal digits is.
+// Returns the bytes in a string of hexadecimal digits.
 fn bytes_of<A: Allocator + Copy>(alloc: A, value: &Value) -> Result<Vec<u8, A>, RequestFault>
     ensures ok { IfOk result (λ bytes. bytes_in_digits (view value.now) ≡ Some bytes.items) }
     ensures err { IfErr result (λ fault. IsMemory fault ⊎ (bytes_in_digits (view value.now) ≡ None)) }

@@ -1,13 +1,13 @@
-// Why a line is no request.
+// Why a line isn't a request.
 use scripts::StepFault;
 use std::alloc::AllocError;
 use thiserror::Error;
 
-/// Why a line is no request. A bad line is answered by words for its fault, which a contract knows (`cause_words`), and
-/// then by what is displayed of the fault.
+/// Why a line isn't a request. The answer to a bad line contains words for its fault, which a contract defines
+/// (`cause_words`). The displayed fault comes after them.
 #[derive(Debug, Drop, Error)]
 pub enum RequestFault {
-    /// It has more than so many bytes.
+    /// It has more than this number of bytes.
     #[error("")]
     Long(u64),
     #[error("")]
@@ -20,14 +20,14 @@ pub enum RequestFault {
     Empty,
     #[error("{0}")]
     Step(StepFault),
-    /// The step of this number, counted from 1, is none.
+    /// The step of this number, counted from 1, isn't a step.
     #[error("{found}: {cause}")]
     Steps {
         number: u64,
         found: String,
         cause: StepFault,
     },
-    /// The bytes aren't digits, or are more than so many.
+    /// The bytes aren't hexadecimal digits, or are more than this number.
     #[error("")]
     Bytes(u64),
     #[error("")]

@@ -1,4 +1,4 @@
-// A machine on which requests are carried out, and what has to be known of the steps that were made on it.
+// A machine that carries out requests, and what must be known about the steps that were made on it.
 ghost use Rattle.std.specs.Prelude.{◌≡◌, ◌+◌, ◌^◌, ◌≤◌, [], ◌∷◌, length, take, IfOk, IfErr};
 ghost use Rattle.shootdown.specs.Shootdown.{IsShootdown};
 ghost use Rattle.machine.specs.AtOnce.{load_steps, load_replies, store_steps, store_replies};
@@ -16,14 +16,14 @@ use recovery::opened_as_recovered;
 use std::alloc::Allocator;
 use std::marker::Model;
 
-/// The machine of a session. A request's contract speaks of the machine before the request and after it. That steps led
-/// to this machine from its start is known of a `Session`.
+/// The machine of a session. A request's contract relates the machines before and after the request. Only for a
+/// `Session` it is known that steps from its start led to this machine.
 ///
-/// Contracts see the machine, what is noted of the steps that were made on it since it was started, and the files.
+/// Contracts see the machine, the notes about the steps that were made since its start, and the files.
 #[derive(Drop)]
 pub(crate) struct Requests<D: Device, A: Allocator + Copy> {
     machine: Machine<D, A>,
-    // What was noted of the steps that were made.
+    // The notes about the steps that were made.
     notes: Notes,
     files: Files<A>,
 }
@@ -70,12 +70,12 @@ fn open_and_boot<D: Device, A: Allocator + Copy>(
 }
 
 impl<D: Device, A: Allocator + Copy> Requests<D, A> {
-    /// Opens the volume of a device, and boots a machine of this shape over it. It lists the files of the volume with
-    /// their lengths, as they were opened: those that the device's bytes recover to (`IsStarted`). A refusal hands the
-    /// device back.
+    /// Opens the volume of a device, and boots a machine of this shape over it. It lists the volume's files with their
+    /// lengths as they were opened: the files that the device's bytes recover to (`IsStarted`). On failure it returns
+    /// the device.
     ///
-    /// `NotAVolume`, `Damaged` and `Device` as `recovery::open`, `BadShape` as `Machine::boot`, and `OutOfMemory` where
-    /// memory was refused.
+    /// Fails with `NotAVolume`, `Damaged` or `Device` as `recovery::open`, with `BadShape` as `Machine::boot`, and with
+    /// `OutOfMemory` if memory is refused.
     pub fn start(alloc: A, device: D, shape: Shape) -> Result<Self, (Refusal, D)>
         ensures started { IfOk result (λ requests. IsStarted D.Device device shape requests.machine requests.notes
             requests.files.lines.items) }
@@ -90,7 +90,7 @@ impl<D: Device, A: Allocator + Copy> Requests<D, A> {
         }
     }
 
-    /// Makes a step, and notes what its reply says.
+    /// Makes a step, and notes its reply.
     pub fn make(&mut self, step: &Step) -> Reply
         ensures makes { Makes D.Device self.old.machine self.old.notes (step.now ∷ []) (result ∷ []) self.new.machine
             self.new.notes }
@@ -101,8 +101,8 @@ impl<D: Device, A: Allocator + Copy> Requests<D, A> {
         reply
     }
 
-    /// Loads up to so many bytes from an address on at once, each as by a step: those in the page of the address, where
-    /// the processor has cached an entry that serves them, and otherwise none.
+    /// Loads up to `count` bytes from the address `va` on at once, each as by a step. It loads the bytes in the page of
+    /// the address if the processor has cached an entry that serves them, and otherwise none.
     pub(crate) fn load_run(&self, p: ProcessorNumber, va: u64, count: usize) -> &[u8]
         ensures makes { Makes D.Device self.now.machine self.now.notes (load_steps p va result.now)
             (load_replies result.now) self.now.machine self.now.notes }
@@ -112,8 +112,8 @@ impl<D: Device, A: Allocator + Copy> Requests<D, A> {
         self.machine.load_run(p, va, count)
     }
 
-    /// Stores bytes from an address on at once, each as by a step: those in the page of the address, where the
-    /// processor has cached an entry that serves them, and otherwise none. Answers how many.
+    /// Stores bytes from the address `va` on at once, each as by a step. It stores the bytes in the page of the address
+    /// if the processor has cached an entry that serves them, and otherwise none. Returns the number of stored bytes.
     pub(crate) fn store_run(&mut self, p: ProcessorNumber, va: u64, bytes: &[u8]) -> usize
         ensures makes { Makes D.Device self.old.machine self.old.notes (store_steps p va (take result bytes.now))
             (store_replies (take result bytes.now)) self.new.machine self.new.notes }
@@ -126,21 +126,21 @@ impl<D: Device, A: Allocator + Copy> Requests<D, A> {
         count
     }
 
-    /// The machine on which the steps are made.
+    /// Returns the machine on which the steps are made.
     pub fn machine(&self) -> &Machine<D, A>
         ensures { result.now ≡ self.now.machine }
     {
         &self.machine
     }
 
-    /// What was noted of the steps that were made.
+    /// Returns the notes about the steps that were made.
     pub fn notes(&self) -> Notes
         ensures { result ≡ self.now.notes }
     {
         self.notes
     }
 
-    /// The page whose turn it is to be taken out of memory.
+    /// Returns the page to be reclaimed next, and turns to the page after it.
     pub(crate) fn turn(&mut self) -> FilePage
         ensures page { result ≡ self.old.files.next }
         ensures next { self.new.files.next ≡ page_after self.old.files.lines.items self.old.files.next }
@@ -151,21 +151,21 @@ impl<D: Device, A: Allocator + Copy> Requests<D, A> {
         self.files.turn()
     }
 
-    /// The volume's files.
+    /// Returns the volume's files.
     pub fn files(&self) -> &Files<A>
         ensures { result.now ≡ self.now.files }
     {
         &self.files
     }
 
-    // One change at most is under way on the machine, and the phases of its processors fit together.
+    // At most one change is in progress on the machine, and the phases of its processors fit together.
     pub(crate) fn has_phases(&self)
         ensures { IsShootdown self.now.machine.state.hardware.shootdown }
     {
         self.machine.is_coherent();
     }
 
-    /// The device, as it is.
+    /// Returns the device in its present state.
     pub fn into_device(self) -> D
         ensures { result ≡ self.machine.device }
     {

@@ -1,4 +1,4 @@
-// A new length of a file: from its beginning to the end of its change.
+// A new length of a file, from the beginning to the end of its change.
 ghost use Rattle.std.specs.Prelude.{◌≡◌, true, false};
 ghost use Rattle.page_entry.specs.declared.refusal.Refusal.{Refusal};
 ghost use Rattle.spaces.specs.declared.change.Change.TheVariants.{SetLength};
@@ -18,10 +18,11 @@ use page_entry::ProcessorNumber;
 use std::alloc::Allocator;
 
 impl<D: Device, A: Allocator + Copy> Requests<D, A> {
-    /// Sets the length of a file. Answers what the change was answered; or, where none was begun, what the last step
-    /// was answered that would have begun it: `Fine` where the file has this length already, or why it isn't set. Where
-    /// that step was busy, and the step of the write-outs that would be made for it was refused, it answers that
-    /// refusal. A new length isn't committed by that.
+    /// Sets the length of a file, and returns the reply to the change. The new length isn't committed.
+    ///
+    /// If no change was begun, it returns the reply to the last step that would have begun it. The reply is `Fine` if
+    /// the file has this length already. Otherwise it is a refusal. If this step was busy, and the write-out step that
+    /// it waits for was refused, it returns that refusal.
     pub fn set_length(&mut self, p: ProcessorNumber, file: u16, length: u64) -> Reply
         ensures { CarriesOut D.Device self.old.machine self.old.notes
             (InTurn self.old.files (AnswersLength p file length result) self.new.files)
@@ -34,7 +35,7 @@ impl<D: Device, A: Allocator + Copy> Requests<D, A> {
         self.change(p)
     }
 
-    // Begins to set a length. Where write-outs have to be done first, it makes steps of them.
+    // Begins to set a length. If write-outs must be done first, it makes write-out steps.
     fn begin_length(&mut self, p: ProcessorNumber, file: u16, length: u64) -> Reply
         ensures begins { reports_begun result ≡ true → BeginsChange D.Device self.old.machine self.old.notes
             (InTurn self.old.files (λ _. BeginsLength p file length) self.new.files) p (SetLength file length)
@@ -54,7 +55,7 @@ impl<D: Device, A: Allocator + Copy> Requests<D, A> {
         }
     }
 
-    // Begins to set a length. Where too few frames are free for the pages that the file gets, it makes more free.
+    // Begins to set a length. If too few frames are free for the file's new pages, it frees more.
     fn begin_in_room(&mut self, p: ProcessorNumber, file: u16, length: u64) -> Reply
         ensures begins { reports_begun result ≡ true → BeginsChange D.Device self.old.machine self.old.notes
             (InTurn self.old.files (AttemptsLength p file length result) self.new.files) p (SetLength file length)

@@ -24,15 +24,15 @@ use std::alloc::{AllocError, Allocator, Global};
 use std::io;
 use std::io::BufRead;
 
-/// Reads requests, a line each, carries each out, and writes the line that answers it before the next one is read, up
-/// to the end of the input.
+/// Reads requests, one per line, up to the end of the input. It carries out each one, and writes the line that answers
+/// it before it reads the next.
 ///
-/// However the session ends, its steps and their replies are a run over the device that the machine was started over,
-/// with all that holds of one: after a crash, and after none, what was stored survives (`HasRun`).
+/// However the session ends, its steps and their replies are a run over the device that the machine was started over.
+/// So all that holds for runs holds for them: stored data survives, with or without a crash (`HasRun`).
 ///
-/// Where it answers `Ok`, these same steps answered the lines of the input, up to its end or 2 ^ 64 - 1 of them, by a
-/// line for each, in their order: what a line asks for was done by steps after those of the lines before it, and the
-/// answer says what came of it (`AnswersInput`).
+/// If it returns `Ok`, these steps answered the lines of the input, up to its end or 2 ^ 64 - 1 lines. Each line has
+/// one answer line, in the same order. A line is carried out by steps after those of the lines before it, and its
+/// answer states their result (`AnswersInput`).
 pub fn serve_on<D: Device, A: Allocator + Copy, I: BufRead, W: io::Write>(
     global: Global,
     alloc: A,
@@ -58,7 +58,7 @@ pub fn serve_on<D: Device, A: Allocator + Copy, I: BufRead, W: io::Write>(
     Ok(())
 }
 
-// Reads a line and answers it. Answers whether there was one.
+// Reads a line and answers it. Returns whether there was one.
 fn serve_next<D: Device, A: Allocator + Copy, I: BufRead, W: io::Write>(
     global: Global,
     alloc: A,
@@ -87,14 +87,14 @@ fn serve_next<D: Device, A: Allocator + Copy, I: BufRead, W: io::Write>(
     }
 }
 
-/// Answers a line, without its line feed, by one line: carries out the request that it is, and nothing else; or says
-/// why it is none, and makes no step.
+/// Answers a line, passed without its line feed, with one line. It carries out the request in the line, and nothing
+/// else. If the line isn't a request, it writes the reason, and makes no step.
 ///
-/// Where it answers `Ok`, all was done that the line asks for, as far as the machine does it, and the line that was
-/// written says what came of these same steps, and no more.
+/// If it returns `Ok`, everything that the line requests was done, as far as the machine does it. The written line
+/// states the result of exactly these steps.
 ///
-/// Unless the line asks for steps by name, it leaves the lock and the processors' phases as they were, whatever came
-/// (`phases`).
+/// Unless the line requests steps by name, the lock and the processors' phases are the same afterwards, whatever the
+/// result (`phases`).
 pub fn serve_line<D: Device, A: Allocator + Copy, W: io::Write>(
     global: Global,
     alloc: A,
@@ -113,8 +113,8 @@ pub fn serve_line<D: Device, A: Allocator + Copy, W: io::Write>(
     }
 }
 
-// Writes why a line is no request. If that is that memory was refused, there is no answer. The detail is made before
-// any of the line is written.
+// Writes why a line isn't a request. If memory was refused, it writes no answer. The detail is made before any part of
+// the line is written.
 fn write_bad<A: Allocator + Copy, W: io::Write>(
     alloc: A,
     cause: &RequestFault,
@@ -133,7 +133,7 @@ fn write_bad<A: Allocator + Copy, W: io::Write>(
     }
 }
 
-// The detail of a cause, in one line.
+// Returns the detail of a cause, in one line.
 fn detail_line<A: Allocator + Copy>(
     alloc: A,
     cause: &RequestFault,
@@ -144,7 +144,7 @@ fn detail_line<A: Allocator + Copy>(
     in_one_line(alloc, text.as_str())
 }
 
-// The bytes of a text, with a space in place of each line feed.
+// Returns the bytes of a text, with a space in place of each line feed.
 fn in_one_line<A: Allocator + Copy>(alloc: A, text: &str) -> Result<Vec<u8, A>, AllocError>
     ensures { IfOk result (λ line. HasNoFeed line.items) }
 {
@@ -188,7 +188,7 @@ fn write_words<W: io::Write>(cause: &RequestFault, out: &mut W) -> io::Result<()
     }
 }
 
-// Writes how bytes are to be given, of which there are at most so many.
+// Writes the expected form of bytes, of which at most `most` are allowed.
 fn write_wanted_bytes<W: io::Write>(most: u64, out: &mut W) -> io::Result<()>
     ensures { OnOk result (Appends (W.contents out.old) (W.contents out.new)
         (codes "the bytes aren't two hexadecimal digits for each of at most " ++ decimal most ++ codes " bytes")) }
@@ -199,7 +199,7 @@ fn write_wanted_bytes<W: io::Write>(most: u64, out: &mut W) -> io::Result<()>
     )
 }
 
-// Flushes the output after an answer that was written.
+// Flushes the output after an answer was written.
 fn flushed<W: io::Write>(
     written: Result<(), SessionFault>,
     out: &mut W,

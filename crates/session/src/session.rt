@@ -1,4 +1,4 @@
-// A session: a machine on which requests are carried out, reached by steps from its start.
+// A session: a machine that carries out requests, reached by steps from its start.
 ghost use Rattle.std.specs.Prelude.{◌≡◌, [], ◌∷◌, IfOk, IfErr};
 ghost use Rattle.engine.specs.Engine.{HasNotStarted};
 ghost use Rattle.session.specs.CarriedOut.{CarriesOut};
@@ -19,9 +19,9 @@ use page_entry::{ProcessorNumber, Refusal};
 use std::alloc::Allocator;
 use std::marker::Model;
 
-/// A machine on which requests are carried out, and no other steps are made.
+/// A machine that carries out requests, and makes no other steps.
 ///
-/// Contracts see the machine, what is noted of the steps that were made on it since it was started, and the files.
+/// Contracts see the machine, the notes about the steps that were made since its start, and the files.
 #[derive(Drop)]
 pub struct Session<D: Device, A: Allocator + Copy> {
     requests: Requests<D, A>,
@@ -41,12 +41,12 @@ impl<D: Device, A: Allocator + Copy> Model for Session<D, A> {
     ghost invariant = { λ s. IsServing D.Device s.requests.machine s.requests.notes };
 }
 
-/// Opens the volume of a device, and boots a machine of this shape over it. The session lists the files of the volume
-/// with their lengths, as they were opened: those that the device's bytes recover to (`IsStarted`). A refusal hands the
-/// device back.
+/// Opens the volume of a device, and boots a machine of this shape over it. The session lists the volume's files with
+/// their lengths as they were opened: the files that the device's bytes recover to (`IsStarted`). On failure it returns
+/// the device.
 ///
-/// `NotAVolume`, `Damaged` and `Device` as `recovery::open`, `BadShape` as `Machine::boot`, and `OutOfMemory` where
-/// memory was refused.
+/// Fails with `NotAVolume`, `Damaged` or `Device` as `recovery::open`, with `BadShape` as `Machine::boot`, and with
+/// `OutOfMemory` if memory is refused.
 pub fn start<D: Device, A: Allocator + Copy>(
     alloc: A,
     device: D,
@@ -63,7 +63,7 @@ pub fn start<D: Device, A: Allocator + Copy>(
 }
 
 impl<D: Device, A: Allocator + Copy> Session<D, A> {
-    /// Makes a step, and notes what its reply says.
+    /// Makes a step, and notes its reply.
     pub fn make(&mut self, step: &Step) -> Reply
         ensures makes { Makes D.Device self.old.machine self.old.notes (step.now ∷ []) (result ∷ []) self.new.machine
             self.new.notes }
@@ -72,7 +72,7 @@ impl<D: Device, A: Allocator + Copy> Session<D, A> {
         self.requests.make(step)
     }
 
-    /// Loads so many bytes from an address on.
+    /// Loads `len` bytes from the address `va` on into an empty vector. Returns how far it got.
     pub fn load(&mut self, p: ProcessorNumber, va: u64, len: usize, out: &mut Vec<u8, A>) -> Reached
         requires { out.old.items ≡ [] }
         ensures { CarriesOut D.Device self.old.machine self.old.notes
@@ -82,7 +82,7 @@ impl<D: Device, A: Allocator + Copy> Session<D, A> {
         self.requests.load(p, va, len, out)
     }
 
-    /// Stores bytes from an address on.
+    /// Stores bytes from the address `va` on. Returns how far it got.
     pub fn store(&mut self, p: ProcessorNumber, va: u64, bytes: &[u8]) -> Reached
         ensures { CarriesOut D.Device self.old.machine self.old.notes
             (InTurn self.old.files (StoresReached p va bytes.now result) self.new.files)
@@ -91,8 +91,8 @@ impl<D: Device, A: Allocator + Copy> Session<D, A> {
         self.requests.store(p, va, bytes)
     }
 
-    /// Commits all stores. Answers the number of the mark, which is durable; or what the step was answered that stopped
-    /// the commit: a refusal, or that there was nothing to do.
+    /// Commits all stores. Returns the number of the mark, which is durable. Otherwise fails with the reply to the step
+    /// that stopped the commit: a refusal, or that there was nothing to do.
     pub fn commit(&mut self, p: ProcessorNumber) -> Result<u32, Reply>
         ensures answers { CarriesOut D.Device self.old.machine self.old.notes (AnswersCommit p self.old.notes result)
             self.new.machine self.new.notes }
@@ -101,10 +101,11 @@ impl<D: Device, A: Allocator + Copy> Session<D, A> {
         self.requests.commit(p)
     }
 
-    /// Sets the length of a file. Answers what the change was answered; or, where none was begun, what the last step
-    /// was answered that would have begun it: `Fine` where the file has this length already, or why it isn't set. Where
-    /// that step was busy, and the step of the write-outs that would be made for it was refused, it answers that
-    /// refusal. A new length isn't committed by that.
+    /// Sets the length of a file, and returns the reply to the change. The new length isn't committed.
+    ///
+    /// If no change was begun, it returns the reply to the last step that would have begun it. The reply is `Fine` if
+    /// the file has this length already. Otherwise it is a refusal. If this step was busy, and the write-out step that
+    /// it waits for was refused, it returns that refusal.
     pub fn set_length(&mut self, p: ProcessorNumber, file: u16, length: u64) -> Reply
         ensures { CarriesOut D.Device self.old.machine self.old.notes
             (InTurn self.old.files (AnswersLength p file length result) self.new.files)
@@ -113,36 +114,36 @@ impl<D: Device, A: Allocator + Copy> Session<D, A> {
         self.requests.set_length(p, file, length)
     }
 
-    /// The machine on which the steps are made.
+    /// Returns the machine on which the steps are made.
     pub fn machine(&self) -> &Machine<D, A>
         ensures { result.now ≡ self.now.machine }
     {
         self.requests.machine()
     }
 
-    /// What was noted of the steps that were made.
+    /// Returns the notes about the steps that were made.
     pub fn notes(&self) -> Notes
         ensures { result ≡ self.now.notes }
     {
         self.requests.notes()
     }
 
-    /// The volume's files.
+    /// Returns the volume's files.
     pub fn files(&self) -> &Files<A>
         ensures { result.now ≡ self.now.files }
     {
         self.requests.files()
     }
 
-    /// Of every session: its machine was started over a device, and from there steps and their replies led to it, of
-    /// which exactly this is noted.
+    /// Shows that every session's machine was started over a device. Steps and their replies led from there to its
+    /// present state, and the notes are exactly those of these steps.
     pub fn has_served(&self)
         ensures { IsServing D.Device self.now.machine self.now.notes }
     {
         self.requests.has_phases();
     }
 
-    /// The device, as it is.
+    /// Returns the device in its present state.
     pub fn into_device(self) -> D
         ensures { result ≡ self.machine.device }
     {

@@ -1,4 +1,4 @@
-// What keeps processors and page tables coherent, over the definitions of what calls do.
+// What keeps processors and page tables coherent, stated about the definitions of the calls' effects.
 ghost use Rattle.std.specs.Prelude.{ℕ, Bool, ◌≡◌, ◌≢◌, ◌<◌, length, None, Some};
 ghost use Rattle.std.specs.FinMap as maps;
 ghost use Rattle.pcid_tlb.specs.declared.CachedEntry.{CachedEntry};
@@ -10,9 +10,11 @@ ghost use Rattle.shootdown.specs.declared.lock.Lock.{Lock};
 ghost use Rattle.shootdown.specs.Shootdown.{ShootdownState, fresh_shootdown, current, interrupted, tlb_of, with_tlb, begun, stalled, finished, resumed, idled, switched_to, destroyed, IsShootdown};
 ghost use Rattle.shootdown.specs.Coherence.{Coheres, KeepsCoherence, Agrees, IsUnused, IsForgotten, IsNoWider};
 
-/// Processors as they are made cohere with any page tables, since they cache nothing; and what a processor does by
-/// itself keeps them coherent: it stalls, idles, goes on or switches to another space, which the last two do while the
-/// lock is free; it caches an entry that agrees with the tables, drops one, or all of a page.
+/// New processors cohere with any page tables, since they cache nothing. A processor's own acts keep this coherence:
+/// - It stalls or idles.
+/// - It goes on, or switches to another space, while the lock is free.
+/// - It caches an entry that agrees with the tables.
+/// - It drops one entry, or all entries of a page.
 pub fn kept_by_processors()
     ensures fresh { (spaces : Spaces) (cpus tlb : ℕ) → Coheres spaces (fresh_shootdown cpus tlb) }
     ensures stalled { (s : ShootdownState) (p : ℕ) → p < length s.processors → KeepsCoherence s (stalled s p) }
@@ -29,9 +31,11 @@ pub fn kept_by_processors()
         → KeepsCoherence s (with_tlb s p (without_page (tlb_of s p) pcid page)) }
 {}
 
-/// The begin of a change and its end keep processors and page tables coherent. In between, once nobody is interrupted,
-/// nobody uses what the change affects (`unused`), and it may be made: where the tables change at pages alone that it
-/// affects, and no change affects more by it, processors and tables cohere as before (`changed`).
+/// The beginning and the end of a change keep processors and page tables coherent. In between, once no processor is
+/// interrupted, no processor uses an entry that the change affects (`unused`). Then the change can be made.
+///
+/// The tables may change at affected pages only, and no change in progress may affect more because of it. Then
+/// processors and tables cohere as before (`changed`).
 pub fn kept_by_changes()
     ensures begun { (spaces : Spaces) (s : ShootdownState) (p : ℕ) (change : Change) → Coheres spaces s
         → Coheres spaces (begun s p spaces change) }
@@ -44,10 +48,11 @@ pub fn kept_by_changes()
     ensures finished { (s : ShootdownState) (p : ℕ) → p < length s.processors → KeepsCoherence s (finished s p) }
 {}
 
-/// Where the page tables grow, as by a fault that is served, and a change that is under way affects no more by it,
-/// processors and tables cohere as before (`grown`). Where a space goes that is nobody's current one, and whoever may
-/// cache its PCID is notified, they do too (`removed`), and nobody may use an entry of that PCID any more
-/// (`forgotten`).
+/// Page tables grow, for example when a fault is served. If a change in progress affects no more because of it,
+/// processors and tables cohere as before (`grown`).
+///
+/// A space may be removed if it is no processor's current one, and each processor that may cache its PCID is notified.
+/// Then they cohere as well (`removed`), and no processor can use an entry of that PCID afterwards (`forgotten`).
 pub fn kept_by_tables()
     ensures grown { (old new : Spaces) (s : ShootdownState) → Grows old new
         → ((lock : Lock) → s.lock ≡ Some lock → IsNoWider lock.change old new) → Coheres old s → Coheres new s }

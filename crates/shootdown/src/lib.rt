@@ -1,5 +1,5 @@
-//! The shootdown of translations: processors with their TLBs, and the lock under which what they may have cached is
-//! changed (Black, Rashid, Golub, Hill and Baron 1989, "Translation Lookaside Buffer Consistency").
+//! The shootdown of translations: processors with their TLBs, and a lock. The holder of the lock changes page entries
+//! that TLBs may have cached (Black, Rashid, Golub, Hill and Baron 1989, "Translation Lookaside Buffer Consistency").
 #![tactic(auto)]
 
 mod laws;

@@ -2,7 +2,7 @@
 use page_entry::ProcessorNumber;
 use spaces::Change;
 
-/// Who holds the lock, and for which change.
+/// The holder of the lock, and the change for which it is held.
 #[derive(Clone, Copy, Debug, PartialEq, Eq)]
 pub struct Lock {
     pub holder: ProcessorNumber,

@@ -1,4 +1,4 @@
-// The processors and the lock: what they are, and who may act.
+// The processors and the lock: their state, and which processors may act.
 ghost use Rattle.std.specs.Prelude.{◌≡◌, ◌↔◌, ◌==◌, ◌<◌, ◌≤◌, false, length, replicate, slice_index_or, IsTrue, IfOk, IfErr, OnOk};
 ghost use Rattle.std.specs.List.{list_any, All};
 ghost use Rattle.shootdown.specs.Processors.{fresh_processor};
@@ -15,8 +15,7 @@ use page_entry::{Pcid, ProcessorNumber, Refusal};
 use std::alloc::{AllocError, Allocator, Global};
 use std::marker::Model;
 
-/// Processors with their TLBs, and the lock: who holds it, and for which change. It takes all its memory when it is
-/// made.
+/// Processors with their TLBs, and the lock with its holder and the holder's change. Only `new` allocates memory.
 #[derive(Drop)]
 pub struct Shootdown<A: Allocator + Copy = Global> {
     processors: Vec<Processor<A>, A>,
@@ -34,8 +33,8 @@ impl<A: Allocator + Copy> Model for Shootdown<A> {
 }
 
 impl<A: Allocator + Copy> Shootdown<A> {
-    /// `cpus` processors, 1 to 16, each active in space 0 with an empty TLB of at most `tlb` entries, at least 1; the
-    /// lock is free. Fails where memory is refused.
+    /// Returns `cpus` processors, 1 to 16, and a free lock. Each processor is active in space 0, and its TLB is empty
+    /// and holds at most `tlb` entries, at least 1. Fails if memory is refused.
     pub fn new(alloc: A, cpus: u8, tlb: usize) -> Result<Self, AllocError>
         requires some { 0 < cpus }
         requires few { cpus ≤ 16 }
@@ -48,7 +47,7 @@ impl<A: Allocator + Copy> Shootdown<A> {
         })
     }
 
-    /// How many processors there are; they are numbered from 0.
+    /// Returns the number of processors. They are numbered from 0.
     pub fn processors(&self) -> u8
         ensures count { result ≡ length self.now.processors }
         ensures kept { IsShootdown self.now }
@@ -56,14 +55,14 @@ impl<A: Allocator + Copy> Shootdown<A> {
         self.processors.len() as u8
     }
 
-    /// How many entries the TLB of processor 0 can cache; at boot all have the same size.
+    /// Returns the number of entries that the TLB of processor 0 can cache. At boot all TLBs have the same size.
     pub fn tlb_size(&self) -> usize
         ensures { result ≡ (processor_at self.now 0).tlb.capacity }
     {
         self.processors[0].tlb_size()
     }
 
-    /// Whether the processors and the lock are as `new` leaves them.
+    /// Whether the processors and the lock are as `new` returns them.
     pub fn is_fresh(&self) -> bool
         ensures { IsTrue result ↔ (self.now
             ≡ fresh_shootdown (length self.now.processors) (processor_at self.now 0).tlb.capacity) }
@@ -71,7 +70,7 @@ impl<A: Allocator + Copy> Shootdown<A> {
         self.lock.is_none() && are_fresh(&self.processors, self.tlb_size())
     }
 
-    /// What a processor is doing. `Einval` where there is none with this number.
+    /// Returns the state of a processor. Fails with `Einval` if there is no processor of this number.
     pub fn state(&self, p: ProcessorNumber) -> Result<ProcState, Refusal>
         ensures ok { IfOk result (λ state. IsTrue (is_there self.now p) × (state ≡ state_of self.now p)) }
         ensures err { IfErr result (λ why. (is_there self.now p ≡ false) × (why ≡ Refusal.Einval)) }
@@ -83,7 +82,7 @@ impl<A: Allocator + Copy> Shootdown<A> {
         }
     }
 
-    /// The PCID of a processor's current space.
+    /// Returns the PCID of a processor's current space.
     pub fn space(&self, p: ProcessorNumber) -> Pcid
         requires { IsTrue (is_there self.now p) }
         ensures space { result ≡ current self.now p }
@@ -92,7 +91,7 @@ impl<A: Allocator + Copy> Shootdown<A> {
         self.processors[p as usize].space()
     }
 
-    /// Who holds the lock, and for which change.
+    /// Returns the lock's holder and its change, or `None` if the lock is free.
     pub fn lock(&self) -> Option<Lock>
         ensures lock { result ≡ self.now.lock }
         ensures kept { IsShootdown self.now }
@@ -100,8 +99,8 @@ impl<A: Allocator + Copy> Shootdown<A> {
         self.lock
     }
 
-    /// Whether a processor may cache entries of a PCID: from its switch to it until it drops all of it while another is
-    /// current.
+    /// Whether a processor may cache entries of a PCID. It may from its switch to the PCID until it drops all of the
+    /// PCID's entries while another one is current.
     pub fn may_cache(&self, p: ProcessorNumber, pcid: Pcid) -> bool
         requires { IsTrue (is_there self.now p) }
         ensures { result ≡ slice_index_or (processor_at self.now p).may_cache pcid false }
@@ -118,8 +117,8 @@ impl<A: Allocator + Copy> Shootdown<A> {
             .any(|processor| processor.space() == pcid)
     }
 
-    /// Whether a processor goes on with loads and stores. `Einval` where there is none with this number, `Stalled`
-    /// where it is neither active nor interrupted.
+    /// Checks whether a processor may load and store. Fails with `Einval` if there is no processor of this number, and
+    /// with `Stalled` if it is neither active nor interrupted.
     pub fn admit(&self, p: ProcessorNumber) -> Result<(), Refusal>
         ensures ok { OnOk result (not_running self.now p ≡ None) }
         ensures there { OnOk result (IsTrue (is_there self.now p)) }
@@ -131,7 +130,8 @@ impl<A: Allocator + Copy> Shootdown<A> {
         }
     }
 
-    /// Whether a processor may change spaces or mappings, or begin to: as `admit`, and `Locked` while the lock is held.
+    /// Checks whether a processor may change spaces or mappings, or begin to. Fails as `admit`, and with `Locked` while
+    /// the lock is held.
     pub fn admit_free(&self, p: ProcessorNumber) -> Result<(), Refusal>
         ensures ok { OnOk result (not_free self.now p ≡ None) }
         ensures there { OnOk result (IsTrue (is_there self.now p)) }
@@ -144,7 +144,7 @@ impl<A: Allocator + Copy> Shootdown<A> {
         Ok(())
     }
 
-    // How many processors are interrupted.
+    // Returns the number of interrupted processors.
     fn interrupted(&self) -> u32
         ensures { result ≡ interrupted self.now }
     {
@@ -162,7 +162,7 @@ fn are_fresh<A: Allocator + Copy>(processors: &[Processor<A>], tlb: usize) -> bo
     processors.iter().all(|processor| processor.is_fresh(tlb))
 }
 
-// So many processors as at boot.
+// Returns `count` processors as at boot.
 fn fresh_processors<A: Allocator + Copy>(
     alloc: A,
     count: usize,

@@ -1,5 +1,5 @@
-//! A volume of which only the blocks that were written are kept: which writes leave what it recovers to, and which
-//! batch of blocks the opening of a gate commits.
+//! A volume in memory that keeps only the blocks that were written. The crate determines which writes don't change the
+//! recovered files, and which batch the opening of a gate commits.
 #![tactic(auto)]
 
 mod opened;

@@ -8,7 +8,7 @@ use std::alloc::Allocator;
 use std::marker::Model;
 use volume_codec::{Descriptor, Geometry};
 
-/// A journal, counted from 0, and what its descriptor says: a batch of blocks.
+/// A journal, counted from 0, and the batch of blocks in its descriptor.
 #[derive(Drop)]
 pub struct OpenJournal<A: Allocator + Copy> {
     geometry: Geometry,
@@ -29,7 +29,7 @@ impl<A: Allocator + Copy> Model for OpenJournal<A> {
 }
 
 impl<A: Allocator + Copy> OpenJournal<A> {
-    /// That of a volume with this geometry.
+    /// Returns the open journal for this descriptor, in a volume with this geometry.
     pub(crate) fn new(geometry: Geometry, journal: u32, descriptor: Descriptor<A>) -> Self
         requires { IsBatch geometry
             (record { journal = journal; mark = descriptor.mark; homes = descriptor.homes }) }
@@ -42,28 +42,28 @@ impl<A: Allocator + Copy> OpenJournal<A> {
         }
     }
 
-    /// The journal, counted from 0.
+    /// Returns the number of the journal, counted from 0.
     pub fn journal(&self) -> u32
         ensures { result ≡ self.now.journal }
     {
         self.journal
     }
 
-    /// The mark that the batch is committed under.
+    /// Returns the mark under which the batch is committed.
     pub fn mark(&self) -> u64
         ensures { result ≡ self.now.mark }
     {
         self.descriptor.mark()
     }
 
-    /// The home blocks, in rising order. Record i is for the block at place i.
+    /// Returns the home blocks, in ascending order. Record i is for the block at place i.
     pub fn homes(&self) -> &[u32]
         ensures { result.now ≡ self.now.homes }
     {
         self.descriptor.homes()
     }
 
-    /// Whether the home block belongs to the batch.
+    /// Whether a home block belongs to the batch.
     pub fn has_block(&self, home: u32) -> bool
         ensures { IsTrue result ↔ Contains self.now.homes home }
     {

@@ -21,7 +21,7 @@ pub struct ShownVolume<A: Allocator + Copy> {
     pub(crate) alloc: A,
     pub(crate) geometry: Geometry,
     pub(crate) blocks: Blocks<A>,
-    // The newest first.
+    // The open journals, the newest first.
     pub(crate) opened: Vec<OpenJournal<A>, A>,
 }
 
@@ -38,7 +38,7 @@ impl<A: Allocator + Copy> Model for ShownVolume<A> {
 }
 
 impl<A: Allocator + Copy> ShownVolume<A> {
-    /// That of a volume whose parts lie so. It keeps no block.
+    /// Returns a volume with this geometry, which keeps no block.
     pub fn new(alloc: A, geometry: Geometry) -> Self
         ensures { result ≡ record { geometry = geometry; blocks = []; opened = [] } }
     {
@@ -50,14 +50,14 @@ impl<A: Allocator + Copy> ShownVolume<A> {
         }
     }
 
-    /// Where the volume has its parts.
+    /// Returns the geometry of the volume.
     pub fn geometry(&self) -> &Geometry
         ensures { result.now ≡ self.now.geometry }
     {
         &self.geometry
     }
 
-    /// The bytes of a block that is kept.
+    /// Returns the bytes of a block, if it is kept.
     pub fn block(&self, block: u32) -> Option<&[u8; 4096]>
         ensures { option_copied result ≡ bytes_in self.now.blocks block }
     {
@@ -71,14 +71,14 @@ impl<A: Allocator + Copy> ShownVolume<A> {
         has_journal(&self.opened, journal)
     }
 
-    /// Whether an open journal has a record of the home block.
+    /// Whether an open journal has a record of a home block.
     pub fn has_record_of(&self, home: u32) -> bool
         ensures { IsTrue result ↔ HasHomeBlock self.now.opened home }
     {
         has_record(&self.opened, home)
     }
 
-    /// The journal whose gate this block is, if it is one.
+    /// Returns the journal whose gate this block is, if there is one.
     pub fn journal_of_gate(&self, block: u32) -> Option<u32>
         ensures some { IfSome result (λ j. (j < journals_of self.now.geometry.layout)
             × (block ≡ gate_block self.now.geometry.slots j)) }
@@ -93,7 +93,7 @@ impl<A: Allocator + Copy> ShownVolume<A> {
         None
     }
 
-    /// The journal to whose descriptor or record slots a block belongs, if there is one.
+    /// Returns the journal to whose descriptor or record slots a block belongs, if there is one.
     pub fn journal_of(&self, block: u32) -> Option<u32>
         ensures some { IfSome result (λ j. (j < journals_of self.now.geometry.layout)
             × IsOfJournal self.now.geometry j block) }
@@ -124,14 +124,14 @@ fn is_of_journal(geometry: &Geometry, journal: u32, block: u32) -> bool
     true
 }
 
-// Whether this journal is one of these.
+// Whether a journal is one of these.
 pub(crate) fn has_journal<A: Allocator + Copy>(opened: &[OpenJournal<A>], journal: u32) -> bool
     ensures { result ≡ has_journal opened.now journal }
 {
     opened.iter().any(|one| one.journal() == journal)
 }
 
-// Whether one of these journals has a record of the home block.
+// Whether one of these journals has a record of a home block.
 pub(crate) fn has_record<A: Allocator + Copy>(opened: &[OpenJournal<A>], home: u32) -> bool
     ensures { IsTrue result ↔ HasHomeBlock opened.now home }
 {

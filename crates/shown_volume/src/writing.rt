@@ -14,7 +14,7 @@ use crate::shown::{ShownVolume, has_journal, has_record};
 use std::alloc::{AllocError, Allocator};
 use volume_codec::{read_descriptor, recovered_from};
 
-// A block has 4,096 bytes.
+// Shows that a block has 4,096 bytes.
 fn is_whole(_block: &[u8; 4096])
     ensures { length _block.now ≡ 4096 }
 {}
@@ -27,7 +27,7 @@ fn are_equal(block: &[u8], other: &[u8]) -> bool
 }
 
 impl<A: Allocator + Copy> ShownVolume<A> {
-    /// Whether a block may be written: recovery doesn't read it.
+    /// Whether a block may be written, because recovery doesn't read it.
     pub fn admits(&self, block: u32) -> bool
         ensures { IsTrue result → IsAdmitted self.now block }
     {
@@ -37,7 +37,7 @@ impl<A: Allocator + Copy> ShownVolume<A> {
         }
     }
 
-    /// Keeps the bytes of a block that may be written.
+    /// Keeps the bytes of a block that may be written. On failure nothing changes.
     pub fn write(&mut self, block: u32, bytes: &[u8; 4096]) -> Result<(), AllocError>
         requires admitted { IsAdmitted self.old block }
         ensures kept { OnOk result
@@ -49,7 +49,7 @@ impl<A: Allocator + Copy> ShownVolume<A> {
         self.blocks.put(block, copy)
     }
 
-    // The blocks of the descriptor of a journal, one behind the other, if all of them are kept.
+    // Returns the blocks of a journal's descriptor, one after the other, if all of them are kept.
     fn descriptor_of(&self, journal: u32) -> Result<Option<Vec<u8, A>>, AllocError>
         requires there { journal < journals_of self.now.geometry.layout }
         ensures { IfOk result (λ found. IfSome found (λ bytes. HasText self.now journal bytes.items)) }
@@ -78,8 +78,8 @@ impl<A: Allocator + Copy> ShownVolume<A> {
         }
     }
 
-    /// The batch that the opening of this journal's gate would commit, if there is one: the journal is closed, its
-    /// descriptor is kept, and the batch is newer than those of the open journals.
+    /// Returns the batch that opening this journal's gate would commit, if there is one. Then the journal is closed,
+    /// its descriptor is kept, and the batch is newer than those of the open journals.
     pub fn batch_in(&self, journal: u32) -> Result<Option<OpenJournal<A>>, AllocError>
         requires there { journal < journals_of self.now.geometry.layout }
         ensures { IfOk result (λ found. IfSome found
@@ -100,7 +100,7 @@ impl<A: Allocator + Copy> ShownVolume<A> {
         Ok(Some(OpenJournal::new(self.geometry, journal, descriptor)))
     }
 
-    /// The record at a place of a batch, if it is kept.
+    /// Returns the record at a place of a batch, if it is kept.
     pub fn record(&self, batch: &OpenJournal<A>, place: u32) -> Option<&[u8; 4096]>
         requires there { batch.now.journal < journals_of self.now.geometry.layout }
         requires within { place < self.now.geometry.slots }
@@ -111,7 +111,7 @@ impl<A: Allocator + Copy> ShownVolume<A> {
             .get(self.geometry.record_block(batch.journal(), place))
     }
 
-    /// Opens the gate of a batch.
+    /// Opens the gate of a batch. On failure nothing changes.
     pub fn open(&mut self, batch: OpenJournal<A>) -> Result<(), AllocError>
         requires may { MayOpen self.old batch }
         ensures opened { OnOk result (self.new ≡ record self.old { opened = batch ∷ self.old.opened }) }
@@ -143,9 +143,11 @@ impl<A: Allocator + Copy> ShownVolume<A> {
         true
     }
 
-    /// Closes the gate of a journal, if it is that of the oldest batch, and each home block of that has its record's
-    /// bytes, or a record in a newer batch. Answers whether it is closed. The blocks of the journal aren't kept then,
-    /// and no home blocks once all journals are closed.
+    /// Closes the gate of a journal, if it may be closed, and returns whether it did. The gate may be closed if its
+    /// batch is the oldest. Each of the batch's home blocks must have its record's bytes, or a record in a newer batch.
+    ///
+    /// Afterwards the blocks of the journal aren't kept any more, and no home blocks are kept once all journals are
+    /// closed. If it returns false, nothing changes.
     pub fn close(&mut self, journal: u32) -> bool
         requires there { journal < journals_of self.old.geometry.layout }
         ensures closed { result ≡ true → StaysShown self.old self.new

@@ -2,11 +2,11 @@
 use mappings::{PageRange, Rights};
 use page_entry::{FileNumber, FilePage, Pcid};
 
-/// A change of spaces after which entries that processors cache may be stale. Before it is made, the processors that
-/// may use them are stopped (Black, Rashid, Golub, Hill and Baron 1989).
+/// A change of spaces that may make cached entries of processors stale. The processors that may use these entries are
+/// stopped before it is made (Black, Rashid, Golub, Hill and Baron 1989).
 #[derive(Clone, Copy, Debug, PartialEq, Eq)]
 pub enum Change {
-    /// The pages of a range of a space are mapped no more (`munmap`).
+    /// The pages of a range of a space become unmapped (`munmap`).
     Unmap {
         pcid: Pcid,
         range: PageRange,
@@ -17,16 +17,16 @@ pub enum Change {
         range: PageRange,
         rights: Rights,
     },
-    /// A page of a file leaves memory, and every entry that maps it goes.
+    /// A page of a file leaves memory, and every entry that maps it is removed.
     Reclaim {
         page: FilePage,
     },
     /// The length of a file becomes this many bytes (`ftruncate`). Pages that begin at or past it leave memory, and
-    /// every entry that maps one of them goes.
+    /// every entry that maps one of them is removed.
     SetLength {
         file: FileNumber,
         length: u64,
     },
-    /// Dirty pages are gathered, and every entry that maps one of them is protected (`msync`).
+    /// Dirty pages are gathered, and every entry that maps one of them is write-protected (`msync`).
     Checkpoint,
 }

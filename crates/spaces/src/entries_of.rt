@@ -8,15 +8,15 @@ use page_entry::{FilePage, PageNumber, Pcid};
 use std::alloc::Allocator;
 use std::marker::Model;
 
-/// The pages of all spaces that map a page of a file by a present entry, each with its space's PCID: by PCID, and in
-/// rising order in each space. It takes no memory.
+/// An iterator over the pages of all spaces that map a page of a file by a present entry. Each comes with its space's
+/// PCID: by PCID, and in ascending order in each space. It allocates no memory.
 #[derive(Drop)]
 pub struct EntriesOf<'a, A: Allocator + Copy> {
     pub(crate) page: FilePage,
-    // What is left of the space with this PCID.
+    // The remaining pages of the space with this PCID.
     pub(crate) pcid: Pcid,
     pub(crate) here: EntryPages<'a, A>,
-    // The slots after its own.
+    // The slots after this space's own.
     pub(crate) later: &'a [Option<Space<A>>],
 }
 

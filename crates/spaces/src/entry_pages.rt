@@ -8,7 +8,7 @@ use page_table::Table;
 use std::alloc::Allocator;
 use std::marker::Model;
 
-/// Those of the pages that have a present entry, in their order.
+/// An iterator over the pages that have a present entry, in their order.
 #[derive(Drop)]
 pub(crate) struct EntryPages<'a, A: Allocator + Copy> {
     pub(crate) table: &'a Table<A>,

@@ -1,5 +1,5 @@
-//! The address spaces of a machine by their PCIDs: what the pages of each map, and the entries of its page table
-//! (POSIX.1-2024, `mmap`, `munmap`, `mprotect`; Intel SDM volume 3, "Process-Context Identifiers").
+//! The address spaces of a machine, by PCID. A space has mappings, and the entries of its page table (POSIX.1-2024,
+//! `mmap`, `munmap`, `mprotect`; Intel SDM volume 3, "Process-Context Identifiers").
 #![tactic(auto)]
 
 mod change;

@@ -1,4 +1,4 @@
-// The PCIDs of which there are spaces.
+// The PCIDs of the spaces that exist.
 ghost use Rattle.std.specs.Prelude.{◌≡◌};
 ghost use Rattle.std.specs.Iterator.{YieldsFirst, item_count};
 
@@ -7,10 +7,10 @@ use page_entry::Pcid;
 use std::alloc::Allocator;
 use std::marker::Model;
 
-/// The PCIDs of which there are spaces, in rising order. It takes no memory.
+/// An iterator over the PCIDs of the spaces that exist, in ascending order. It allocates no memory.
 #[derive(Drop)]
 pub struct Pcids<'a, A: Allocator + Copy> {
-    // The slots from that of PCID `next` on.
+    // The slots from the one of PCID `next` on.
     pub(crate) slots: &'a [Option<Space<A>>],
     pub(crate) next: Pcid,
 }

@@ -17,7 +17,7 @@ use page_table::Table;
 use std::alloc::{AllocError, Allocator};
 use std::marker::Model;
 
-/// An address space: a page table, and the mappings that say what its entries may become.
+/// An address space: a page table, and the mappings that determine what its entries may become.
 #[derive(Drop)]
 pub(crate) struct Space<A: Allocator + Copy> {
     table: Table<A>,
@@ -43,7 +43,7 @@ impl<A: Allocator + Copy> Model for Space<A> {
 }
 
 impl<A: Allocator + Copy> Space<A> {
-    /// A space that maps nothing. Fails where memory for its table's root is refused.
+    /// Returns a space that maps nothing. Fails if memory for its table's root is refused.
     pub(crate) fn new(alloc: A) -> Result<Self, AllocError>
         ensures { IfOk result (λ space. space_of space ≡ empty_space) }
     {
@@ -52,21 +52,21 @@ impl<A: Allocator + Copy> Space<A> {
         Ok(Space { table, mappings })
     }
 
-    /// Its page table.
+    /// Returns its page table.
     pub(crate) fn table(&self) -> &Table<A>
         ensures { result.now.entries ≡ self.now.entries }
     {
         &self.table
     }
 
-    /// Its mappings.
+    /// Returns its mappings.
     pub(crate) fn mappings(&self) -> &Mappings<A>
         ensures { result.now.places ≡ self.now.places }
     {
         &self.mappings
     }
 
-    /// The pages that map this page of a file by a present entry, in rising order.
+    /// Returns the pages that map this page of a file by a present entry, in ascending order.
     pub(crate) fn entry_pages(&self, page: FilePage) -> EntryPages<'_, A>
         ensures { result ≡ pages_with_entry (space_of self.now) page }
     {
@@ -76,7 +76,7 @@ impl<A: Allocator + Copy> Space<A> {
         }
     }
 
-    /// Sets the entry of a page that is mapped. It takes no memory.
+    /// Sets the entry of a mapped page. It allocates no memory.
     pub(crate) fn set_entry(&mut self, page: PageNumber, entry: Entry)
         requires { IsSome (maps.get self.old.places page) }
         ensures { self.new ≡ record self.old { entries = put_entry self.old.entries page entry } }
@@ -84,9 +84,10 @@ impl<A: Allocator + Copy> Space<A> {
         self.table.set(page, entry);
     }
 
-    /// Maps a range of pages from a place on. `Einval`, `Eacces`, `Overlap` and `OutOfMemory`, in this order; after a
-    /// refusal nothing has changed, and the table hasn't grown. Memory is asked for only where there is no room for one
-    /// more mapping, or a page of the range hasn't grown yet.
+    /// Maps a range of pages from a place on. On failure the mappings and the table don't change.
+    ///
+    /// Fails with `Einval`, `Eacces`, `Overlap` or `OutOfMemory`, in this order. It needs memory only if there is no
+    /// room for one more mapping, or the table hasn't yet grown to a page of the range.
     pub(crate) fn map(&mut self, range: PageRange, place: Place) -> Result<(), Refusal>
         ensures places { OnOk result (self.new.places ≡ with_range self.old.places range.first range.count place) }
         ensures entries { OnOk result (self.new.entries ≡ self.old.entries) }
@@ -108,9 +109,9 @@ impl<A: Allocator + Copy> Space<A> {
         Ok(())
     }
 
-    /// Reserves the memory that one later `protect` of the range with the rights needs, or without any an `unmap`.
+    /// Reserves the memory that one later `protect` of the range with these rights needs, or an `unmap` without rights.
     ///
-    /// `OutOfMemory` if a mapping has to be split and memory is refused. Nothing that is mapped changes.
+    /// Fails with `OutOfMemory` if a mapping must be split and memory is refused. No mapping changes.
     pub(crate) fn prepare(
         &mut self,
         range: PageRange,
@@ -125,7 +126,7 @@ impl<A: Allocator + Copy> Space<A> {
         self.mappings.reserve(range, rights)
     }
 
-    /// Unmaps the pages of the range, with their entries. It takes no memory.
+    /// Unmaps the pages of the range, with their entries. It allocates no memory.
     pub(crate) fn unmap(&mut self, range: PageRange)
         requires user { is_user_range range ≡ true }
         requires room { splits self.old.places range None ≤ self.old.spare }
@@ -138,8 +139,8 @@ impl<A: Allocator + Copy> Space<A> {
         };
     }
 
-    /// Gives the rights to the pages of the range. Without the right to write, their entries lose it. It takes no
-    /// memory.
+    /// Gives the rights to the pages of the range. Without the right to write, their entries lose this right. It
+    /// allocates no memory.
     pub(crate) fn protect(&mut self, range: PageRange, rights: Rights)
         requires allowed { protect_refusal self.old.places range rights ≡ None }
         requires room { splits self.old.places range (Some rights) ≤ self.old.spare }
@@ -156,14 +157,14 @@ impl<A: Allocator + Copy> Space<A> {
         }
     }
 
-    /// Takes the right to write and the dirty bit from every entry of a noted frame. It takes no memory.
+    /// Removes the right to write and the dirty bit from every entry of a noted frame. It allocates no memory.
     pub(crate) fn protect_frames(&mut self, noted: &[bool])
         ensures { self.new ≡ record self.old { entries = frames_protected self.old.entries noted.now } }
     {
         self.table.protect_frames(noted);
     }
 
-    /// Notes the frame of each dirty entry. It takes no memory.
+    /// Notes the frame of each dirty entry. It allocates no memory.
     pub(crate) fn note_dirty(&self, notes: &mut [bool])
         requires { (page : ℕ) (entry : Mapped) → maps.get self.now.entries page ≡ Some entry
             → entry.frame < length notes.old }
@@ -172,14 +173,14 @@ impl<A: Allocator + Copy> Space<A> {
         self.table.note_dirty(notes);
     }
 
-    /// Whether there may be a present entry: false only where there is none.
+    /// Whether there may be a present entry. It returns false only if there is none.
     pub(crate) fn may_have_entries(&self) -> bool
         ensures { HasUse (Some self.now) result }
     {
         self.table.may_have_entries()
     }
 
-    /// Takes away every entry of a page that maps this page of a file. It takes no memory.
+    /// Removes every entry of a page that maps this page of a file. It allocates no memory.
     pub(crate) fn clear_entries_of(&mut self, page: FilePage)
         ensures { self.new ≡ record self.old { entries = without_entries self.old.places page self.old.entries } }
     {
@@ -190,7 +191,7 @@ impl<A: Allocator + Copy> Space<A> {
     }
 }
 
-// Takes away the entries of these pages.
+// Removes the entries of these pages.
 fn clear_each<A: Allocator + Copy>(table: &mut Table<A>, pages: PagesOf<'_>)
     requires { All (λ page. is_grown table.old page ≡ true) pages }
     ensures { table.new ≡ record table.old { entries = without_each table.old.entries pages.entry } }

@@ -1,4 +1,4 @@
-// The bytes of a small volume in each layout, and the limits. Which blocks are refused is in the runs as text.
+// The bytes of a small volume in each layout, and the limits. The runs as text cover which blocks are refused.
 ghost use Rattle.std.specs.Prelude.{◌≡◌, ◌*◌, length, IsTrue};
 ghost use Rattle.volume_codec.specs.Layout.{descriptor_blocks};
 
@@ -15,10 +15,10 @@ use volume_codec::{
     write_super, write_super_as,
 };
 
-// What is known of a file: its name, its capacity, how many pages it has, and its first home block.
+// The expected name, capacity, number of pages and first home block of a file.
 type Known = (&'static str, u64, u32, u32);
 
-// The sample's super block in layout 1, 2 or 3.
+// Returns the sample's super block in layout 1, 2 or 3.
 fn sample(layout: u64) -> [u8; 4096] {
     let mut block = [0; 4096];
     match layout {
@@ -29,7 +29,7 @@ fn sample(layout: u64) -> [u8; 4096] {
     block
 }
 
-// The descriptor of mark 1 for the home blocks 7 and 8.
+// Returns the descriptor of mark 1 for the home blocks 7 and 8.
 fn sample_descriptor() -> [u8; 4096] {
     let mut block = [0; 4096];
     put(&mut block, 0, b"\0\0\0\0\0\0\0\x01\0\0\0\x02");
@@ -37,12 +37,12 @@ fn sample_descriptor() -> [u8; 4096] {
     block
 }
 
-// What a block says.
+// Returns the table in a block.
 fn table_of<R: Abort + AllocGlobal>(rt: &R, block: &[u8; 4096]) -> Super<Global> {
     read_super(rt.alloc(), block).expect(rt, "a super block")
 }
 
-// The layout of a table, how many files it has, and its slots and blocks.
+// Returns the layout of a table, and its numbers of files, slots and blocks.
 fn counts_of<A: Allocator + Copy>(table: &Super<A>) -> (Layout, usize, u32, u32) {
     (
         table.layout(),
@@ -52,7 +52,7 @@ fn counts_of<A: Allocator + Copy>(table: &Super<A>) -> (Layout, usize, u32, u32)
     )
 }
 
-// Whether a file of a table has this name, capacity, pages and first home block.
+// Whether a file of a table has this name, capacity, number of pages and first home block.
 fn is_file<A: Allocator + Copy>(table: &Super<A>, number: usize, wanted: Known) -> bool {
     number < table.file_count()
         && table.name(number) == wanted.0
@@ -61,7 +61,7 @@ fn is_file<A: Allocator + Copy>(table: &Super<A>, number: usize, wanted: Known) 
         && table.first_home(number) == wanted.3
 }
 
-// Where the sample has its parts in layout 1, 2 or 3, whose table has these counts and files.
+// Returns the sample's geometry in layout 1, 2 or 3, after checking that its table has these counts and files.
 fn geometry_read<R: Abort + AllocGlobal>(
     rt: &R,
     layout: u64,
@@ -74,7 +74,7 @@ fn geometry_read<R: Abort + AllocGlobal>(
     table.geometry()
 }
 
-// Whether a table was written, and as this block.
+// Whether a table was written as this block.
 fn is_block(written: Result<[u8; 4096], Refusal>, block: &[u8; 4096]) -> bool {
     match written {
         Ok(written) => written == *block,
@@ -82,7 +82,7 @@ fn is_block(written: Result<[u8; 4096], Refusal>, block: &[u8; 4096]) -> bool {
     }
 }
 
-// Where a journal has its gate, its descriptor and the record of a slot.
+// Returns the block numbers of a journal's gate, its descriptor and one record slot.
 fn journal(geometry: &Geometry, number: u32, slot: u32) -> Option<(u32, u32, u32)> {
     if number >= geometry.journals() || slot >= geometry.slots() {
         return None;
@@ -94,7 +94,7 @@ fn journal(geometry: &Geometry, number: u32, slot: u32) -> Option<(u32, u32, u32
     ))
 }
 
-// The mark of a descriptor, how many home blocks it has, the first and the last one.
+// Returns the mark of a descriptor, its number of home blocks, and the first and last of them.
 fn described<A: Allocator + Copy>(found: &Descriptor<A>) -> (u64, usize, Option<u32>, Option<u32>) {
     let homes = found.homes();
     (
@@ -105,14 +105,14 @@ fn described<A: Allocator + Copy>(found: &Descriptor<A>) -> (u64, usize, Option<
     )
 }
 
-// Whether blocks are as many as a descriptor has.
+// Whether the number of these blocks is that of a descriptor.
 fn are_as_many(geometry: &Geometry, blocks: &[u8]) -> bool
     ensures { IsTrue result → length blocks.now ≡ 4096 * descriptor_blocks geometry.now.slots }
 {
     blocks.len() == 4096 * geometry.descriptor_blocks() as usize
 }
 
-// Whether blocks say this of a descriptor.
+// Whether blocks contain a descriptor with these numbers.
 fn describe<A: Allocator + Copy>(
     alloc: A,
     geometry: &Geometry,
@@ -142,7 +142,7 @@ fn is_sample_two(geometry: &Geometry) -> bool {
         && (geometry.first_file_home(), geometry.block_count()) == (13, 16)
 }
 
-// Whether the two files' table in layout 1 is written as this block, without the layout's number and with it.
+// Whether the table of the two files in layout 1 is written as this block, by both functions.
 fn is_written_one<A: Allocator + Copy>(alloc: A, block: &[u8; 4096]) -> bool {
     is_block(write_super(alloc, &FILES, 4), block)
         && is_block(write_super_as(alloc, 1, &SPECS, 4), block)
@@ -188,14 +188,14 @@ fn layout_3_is_written_and_read(rt: HostRuntime) {
     );
 }
 
-// A block of the lengths 5,000 and 4,096.
+// Returns a block of the lengths 5,000 and 4,096.
 fn sample_lengths() -> [u8; 4096] {
     let mut block = [0; 4096];
     put_lengths(&mut block, 0);
     block
 }
 
-// Whether a block says these lengths of a table's files.
+// Whether a block contains these lengths of a table's files.
 fn has_lengths<A: Allocator + Copy>(
     alloc: A,
     table: &Super<A>,
@@ -208,7 +208,7 @@ fn has_lengths<A: Allocator + Copy>(
     }
 }
 
-// Whether a block with one byte more at a place says no lengths.
+// Whether a block is damaged if this byte is put at this place.
 fn is_damaged<A: Allocator + Copy>(alloc: A, table: &Super<A>, at: usize, byte: u8) -> bool {
     let mut block = sample_lengths();
     put(&mut block, at, &[byte]);
@@ -218,7 +218,7 @@ fn is_damaged<A: Allocator + Copy>(alloc: A, table: &Super<A>, at: usize, byte: 
     }
 }
 
-// 12,680 and 2^63 + 5,000 are above the capacity of `a`, and 4,097 is above that of `b`; no byte may follow.
+// 12,680 and 2^63 + 5,000 are above the capacity of `a`, and 4,097 is above that of `b`. No other byte may follow.
 fn are_damaged<A: Allocator + Copy>(alloc: A, table: &Super<A>) -> bool {
     is_damaged(alloc, table, 6, 0x31)
         && is_damaged(alloc, table, 0, 0x80)
@@ -254,7 +254,7 @@ fn capacities_are_listed(rt: HostRuntime) {
     assert!(rt; are_capacities(rt.alloc(), &table, &[12_288, 4096]));
 }
 
-// Whether a layout has this number, and is the one that has it, and the one of its magic.
+// Whether a layout has this number, is found by it, and is found by its magic.
 fn is_numbered(layout: Layout, number: u64) -> bool {
     Layout::from_number(number) == Some(layout)
         && layout.number() == number
@@ -277,12 +277,12 @@ fn layouts_have_numbers(rt: HostRuntime) {
     );
 }
 
-// Whether the two files have so many blocks in the layout of this number, for both crates.
+// Whether both crates compute this number of blocks for the two files in this layout.
 fn are_counted(layout: u64, wanted: Result<u64, Refusal>) -> bool {
     block_count_as(layout, &SPECS, 4) == wanted && blocks_as(layout, &SPECS, 4) == wanted
 }
 
-// Whether files have so many in layout 1.
+// Whether files have this number of blocks in layout 1.
 fn are_counted_one(files: &[(&str, u64)], slots: u64, wanted: Result<u64, Refusal>) -> bool {
     block_count_of(files, slots) == wanted && blocks(files, slots) == wanted
 }
@@ -302,7 +302,7 @@ fn blocks_are_counted(rt: HostRuntime) {
     );
 }
 
-// Whether no table has these files in layout 1, with so many slots.
+// Whether no table in layout 1 can have these files with this number of slots.
 fn has_no_table<A: Allocator + Copy>(alloc: A, files: &[(&str, u64)], slots: u64) -> bool {
     are_counted_one(files, slots, Err(Refusal::BadShape))
         && write_super(alloc, files, slots) == Err(Refusal::BadShape)
@@ -320,7 +320,7 @@ fn tables_outside_the_rules(rt: HostRuntime) {
     assert!(rt; has_no_table(alloc, &[("a", u64::MAX), ("b", u64::MAX)], 4));
 }
 
-// A file of this length and capacity.
+// Returns one file of this length and capacity.
 fn file_of(length: u64, capacity: u64) -> [FileSpec<'static>; 1] {
     [FileSpec {
         name: "a",
@@ -329,7 +329,7 @@ fn file_of(length: u64, capacity: u64) -> [FileSpec<'static>; 1] {
     }]
 }
 
-// Whether no table of this layout has a file that is shorter than its capacity.
+// Whether no table of this layout can have a file that is shorter than its capacity.
 fn grows_nowhere<A: Allocator + Copy>(alloc: A, layout: u64) -> bool {
     write_super_as(alloc, layout, &file_of(5000, 8192), 4) == Err(Refusal::BadShape)
 }
@@ -339,7 +339,7 @@ fn files_grow_in_layouts_with_lengths(rt: HostRuntime) {
     assert!(rt; grows_nowhere(rt.alloc(), 1) && grows_nowhere(rt.alloc(), 2));
 }
 
-// Whether no table of layout 3 has a file of this length and capacity, with so many slots.
+// Whether no table of layout 3 can have a file of this length and capacity with this number of slots.
 fn has_no_three(length: u64, capacity: u64, slots: u64) -> bool {
     block_count_as(3, &file_of(length, capacity), slots) == Err(Refusal::BadShape)
 }
@@ -359,7 +359,7 @@ fn tables_of_layout_3_outside_the_rules(rt: HostRuntime) {
 // Names of one character each.
 const NAMES: &str = "abcdefghijklmnopqrstuvwxyzABCDEFGHIJKLMNOPQRSTUVWXYZ0123456789-_+";
 
-// 65 files of one page each, with these names.
+// Returns 65 files of one page each, with these names.
 fn files_named(names: &'static str) -> [(&'static str, u64); 65] {
     let mut files = [("", 4096); 65];
     for i in 0..65 {
@@ -368,7 +368,7 @@ fn files_named(names: &'static str) -> [(&'static str, u64); 65] {
     files
 }
 
-// 65 files of one page each, with names of one character.
+// Returns 65 files of one page each, with names of one character.
 fn many_files() -> [(&'static str, u64); 65] {
     files_named(NAMES)
 }
@@ -381,7 +381,7 @@ fn has_last<A: Allocator + Copy>(alloc: A, block: &[u8; 4096], last: Known) -> b
     }
 }
 
-// Whether the most files, with the most slots, are written and read.
+// Whether the largest number of files, with the largest number of slots, is written and read.
 fn are_written<A: Allocator + Copy>(alloc: A, most: &[(&str, u64)]) -> bool {
     match write_super(alloc, most, 1020) {
         Ok(block) => has_last(alloc, &block, ("_", 4096, 1, 1086)),
@@ -389,7 +389,8 @@ fn are_written<A: Allocator + Copy>(alloc: A, most: &[(&str, u64)]) -> bool {
     }
 }
 
-// Whether a file may have so many bytes that there are 2^32 - 1 blocks, and not one more: 7 come before the homes.
+// Whether a file may be so long that the volume has 2^32 - 1 blocks, and not a byte longer. 7 blocks come before the
+// home blocks.
 fn most_bytes_are_taken() -> bool {
     let bytes = 4096 * (u64::from(u32::MAX) - 7);
     are_counted_one(&[("a", bytes)], 4, Ok(u64::from(u32::MAX)))
@@ -408,7 +409,7 @@ fn limits_of_tables(rt: HostRuntime) {
     );
 }
 
-// The descriptor of mark 1 for the home blocks 7 and 8 of the sample's geometry.
+// Returns the descriptor of mark 1 for the home blocks 7 and 8 of the sample's geometry.
 fn written_descriptor(rt: &impl Abort, geometry: &Geometry) -> [u8; 4096] {
     assert!(rt; geometry.first_home() == 7);
     assert!(rt; geometry.block_count() == 10);
@@ -430,7 +431,7 @@ fn put_homes(full: &mut [u8]) {
     }
 }
 
-// A descriptor of mark 9 with 1,020 home blocks.
+// Returns a descriptor of mark 9 with 1,020 home blocks.
 fn full_descriptor() -> [u8; 4096] {
     let mut full = [0; 4096];
     put(&mut full, 0, b"\0\0\0\0\0\0\0\x09\0\0\x03\xFC");
@@ -438,7 +439,7 @@ fn full_descriptor() -> [u8; 4096] {
     full
 }
 
-// The geometry of a table that was written.
+// Returns the geometry of a table that was written.
 fn geometry_of<R: Abort + AllocGlobal>(rt: &R, written: Result<[u8; 4096], Refusal>) -> Geometry {
     match written {
         Ok(block) => table_of(rt, &block).geometry(),
@@ -455,13 +456,13 @@ fn a_full_descriptor(rt: HostRuntime) {
     assert!(rt; describe(rt.alloc(), &geometry, &full_descriptor(), wanted));
 }
 
-// The geometry of a volume in layout 4 with a file of 1,021 blocks and 1,022 slots.
+// Returns the geometry of a volume in layout 4 with a file of 1,021 blocks and 1,022 slots.
 fn long_geometry<R: Abort + AllocGlobal>(rt: &R) -> Geometry {
     let file = file_of(4096 * 1021, 4096 * 1021);
     geometry_of(rt, write_super_as(rt.alloc(), 4, &file, 1022))
 }
 
-// A descriptor of mark 9 with 1,021 home blocks, in two blocks: the last home block stands in the second one.
+// Returns a descriptor of mark 9 with 1,021 home blocks in two blocks. The second block contains the last home block.
 fn long_descriptor() -> [u8; 8192] {
     let mut full = [0; 8192];
     put(&mut full, 0, b"\0\0\0\0\0\0\0\x09\0\0\x03\xFD");
@@ -472,7 +473,7 @@ fn long_descriptor() -> [u8; 8192] {
     full
 }
 
-// Whether blocks say no descriptor.
+// Whether these blocks contain no descriptor.
 fn describe_none<A: Allocator + Copy>(alloc: A, geometry: &Geometry, blocks: &[u8]) -> bool {
     if !are_as_many(geometry, blocks) {
         return false;
@@ -483,7 +484,7 @@ fn describe_none<A: Allocator + Copy>(alloc: A, geometry: &Geometry, blocks: &[u
     }
 }
 
-// Whether what is read of two blocks is written so again, block by block.
+// Whether the descriptor read from two blocks is written back unchanged, block by block.
 fn are_written_again<A: Allocator + Copy>(
     alloc: A,
     geometry: &Geometry,
@@ -517,7 +518,7 @@ fn a_descriptor_of_two_blocks(rt: HostRuntime) {
     );
 }
 
-// Each of its bytes counts, also those past the last home block.
+// Each byte of a descriptor matters, including those past the last home block.
 #[test]
 fn a_byte_in_the_last_block_of_a_descriptor_is_damage(rt: HostRuntime) {
     let geometry = long_geometry(&rt);

@@ -1,5 +1,5 @@
-//! The bytes of small volumes, what a volume tells of its files, and volumes that are migrated to another layout.
-//! Write-outs, openings and crashes are in the runs as text.
+//! Tests of the bytes of small volumes, of the files that a volume returns, and of volumes that are migrated to another
+//! layout. Write-outs, openings and crashes are in the runs as text.
 #![tactic(auto)]
 
 #[cfg(test)]

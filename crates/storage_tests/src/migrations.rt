@@ -1,4 +1,5 @@
-// Volumes of each layout that are migrated to layout 3: the same files, and what is refused, fails or is cut off.
+// Volumes of each layout that are migrated to layout 3. They must have the same files afterwards. Some migrations are
+// refused, fail or are cut off.
 use counting_alloc::CountingAllocator;
 use device::{Device, FailingDisk, MemDisk};
 use page_entry::Refusal;
@@ -13,7 +14,7 @@ use volume_codec::Layout;
 
 type Disk = MemDisk<Global>;
 
-// What a test knows of a file: its name, its length and its capacity.
+// The expected name, length and capacity of a file.
 type Known = (&'static str, u64, u64);
 
 // The files of the sample in layouts 1 and 2, and in layout 3.
@@ -21,12 +22,12 @@ const FIXED: [Known; 2] = [("a", 5000, 5000), ("b", 4096, 4096)];
 
 const GROWING: [Known; 2] = [("a", 5000, 12_288), ("b", 4096, 4096)];
 
-// The migrated volume of the sample has 17 blocks with 4 slots, and 18 where `a` may grow.
+// The migrated volume of the sample has 17 blocks with 4 slots, and 18 if `a` may grow.
 const MIGRATED: u64 = 69_632;
 
 const MIGRATED_GROWING: u64 = 73_728;
 
-// How many slots each new volume has.
+// The number of slots of each new volume.
 const SLOTS: u64 = 4;
 
 fn disk_of<R: Abort + AllocGlobal>(rt: &R, image: &[u8]) -> Disk {
@@ -34,13 +35,13 @@ fn disk_of<R: Abort + AllocGlobal>(rt: &R, image: &[u8]) -> Disk {
     MemDisk::from_bytes(rt.alloc(), bytes).expect(rt, "memory")
 }
 
-// A disk of so many bytes, none of them zero.
+// Returns a disk of `len` bytes, none of them zero.
 fn used<R: Abort + AllocGlobal>(rt: &R, len: u64) -> Disk {
     let bytes = vec![in rt.alloc(); 0xEE; len as usize].expect(rt, "memory");
     MemDisk::from_bytes(rt.alloc(), bytes).expect(rt, "memory")
 }
 
-// The volume of a disk, where it opens.
+// Returns the volume of a disk, if it opens.
 fn opened<D: Device + Drop, A: Allocator + Copy>(alloc: A, disk: D) -> Option<Volume<D, A>> {
     match open(alloc, disk) {
         Ok(volume) => Some(volume),
@@ -48,13 +49,13 @@ fn opened<D: Device + Drop, A: Allocator + Copy>(alloc: A, disk: D) -> Option<Vo
     }
 }
 
-// The volume of a disk that opens.
+// Returns the volume of a disk that opens.
 fn volume_of<R: Abort + AllocGlobal>(rt: &R, disk: Disk) -> Volume<Disk, Global> {
     opened(rt.alloc(), disk).expect(rt, "a volume")
 }
 
-// Puts bytes into both files, `a` from block `a` on and `b` in block `b`, and bytes past their ends where they have
-// room.
+// Puts bytes into both files, `a` from block `a` on and `b` in block `b`. It also puts bytes past their ends, if they
+// have room.
 fn put_files(image: &mut [u8], a: usize, b: usize) {
     if a < 100 && b < 100 {
         put(image, 4096 * a, b"first");
@@ -87,7 +88,7 @@ fn image_three() -> [u8; LENGTH_THREE] {
     image
 }
 
-// Opens journal A, whose one record, of mark 1, has these bytes for this home block.
+// Opens journal A. Its one record, of mark 1, has these bytes for this home block.
 fn put_batch(image: &mut [u8], home: u8, bytes: &[u8]) {
     put(image, 4096, &[0xA7]);
     put(image, 8192 + 7, &[1]);
@@ -110,7 +111,7 @@ fn has_files<D: Device, A: Allocator + Copy>(volume: &Volume<D, A>, files: &[Kno
     volume.file_count() == files.len()
 }
 
-// Whether a file has these 8 bytes from a place on.
+// Whether a file has these 8 bytes from offset `at` on.
 fn has_at<D: Device, A: Allocator + Copy>(
     volume: &mut Volume<D, A>,
     file: usize,
@@ -155,7 +156,7 @@ fn opens_to<D: Device + Drop, A: Allocator + Copy>(
     }
 }
 
-// What a migration to the layout of this number answers.
+// Returns the result of a migration to the layout of this number.
 fn answer_of<D: Device, E: Device, A: Allocator + Copy>(
     alloc: A,
     old: &mut Volume<D, A>,
@@ -165,7 +166,7 @@ fn answer_of<D: Device, E: Device, A: Allocator + Copy>(
     migrate(alloc, old, new, layout, SLOTS)
 }
 
-// Whether a migration comes to an end and leaves the old volume's files.
+// Whether a migration succeeds and doesn't change the old volume's files.
 fn migrates<D: Device, E: Device, A: Allocator + Copy>(
     alloc: A,
     old: &mut Volume<D, A>,
@@ -175,13 +176,13 @@ fn migrates<D: Device, E: Device, A: Allocator + Copy>(
     answer_of(alloc, old, new, layout).is_ok() && has_bytes(old)
 }
 
-// Whether the bytes of a disk past its first ones are 100, and as they were.
+// Whether the bytes of a disk past the first `len` are 100, and unchanged.
 fn is_used_past<A: Allocator + Copy>(disk: &MemDisk<A>, len: u64) -> bool {
     disk.bytes().get(len as usize..) == Some([0xEE; 100].as_slice())
 }
 
-// Whether the volume of an image becomes these files, in the layout of this number, on a disk of so many bytes and some
-// more, which stay, and is left as it is opened.
+// Whether the volume of an image is migrated to these files, in the layout of this number. The new disk has `len` bytes
+// for it, and some more bytes that must not change. The old volume must stay as it was opened.
 fn migrates_to<R: Abort + AllocGlobal>(
     rt: &R,
     image: &[u8],
@@ -203,7 +204,7 @@ fn volumes_of_all_layouts_migrate(rt: HostRuntime) {
     assert!(rt; migrates_to(&rt, &image_three(), 3, MIGRATED_GROWING, &GROWING));
 }
 
-// With 4 slots layout 4 has its lengths in block 25, and the files from block 26 on.
+// With 4 slots a volume in layout 4 has its lengths in block 25, and its files from block 26 on.
 #[test]
 fn volumes_of_all_layouts_become_layout_4(rt: HostRuntime) {
     assert!(rt; migrates_to(&rt, &image_one(), 4, 4096 * 29, &FIXED));
@@ -211,7 +212,7 @@ fn volumes_of_all_layouts_become_layout_4(rt: HostRuntime) {
     assert!(rt; migrates_to(&rt, &image_three(), 4, 4096 * 30, &GROWING));
 }
 
-// Whether layout 2 is refused for its shape, before any call.
+// Whether layout 2 is refused because of its shape, before any call.
 fn refuses_two<D: Device, E: Device, A: Allocator + Copy>(
     alloc: A,
     old: &mut Volume<D, A>,
@@ -220,7 +221,7 @@ fn refuses_two<D: Device, E: Device, A: Allocator + Copy>(
     answer_of(alloc, old, new, 2) == Err(Refusal::BadShape) && new.calls() == 0
 }
 
-// A file that is shorter than its capacity goes to no layout without a block for lengths.
+// A file that is shorter than its capacity can't be migrated to a layout without a block for lengths.
 #[test]
 fn files_that_are_full_go_back_to_layout_2(rt: HostRuntime) {
     assert!(rt; migrates_to(&rt, &image_one(), 2, 4096 * 16, &FIXED));
@@ -228,7 +229,7 @@ fn files_that_are_full_go_back_to_layout_2(rt: HostRuntime) {
     assert!(rt; refuses_two(rt.alloc(), &mut old, &mut used(&rt, MIGRATED_GROWING)));
 }
 
-// An image where a journal has the second file's bytes, and the file others.
+// Makes an image in which a journal has the second file's bytes, and the file has others.
 fn put_second(image: &mut [u8], home: u8) {
     put(image, 4096 * usize::from(home), b"before");
     put_batch(image, home, b"second");
@@ -247,7 +248,7 @@ fn open_two() -> [u8; LENGTH_TWO] {
     image
 }
 
-// One where a journal has the lengths.
+// Returns an image in which a journal has the lengths.
 fn open_three() -> [u8; LENGTH_THREE] {
     let mut image = image_three();
     put_lengths(&mut image, 12_288);
@@ -272,7 +273,7 @@ fn makes_nine_calls<D: Device, E: Device, A: Allocator + Copy>(
     answer_of(alloc, old, new, 3) == Ok(()) && new.calls() == 9
 }
 
-// Whether these bytes stand around the end of the first file, at 5,000.
+// Whether these bytes are around the end of the first file, at 5,000.
 fn has_end<A: Allocator + Copy>(disk: &MemDisk<A>, wanted: [u8; 6]) -> bool {
     disk.bytes().get(62_340..62_346) == Some(wanted.as_slice())
 }
@@ -287,7 +288,7 @@ fn bytes_past_a_length_are_zeros(rt: HostRuntime) {
     assert!(rt; makes && stays && has_end(&new, [0, 0, 5, 6, 0, 0]));
 }
 
-// Whether the first file has no bytes, and the second one has its own.
+// Whether the first file is empty, and the second one has its own bytes.
 fn has_second<D: Device, A: Allocator + Copy>(volume: &mut Volume<D, A>) -> bool {
     has_files(volume, &[("a", 0, 12_288), ("b", 4096, 4096)]) && has_at(volume, 1, 0, b"second\0\0")
 }
@@ -302,7 +303,7 @@ fn a_file_of_length_0_migrates(rt: HostRuntime) {
     assert!(rt; has_second(&mut volume_of(&rt, new)) && answer == Ok(()));
 }
 
-// What is refused for its shape, on a disk of so many bytes, with no device call.
+// Checks that a migration to a disk of `len` bytes is refused because of its shape, without a device call.
 fn refuses(rt: &(impl Abort + AllocGlobal), len: u64, slots: u64) -> bool {
     let mut old = volume_of(rt, disk_of(rt, &image_two()));
     let mut new = used(rt, len);
@@ -310,7 +311,7 @@ fn refuses(rt: &(impl Abort + AllocGlobal), len: u64, slots: u64) -> bool {
     old.into_device().calls() == 4 && new.calls() == 0 && refused
 }
 
-// Whether the blocks of the new volume are counted, and what no volume has is refused.
+// Whether the number of blocks of the new volume is correct, and impossible numbers of slots are refused.
 fn are_counted<D: Device, A: Allocator + Copy>(old: &Volume<D, A>) -> bool {
     migrated_blocks(old, 3, 4) == Ok(17)
         && migrated_blocks(old, 3, 1020) == Ok(2049)
@@ -331,7 +332,8 @@ fn shapes_are_judged_before_any_call(rt: HostRuntime) {
     assert!(rt; are_counted(&volume_of(&rt, disk_of(&rt, &image_two()))));
 }
 
-// What a migration answers where the call of this number of the new disk fails, and whether the old disk is as it was.
+// Returns the result of a migration in which the call of this number to the new disk fails, and whether the old disk is
+// unchanged.
 fn new_fails<R: Abort + AllocGlobal>(rt: &R, n: u64) -> (Result<(), Refusal>, bool) {
     let mut old = volume_of(rt, disk_of(rt, &image_two()));
     let mut new = FailingDisk::new(used(rt, MIGRATED), n);
@@ -355,8 +357,8 @@ fn each_call_of_the_new_disk_fails(rt: HostRuntime) {
     assert!(rt; new_fails(&rt, 10) == (Ok(()), true));
 }
 
-// What a migration answers where the call of this number of the old disk fails, how many calls were made of the new
-// one, and whether the old one opens to the same files.
+// Returns the result of a migration in which the call of this number to the old disk fails, and the number of calls to
+// the new disk. Also returns whether the old disk opens to the same files.
 fn old_fails<R: Abort + AllocGlobal>(rt: &R, n: u64) -> (Result<(), Refusal>, u64, bool) {
     let mut new = used(rt, MIGRATED);
     let disk = FailingDisk::new(disk_of(rt, &image_two()), n);
@@ -366,7 +368,7 @@ fn old_fails<R: Abort + AllocGlobal>(rt: &R, n: u64) -> (Result<(), Refusal>, u6
     (answer, new.calls(), opens_to(rt.alloc(), disk, 2, &FIXED))
 }
 
-// 4 calls open the volume, and each file is read by one.
+// 4 calls open the volume, and one call reads each file.
 #[test]
 fn each_call_of_the_old_disk_fails(rt: HostRuntime) {
     assert!(rt; old_fails(&rt, 5) == (Err(Refusal::Device), 4, true));
@@ -374,7 +376,7 @@ fn each_call_of_the_old_disk_fails(rt: HostRuntime) {
     assert!(rt; old_fails(&rt, 7) == (Ok(()), 9, true));
 }
 
-// A crash of a disk that leaves a choice, and whether the choice is as long as the disk.
+// Makes a disk crash to these bytes, if there are as many as the disk has. Returns whether there are.
 fn crashes<A: Allocator + Copy>(disk: &mut MemDisk<A>, choice: &[u8]) -> bool {
     if choice.len() != disk.bytes().len() {
         return false;
@@ -383,7 +385,7 @@ fn crashes<A: Allocator + Copy>(disk: &mut MemDisk<A>, choice: &[u8]) -> bool {
     true
 }
 
-// Whether the new disk is whole after a crash that leaves this byte where it may, once a migration is done.
+// Whether the new disk is whole after a completed migration, and then a crash that can tear bytes to this value.
 fn is_whole_after<R: Abort + AllocGlobal>(rt: &R, byte: u8) -> bool {
     let mut old = volume_of(rt, disk_of(rt, &image_three()));
     let mut new = used(rt, MIGRATED_GROWING);
@@ -405,7 +407,7 @@ fn goes_on_after<R: Abort + AllocGlobal>(rt: &R, mut old: Disk, mut new: Disk) -
     opens_to(rt.alloc(), new, 3, &FIXED) && migrates && crashes
 }
 
-// Whether a migration succeeds where an earlier one was cut off by a crash of both disks, at this call of the new one.
+// Whether a migration succeeds after an earlier one was cut off at this call of the new disk, by a crash of both disks.
 fn goes_on<R: Abort + AllocGlobal>(rt: &R, n: u64) -> bool {
     let mut old = volume_of(rt, disk_of(rt, &image_two()));
     let mut new = FailingDisk::new(used(rt, MIGRATED), n);
@@ -420,8 +422,8 @@ fn it_can_be_made_again_after_a_crash_at_each_call(rt: HostRuntime) {
     }
 }
 
-// Whether the request for memory of this number was refused; then no call was made of the new disk, and again the
-// migration succeeds. None where something else came.
+// Whether the memory request of this number was refused. In that case the new disk must have had no call, and a second
+// migration must succeed. `None` if anything else happened.
 fn refuses_memory<'a, D: Device, E: Device, A: Allocator + Copy>(
     alloc: &'a CountingAllocator<A>,
     old: &mut Volume<D, &'a CountingAllocator<A>>,
@@ -441,7 +443,7 @@ fn refuses_memory<'a, D: Device, E: Device, A: Allocator + Copy>(
     (answer == wanted && again).then_some(refused)
 }
 
-// Whether it was refused; then no call was made of either disk.
+// Whether the memory request was refused. In that case neither disk must have had a call.
 fn is_refused<R: Abort + AllocGlobal>(rt: &R, alloc: &CountingAllocator<Global>, n: u64) -> bool {
     let mut new = used(rt, MIGRATED);
     let mut old = opened(alloc, disk_of(rt, &image_two())).expect(rt, "a volume");

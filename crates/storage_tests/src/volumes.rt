@@ -1,5 +1,5 @@
-// What is asked of volumes by calls that no run as text makes: what is formatted, and by how many calls, and what
-// a volume tells of its files.
+// Calls to volumes that no run as text makes: formatting and its number of calls, and what a volume returns about its
+// files.
 ghost use Rattle.std.specs.Prelude.{◌≡◌, length};
 
 use device::{Device, MemDisk};
@@ -13,15 +13,15 @@ use std::alloc::{Allocator, Global};
 use std::process::Abort;
 use volume_codec::{FileSpec, Layout};
 
-// What is known of a file: its name, its length and its capacity.
+// The expected name, length and capacity of a file.
 type Known = (&'static str, u64, u64);
 
-// A disk of zeros.
+// Returns a disk of zeros.
 fn zeros<R: Abort + AllocGlobal>(rt: &R, len: u64) -> MemDisk<Global> {
     MemDisk::new(rt.alloc(), len).expect(rt, "memory")
 }
 
-// The volume of an image.
+// Returns the volume of an image.
 fn opened<R: Abort + AllocGlobal>(rt: &R, image: &[u8]) -> Volume<MemDisk<Global>, Global> {
     let bytes = image.to_vec(rt.alloc()).expect(rt, "memory");
     let disk = MemDisk::from_bytes(rt.alloc(), bytes).expect(rt, "memory");
@@ -31,7 +31,7 @@ fn opened<R: Abort + AllocGlobal>(rt: &R, image: &[u8]) -> Volume<MemDisk<Global
     }
 }
 
-// Whether a disk is formatted in layout 1, without the layout's number.
+// Whether a disk is formatted in layout 1, by the function without the layout's number.
 fn is_formatted<D: Device, A: Allocator + Copy>(alloc: A, disk: &mut D) -> bool {
     format(alloc, disk, &FILES, 4).is_ok()
 }
@@ -44,12 +44,12 @@ fn a_disk_is_formatted_in_layout_1(rt: HostRuntime) {
     assert!(rt; is_formatted(rt.alloc(), &mut disk) && disk.bytes() == image.as_slice());
 }
 
-// Whether a disk is formatted in layout 3, where a file may grow, by so many calls.
+// Whether a disk is formatted in layout 3, where a file may grow, by this number of calls.
 fn is_formatted_three<D: Device, A: Allocator + Copy>(alloc: A, disk: &mut D, calls: u64) -> bool {
     format_as(alloc, disk, 3, &GROWING, 4).is_ok() && disk.calls() == calls
 }
 
-// A volume in layout 3, as it is formatted.
+// Returns a volume in layout 3 as formatted.
 fn image_three() -> [u8; LENGTH_THREE] {
     let mut image = [0; LENGTH_THREE];
     put_super_three(&mut image);
@@ -65,14 +65,14 @@ fn a_disk_is_formatted_in_layout_3(rt: HostRuntime) {
     );
 }
 
-// The first file where it may grow.
+// The first file, if it may grow.
 const GROWN: [FileSpec; 1] = [FileSpec {
     name: "a",
     length: 4096,
     capacity: 8192,
 }];
 
-// Whether a disk is refused what no volume of it has, in any layout.
+// Whether formatting refuses shapes that no volume can have, in any layout.
 fn refuses_shapes<D: Device, A: Allocator + Copy>(alloc: A, disk: &mut D) -> bool {
     let refused = Err(Refusal::BadShape);
     format_as(alloc, disk, 0, &SPECS, 4) == refused
@@ -82,7 +82,7 @@ fn refuses_shapes<D: Device, A: Allocator + Copy>(alloc: A, disk: &mut D) -> boo
         && format_as(alloc, disk, 2, &GROWN, 1) == refused
 }
 
-// Whether it is also refused what is too long for it or has no slots, in layout 1, and had no call.
+// Whether layout 1 also refuses files that are too long for the disk, and zero slots, and makes no call.
 fn refuses_tables<D: Device, A: Allocator + Copy>(alloc: A, disk: &mut D) -> bool {
     let refused = Err(Refusal::BadShape);
     format(alloc, disk, &FILES, 4) == refused
@@ -96,7 +96,7 @@ fn what_no_volume_has_is_not_formatted(rt: HostRuntime) {
     assert!(rt; refuses_shapes(rt.alloc(), &mut disk) && refuses_tables(rt.alloc(), &mut disk));
 }
 
-// The layout of a volume, how many files and blocks it has, and the most frames.
+// Returns the layout of a volume, its numbers of files and blocks, and the largest number of frames.
 fn counts_of<D: Device, A: Allocator + Copy>(volume: &Volume<D, A>) -> (Layout, usize, u32, u32) {
     let table = volume.table();
     (
@@ -126,7 +126,7 @@ fn has_files<D: Device, A: Allocator + Copy>(volume: &Volume<D, A>, files: [Know
         && volume.lengths() == [files[0].1, files[1].1].as_slice()
 }
 
-// Reads a part of a file, and says whether the file has so many bytes there.
+// Reads a part of a file. Returns whether the file has these bytes.
 fn read<D: Device, A: Allocator + Copy>(
     volume: &mut Volume<D, A>,
     file: usize,
@@ -142,7 +142,7 @@ fn read<D: Device, A: Allocator + Copy>(
     volume.read_file(file, at, buffer).is_ok()
 }
 
-// Whether reads around the end of a page, of the last byte, and of no bytes give what was put there.
+// Whether reads around the end of a page, of the last byte, and of no bytes return the stored bytes.
 fn has_parts<D: Device, A: Allocator + Copy>(volume: &mut Volume<D, A>) -> bool {
     let mut bytes = [1; 4];
     let mut last = [1];
@@ -153,7 +153,7 @@ fn has_parts<D: Device, A: Allocator + Copy>(volume: &mut Volume<D, A>) -> bool 
         && read(volume, 1, 4096, &mut [])
 }
 
-// Whether the disk of a volume had so many calls and is as it was. A read of no bytes makes none.
+// Whether the disk of a volume had this number of calls and is unchanged. A read of no bytes makes no call.
 fn is_left<A: Allocator + Copy>(volume: Volume<MemDisk<A>, A>, calls: u64, image: &[u8]) -> bool {
     let disk = volume.into_device();
     disk.calls() == calls && disk.bytes() == image
@@ -172,7 +172,7 @@ fn a_volume_tells_its_files(rt: HostRuntime) {
     assert!(rt; is_left(volume, 6, &image) && counts && files && parts);
 }
 
-// Which images of layout 3 open with which lengths is in the runs as text.
+// The runs as text cover which images of layout 3 open, and with which lengths.
 #[test]
 fn a_volume_in_layout_3_tells_its_files(rt: HostRuntime) {
     let image = image_three();

@@ -1,4 +1,4 @@
-// A call of a device.
+// A call to a device.
 ghost use Rattle.std.specs.Prelude.{◌≡◌, ◌++◌, ◌∷◌, [], IsTrue, IfOk};
 ghost use Rattle.taped_disk.specs.Calls.TapedCall.{write};
 ghost use Rattle.taped_disk.specs.Calls.{taped_call, taped_calls};
@@ -6,7 +6,7 @@ ghost use Rattle.taped_disk.specs.Calls.{taped_call, taped_calls};
 use std::alloc::{AllocError, Global};
 use std::fmt;
 
-/// A call of a device: where it begins and how many bytes it reads, or what it writes.
+/// A call to a device: the offset and the number of bytes that it reads, or the offset and the bytes that it writes.
 #[derive(Drop)]
 pub enum Call {
     Read(u64, u64),
@@ -15,7 +15,7 @@ pub enum Call {
 }
 
 impl Call {
-    /// The same call.
+    /// Returns a copy of this call. Fails if memory is refused.
     pub fn copy(&self, alloc: Global) -> Result<Call, AllocError>
         ensures { IfOk result (λ copy. taped_call copy ≡ taped_call self.now) }
     {
@@ -45,7 +45,7 @@ impl fmt::Display for Call {
     }
 }
 
-/// Records a call: whether there was memory for it.
+/// Records a call. Returns whether there was memory for it.
 #[tactic(auto, using(crate::proofs::Calls::taped_calls_pushed))]
 pub fn record(tape: &mut Vec<Call>, call: Call) -> bool
     ensures { IsTrue result → taped_calls tape.new.items ≡ taped_calls tape.old.items ++ taped_call call ∷ [] }
@@ -56,7 +56,7 @@ pub fn record(tape: &mut Vec<Call>, call: Call) -> bool
     }
 }
 
-/// Records a write.
+/// Records a write. Returns whether there was memory for it.
 pub fn record_write(alloc: Global, tape: &mut Vec<Call>, at: u64, bytes: &[u8]) -> bool
     ensures { IsTrue result → taped_calls tape.new.items ≡ taped_calls tape.old.items ++ write at bytes.now ∷ [] }
 {

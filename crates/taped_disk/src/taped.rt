@@ -8,8 +8,8 @@ use crate::call::{Call, record, record_write};
 use device::{Device, DeviceFault};
 use std::alloc::Global;
 
-/// A disk over another that passes each call on and records it. Where a record is refused memory, `is_whole` is no
-/// longer true.
+/// A disk over another that passes each call on and records it. If memory for a record is refused, `is_whole` becomes
+/// false.
 #[derive(Drop)]
 pub struct TapedDisk<D: Device> {
     pub inner: D,
@@ -19,7 +19,7 @@ pub struct TapedDisk<D: Device> {
 }
 
 impl<D: Device> TapedDisk<D> {
-    /// A disk over this one. No call was made yet.
+    /// Returns a disk over this one, with no recorded call.
     pub fn new(alloc: Global, inner: D) -> Self
         ensures inner { result.inner ≡ inner }
         ensures tape { result.tape.items ≡ [] }

@@ -22,18 +22,18 @@ struct FoundFile {
 pub struct Found {
     refused: Option<Refusal>,
     files: Vec<FoundFile>,
-    /// The disk as it was, and the opening's device calls.
+    /// The disk before the opening, and the opening's device calls.
     pub tape: Tape,
 }
 
-/// Files that may be found.
+/// Files that an opening may find.
 #[derive(Drop)]
 pub struct State {
     lengths: Vec<FileLength>,
     bytes: Vec<FileBytes>,
 }
 
-/// The files that a value names.
+/// Returns the files that a value names.
 pub fn read_state(alloc: Global, value: &Value) -> Result<State, Failure> {
     let lengths = read_file_lengths(alloc, value)?;
     match read_file_bytes(alloc, value) {
@@ -111,7 +111,7 @@ fn read_page(
 }
 
 impl Found {
-    /// Compares the files with these, whose other lengths and bytes are as they were made.
+    /// Compares the files with these, which otherwise have the lengths and bytes with which they were made.
     pub fn compare_state(
         &self,
         alloc: Global,
@@ -138,7 +138,7 @@ impl Found {
         Ok(())
     }
 
-    /// Compares an opening with what a line says of it.
+    /// Compares an opening with the expected one.
     pub fn compare(&self, alloc: Global, files: &[File], wanted: &Wanted) -> Result<(), Failure> {
         let made = self.tape.calls.len() as u64;
         match wanted {
@@ -182,7 +182,7 @@ impl Found {
         Ok(())
     }
 
-    // A refused opening wrote nothing.
+    // Checks that a refused opening wrote nothing.
     fn compare_unwritten(&self, alloc: Global) -> Result<(), Failure> {
         for call in &self.tape.calls {
             if let Call::Write(..) = call {

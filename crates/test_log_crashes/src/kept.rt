@@ -1,20 +1,20 @@
-// What a crash leaves of the places that weren't synced.
+// What a crash keeps in places that weren't synced.
 use crate::tape::{Point, Tape};
 use run_files::{Choice, Failure, Put, halves, read_choice_of};
 use serde_json::Value;
 use std::alloc::Global;
 use std::fmt;
 
-/// What a crash leaves there.
+/// The bytes that a crash keeps there.
 #[derive(Clone, Copy)]
 pub enum Kept {
     /// The bytes at the last sync.
     None,
-    /// In blocks of even numbers the bytes that a read returns, and in the others those at the last sync.
+    /// In even-numbered blocks the bytes that a read returns, and in the others those at the last sync.
     Even,
     /// The same with odd numbers.
     Odd,
-    /// A choice of all runs. A step back is a device call.
+    /// A choice that all kinds of runs have. One step back is one device call.
     Choice(Choice),
 }
 
@@ -29,7 +29,7 @@ impl fmt::Display for Kept {
     }
 }
 
-/// What a value names.
+/// Returns what a value names.
 pub fn read_kept(alloc: Global, value: &Value) -> Result<Kept, Failure> {
     match value.as_str() {
         Some("none") => Ok(Kept::None),
@@ -39,7 +39,7 @@ pub fn read_kept(alloc: Global, value: &Value) -> Result<Kept, Failure> {
     }
 }
 
-/// What each value of a list names.
+/// Returns what each value of a list names.
 pub fn read_all_kept(alloc: Global, items: &[Value]) -> Result<Vec<Kept>, Failure> {
     let mut all = Vec::new(alloc);
     for item in items {
@@ -48,7 +48,8 @@ pub fn read_all_kept(alloc: Global, items: &[Value]) -> Result<Vec<Kept>, Failur
     Ok(all)
 }
 
-/// What a crash after so many calls leaves, at this point: what is kept, but for some bytes, where nothing was synced.
+/// Returns the bytes after a crash that follows `count` calls, at this point. What `kept` names is kept, except that
+/// the bytes of `puts` replace some, where nothing was synced.
 pub fn crashed(
     alloc: Global,
     tape: &Tape,
@@ -76,7 +77,7 @@ pub fn crashed(
     point.crashed(alloc, &bytes)
 }
 
-// The blocks of even numbers of the one, and those of odd numbers of the other.
+// Returns the even-numbered blocks of `even` and the odd-numbered blocks of `odd`.
 fn alternate(alloc: Global, even: &[u8], odd: &[u8]) -> Result<Vec<u8>, Failure> {
     let mut bytes = Vec::new(alloc);
     for (i, (even, odd)) in even.chunks(4096).zip(odd.chunks(4096)).enumerate() {

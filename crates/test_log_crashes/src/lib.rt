@@ -1,5 +1,5 @@
-//! New volumes with a log on disks in memory, the device calls that are made on them, what a crash between these
-//! leaves, and what an opening finds then.
+//! New volumes with a log on disks in memory, and the device calls on them. A crash between these calls leaves a disk,
+//! and an opening then finds files in it.
 #![tactic(auto)]
 
 mod finding;

@@ -1,4 +1,4 @@
-// The calls of a run on a disk, which can be made again up to any of them.
+// The calls of a run on a disk. They can be made again up to any of them.
 ghost use Rattle.std.specs.Prelude.{◌≡◌, ◌+◌, ◌<◌, ◌≤◌, length};
 ghost use Rattle.device.specs.Device.{written};
 
@@ -7,16 +7,16 @@ use run_files::Failure;
 use std::alloc::{AllocError, Global};
 use taped_disk::{Call, TapedDisk};
 
-/// A disk in memory whose call of a chosen number fails, and whose calls are recorded.
+/// A disk in memory that records its calls, and on which a chosen call fails.
 pub type Disk = TapedDisk<FailingDisk<MemDisk<Global>>>;
 
-/// A disk of these bytes, whose call of this number fails.
+/// Returns a disk with these bytes, on which the call of this number fails.
 pub fn taped(alloc: Global, image: &[u8], fails: u64) -> Result<Disk, Failure> {
     let disk = MemDisk::from_bytes(alloc, image.to_vec(alloc)?)?;
     Ok(TapedDisk::new(alloc, FailingDisk::new(disk, fails)))
 }
 
-/// The calls of a run: the bytes with which it began, the number of the call that failed, and what was called.
+/// The calls of a run, the bytes of the disk before them, and the number of the call that failed.
 #[derive(Drop)]
 pub struct Tape {
     pub first: Vec<u8>,
@@ -24,17 +24,17 @@ pub struct Tape {
     pub calls: Vec<Call>,
 }
 
-/// A disk after some calls: what a read returns, what it returned after the last sync, and what was written since.
+/// A disk after some calls: the bytes that a read returns, the bytes after the last sync, and what was written since.
 #[derive(Drop)]
 pub struct Point {
     pub content: Vec<u8>,
     pub synced: Vec<u8>,
-    // Where the writes since then begin and end.
+    // The beginning and end of each write since then.
     written: Vec<(usize, usize)>,
 }
 
 impl Tape {
-    /// No call was made on these bytes.
+    /// Returns a tape with these bytes and no call.
     pub fn new(alloc: Global, first: &[u8]) -> Result<Tape, Failure> {
         Ok(Tape {
             first: first.to_vec(alloc)?,
@@ -43,7 +43,7 @@ impl Tape {
         })
     }
 
-    /// The calls of a disk.
+    /// Returns the tape of a disk.
     pub fn of(first: Vec<u8>, fails: u64, disk: Disk) -> Result<Tape, Failure> {
         let TapedDisk { tape, is_whole, .. } = disk;
         if !is_whole {
@@ -56,7 +56,7 @@ impl Tape {
         })
     }
 
-    /// The same once more.
+    /// Returns a copy of this tape.
     pub fn copy(&self, alloc: Global) -> Result<Tape, Failure> {
         let mut calls = Vec::new(alloc);
         for call in &self.calls {
@@ -69,7 +69,7 @@ impl Tape {
         })
     }
 
-    /// The calls of another tape follow.
+    /// Appends the calls of another tape.
     pub fn append(&mut self, other: Tape) -> Result<(), Failure> {
         for call in other.calls {
             self.calls.push(call)?;
@@ -77,7 +77,7 @@ impl Tape {
         Ok(())
     }
 
-    /// The disk after so many of the calls.
+    /// Returns the disk after this number of calls.
     pub fn after(&self, alloc: Global, count: usize) -> Result<Point, Failure> {
         let Some(calls) = self.calls.get(..count) else {
             return Err(Failure::line(alloc, "there are fewer device calls"));
@@ -97,7 +97,7 @@ impl Tape {
 }
 
 impl Point {
-    // The disk after this call, which maybe failed: a failed write leaves 0xEE, and a failed sync nothing.
+    // Applies a call, which may have failed. A failed write leaves 0xEE, and a failed sync does nothing.
     fn apply(&mut self, call: &Call, failed: bool) -> Result<(), Failure> {
         match call {
             Call::Read(..) => {}
@@ -122,7 +122,7 @@ impl Point {
         Ok(())
     }
 
-    /// What a crash leaves: these bytes in the places that were written since the last sync.
+    /// Returns what a crash leaves: these bytes in the places that were written since the last sync.
     pub fn crashed(&self, alloc: Global, kept: &[u8]) -> Result<Vec<u8>, Failure> {
         let mut left = self.content.to_vec(alloc)?;
         for (from, to) in &self.written {
@@ -134,7 +134,7 @@ impl Point {
     }
 }
 
-// Copies bytes over others, from a place on, if there are as many.
+// Copies bytes over those from `from` on, if they fit.
 fn copy_over(content: &mut [u8], from: usize, bytes: &[u8])
     ensures fits { from + length bytes.now ≤ length content.old
         → content.new ≡ written content.old from bytes.now }
@@ -145,7 +145,7 @@ fn copy_over(content: &mut [u8], from: usize, bytes: &[u8])
     }
 }
 
-// Leaves 0xEE in a range.
+// Fills a range with 0xEE.
 fn spoil(content: &mut [u8], from: usize, to: usize) {
     for i in from..to {
         if let Some(byte) = content.get_mut(i) {

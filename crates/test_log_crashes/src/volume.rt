@@ -15,7 +15,7 @@ pub struct Volume {
     pub files: Vec<File>,
 }
 
-/// The volume of a line.
+/// Returns the volume in a line.
 pub fn read_volume(alloc: Global, value: &Value) -> Result<Volume, Failure> {
     let sealing = match number_of(alloc, value, "volume")? {
         5 => Sealing::ByByte,

@@ -14,7 +14,7 @@ pub struct Trial {
 }
 
 impl Trial {
-    /// The calls of the last run, or none.
+    /// Returns the calls of the last run, or none.
     pub fn tape(&self, alloc: Global) -> Result<Tape, Failure> {
         match &self.run {
             Some((_, made)) => made.tape.copy(alloc),
@@ -28,13 +28,13 @@ impl Trial {
 enum Stops {
     /// At the end.
     End,
-    /// After so many device calls.
+    /// After this number of device calls.
     Calls(Span),
-    /// Where the call of this number fails.
+    /// At the device call of this number, which fails.
     Failing(Span),
-    /// No run is made: of the disk, so many bytes are there.
+    /// No run is made. Only this number of bytes of the disk remains.
     Shortened(Span),
-    /// No run is made: the byte at this place is another one.
+    /// No run is made. The byte at this place is changed.
     Flipped(Span),
 }
 
@@ -60,8 +60,8 @@ struct Stopped {
     count: usize,
 }
 
-/// The end of a run, or many of its kind: where it is stopped; the calls after which an opening is stopped; what a
-/// crash leaves; and what the next opening finds.
+/// One or many endings of a run: where it is stopped, after which calls an opening is stopped, what a crash leaves, and
+/// what the next opening finds.
 #[derive(Drop)]
 pub struct Ending {
     stops: Stops,
@@ -71,7 +71,7 @@ pub struct Ending {
 }
 
 impl Ending {
-    /// What a line says.
+    /// Returns the endings in a line.
     pub fn read(alloc: Global, value: &Value) -> Result<Self, Failure> {
         Ok(Ending {
             stops: read_stops(alloc, value)?,
@@ -81,7 +81,7 @@ impl Ending {
         })
     }
 
-    /// Makes all of them, and tells how many they are.
+    /// Makes all endings, and returns their number.
     pub fn make(&self, alloc: Global, trial: &Trial) -> Result<u64, Failure> {
         let span = match self.stops {
             Stops::End => Span { first: 0, end: 1 },
@@ -98,7 +98,7 @@ impl Ending {
         Ok(count)
     }
 
-    // The run that is stopped at this number.
+    // Returns the run that is stopped at this number.
     fn stopped(&self, alloc: Global, trial: &Trial, number: u64) -> Result<Stopped, Failure> {
         let mut tape = trial.tape(alloc)?;
         let mut count = tape.calls.len();
@@ -124,7 +124,7 @@ impl Ending {
         Ok(Stopped { tape, count })
     }
 
-    // Those of one stop.
+    // Makes the endings of one stop.
     fn make_at(
         &self,
         alloc: Global,
@@ -144,7 +144,7 @@ impl Ending {
         Ok(all)
     }
 
-    // Those of one stop and one cut.
+    // Makes the endings of one stop and one cut.
     fn make_left(
         &self,
         alloc: Global,
@@ -167,13 +167,13 @@ impl Ending {
         Ok(self.leaves.len() as u64)
     }
 
-    // Opens a disk of these bytes, and compares.
+    // Opens a disk of these bytes, and compares what it finds.
     fn compare(&self, alloc: Global, trial: &Trial, image: &[u8]) -> Result<(), Failure> {
         find(alloc, image)?.compare(alloc, &trial.files, &self.wanted)
     }
 }
 
-// Says of which ending something differs.
+// Adds to a difference which ending it is of.
 fn placed(
     alloc: Global,
     number: u64,
@@ -192,7 +192,7 @@ fn placed(
     }
 }
 
-// The calls of a run that is stopped, and so many of the opening after it.
+// Returns the calls of a stopped run and the first `calls` calls of the opening after it.
 fn cut(alloc: Global, tape: &Tape, count: usize, calls: usize) -> Result<(Tape, usize), Failure> {
     let found = find(alloc, &tape.after(alloc, count)?.content)?;
     if calls > found.tape.calls.len() {

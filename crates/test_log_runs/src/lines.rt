@@ -11,12 +11,12 @@ use serde_json::{Map, Value};
 use std::alloc::Global;
 use test_log_crashes::{Volume, crashed, read_kept, read_volume};
 
-/// A file that is read as far as some line.
+/// A file that is read up to some line.
 #[derive(Drop)]
 pub struct Lines {
     alloc: Global,
     trial: Trial,
-    // A run whose steps come, and that isn't made yet.
+    // A run whose steps are being read, and that isn't made yet.
     coming: Option<Run>,
     // What the last run left.
     left: Option<Vec<u8>>,
@@ -38,7 +38,7 @@ impl Judge for Lines {
         }
     }
 
-    // A step, its answer and its device calls.
+    // Takes a step, its answer and its device calls.
     fn take_step(&mut self, items: &[Value]) -> Result<(), Failure> {
         match &mut self.coming {
             Some(run) => {
@@ -53,7 +53,7 @@ impl Judge for Lines {
         self.coming.is_some()
     }
 
-    // The run is whole, and is made.
+    // Makes the run, which is complete.
     fn end(&mut self, ended: &Ended) -> Result<(), Failure> {
         let alloc = self.alloc;
         let Some(run) = self.coming.take() else {
@@ -100,7 +100,7 @@ impl Judge for Lines {
 }
 
 impl Lines {
-    // A line about the disk before a run.
+    // Takes a line about the disk before a run.
     fn take_disk(&mut self, members: &Map<String, Value>, value: &Value) -> Result<(), Failure> {
         let alloc = self.alloc;
         self.begin_next();
@@ -120,7 +120,7 @@ impl Lines {
         Ok(())
     }
 
-    // What the last run left is what comes next begins with.
+    // Lets what follows begin with what the last run left.
     fn begin_next(&mut self) {
         if let Some(left) = self.left.take() {
             self.trial.image = left;
@@ -128,8 +128,8 @@ impl Lines {
         }
     }
 
-    // A crash at the end of the run, or after so many of its calls: it leaves one of the choices, but for some bytes,
-    // where nothing was synced. What comes next begins with that.
+    // Takes a crash, at the end of the run or after a number of its calls. It leaves one of the choices, except that
+    // some bytes are replaced, where nothing was synced. What follows begins with that.
     fn take_crash(&mut self, members: &Map<String, Value>, value: &Value) -> Result<(), Failure> {
         let alloc = self.alloc;
         only(alloc, members, &["crash", "but", "stopped"])?;

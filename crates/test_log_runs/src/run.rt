@@ -1,4 +1,4 @@
-// A run: an opening and steps, which can be made again and again from the same beginning.
+// A run: an opening and steps. It can be made again and again from the same beginning.
 use crate::step::{Answer, Calls, Said, Step, make};
 use device::Device;
 use log_files::LogFiles;
@@ -7,16 +7,16 @@ use run_files::{Ended, Failure, compare_count, compare_refusal};
 use std::alloc::Global;
 use test_log_crashes::{Disk, Tape, taped};
 
-/// A run, as a file says it.
+/// A run, as a file describes it.
 #[derive(Drop)]
 pub struct Run {
-    /// The most pages of files that a commit takes.
+    /// The largest number of pages of files that a commit takes.
     pub most: u32,
     pub fails: u64,
-    /// The device calls of the opening.
+    /// The expected device calls of the opening.
     pub opens: Calls,
     pub steps: Vec<Said>,
-    /// The number of the line that has the first step.
+    /// The number of the line with the first step.
     pub line: u64,
 }
 
@@ -31,14 +31,14 @@ pub struct Made {
     pub faults: u64,
 }
 
-// A step after a device call failed is answered so.
+// Whether an answer is that to a step in which a device call failed.
 fn is_failed(answer: &Answer) -> bool {
     answer.is("device")
 }
 
 impl Run {
-    /// Makes the run on a disk of these bytes, whose call of this number fails. If `stops`, it is over after the step
-    /// whose call failed, but a commit and a step follow.
+    /// Makes the run on a disk of these bytes, on which the call of this number fails. If `stops`, the run ends with
+    /// the step whose call failed, and then makes a commit and a step.
     fn make(&self, alloc: Global, image: &[u8], fails: u64, stops: bool) -> Result<Made, Failure> {
         match LogFiles::open(alloc, taped(alloc, image, fails)?, self.most) {
             Ok(files) => self.make_steps(alloc, image, fails, files, stops),
@@ -93,7 +93,7 @@ impl Run {
         )
     }
 
-    /// Makes the whole run, and compares it with what is said of it.
+    /// Makes the whole run, and compares it with what is expected of it.
     pub fn whole(&self, alloc: Global, image: &[u8], ended: &Ended) -> Result<Made, Failure> {
         let made = self.make(alloc, image, self.fails, false)?;
         self.compare(alloc, &made, ended)?;
@@ -118,7 +118,7 @@ impl Run {
         }
     }
 
-    // Compares the first so many steps.
+    // Compares the first `count` steps.
     fn compare_steps(&self, alloc: Global, made: &Made, count: usize) -> Result<(), Failure> {
         let spans = made.counts.iter().zip(made.counts.iter().skip(1));
         let came = made.answers.iter().zip(spans);
@@ -135,7 +135,7 @@ impl Run {
         Ok(())
     }
 
-    // Says in which line a step is that differs.
+    // Adds to a difference the number of the line with the step.
     fn placed(
         &self,
         alloc: Global,
@@ -151,8 +151,8 @@ impl Run {
         }
     }
 
-    /// Makes the run where the device call of this number fails. The step, or the opening, is refused for that. If it
-    /// was a commit or a step, later ones are answered `broken`, without a call.
+    /// Makes the run in which the device call of this number fails. The step, or the opening, is refused because of it.
+    /// If it was a commit or a step, later ones are answered `broken`, without a call.
     pub fn failing(&self, alloc: Global, image: &[u8], call: u64) -> Result<Made, Failure> {
         let made = self.make(alloc, image, call, true)?;
         if let Some(refusal) = made.refused {
@@ -179,7 +179,8 @@ impl Run {
         Ok(())
     }
 
-    /// The numbers of device calls at which each commit that is acknowledged, or that failed, begins and ends.
+    /// Returns the numbers of device calls at which each commit begins and ends. It covers each commit that is
+    /// acknowledged or failed.
     pub fn commits(&self, alloc: Global, made: &Made) -> Result<Vec<(usize, usize)>, Failure> {
         let mut commits = Vec::new(alloc);
         let spans = made.counts.iter().zip(made.counts.iter().skip(1));
@@ -201,7 +202,7 @@ fn compare_word(alloc: Global, word: &str, came: &Answer) -> Result<(), Failure>
     Answer::Text(String::from_str(alloc, word)?).compare(alloc, came)
 }
 
-// A run of a disk that began with these bytes.
+// Returns a run of a disk that began with these bytes.
 fn made_on(
     alloc: Global,
     image: &[u8],

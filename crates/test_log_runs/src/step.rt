@@ -13,7 +13,7 @@ use test_log_crashes::Disk;
 /// A step.
 #[derive(Drop)]
 pub enum Step {
-    /// A page gets these bytes, and zeros after them.
+    /// Puts these bytes into a page, and zeros after them.
     Put(FilePage, Put),
     Read(FilePage),
     Length(FileNumber, u64),
@@ -21,14 +21,14 @@ pub enum Step {
     Step,
 }
 
-/// What a step is answered: a text, or the bytes of a page.
+/// The answer to a step: a text, or the bytes of a page.
 #[derive(Drop)]
 pub enum Answer {
     Text(String),
     Page(Vec<u8>),
 }
 
-/// The device calls that are wanted, if any are.
+/// The expected device calls, if any are expected.
 #[derive(Drop)]
 pub enum Calls {
     Any,
@@ -44,7 +44,7 @@ pub struct Said {
     pub calls: Calls,
 }
 
-/// The step of a line: its words, its answer, and its device calls if they are named.
+/// Returns the step of a line: its words, its answer, and its device calls if they are named.
 pub fn read_said(alloc: Global, items: &[Value]) -> Result<Said, Failure> {
     match items {
         [words, answer] => one_said(alloc, words, answer, Calls::Any),
@@ -119,7 +119,7 @@ fn file_number(alloc: Global, file: &Value) -> Result<FileNumber, Failure> {
     }
 }
 
-// A text, or bytes over a page of zeros.
+// Returns a text, or bytes over a page of zeros.
 fn read_answer(alloc: Global, value: &Value) -> Result<Answer, Failure> {
     match value.as_array() {
         Some(parts) => {
@@ -136,7 +136,7 @@ fn read_answer(alloc: Global, value: &Value) -> Result<Answer, Failure> {
     }
 }
 
-/// A number of device calls, or each one.
+/// Returns an expected number of device calls, or a list of them.
 pub fn read_calls(alloc: Global, value: &Value) -> Result<Calls, Failure> {
     let Some(items) = value.as_array() else {
         return Ok(Calls::Count(number(alloc, value, "the device calls")?));
@@ -148,7 +148,7 @@ pub fn read_calls(alloc: Global, value: &Value) -> Result<Calls, Failure> {
     Ok(Calls::Each(calls))
 }
 
-/// Makes a step.
+/// Makes a step, and returns its answer.
 pub fn make(
     alloc: Global,
     files: &mut LogFiles<Disk, Global>,
@@ -198,7 +198,7 @@ fn word_of(progress: Progress) -> &'static str {
 }
 
 impl Answer {
-    /// Whether it is this text.
+    /// Whether the answer is this text.
     pub fn is(&self, word: &str) -> bool {
         match self {
             Answer::Text(text) => text.as_str() == word,

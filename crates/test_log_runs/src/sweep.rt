@@ -1,12 +1,13 @@
-// A crash after each device call of a run. What is found has the acknowledged commits, and maybe the one under way.
+// A crash after each device call of a run. What is found must have the acknowledged commits, and may have the one in
+// progress.
 use crate::ending::Trial;
 use run_files::{Failure, File, list_of};
 use serde_json::Value;
 use std::alloc::Global;
 use test_log_crashes::{Found, Kept, State, crashed, find, read_all_kept, read_state};
 
-/// What crashes leave, and the files after each number of commits. If `then` isn't empty, each opening is stopped, too,
-/// by crashes that leave these.
+/// What crashes leave, and the files after each number of commits. If `then` isn't empty, crashes that leave these also
+/// stop each opening.
 #[derive(Drop)]
 pub struct Sweep {
     each: Vec<Kept>,
@@ -15,7 +16,7 @@ pub struct Sweep {
 }
 
 impl Sweep {
-    /// What a line says.
+    /// Returns the crashes in a line.
     pub fn read(alloc: Global, value: &Value) -> Result<Self, Failure> {
         let mut states = Vec::new(alloc);
         for state in list_of(alloc, value, "states")? {
@@ -28,7 +29,7 @@ impl Sweep {
         }
     }
 
-    /// Makes all crashes, and tells how many openings these are.
+    /// Makes all crashes, and returns the number of openings.
     pub fn make(&self, alloc: Global, trial: &Trial) -> Result<u64, Failure> {
         let Some((run, made)) = &trial.run else {
             return Err(Failure::line(alloc, "there is no run"));
@@ -50,8 +51,8 @@ impl Sweep {
         Ok(openings)
     }
 
-    // The states that may be found after so many calls: that of the acknowledged commits, and that with the one under
-    // way.
+    // Returns the two states that may be found after `count` calls. One has the acknowledged commits, and the other
+    // also has the commit in progress.
     fn allowed(
         &self,
         commits: &[(usize, usize)],
@@ -70,7 +71,7 @@ impl Sweep {
         (self.states.get(acknowledged), self.states.get(begun))
     }
 
-    // The opening after a crash, and each crash of it.
+    // Makes the opening after a crash, and each crash of that opening.
     fn make_one(
         &self,
         alloc: Global,
@@ -97,7 +98,7 @@ impl Sweep {
     }
 }
 
-// One of two states is found.
+// Checks that one of two states is found.
 fn compare(
     alloc: Global,
     found: &Found,
@@ -113,7 +114,7 @@ fn compare(
     }
 }
 
-// Says of which crash something differs.
+// Adds to a difference which crash it is of.
 fn placed<T: Drop>(
     alloc: Global,
     count: usize,

@@ -15,11 +15,11 @@ use std::fmt;
 enum Stop {
     /// At its end.
     End,
-    /// After so many steps.
+    /// After this number of steps.
     After(u64),
     /// Within the step whose device call, of this number, fails.
     Failing(u64),
-    /// No run is made: of the disk, so many bytes are there.
+    /// No run is made. Only this number of bytes of the disk remains.
     Shortened(u64),
 }
 
@@ -46,7 +46,7 @@ fn read_stops(alloc: Global, value: &Value) -> Result<Stops, Failure> {
 }
 
 impl Stops {
-    // The numbers of the stops; the end is the only one of its kind.
+    // Returns the numbers of the stops. The end is the only one of its kind.
     fn span(self) -> Span {
         match self {
             Stops::End => Span { first: 0, end: 1 },
@@ -54,7 +54,7 @@ impl Stops {
         }
     }
 
-    // The stop of this number.
+    // Returns the stop of this number.
     fn at(self, number: u64) -> Stop {
         match self {
             Stops::End => Stop::End,
@@ -76,7 +76,7 @@ impl fmt::Display for Stop {
     }
 }
 
-// One ending among many: where the run is stopped, at which call an opening is cut, and what a crash leaves.
+// One of many endings: where the run is stopped, at which call an opening is cut, and what a crash leaves.
 #[derive(Clone, Copy)]
 struct EndPoint {
     stop: Stop,
@@ -98,12 +98,12 @@ impl fmt::Display for EndPoint {
     }
 }
 
-/// The end of a run, or many of its kind: where it is stopped; which call of an opening then fails; what a crash
-/// leaves; and what the next opening gives.
+/// One or many endings of a run: where it is stopped, which call of an opening then fails, what a crash leaves, and
+/// what the next opening finds.
 #[derive(Drop)]
 pub struct Ending {
     stops: Stops,
-    // The number of the step whose device call fails, where that is said.
+    // The number of the step whose device call fails, if a line names it.
     step: Option<u64>,
     cut: Option<Span>,
     leaves: Vec<Choice>,
@@ -111,7 +111,7 @@ pub struct Ending {
 }
 
 impl Ending {
-    /// What a line says.
+    /// Returns the endings in a line.
     pub fn read(alloc: Global, value: &Value) -> Result<Self, Failure> {
         Ok(Ending {
             stops: read_stops(alloc, value)?,
@@ -125,7 +125,7 @@ impl Ending {
         })
     }
 
-    /// Makes all of them, and tells how many they are.
+    /// Makes all endings, and returns their number.
     pub fn make(&self, alloc: Global, trial: &Trial) -> Result<u64, Failure> {
         let span = self.stops.span();
         let mut count = 0u64;
@@ -136,7 +136,7 @@ impl Ending {
         Ok(count)
     }
 
-    // Those of one stop.
+    // Makes the endings of one stop.
     fn make_at(&self, alloc: Global, trial: &Trial, stop: Stop) -> Result<u64, Failure> {
         match self.cut {
             None => self.make_cut(alloc, trial, stop, None),
@@ -151,7 +151,7 @@ impl Ending {
         }
     }
 
-    // Those of one stop and one cut.
+    // Makes the endings of one stop and one cut.
     fn make_cut(
         &self,
         alloc: Global,
@@ -169,7 +169,7 @@ impl Ending {
         Ok(self.leaves.len() as u64)
     }
 
-    // One of them; a fault says which.
+    // Makes one ending. A fault names it.
     fn make_placed(
         &self,
         alloc: Global,
@@ -203,7 +203,7 @@ impl Ending {
         compare(alloc, left, &trial.files, &trial.gates, &self.wanted)
     }
 
-    // What is left of a run that is stopped.
+    // Returns what is left of a run that is stopped.
     fn stopped(&self, alloc: Global, trial: &Trial, stop: Stop) -> Result<Stopped, Failure> {
         let stopped = match stop {
             Stop::End => trial.whole(alloc)?,
@@ -217,7 +217,7 @@ impl Ending {
         Ok(stopped)
     }
 
-    // What a crash leaves of a disk on which an opening was cut.
+    // Returns what a crash leaves of a disk on which an opening was cut.
     fn left_by_cut(
         &self,
         alloc: Global,
@@ -237,7 +237,7 @@ impl Ending {
     }
 }
 
-// What a crash leaves of a disk.
+// Returns what a crash leaves of a disk.
 fn left(
     alloc: Global,
     trial: &Trial,
@@ -253,7 +253,8 @@ fn left(
     Ok(disk)
 }
 
-/// What a crash at the end of the run leaves: a choice, but for these bytes, where nothing was synced.
+/// Returns what a crash at the end of the run leaves: a choice, except that these bytes replace some, where nothing was
+/// synced.
 pub fn crashed(
     alloc: Global,
     trial: &Trial,
@@ -269,7 +270,7 @@ pub fn crashed(
     Ok(disk.bytes().to_vec(alloc)?)
 }
 
-/// The bytes that a choice is, for a disk after so many steps.
+/// Returns the bytes of a choice, for a disk after `done` steps.
 pub fn chosen(
     alloc: Global,
     trial: &Trial,

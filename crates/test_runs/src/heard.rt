@@ -1,11 +1,11 @@
-// Who hears the replies of a run.
+// The listener for the replies of a run.
 use engine::Listener;
 use machine::Reply;
 use page_entry::Refusal;
 use std::alloc::Global;
 
-/// Keeps what it is told. It says to stop once that is so many replies, and, where it is asked to, at the first reply
-/// that a device call failed.
+/// A listener that keeps all replies. It stops the run after `most` replies, or when memory for a reply is refused. If
+/// `stops` is set, it also stops at the first reply that a device call failed.
 #[derive(Drop)]
 pub struct Heard {
     pub replies: Vec<Reply>,
@@ -14,7 +14,7 @@ pub struct Heard {
 }
 
 impl Heard {
-    /// Nothing was heard yet.
+    /// Returns a listener that has heard nothing yet.
     pub fn new(alloc: Global, most: u64, stops: bool) -> Self {
         Heard {
             replies: Vec::new(alloc),

@@ -10,12 +10,12 @@ use scripts::read_step;
 use serde_json::{Map, Value};
 use std::alloc::Global;
 
-/// A file that is read as far as some line.
+/// A file that is read up to some line.
 #[derive(Drop)]
 pub struct Lines {
     alloc: Global,
     trial: Trial,
-    // A run whose steps come, and that isn't made yet.
+    // A run whose steps are being read, and that isn't made yet.
     coming: Option<Run>,
     // What the last run left.
     left: Option<Vec<u8>>,
@@ -38,7 +38,7 @@ impl Judge for Lines {
         }
     }
 
-    // A step and its reply, or a step before which the run is over.
+    // Takes a step and its reply, or a step before which the run ends.
     fn take_step(&mut self, items: &[Value]) -> Result<(), Failure> {
         let alloc = self.alloc;
         let Some(run) = &mut self.coming else {
@@ -63,7 +63,7 @@ impl Judge for Lines {
         self.coming.is_some()
     }
 
-    // The run is whole, and is made.
+    // Makes the run, which is complete.
     fn end(&mut self, ended: &Ended) -> Result<(), Failure> {
         let Some(run) = self.coming.take() else {
             return Err(Failure::line(self.alloc, "no run has begun"));
@@ -115,7 +115,7 @@ impl Judge for Lines {
 }
 
 impl Lines {
-    // What the last run left is what comes next begins with.
+    // Lets what follows begin with what the last run left.
     fn begin_next(&mut self) {
         if let Some(left) = self.left.take() {
             self.trial.image = left;
@@ -123,8 +123,8 @@ impl Lines {
         }
     }
 
-    // A crash at the end of the run: it leaves one of the choices, but for some bytes, where nothing was synced. What
-    // comes next begins with that.
+    // Takes a crash at the end of the run. It leaves one of the choices, except that some bytes are replaced, where
+    // nothing was synced. What follows begins with that.
     fn take_crash(&mut self, members: &Map<String, Value>, value: &Value) -> Result<(), Failure> {
         let alloc = self.alloc;
         only(alloc, members, &["crash", "but"])?;
@@ -180,7 +180,7 @@ impl Lines {
     }
 }
 
-// A new volume, which no run has changed yet.
+// Returns a new volume, which no run has changed yet.
 fn read_volume(alloc: Global, value: &Value) -> Result<Trial, Failure> {
     let layout = number_of(alloc, value, "volume")?;
     let slots = number_of(alloc, value, "slots")?;
@@ -217,7 +217,7 @@ fn push_step(alloc: Global, run: &mut Run, words: &Value) -> Result<(), Failure>
     }
 }
 
-// The byte of this name, or 0.
+// Returns the byte of this name, or 0.
 fn first_byte(alloc: Global, value: &Value, name: &str) -> Result<u8, Failure> {
     match value.get(name) {
         None => Ok(0),
@@ -228,7 +228,7 @@ fn first_byte(alloc: Global, value: &Value, name: &str) -> Result<u8, Failure> {
     }
 }
 
-// Where the gates of a layout are: each journal has a gate, the blocks of its descriptor and its record slots.
+// Returns the blocks of the gates of a layout. Each journal has a gate, its descriptor's blocks and its record slots.
 fn gates(alloc: Global, layout: u64, slots: u64) -> Result<Vec<u64>, Failure> {
     let journals: u64 = match layout {
         2 | 3 => 2,

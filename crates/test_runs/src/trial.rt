@@ -1,4 +1,4 @@
-// A disk in memory, and a run of a machine on it that can be made again and again from the same beginning.
+// A disk in memory, and a run of a machine on it. The run can be made again and again from the same beginning.
 ghost use Rattle.std.specs.Prelude.{◌≡◌, length, OnOk};
 ghost use Rattle.machine.specs.Words.{reply_text};
 
@@ -11,25 +11,25 @@ use run_openings::Disk;
 use serde_json::Value;
 use std::alloc::Global;
 
-/// Steps, and how each is to be answered; the last ones may have no answer, as the run is over before them.
+/// Steps with their expected answers. The last steps may have no answer, if the run ends before them.
 #[derive(Drop)]
 pub struct Run {
     pub shape: Shape,
     pub fails: u64,
     pub steps: Vec<Step>,
     pub replies: Vec<String>,
-    /// The number of the line that has the first step.
+    /// The number of the line with the first step.
     pub line: u64,
 }
 
-/// What is left of a run, after how many steps.
+/// What is left of a run, and the number of its steps that were made.
 #[derive(Drop)]
 pub struct Stopped {
     pub disk: MemDisk<Global>,
     pub done: u64,
 }
 
-/// The shape of a machine.
+/// Returns the shape of a machine.
 pub fn read_shape(alloc: Global, value: &Value) -> Result<Shape, Failure> {
     Ok(Shape {
         cpus: number_of(alloc, value, "cpus")?,
@@ -39,7 +39,7 @@ pub fn read_shape(alloc: Global, value: &Value) -> Result<Shape, Failure> {
     })
 }
 
-/// A disk of these bytes.
+/// Returns a disk of these bytes.
 pub fn disk_of(alloc: Global, image: &[u8]) -> Result<MemDisk<Global>, Failure> {
     Ok(MemDisk::from_bytes(alloc, image.to_vec(alloc)?)?)
 }
@@ -50,7 +50,7 @@ const FLUSH: Step = Step {
 };
 
 impl Run {
-    /// Makes the whole run on a disk of these bytes, and gives what is left of it.
+    /// Makes the whole run on a disk of these bytes, and returns what is left of the disk.
     pub fn make(&self, alloc: Global, image: &[u8], ended: &Ended) -> Result<Vec<u8>, Failure> {
         let mut heard = Heard::new(alloc, self.replies.len() as u64, false);
         let disk = FailingDisk::new(disk_of(alloc, image)?, self.fails);
@@ -76,7 +76,7 @@ impl Run {
         ended.compare_calls(alloc, disk.calls(), disk.faults())
     }
 
-    // Compares what was heard with the first so many replies.
+    // Compares the replies with the first `count` expected replies.
     fn compare(&self, alloc: Global, heard: &[Reply], count: usize) -> Result<(), Failure>
         ensures { OnOk result (count ≡ length heard.now) }
     {
@@ -88,7 +88,7 @@ impl Run {
         compare_count(alloc, "replies", count as u64, heard.len() as u64)
     }
 
-    /// What is left after so many steps.
+    /// Returns what is left after `count` steps.
     pub fn after(&self, alloc: Global, image: &[u8], count: u64) -> Result<Stopped, Failure> {
         let Some(steps) = self.steps.get(..count as usize) else {
             return Err(Failure::line(alloc, "there are fewer steps"));
@@ -102,7 +102,7 @@ impl Run {
         })
     }
 
-    // Makes steps on a disk of these bytes, whose call of this number fails.
+    // Makes steps on a disk of these bytes, on which the call of this number fails.
     fn run(
         &self,
         alloc: Global,
@@ -118,8 +118,8 @@ impl Run {
         }
     }
 
-    /// What is left where the device call of this number fails in a step. That breaks the machine: the step is answered
-    /// `device`, and two flushes after it `broken`, without a call more.
+    /// Returns what is left when the device call of this number fails in a step. The failure breaks the machine. This
+    /// step is answered `device`, and two flushes after it are answered `broken`, without further calls.
     pub fn failing(&self, alloc: Global, image: &[u8], call: u64) -> Result<Stopped, Failure> {
         let done = self.steps_before(alloc, image, call)?;
         let steps = self.steps_that_break(alloc, done)?;
@@ -133,7 +133,7 @@ impl Run {
         })
     }
 
-    // So many steps, the one after them, and two flushes.
+    // Returns the first `done` steps, the one after them, and two flushes.
     fn steps_that_break(&self, alloc: Global, done: usize) -> Result<Vec<Step>, Failure> {
         let Some(made) = self.steps.get(..done.saturating_add(1)) else {
             return Err(Failure::line(alloc, "there are fewer steps"));
@@ -144,14 +144,15 @@ impl Run {
         Ok(steps)
     }
 
-    // How many steps are answered as they should before the one whose device call fails.
+    // Returns the number of correctly answered steps before the one whose device call fails.
     fn steps_before(&self, alloc: Global, image: &[u8], call: u64) -> Result<usize, Failure> {
         let mut heard = Heard::new(alloc, u64::MAX, true);
         let disk = self.run(alloc, image, call, &self.steps, &mut heard)?;
         self.compare_stopped(alloc, &heard.replies, disk.faults())
     }
 
-    // The last of these replies is that of the step whose call failed. Tells how many came before it.
+    // Checks that the last of these replies is that of the step whose call failed. Returns the number of replies before
+    // it.
     fn compare_stopped(
         &self,
         alloc: Global,
@@ -172,7 +173,8 @@ impl Run {
         }
     }
 
-    // The step of this number, counted from 0, breaks the machine: two flushes after it are answered so.
+    // Checks that the step of this number, counted from 0, breaks the machine, and that two flushes after it are
+    // answered accordingly.
     fn compare_broken(
         &self,
         alloc: Global,
@@ -196,7 +198,7 @@ impl Run {
         compare_count(alloc, "calls that failed", 1, disk.faults())
     }
 
-    // Compares the reply of the step of this number, counted from 0.
+    // Compares the reply to the step of this number, counted from 0.
     fn compare_reply(
         &self,
         alloc: Global,
@@ -221,14 +223,14 @@ impl Run {
 pub struct Trial {
     pub image: Vec<u8>,
     pub files: Vec<File>,
-    /// Where the gates are.
+    /// The blocks of the gates.
     pub gates: Vec<u64>,
     /// The last run, if there was one on these bytes.
     pub run: Option<Run>,
 }
 
 impl Trial {
-    /// What is left at the end of the run.
+    /// Returns what is left at the end of the run.
     pub fn whole(&self, alloc: Global) -> Result<Stopped, Failure> {
         match &self.run {
             Some(run) => run.after(alloc, &self.image, run.replies.len() as u64),
@@ -239,7 +241,7 @@ impl Trial {
         }
     }
 
-    /// The disk before any run, cut to so many bytes.
+    /// Returns the disk before any run, cut to `length` bytes.
     pub fn shortened(&self, alloc: Global, length: u64) -> Result<Stopped, Failure> {
         match (&self.run, self.image.get(..length as usize)) {
             (None, Some(image)) => Ok(Stopped {
@@ -250,7 +252,7 @@ impl Trial {
         }
     }
 
-    /// What is left after so many steps.
+    /// Returns what is left after `count` steps.
     pub fn after(&self, alloc: Global, count: u64) -> Result<Stopped, Failure> {
         match &self.run {
             Some(run) => run.after(alloc, &self.image, count),
@@ -258,7 +260,7 @@ impl Trial {
         }
     }
 
-    /// What is left where the device call of this number fails.
+    /// Returns what is left when the device call of this number fails.
     pub fn failing(&self, alloc: Global, call: u64) -> Result<Stopped, Failure> {
         match &self.run {
             Some(run) => run.failing(alloc, &self.image, call),

@@ -1,4 +1,4 @@
-//! The command that runs the programs of a script in threads on the volume in a file.
+//! The command that runs the programs of a script in threads, on the volume in a file.
 #![tactic(auto)]
 
 mod threading;

@@ -1,4 +1,4 @@
-// Running the programs of a script in threads, on the volume in a file.
+// Runs the programs of a script in threads, on the volume in a file.
 ghost use Rattle.std.specs.Prelude.{◌≡◌, IfOk, length, map};
 ghost use Rattle.engine.specs.Engine.{HasRun};
 ghost use Rattle.service.specs.Trace.{steps_of, replies_of};
@@ -27,12 +27,12 @@ use volume_files::{
     refused_to_read,
 };
 
-/// How often a thread that waits looks whether another got on, before it gives up.
+/// The number of times that a waiting thread checks whether another one made progress, before it gives up.
 const TURNS: u64 = 100_000_000;
 
-/// Runs the programs of a script in threads on the volume in a file, and prints the trace of all steps that were made,
-/// once all threads have ended. The script is read whole before the disk is opened. `note` gets what is to be said of
-/// syncs that failed. If the call returns.
+/// Runs the programs of a script in threads on the volume in a file. Once all threads have ended, it prints the trace
+/// of all steps that were made. The whole script is read before the disk is opened. If the call returns, `note`
+/// contains the message about syncs that failed.
 pub fn threads<'a, R, W>(
     rt: &R,
     asked: Scripted<'a>,
@@ -68,16 +68,16 @@ where
 /// Why programs weren't run on the volume of a device, or their run left no trace.
 #[derive(Clone, Copy)]
 enum NotTraced<'a> {
-    /// No machine was booted, or it has no trace of so many entries.
+    /// No machine was booted, or its trace can't have this number of entries.
     NotBooted(NotBooted<'a>),
     /// Memory was refused for the trace.
     Memory,
-    /// The trace isn't what the threads were answered.
+    /// The trace doesn't match the replies that the threads got.
     Gather(Refusal),
 }
 
 impl<'a> NotTraced<'a> {
-    // Says so of the script and of the volume in a file.
+    // Returns this failure for the script and the volume in a file.
     fn of_files(self, asked: Scripted<'a>) -> Failure<'a> {
         match self {
             NotTraced::NotBooted(cause) => cause.of_file(asked.disk),
@@ -90,8 +90,8 @@ impl<'a> NotTraced<'a> {
     }
 }
 
-// Runs programs on the volume of a device, with journals or with a log. A refusal hands the device back, if it is still
-// there.
+// Runs programs on the volume of a device, with journals or with a log. On failure it returns the device, if it is
+// still there.
 fn trace_any<'a, D, R>(
     rt: &R,
     mut device: D,
@@ -111,7 +111,7 @@ where
     }
 }
 
-// Runs programs on the volume with a log of a device: on the disk that shows it.
+// Runs programs on a device's volume with a log, by means of the disk that shows it.
 fn trace_log<'a, D, R>(
     rt: &R,
     device: D,
@@ -141,7 +141,7 @@ where
     }
 }
 
-// A run over the disk that shows a volume, as one over the device of the volume.
+// Returns a run over the disk that shows a volume as a run over the volume's device.
 fn ran_on_device<D: Device>(ran: Ran<LogDisk<D, Global>>) -> Ran<D>
     ensures { result ≡ record { device = ran.device.device; trace = ran.trace; ended = ran.ended } }
 {
@@ -157,7 +157,7 @@ fn ran_on_device<D: Device>(ran: Ran<LogDisk<D, Global>>) -> Ran<D>
     }
 }
 
-// The device of the volume that a disk shows, if the disk came back.
+// Returns the device of the volume that a disk shows, if the disk came back.
 fn device_of<D: Device>(disk: Option<LogDisk<D, Global>>) -> Option<D> {
     match disk {
         Some(disk) => Some(disk.into_device()),
@@ -165,7 +165,7 @@ fn device_of<D: Device>(disk: Option<LogDisk<D, Global>>) -> Option<D> {
     }
 }
 
-// Runs programs on the volume with journals of a device.
+// Runs programs on a device's volume with journals.
 fn trace_disk<'a, D, R>(
     rt: &R,
     device: D,
@@ -214,7 +214,7 @@ fn print_trace<'a, W: io::Write>(
     Ok(())
 }
 
-// How programs ended whose trace was printed: a wait ran out, an act was answered that the device failed, or neither.
+// Returns how the programs whose trace was printed ended: a wait timed out, a device failed in an act, or neither.
 fn outcome<'a>(path: &'a str, trace: &[Entry], ended: Ended) -> Result<(), Failure<'a>> {
     if ended == Ended::RanOut {
         return Err(Failure::Wait { path });
@@ -228,7 +228,7 @@ fn outcome<'a>(path: &'a str, trace: &[Entry], ended: Ended) -> Result<(), Failu
     }
 }
 
-// Why programs weren't run, or left no trace; and the device, if it came back.
+// Returns why programs weren't run, or left no trace, and the device if it came back.
 fn not_traced<'a, D: Device>(
     global: Global,
     programs: &ThreadScript<Global>,
@@ -244,7 +244,7 @@ fn not_traced<'a, D: Device>(
     }
 }
 
-// Why no machine was shared with a trace of so many entries.
+// Returns why no machine was shared with a trace of this number of entries.
 fn not_shared<'a>(refusal: Refusal, entries: u64) -> NotTraced<'a> {
     match refusal {
         Refusal::BadShape => NotTraced::NotBooted(NotBooted::Shape(ShapeCause::Trace(entries))),
@@ -252,7 +252,7 @@ fn not_shared<'a>(refusal: Refusal, entries: u64) -> NotTraced<'a> {
     }
 }
 
-// Marks the volume of a disk that came back as suspect where a sync of it failed, and notes what is to be said of that.
+// If a sync of a disk that came back failed, marks its volume as suspect, and notes the message about that.
 fn note_syncs<R>(disk: Option<ThreadDisk>, mark: SuspectFlag<'_, R>, note: &mut SyncNote)
 where
     R: Files<File = File> + AllocGlobal,

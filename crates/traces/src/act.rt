@@ -16,7 +16,7 @@ use mappings::Rights;
 use serde_json::{Value, json};
 use std::alloc::{AllocError, Global};
 
-/// The list that a step is written as.
+/// Returns the list in which a step is written. Fails if memory is refused.
 pub fn step_value(global: Global, step: &Step) -> Result<Value, AllocError>
     ensures same { IfOk result (λ value. step_of (view value) ≡ Some step.now) }
     ensures flat { IfOk result (λ value. depth (view value) ≤ 2) }
@@ -59,7 +59,7 @@ pub fn step_value(global: Global, step: &Step) -> Result<Value, AllocError>
     }
 }
 
-// An act without arguments.
+// Returns the list of an act without arguments.
 fn alone(global: Global, p: u8, name: &str) -> Result<Value, AllocError>
     ensures { IfOk result (λ value. view value ≡ list (num p ∷ string name.now ∷ [])) }
 {

@@ -1,4 +1,4 @@
-//! Traces: a line with the shape of a machine, and a line for each step that it made with the text of its reply.
+//! Traces: a line with the shape of a machine, and a line for each step that it made, with the text of the reply.
 #![tactic(auto)]
 
 mod act;

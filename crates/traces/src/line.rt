@@ -20,7 +20,7 @@ pub struct Line {
 }
 
 impl Line {
-    /// Reads an entry. Any text is taken for a reply. A fault names the line by this number.
+    /// Reads an entry. Any text is accepted as a reply. A fault contains this line number.
     pub fn read(global: Global, number: u64, text: &str) -> Result<Self, TraceFault>
         ensures ok { IfOk result (λ line. entry_line text.now ≡ Some (entry_in line)) }
         ensures err { IfErr result (λ fault. IsMemory fault ⊎ (entry_line text.now ≡ None)) }
@@ -62,7 +62,7 @@ impl Line {
     }
 }
 
-// The value that a line's text is.
+// Returns the JSON value of a line's text.
 fn value_of(global: Global, line: u64, text: &str) -> Result<Value, TraceFault>
     ensures ok { IfOk result (λ value. read text.now ≡ Some (view value)) }
     ensures err { IfErr result (λ fault. IsMemory fault ⊎ (read text.now ≡ None)) }

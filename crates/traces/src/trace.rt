@@ -16,17 +16,17 @@ use serde_json::Value;
 use std::alloc::{AllocError, Allocator, Global};
 use std::str;
 
-/// A trace: the shape of a machine, how many entries there was room for, and the entries.
+/// A trace: the shape of a machine, the number of entries for which there was room, and the entries.
 #[derive(Drop)]
 pub struct Trace<A: Allocator + Copy> {
     pub shape: Shape,
-    /// How many entries the trace had room for. It may have more, and any number serves here.
+    /// The number of entries for which the trace had room. It may contain more, and any number is allowed here.
     pub room: u64,
     pub entries: Vec<Line, A>,
 }
 
 impl<A: Allocator + Copy> Trace<A> {
-    /// Reads a trace, whole.
+    /// Reads a whole trace. Fails if it isn't UTF-8 or isn't a trace, or if memory is refused.
     pub fn read(global: Global, alloc: A, text: &[u8]) -> Result<Self, TraceFault>
         ensures ok { IfOk result (λ trace. trace_in text.now
             ≡ Some (trace.shape, trace.room, map entry_in trace.entries.items)) }
@@ -64,7 +64,7 @@ fn all_lines<A: Allocator + Copy>(alloc: A, text: &str) -> Result<Vec<&str, A>, 
     text.lines().collect(alloc)
 }
 
-// The shape and the room that the first line says.
+// Returns the shape and the room in the first line.
 fn first_line(global: Global, text: &str) -> Result<(Shape, u64), ScriptFault>
     ensures ok { IfOk result (λ found. shape_line text.now ≡ Some found) }
     ensures err { IfErr result (λ fault. IsScriptMemory fault ⊎ (shape_line text.now ≡ None)) }
@@ -82,7 +82,7 @@ fn shape_and_room(global: Global, value: &Value) -> Result<(Shape, u64), ScriptF
     Ok((shape, size(global, Form::Trace, value, "trace")?))
 }
 
-// All entries of lines, in order; the first of them is line 2 of the trace.
+// Returns all entries in lines, in order. The first of these lines is line 2 of the trace.
 #[tactic(auto, using(scripts::proofs::AllOf::all_of_next, scripts::proofs::AllOf::all_of_fails))]
 fn entries<A: Allocator + Copy>(
     global: Global,

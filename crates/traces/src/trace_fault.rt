@@ -4,7 +4,7 @@ use std::alloc::AllocError;
 use std::fmt;
 use thiserror::Error;
 
-/// Why a trace is refused. What it is shown as for debugging is its text.
+/// Why a trace is refused. Its `Debug` form is its text.
 #[derive(Drop, Error)]
 pub enum TraceFault {
     #[error("it isn't UTF-8")]

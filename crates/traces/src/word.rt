@@ -1,4 +1,4 @@
-// The list that a step is written as: its processor, its name, and numbers and words.
+// The list in which a step is written: its processor, its name, and numbers and words.
 ghost use Rattle.std.specs.Prelude.{◌≡◌, [], ◌∷◌, map, IfOk};
 ghost use Rattle.serde_json.specs.Data.{string};
 ghost use Rattle.serde_json.specs.View.{view};
@@ -18,7 +18,7 @@ pub enum Word<'a> {
     Text(&'a str),
 }
 
-/// The list of a processor, a name and these arguments.
+/// Returns the list of a processor, a name and these arguments. Fails if memory is refused.
 pub fn list_value(
     global: Global,
     p: u8,

@@ -11,8 +11,8 @@ use machine::{Reply, Shape, Step};
 use serde_json::{Value, json};
 use std::alloc::{AllocError, Global};
 
-/// The first line of a trace, without its newline: an object with the shape and the room. Its members are in the order
-/// of their names.
+/// Returns the first line of a trace, without its newline: an object with the shape and the room. Its members are in
+/// the order of their names. It reads back to the shape and the room. Fails if memory is refused.
 pub fn write_shape(global: Global, shape: Shape, room: u64) -> Result<String, AllocError>
     ensures text { IfOk result (λ text. string_bytes text ≡ compact_text (shape_data shape room)) }
     ensures reads_back { IfOk result (λ text. shape_line (string_bytes text) ≡ Some (shape, room)) }
@@ -32,8 +32,8 @@ fn shape_value(global: Global, shape: Shape, room: u64) -> Result<Value, AllocEr
     json!(in global; {"copies": copies, "cpus": cpus, "frames": frames, "tlb": tlb, "trace": room})
 }
 
-/// The line of an entry, without its newline: a list of the step, as in a script, and the text of its reply. It reads
-/// back to them.
+/// Returns the line of an entry, without its newline: a list of the step, as in a script, and the text of its reply. It
+/// reads back to them. Fails if memory is refused.
 pub fn write_entry(global: Global, step: &Step, reply: &Reply) -> Result<String, AllocError>
     ensures reads_back { IfOk result (λ text. entry_line (string_bytes text)
         ≡ Some (step.now, reply_text reply.now)) }

@@ -1,11 +1,11 @@
-// Blocks of 4,096 bytes: numbers read at a place, and bytes written one after another.
+// Blocks of 4,096 bytes: numbers that are read at a place, and bytes that are written one after another.
 ghost use Rattle.std.specs.Prelude.{◌≡◌, ◌≤◌, ◌+◌, ◌++◌, [], length, drop};
 ghost use Rattle.volume_codec.specs.Text.{number_text, number_in, zeros, padded};
 
 use byteorder::{BigEndian, ByteOrder};
 use std::marker::Model;
 
-/// The number in the 4 bytes from this place on.
+/// Returns the number in the 4 bytes from this place on.
 #[tactic(auto, unfolding(crate::specs::Text::number_in))]
 pub fn u32_at(bytes: &[u8], at: usize) -> u32
     requires { at + 4 ≤ length bytes.now }
@@ -14,7 +14,7 @@ pub fn u32_at(bytes: &[u8], at: usize) -> u32
     BigEndian::read_u32(&bytes[at..])
 }
 
-/// The number in the 8 bytes from this place on.
+/// Returns the number in the 8 bytes from this place on.
 #[tactic(auto, unfolding(crate::specs::Text::number_in))]
 pub fn u64_at(bytes: &[u8], at: usize) -> u64
     requires { at + 8 ≤ length bytes.now }
@@ -23,14 +23,14 @@ pub fn u64_at(bytes: &[u8], at: usize) -> u64
     BigEndian::read_u64(&bytes[at..])
 }
 
-/// A block of zeros.
+/// Returns a block of zeros.
 fn zero_block() -> [u8; 4096]
     ensures { result ≡ zeros 4096 }
 {
     [0; 4096]
 }
 
-/// A block whose bytes are written one after another. What isn't written is zero.
+/// A block whose bytes are written one after another. Bytes that aren't written are zero.
 #[derive(Drop)]
 pub struct BlockWriter {
     block: [u8; 4096],
@@ -49,7 +49,7 @@ impl Model for BlockWriter {
 }
 
 impl BlockWriter {
-    /// A block of zeros.
+    /// Returns a block of zeros, into which nothing is written yet.
     pub fn new() -> Self
         ensures { result ≡ [] }
     {
@@ -94,7 +94,7 @@ impl BlockWriter {
         self.push(&bytes);
     }
 
-    /// Leaves the next bytes zero.
+    /// Leaves the next `n` bytes zero.
     pub fn skip(&mut self, n: usize)
         requires { length self.old + n ≤ 4096 }
         ensures value { self.new ≡ self.old ++ zeros n }
@@ -103,7 +103,7 @@ impl BlockWriter {
         self.at += n;
     }
 
-    /// The whole block.
+    /// Returns the whole block.
     pub fn finish(self) -> [u8; 4096]
         ensures { result ≡ padded 4096 self }
     {

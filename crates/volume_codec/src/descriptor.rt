@@ -1,4 +1,4 @@
-// The descriptor of a journal: which mark its records commit, and which home block each record is for.
+// The descriptor of a journal: the mark that its records commit, and the home block of each record.
 ghost use Rattle.std.specs.Prelude.{◌≡◌, ◌<◌, ◌≤◌, ◌+◌, ◌*◌, ◌++◌, ◌↔◌, IsTrue, IfOk, IfErr, MatchResult, length, take, drop};
 ghost use Rattle.std.specs.List.{flat_map};
 ghost use Rattle.volume_codec.specs.Layout.{descriptor_blocks, block_at};
@@ -12,8 +12,8 @@ use page_entry::Refusal;
 use std::alloc::Allocator;
 use std::marker::Model;
 
-/// What a descriptor says: the number of the mark that the records commit, from 1, and the home block of each record,
-/// in rising order; record slot i has the block at place i.
+/// The contents of a descriptor: the number of the mark that the records commit, from 1, and the home blocks in
+/// ascending order. Record slot i is for the home block at place i.
 #[derive(Drop)]
 pub struct Descriptor<A: Allocator + Copy> {
     mark: u64,
@@ -29,21 +29,21 @@ impl<A: Allocator + Copy> Model for Descriptor<A> {
 }
 
 impl<A: Allocator + Copy> Descriptor<A> {
-    /// The number of the mark that the records commit.
+    /// Returns the number of the mark that the records commit.
     pub fn mark(&self) -> u64
         ensures { result ≡ self.now.mark }
     {
         self.mark
     }
 
-    /// The home blocks of the records, in rising order.
+    /// Returns the home blocks of the records, in ascending order.
     pub fn homes(&self) -> &[u32]
         ensures { result.now ≡ self.now.homes }
     {
         &self.homes
     }
 
-    /// The same as a list, in the descriptor's own memory.
+    /// Returns the same as a list, in the descriptor's own memory.
     pub fn into_homes(self) -> Vec<u32, A>
         ensures { result.items ≡ self.homes }
     {
@@ -52,7 +52,7 @@ impl<A: Allocator + Copy> Descriptor<A> {
     }
 }
 
-/// Whether the blocks rise strictly, from `low` on and below `high`.
+/// Whether the blocks ascend strictly, from `low` on and below `high`.
 fn rise_within(homes: &[u32], low: u32, high: u32) -> bool
     ensures { IsTrue result ↔ RiseWithin low high homes.now }
 {
@@ -66,7 +66,7 @@ fn rise_within(homes: &[u32], low: u32, high: u32) -> bool
     true
 }
 
-/// The first block of a descriptor: its mark, the number of its home blocks, and these first ones.
+/// Returns the first block of a descriptor: its mark, the number of its home blocks, and the first of them.
 fn first_block(mark: u64, count: u32, homes: &[u32]) -> [u8; 4096]
     requires { length homes.now ≤ 1020 }
     ensures { result ≡ padded 4096
@@ -82,7 +82,7 @@ fn first_block(mark: u64, count: u32, homes: &[u32]) -> [u8; 4096]
     block.finish()
 }
 
-/// A further block of a descriptor: these home blocks.
+/// Returns a further block of a descriptor, with these home blocks.
 fn further_block(homes: &[u32]) -> [u8; 4096]
     requires { length homes.now ≤ 1024 }
     ensures { result ≡ padded 4096 (flat_map (number_text 4) homes.now) }
@@ -94,7 +94,7 @@ fn further_block(homes: &[u32]) -> [u8; 4096]
     block.finish()
 }
 
-/// Those of the home blocks from a place on, at most so many.
+/// Returns the home blocks from a place on, at most `most` of them.
 fn part_of(homes: &[u32], from: usize, most: usize) -> &[u32]
     ensures { result.now ≡ take most (drop from homes.now) }
 {
@@ -108,8 +108,11 @@ fn part_of(homes: &[u32], from: usize, most: usize) -> &[u32]
     &rest[..most]
 }
 
-/// Block `index` of the descriptor of a mark, whose record i is for the home block at place i. The caller owes home
-/// blocks of the volume in rising order, at most as many as there are slots, and a mark from 1. Takes no memory.
+/// Returns block `index` of the descriptor of a mark. Its record i is for the home block at place i. It allocates no
+/// memory.
+///
+/// The caller must pass home blocks of the volume in ascending order, at most as many as there are slots, and a mark
+/// from 1 on.
 pub fn write_descriptor(geometry: &Geometry, mark: u64, homes: &[u32], index: u32) -> [u8; 4096]
     requires described { IsDescribed geometry.now (record { mark = mark; homes = homes.now }) }
     requires within { index < descriptor_blocks geometry.now.slots }
@@ -123,7 +126,7 @@ pub fn write_descriptor(geometry: &Geometry, mark: u64, homes: &[u32], index: u3
     further_block(part_of(homes, 1024 * index as usize - 4, 1024))
 }
 
-/// So many numbers of 4 bytes from byte 16 on.
+/// Returns `count` numbers of 4 bytes each, from byte 16 on. Fails with `OutOfMemory` if memory is refused.
 fn homes_at<A: Allocator + Copy>(
     alloc: A,
     block: &[u8],
@@ -168,8 +171,8 @@ fn is_spelled(geometry: &Geometry, mark: u64, homes: &[u32], bytes: &[u8]) -> bo
     true
 }
 
-/// What the blocks of a descriptor say, in a volume of this geometry. `Damaged` where they break the grammar, or
-/// `OutOfMemory` in its place.
+/// Returns the contents of a descriptor's blocks, in a volume of this geometry. Fails with `Damaged` if they break the
+/// grammar. It may fail with `OutOfMemory` instead.
 pub fn read_descriptor<A: Allocator + Copy>(
     alloc: A,
     geometry: &Geometry,

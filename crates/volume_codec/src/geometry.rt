@@ -1,5 +1,5 @@
-// Where a volume has its parts: block 0 is the super block, then come the journals, each a gate block, the blocks of
-// its descriptor and its record slots, and then the home blocks. A block is 4,096 bytes. No other place spells a
+// The places of a volume's parts. Block 0 is the super block. The journals follow, and then the home blocks. A journal
+// has a gate block, its descriptor's blocks and its record slots. A block has 4,096 bytes. No other file computes a
 // block's number.
 ghost use Rattle.std.specs.Prelude.{◌≡◌, ◌<◌, ◌≤◌, ◌+◌, ◌^◌};
 ghost use Rattle.volume_codec.specs.Layout.{IsGeometry, journals_of, descriptor_blocks as blocks_of, journal_blocks as in_journal, gate_block as gate, descriptor_block as descriptor, record_block as record_slot, first_home as home, first_file_home as file_home, max_frames as frames};
@@ -7,7 +7,7 @@ ghost use Rattle.volume_codec.specs.Layout.{IsGeometry, journals_of, descriptor_
 use crate::layout::Layout;
 use std::marker::Model;
 
-/// How many blocks the descriptor of a journal with so many record slots has.
+/// Returns the number of blocks of a journal's descriptor, if the journal has this number of record slots.
 fn descriptor_length(slots: u32) -> u32
     requires { slots ≤ 65535 }
     ensures value { result ≡ blocks_of slots }
@@ -16,7 +16,7 @@ fn descriptor_length(slots: u32) -> u32
     (4 * slots + 4111) / 4096
 }
 
-/// How many blocks a journal with so many record slots has.
+/// Returns the number of blocks of a journal with this number of record slots.
 fn journal_length(slots: u32) -> u32
     requires { slots ≤ 65535 }
     ensures value { result ≡ in_journal slots }
@@ -25,7 +25,7 @@ fn journal_length(slots: u32) -> u32
     1 + descriptor_length(slots) + slots
 }
 
-/// The first home block in a layout whose journals have so many record slots.
+/// Returns the first home block in a layout whose journals have this number of record slots.
 fn first_home_block(layout: Layout, slots: u32) -> u32
     requires { slots ≤ 65535 }
     ensures value { result ≡ home layout slots }
@@ -34,7 +34,7 @@ fn first_home_block(layout: Layout, slots: u32) -> u32
     1 + layout.journals() * journal_length(slots)
 }
 
-/// The first home block of the files in a layout whose journals have so many record slots.
+/// Returns the first home block of the files in a layout whose journals have this number of record slots.
 pub(crate) fn first_file_home_block(layout: Layout, slots: u32) -> u32
     requires { slots ≤ 65535 }
     ensures value { result ≡ file_home layout slots }
@@ -43,7 +43,7 @@ pub(crate) fn first_file_home_block(layout: Layout, slots: u32) -> u32
     first_home_block(layout, slots) + layout.lengths_blocks()
 }
 
-/// Where a volume has its parts. Journals, and the record slots of each, are counted from 0.
+/// The places of a volume's parts. Journals, and the record slots of each, are counted from 0.
 #[derive(Clone, Copy, Debug)]
 pub struct Geometry {
     layout: Layout,
@@ -64,7 +64,7 @@ impl Model for Geometry {
 }
 
 impl Geometry {
-    /// Where a volume of so many blocks has its parts.
+    /// Returns the geometry of a volume with this number of blocks.
     pub(crate) fn new(layout: Layout, slots: u32, blocks: u32) -> Geometry
         requires { IsGeometry (record { layout = layout; slots = slots; blocks = blocks }) }
         ensures { result ≡ record { layout = layout; slots = slots; blocks = blocks } }
@@ -76,7 +76,7 @@ impl Geometry {
         }
     }
 
-    /// The volume's layout.
+    /// Returns the volume's layout.
     pub fn layout(&self) -> Layout
         ensures value { result ≡ self.now.layout }
         ensures geometry { IsGeometry self.now }
@@ -84,7 +84,7 @@ impl Geometry {
         self.layout
     }
 
-    /// The number of record slots of each journal, 1 to the most of its layout.
+    /// Returns the number of record slots of each journal, from 1 to the layout's largest number.
     pub fn slots(&self) -> u32
         ensures value { result ≡ self.now.slots }
         ensures geometry { IsGeometry self.now }
@@ -92,7 +92,7 @@ impl Geometry {
         self.slots
     }
 
-    /// The number of blocks of the volume, at most 2^32 - 1.
+    /// Returns the number of blocks of the volume, at most 2^32 - 1.
     pub fn block_count(&self) -> u32
         ensures value { result ≡ self.now.blocks }
         ensures geometry { IsGeometry self.now }
@@ -100,7 +100,7 @@ impl Geometry {
         self.blocks
     }
 
-    /// The number of journals.
+    /// Returns the number of journals.
     pub fn journals(&self) -> u32
         ensures value { result ≡ journals_of self.now.layout }
         ensures geometry { IsGeometry self.now }
@@ -108,7 +108,7 @@ impl Geometry {
         self.layout.journals()
     }
 
-    /// The block of a journal's gate, whose first byte opens and closes it.
+    /// Returns the block of a journal's gate. Its first byte opens and closes the gate.
     pub fn gate_block(&self, journal: u32) -> u32
         requires { journal < journals_of self.now.layout }
         ensures value { result ≡ gate self.now.slots journal }
@@ -118,7 +118,7 @@ impl Geometry {
         1 + journal * journal_length(self.slots)
     }
 
-    /// The number of blocks of each journal's descriptor, from 1.
+    /// Returns the number of blocks of each journal's descriptor, at least 1.
     pub fn descriptor_blocks(&self) -> u32
         ensures value { result ≡ blocks_of self.now.slots }
         ensures geometry { IsGeometry self.now }
@@ -126,7 +126,7 @@ impl Geometry {
         descriptor_length(self.slots)
     }
 
-    /// The first block of a journal's descriptor.
+    /// Returns the first block of a journal's descriptor.
     pub fn descriptor_block(&self, journal: u32) -> u32
         requires { journal < journals_of self.now.layout }
         ensures value { result ≡ descriptor self.now.slots journal }
@@ -136,7 +136,7 @@ impl Geometry {
         2 + journal * journal_length(self.slots)
     }
 
-    /// The block of a record slot of a journal.
+    /// Returns the block of a record slot of a journal.
     pub fn record_block(&self, journal: u32, slot: u32) -> u32
         requires there { journal < journals_of self.now.layout }
         requires within { slot < self.now.slots }
@@ -147,7 +147,7 @@ impl Geometry {
         2 + descriptor_length(self.slots) + journal * journal_length(self.slots) + slot
     }
 
-    /// The first home block: the first that a descriptor may name.
+    /// Returns the first home block, which is the first block that a descriptor may name.
     pub fn first_home(&self) -> u32
         ensures value { result ≡ home self.now.layout self.now.slots }
         ensures geometry { IsGeometry self.now }
@@ -155,7 +155,7 @@ impl Geometry {
         first_home_block(self.layout, self.slots)
     }
 
-    /// The first home block of the files.
+    /// Returns the first home block of the files.
     pub fn first_file_home(&self) -> u32
         ensures value { result ≡ file_home self.now.layout self.now.slots }
         ensures geometry { IsGeometry self.now }
@@ -163,8 +163,8 @@ impl Geometry {
         first_file_home_block(self.layout, self.slots)
     }
 
-    /// The greatest number of frames of a machine over the volume: a batch has a record slot for a page of each and for
-    /// the lengths.
+    /// Returns the largest number of frames of a machine over the volume. A batch needs a record slot for the page of
+    /// each frame, and one for the lengths.
     pub fn max_frames(&self) -> u32
         ensures { result ≡ frames self.now.layout self.now.slots }
     {

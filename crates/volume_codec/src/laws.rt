@@ -1,4 +1,4 @@
-// What follows of the definitions alone.
+// What follows from the definitions alone.
 ghost use Rattle.std.specs.Prelude.{◌≡◌, ◌≢◌, ℕ, ◌+◌, ◌*◌, ◌/◌, ◌%◌, ◌<◌, ◌≤◌, List, ◌∷◌, length, take, drop, slice_index, slice_get, Some};
 ghost use Rattle.std.specs.List.{AllByRecursion};
 ghost use Rattle.volume_codec.specs.declared.layout.Layout.TheVariants.{One, Two, Three, Four};
@@ -9,10 +9,13 @@ ghost use Rattle.volume_codec.specs.Descriptor.{DescriptorValue, RiseWithin, IsD
 ghost use Rattle.volume_codec.specs.Lengths.{IsLengths, HasLengths, lengths_in};
 ghost use Rattle.volume_codec.specs.Recovery.{Batch, AreOpen, recovered_block, blocks_from, contents_in, files_in, Recovers, RecoversTo, IsVolume};
 
-/// A block says at most one table, blocks say at most one descriptor in a volume of one geometry, and a block says at
-/// most one list of lengths in a volume with one table; bytes have at most one list of open batches, and recover to at
-/// most one table, contents and list of files. So reading a block that was written gives back the value that was
-/// written.
+/// Each value has one reading:
+/// - A block contains at most one table.
+/// - Blocks contain at most one descriptor in a volume of one geometry.
+/// - A block contains at most one list of lengths in a volume with one table.
+/// - Bytes have at most one list of open batches, and recover to at most one table, contents and list of files.
+///
+/// So reading a written block returns the written value.
 pub fn one_reading()
     ensures tables { (v w : SuperValue) (block : List ℕ) → IsSuper v block → IsSuper w block → v ≡ w }
     ensures descriptors { (g : GeometryValue) (d e : DescriptorValue) (block : List ℕ) → IsGeometry g
@@ -28,13 +31,16 @@ pub fn one_reading()
         → files ≡ others }
 {}
 
-/// Where the layouts have their parts. With J slots, up to 1,020, a descriptor has one block: journal 0 has its gate in
-/// block 1, its descriptor in block 2 and record i in block 3 + i, and journal 1 of layouts 2 and 3 has its gate in
-/// block 3 + J, its descriptor in block 4 + J and record i in block 5 + J + i. Home blocks follow from 3 + J in layout
-/// 1 and from 5 + 2J in layouts 2 and 3; in layout 3 block 5 + 2J holds the lengths, and the home blocks of files
-/// follow from 6 + 2J. In general a descriptor has room for 16 bytes and 4 for each slot, in D blocks, and journal j
-/// has its gate in block 1 + j (1 + D + J). In layout 4 the lengths lie in block 1 + 4 (1 + D + J), and the home blocks
-/// of files follow. In every volume the parts of its journals lie before the home blocks, and apart.
+/// Where the layouts place their parts. With J slots, up to 1,020, a descriptor has one block.
+/// - Journal 0 has its gate in block 1, its descriptor in block 2 and record i in block 3 + i.
+/// - In layouts 2 and 3, journal 1 has its gate in block 3 + J, its descriptor in block 4 + J and record i in block 5 +
+///   J + i.
+/// - Home blocks begin at 3 + J in layout 1, and at 5 + 2J in layouts 2 and 3.
+/// - In layout 3 block 5 + 2J contains the lengths, and the home blocks of files begin at 6 + 2J.
+///
+/// In general a descriptor has D blocks, with room for 16 bytes and 4 bytes for each slot. The gate of journal j is in
+/// block 1 + j (1 + D + J). In layout 4 the lengths are in block 1 + 4 (1 + D + J), and the home blocks of files
+/// follow. In every volume the parts of its journals are apart, and come before the home blocks.
 pub fn parts_of_layouts()
     ensures one_block { (slots : ℕ) → slots ≤ 1020 → descriptor_blocks slots ≡ 1 }
     ensures room { (slots : ℕ) → 16 + 4 * slots ≤ 4096 * descriptor_blocks slots }
@@ -63,9 +69,10 @@ pub fn parts_of_layouts()
     ensures whole { (g : GeometryValue) → IsGeometry g → first_home g.layout g.slots < g.blocks }
 {}
 
-/// What recovered contents are made of. Record i of the newest batch stands for its home block; for every other block
-/// it is what stands without that batch; a home block without a record stands for itself. A volume's parts all lie in
-/// its first 4,096 x block count bytes, and each home block of its contents has 4,096 bytes.
+/// The source of recovered contents. Record i of the newest batch replaces its home block. Every other block recovers
+/// as it does without that batch, and a home block without a record recovers to itself.
+///
+/// All parts of a volume are in its first 4,096 x block count bytes. Each home block of its contents has 4,096 bytes.
 pub fn recovered_from()
     ensures record_of_newest { (slots low high : ℕ) (batch : Batch) (older : List Batch) (i : ℕ)
         → RiseWithin low high batch.homes → i < length batch.homes
@@ -80,8 +87,8 @@ pub fn recovered_from()
         → Recovers v contents bytes → IsHome (geometry_of v) b → length (contents b) ≡ 4096 }
 {}
 
-/// What files are made of: of the contents of home blocks alone. The bytes of file i are those of its home blocks, one
-/// after another, cut at its length; where the contents are a device's own blocks, they are a range of the device.
+/// Files consist of the contents of home blocks alone. The bytes of file i are those of its home blocks, one after
+/// another, cut at its length. If the contents are a device's own blocks, these bytes are a range of the device.
 pub fn files_from_contents()
     ensures same { (v : SuperValue) (contents others : ℕ → List ℕ)
         → ((b : ℕ) → IsHome (geometry_of v) b → contents b ≡ others b) → files_in v contents ≡ files_in v others }

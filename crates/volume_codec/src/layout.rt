@@ -3,31 +3,33 @@ ghost use Rattle.std.specs.Prelude.{◌≡◌, ◌≢◌, ◌≤◌, IfSome, IfN
 ghost use Rattle.volume_codec.specs.Layout.{number_of, magic_of, journals_of, max_slots as most_slots, lengths_blocks as lengths};
 
 // Rule: gate byte
-/// The byte that opens a journal's gate; it is the first of the gate's block, and every other value closes the gate.
+/// The byte that opens a journal's gate. It is the first byte of the gate's block, and every other value closes the
+/// gate.
 pub const OPEN_GATE: u8 = 0xA7;
 
 /// The byte that is written to close a gate.
 pub const CLOSED_GATE: u8 = 0;
 
-/// How a volume is laid out: which magic its super block begins with, how many journals it has, and whether a block
-/// holds the lengths of its files.
+/// The layout of a volume. It determines the magic with which its super block begins, the number of its journals, and
+/// whether a block contains the lengths of its files.
 #[derive(Clone, Copy, PartialEq, Eq, Debug)]
 pub enum Layout {
     /// One journal.
     One,
     /// Two journals, so that a batch may be committed while the one before it is still applied.
     Two,
-    /// Two journals, and a block that holds the lengths of the files, so that a file may be shorter than its capacity.
+    /// Two journals, and a block that contains the lengths of the files, so that a file may be shorter than its
+    /// capacity.
     Three,
-    /// Four journals, each with up to 65,535 record slots and a descriptor of one block or more, and a block that holds
-    /// the lengths of the files.
+    /// Four journals, and a block that contains the lengths of the files. Each journal has up to 65,535 record slots,
+    /// and a descriptor of one or more blocks.
     Four,
 }
 
 impl Layout {
     ghost use Rattle.volume_codec.specs.declared.layout.Layout.{Layout};
 
-    /// The layout of this number, if there is one.
+    /// Returns the layout of this number, if there is one.
     pub fn from_number(number: u64) -> Option<Layout>
         ensures some { IfSome result (λ layout. number_of layout ≡ number) }
         ensures none { IfNone result ((layout : Layout) → number_of layout ≢ number) }
@@ -41,7 +43,7 @@ impl Layout {
         }
     }
 
-    /// The layout whose super blocks begin with these bytes, if there is one.
+    /// Returns the layout whose super blocks begin with these bytes, if there is one.
     pub fn from_magic(magic: [u8; 8]) -> Option<Layout>
         ensures some { IfSome result (λ layout. magic ≡ magic_of layout) }
         ensures none { IfNone result ((layout : Layout) → magic ≢ magic_of layout) }
@@ -61,7 +63,7 @@ impl Layout {
         None
     }
 
-    /// The number by which it is asked for.
+    /// Returns the number by which this layout is requested.
     pub fn number(self) -> u64
         ensures { result ≡ number_of self }
     {
@@ -73,7 +75,7 @@ impl Layout {
         }
     }
 
-    /// The bytes that its super blocks begin with.
+    /// Returns the bytes with which its super blocks begin.
     pub fn magic(self) -> [u8; 8]
         ensures { result ≡ magic_of self }
     {
@@ -85,7 +87,7 @@ impl Layout {
         }
     }
 
-    /// How many journals it has.
+    /// Returns the number of its journals.
     pub fn journals(self) -> u32
         ensures { result ≡ journals_of self }
     {
@@ -97,8 +99,8 @@ impl Layout {
         }
     }
 
-    /// The greatest number of record slots that its journals may have: as many as a descriptor of one block has room
-    /// for, and 65,535 in layout 4.
+    /// Returns the largest number of record slots of its journals. A descriptor of one block has room for 1,020, and
+    /// layout 4 allows 65,535.
     pub fn max_slots(self) -> u32
         ensures value { result ≡ most_slots self }
         ensures small { result ≤ 65535 }
@@ -111,7 +113,7 @@ impl Layout {
         }
     }
 
-    /// How many home blocks, the first ones, hold the lengths of the files.
+    /// Returns the number of home blocks, the first ones, that contain the lengths of the files.
     pub fn lengths_blocks(self) -> u32
         ensures value { result ≡ lengths self }
         ensures small { result ≤ 1 }

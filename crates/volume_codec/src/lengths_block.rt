@@ -1,4 +1,4 @@
-// The lengths of a volume's files, where the layout has a block for them.
+// The lengths of a volume's files, in layouts that have a block for them.
 ghost use Rattle.std.specs.Prelude.{◌≡◌, ◌≤◌, ◌*◌, ◌↔◌, IsTrue, IfOk, IfErr, MatchResult, length};
 ghost use Rattle.volume_codec.specs.Files.{asked_by, lengths_asked};
 ghost use Rattle.volume_codec.specs.Text.{numbers_in};
@@ -12,8 +12,8 @@ use crate::super_block::Super;
 use page_entry::Refusal;
 use std::alloc::Allocator;
 
-/// The block that says these lengths, each in bytes, in the order of the table; a volume has at most 64 files. Takes no
-/// memory.
+/// Returns the block with these lengths, each in bytes, in the order of the table. A volume has at most 64 files. It
+/// allocates no memory.
 pub fn write_lengths(lengths: &[u64]) -> [u8; 4096]
     requires { length lengths.now ≤ 64 }
     ensures { result ≡ lengths_text lengths.now }
@@ -25,7 +25,7 @@ pub fn write_lengths(lengths: &[u64]) -> [u8; 4096]
     block.finish()
 }
 
-/// The block that says the lengths of these files, at most 64. Takes no memory.
+/// Returns the block with the lengths of these files, at most 64. It allocates no memory.
 pub fn write_lengths_of(files: &[FileSpec]) -> [u8; 4096]
     requires { length files.now ≤ 64 }
     ensures { result ≡ lengths_text (lengths_asked (asked_by files.now)) }
@@ -37,7 +37,7 @@ pub fn write_lengths_of(files: &[FileSpec]) -> [u8; 4096]
     block.finish()
 }
 
-/// So many numbers of 8 bytes from the first byte on.
+/// Returns `count` numbers of 8 bytes each, from the first byte on. Fails with `OutOfMemory` if memory is refused.
 fn numbers_at<A: Allocator + Copy>(
     alloc: A,
     block: &[u8],
@@ -58,7 +58,8 @@ fn numbers_at<A: Allocator + Copy>(
     Ok(numbers)
 }
 
-/// The capacity of each file, in bytes: its length in a layout that has no block for lengths.
+/// Returns the capacity of each file in bytes. In a layout without a block for lengths it is the file's length. Fails
+/// with `OutOfMemory` if memory is refused.
 pub fn capacities<A: Allocator + Copy>(alloc: A, table: &Super<A>) -> Result<Vec<u64, A>, Refusal>
     ensures { MatchResult result (λ capacities. capacities.items ≡ capacities_in table.now)
         (λ refusal. refusal ≡ Refusal.OutOfMemory) }
@@ -88,8 +89,8 @@ fn are_within<A: Allocator + Copy>(table: &Super<A>, lengths: &[u64]) -> bool
     true
 }
 
-/// The lengths that a block says, each in bytes, in the order of the table. `Damaged` where the block breaks the
-/// grammar, a length above its file's capacity included, or `OutOfMemory` in its place.
+/// Returns the lengths in a block, each in bytes, in the order of the table. Fails with `Damaged` if the block breaks
+/// the grammar, for example if a length is above its file's capacity. It may fail with `OutOfMemory` instead.
 pub fn read_lengths<A: Allocator + Copy>(
     alloc: A,
     table: &Super<A>,

@@ -1,5 +1,6 @@
-//! The bytes of a volume's super block, of its journals' descriptors and of its lengths block, read and written by one
-//! grammar over the volume's layout, where each part of a volume lies, and the files that a volume's bytes recover to.
+//! The bytes of a volume's super block, of its journals' descriptors and of its lengths block. One grammar over the
+//! volume's layout reads and writes them. The crate also defines the place of each part of a volume, and the files that
+//! a volume's bytes recover to.
 #![tactic(auto)]
 
 mod block;

@@ -1,4 +1,4 @@
-// The rules of a volume's table: which files and how many record slots a volume may have.
+// The rules of a volume's table: the allowed files and numbers of record slots.
 ghost use Rattle.std.specs.Prelude.{◌≡◌, ◌≢◌, ◌↔◌, ◌<◌, ◌≤◌, ◌^◌, IsTrue, IfOk, IfErr, All, ℕ, List, length, take};
 ghost use Rattle.volume_codec.specs.Files.{asked_by, asked_by_pairs};
 ghost use Rattle.volume_codec.specs.Super.{SuperValue, Fits, IsName, IsLengthIn, IsAsked, AreDistinct, pages_of as pages, total_pages, block_count};
@@ -9,13 +9,13 @@ use crate::geometry::first_file_home_block;
 use crate::layout::Layout;
 use page_entry::{PAGE, Refusal};
 
-/// A volume has 1 to so many files.
+/// The largest number of files of a volume. The smallest is 1.
 pub const MAX_FILES: usize = 64;
 
-/// A name has 1 to so many bytes.
+/// The largest number of bytes of a name. The smallest is 1.
 pub const MAX_NAME: usize = 32;
 
-/// The blocks that so many bytes take.
+/// Returns the number of blocks that `length` bytes take.
 pub fn pages_of(length: u64) -> u64
     ensures value { result ≡ pages length }
     ensures small { result ≤ 2 ^ 52 }
@@ -23,7 +23,7 @@ pub fn pages_of(length: u64) -> u64
     length / PAGE + u64::from(length % PAGE != 0)
 }
 
-/// Whether these bytes are a name: 1 to 32 printable ASCII characters, none of them a space.
+/// Whether these bytes are a valid name: 1 to 32 printable ASCII characters, none of them a space.
 fn is_name(name: &str) -> bool
     ensures { IsTrue result ↔ IsName name.now }
 {
@@ -37,7 +37,7 @@ fn is_length_in(layout: Layout, length: u64, capacity: u64) -> bool
     length == capacity || layout.lengths_blocks() > 0 && length < capacity
 }
 
-/// Whether a file may be asked for in a layout: it has a name, room for at least one byte, and a length.
+/// Whether a layout allows a file: it has a valid name, room for at least one byte, and an allowed length.
 fn is_file(layout: Layout, file: &FileSpec) -> bool
     ensures { IsTrue result
         ↔ (IsName file.now.name.now × (0 < file.now.capacity) × IsLengthIn layout file.now.length file.now.capacity) }
@@ -45,7 +45,7 @@ fn is_file(layout: Layout, file: &FileSpec) -> bool
     is_name(file.name) && file.capacity > 0 && is_length_in(layout, file.length, file.capacity)
 }
 
-/// Whether each of the files may be asked for in a layout.
+/// Whether a layout allows each of the files.
 fn are_files(layout: Layout, files: &[FileSpec]) -> bool
     ensures { IsTrue result
         ↔ All (λ f. IsName f.name.now × (0 < f.capacity) × IsLengthIn layout f.length f.capacity) files.now }
@@ -60,7 +60,7 @@ fn is_free(files: &[FileSpec], name: &str) -> bool
     files.iter().all(|other| other.name != name)
 }
 
-/// Whether no two files have one name.
+/// Whether no two files have the same name.
 fn are_distinct(files: &[FileSpec]) -> bool
     ensures { IsTrue result ↔ AreDistinct (names_of files.now) }
 {
@@ -70,7 +70,7 @@ fn are_distinct(files: &[FileSpec]) -> bool
     }
 }
 
-/// The home blocks that these files take.
+/// Returns the number of home blocks that these files take.
 fn home_blocks(files: &[FileSpec]) -> u64
     requires { length files.now ≤ 64 }
     ensures value { result ≡ total_pages (files_asked_for files.now) }
@@ -83,7 +83,7 @@ fn home_blocks(files: &[FileSpec]) -> u64
     total
 }
 
-/// The number of blocks of a volume in this layout, by the rules of `block_count_as`.
+/// Returns the number of blocks of a volume in this layout, by the rules of `block_count_as`.
 pub(crate) fn count_blocks(layout: Layout, files: &[FileSpec], slots: u64) -> Result<u64, Refusal>
     ensures lengths { IfOk result (λ _. HaveLengths layout files.now) }
     ensures fits { IfOk result (λ _. Fits (table_of layout files.now slots)) }
@@ -107,11 +107,16 @@ pub(crate) fn count_blocks(layout: Layout, files: &[FileSpec], slots: u64) -> Re
     Ok(blocks)
 }
 
-/// The number of blocks of a volume in the layout of this number, with these files and with so many record slots for
-/// each journal. `BadShape` where no volume has them: a layout that there is, 1 to 64 files of distinct names, names of
-/// 1 to 32 bytes from 0x21 to 0x7E, capacities from 1, lengths up to the capacity (the capacity itself where the layout
-/// has no lengths block), slots for the lengths and a page at least and the layout's most at most, and a block count of
-/// at most 2^32 - 1. Takes no memory.
+/// Returns the number of blocks of a volume with this layout number, these files, and this number of record slots in
+/// each journal. It allocates no memory.
+///
+/// Fails with `BadShape` if no volume can have them. The rules are:
+/// - The layout exists.
+/// - There are 1 to 64 files with distinct names. A name has 1 to 32 bytes from 0x21 to 0x7E.
+/// - A capacity is at least 1 byte. A length is at most the capacity, and equal to it in a layout without a lengths
+///   block.
+/// - There are slots for at least the lengths and one page, and at most the layout's largest number.
+/// - The volume has at most 2^32 - 1 blocks.
 pub fn block_count_as(layout: u64, files: &[FileSpec], slots: u64) -> Result<u64, Refusal>
     ensures ok { IfOk result (λ blocks. (v : SuperValue) × IsAsked layout (asked_by files.now) slots v
         × (blocks ≡ block_count v)) }
@@ -124,7 +129,8 @@ pub fn block_count_as(layout: u64, files: &[FileSpec], slots: u64) -> Result<u64
     count_blocks(layout, files, slots)
 }
 
-/// The files of these names and lengths, none of which may grow, in the first places; the caller has at most 64.
+/// Returns the files of these names and lengths, in the first places. None of them may grow. The caller must pass at
+/// most 64.
 pub fn specs_of<'a>(files: &[(&'a str, u64)]) -> [FileSpec<'a>; 64]
     requires { length files.now ≤ 64 }
     ensures { asked_by (take (length files.now) result) ≡ asked_by_pairs files.now }
@@ -144,8 +150,8 @@ pub fn specs_of<'a>(files: &[(&'a str, u64)]) -> [FileSpec<'a>; 64]
     specs
 }
 
-/// The number of blocks of a volume in layout 1 with these files, each with its name and its length in bytes, and with
-/// so many record slots, by the rules of `block_count_as`. Takes no memory.
+/// Returns the number of blocks of a volume in layout 1 with these files, by the rules of `block_count_as`. Each file
+/// has its name and its length in bytes, and `slots` is the number of record slots. It allocates no memory.
 pub fn block_count_of(files: &[(&str, u64)], slots: u64) -> Result<u64, Refusal>
     ensures ok { IfOk result (λ blocks. (v : SuperValue) × IsAsked 1 (asked_by_pairs files.now) slots v
         × (blocks ≡ block_count v)) }

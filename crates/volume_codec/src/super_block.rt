@@ -1,4 +1,4 @@
-// The super block: a volume's layout, its table of files, and how many record slots each journal has.
+// The super block: a volume's layout, its table of files, and the number of record slots of each journal.
 ghost use Rattle.std.specs.Prelude.{◌≡◌, ◌≢◌, ◌<◌, ◌≤◌, ◌+◌, ◌*◌, ◌^◌, ◌++◌, IfOk, IfErr, IfSome, IfNone, MatchOption, not, ◌==◌, ℕ, List, length, slice_get, slice_index, Some, take, drop};
 ghost use Rattle.std.specs.List.{AllByRecursion, prefix_len};
 ghost use Rattle.volume_codec.specs.Files.{asked_by, asked_by_pairs};
@@ -27,11 +27,11 @@ struct Extent {
     first_home: u32,
 }
 
-/// The files by name, in the table's order, each with its place.
+/// The files by name, in the table's order, each with its extent.
 type Table<A> = IndexMap<String<A>, Extent, BuildHasherDefault<FoldHasher>, A>;
 
-/// What a super block says: the layout, the files in order, each with its name and its capacity in bytes, and the
-/// number of record slots of each journal. Files are counted from 0.
+/// The contents of a super block: the layout, the files in order, and the number of record slots of each journal. Each
+/// file has its name and its capacity in bytes, and files are counted from 0.
 #[derive(Drop)]
 pub struct Super<A: Allocator + Copy> {
     layout: Layout,
@@ -52,7 +52,8 @@ impl<A: Allocator + Copy> Model for Super<A> {
         (homes_of s.files.entries) s.blocks };
 }
 
-/// A table of these files, whose names are distinct and whose home blocks begin here.
+/// Returns a table of these files, whose names are distinct. Their home blocks begin at `first_home`. Fails if memory
+/// is refused.
 fn table<A: Allocator + Copy>(
     alloc: A,
     files: &[FileSpec],
@@ -92,8 +93,9 @@ fn push_entry(block: &mut BlockWriter, name: &str, capacity: u64, home: u32)
 }
 
 impl<A: Allocator + Copy> Super<A> {
-    /// The table of these files in the layout of this number, with so many record slots for each journal. `BadShape`
-    /// where they break the rules of `block_count_as`, found before any memory is taken.
+    /// Returns the table of these files in the layout of this number, with `slots` record slots in each journal. Fails
+    /// with `BadShape` if they break the rules of `block_count_as`, before it allocates memory. Fails with
+    /// `OutOfMemory` if memory is refused.
     pub fn new(alloc: A, layout: u64, files: &[FileSpec], slots: u64) -> Result<Super<A>, Refusal>
         ensures ok { IfOk result (IsAsked layout (asked_by files.now) slots) }
         ensures refused { IfErr result (RefusesTable layout (asked_by files.now) slots) }
@@ -114,7 +116,7 @@ impl<A: Allocator + Copy> Super<A> {
         }
     }
 
-    /// The layout.
+    /// Returns the layout.
     pub fn layout(&self) -> Layout
         ensures value { result ≡ self.now.layout }
         ensures fits { Fits self.now }
@@ -122,7 +124,7 @@ impl<A: Allocator + Copy> Super<A> {
         self.layout
     }
 
-    /// Where the volume has its parts.
+    /// Returns the geometry: the places of the volume's parts.
     pub fn geometry(&self) -> Geometry
         ensures value { result ≡ geometry_of self.now }
         ensures fits { Fits self.now }
@@ -130,7 +132,7 @@ impl<A: Allocator + Copy> Super<A> {
         Geometry::new(self.layout, self.slots, self.blocks)
     }
 
-    /// The number of record slots of each journal, 1 to the most of its layout.
+    /// Returns the number of record slots of each journal, from 1 to the layout's largest number.
     pub fn slots(&self) -> u32
         ensures value { result ≡ self.now.slots }
         ensures fits { Fits self.now }
@@ -138,7 +140,7 @@ impl<A: Allocator + Copy> Super<A> {
         self.slots
     }
 
-    /// The number of files, 1 to 64.
+    /// Returns the number of files, 1 to 64.
     pub fn file_count(&self) -> usize
         ensures value { result ≡ length self.now.files }
         ensures fits { Fits self.now }
@@ -146,7 +148,7 @@ impl<A: Allocator + Copy> Super<A> {
         self.files.len()
     }
 
-    /// The name of a file.
+    /// Returns the name of a file.
     pub fn name(&self, file: usize) -> &str
         requires { file < length self.now.files }
         ensures { slice_get (names_in self.now) file ≡ Some result.now }
@@ -155,7 +157,7 @@ impl<A: Allocator + Copy> Super<A> {
         name.as_str()
     }
 
-    /// The number of bytes to which a file may grow, from 1.
+    /// Returns the number of bytes to which a file may grow, at least 1.
     pub fn capacity(&self, file: usize) -> u64
         requires { file < length self.now.files }
         ensures { slice_get (capacities_in self.now) file ≡ Some result }
@@ -164,7 +166,7 @@ impl<A: Allocator + Copy> Super<A> {
         place.capacity
     }
 
-    /// The number of home blocks of a file: its capacity divided by 4,096, rounded up.
+    /// Returns the number of home blocks of a file: its capacity divided by 4,096, rounded up.
     pub fn pages(&self, file: usize) -> u32
         requires { file < length self.now.files }
         ensures { result ≡ pages (slice_index (capacities_in self.now) file) }
@@ -173,8 +175,8 @@ impl<A: Allocator + Copy> Super<A> {
         pages_of(place.capacity) as u32
     }
 
-    /// The first home block of a file. A file's home blocks follow each other, and so do the files in the table's
-    /// order.
+    /// Returns the first home block of a file. The home blocks of a file are consecutive, and the files are consecutive
+    /// in the table's order.
     pub fn first_home(&self, file: usize) -> u32
         requires { file < length self.now.files }
         ensures { result ≡ first_home_of self.now file }
@@ -183,7 +185,7 @@ impl<A: Allocator + Copy> Super<A> {
         place.first_home
     }
 
-    /// The number of blocks of the volume, at most 2^32 - 1.
+    /// Returns the number of blocks of the volume, at most 2^32 - 1.
     pub fn block_count(&self) -> u32
         ensures value { result ≡ blocks_of self.now }
         ensures fits { Fits self.now }
@@ -191,7 +193,7 @@ impl<A: Allocator + Copy> Super<A> {
         self.blocks
     }
 
-    /// The block that says this table.
+    /// Returns the block that contains this table.
     pub fn to_block(&self) -> [u8; 4096]
         ensures { result ≡ super_text self.now }
     {
@@ -213,8 +215,9 @@ impl<A: Allocator + Copy> Super<A> {
     }
 }
 
-/// The super block of a volume in the layout of this number, with these files and with so many record slots for each
-/// journal. `BadShape` where they break the rules of `block_count_as`, found before any memory is taken.
+/// Returns the super block of a volume in the layout of this number, with these files and `slots` record slots in each
+/// journal. Fails with `BadShape` if they break the rules of `block_count_as`, before it allocates memory. Fails with
+/// `OutOfMemory` if memory is refused.
 pub fn write_super_as<A: Allocator + Copy>(
     alloc: A,
     layout: u64,
@@ -228,8 +231,9 @@ pub fn write_super_as<A: Allocator + Copy>(
     Ok(Super::new(alloc, layout, files, slots)?.to_block())
 }
 
-/// The super block of a volume in layout 1 with these files, each with its name and its length in bytes, and with so
-/// many record slots. `BadShape` where they break the rules of `block_count_of`, found before any memory is taken.
+/// Returns the super block of a volume in layout 1 with these files and this number of record slots. Each file has its
+/// name and its length in bytes. Fails with `BadShape` if they break the rules of `block_count_of`, before it allocates
+/// memory. Fails with `OutOfMemory` if memory is refused.
 pub fn write_super<A: Allocator + Copy>(
     alloc: A,
     files: &[(&str, u64)],
@@ -246,14 +250,14 @@ pub fn write_super<A: Allocator + Copy>(
     write_super_as(alloc, 1, &specs[..files.len()], slots)
 }
 
-/// How many bytes stand before the first zero.
+/// Returns the number of bytes before the first zero.
 fn text_len(field: &[u8]) -> usize
     ensures { result ≡ prefix_len (λ b. not (b == 0)) field.now }
 {
     field.iter().take_while(|b| **b != 0).count()
 }
 
-/// The name at the front of an entry, up to the first zero; empty where it isn't text.
+/// Returns the name at the beginning of an entry, up to the first zero. It is empty if it isn't text.
 fn name_at(entry: &[u8]) -> &str
     requires { 32 ≤ length entry.now }
     ensures { IsName (name_in entry.now) → result.now ≡ name_in entry.now }
@@ -262,7 +266,7 @@ fn name_at(entry: &[u8]) -> &str
     str::from_utf8(&field[..text_len(field)]).unwrap_or("")
 }
 
-/// The file of an entry, as long as its capacity. Its name is empty where that isn't text.
+/// Returns the file in an entry, with its capacity as its length. Its name is empty if it isn't text.
 fn file_at(entry: &[u8]) -> FileSpec<'_>
     requires { 40 ≤ length entry.now }
     ensures name { IsName (name_in entry.now) → result.name.now ≡ name_in entry.now }
@@ -277,7 +281,7 @@ fn file_at(entry: &[u8]) -> FileSpec<'_>
     }
 }
 
-/// The files of so many entries, in the first places.
+/// Returns the files of `count` entries, in the first places.
 fn files_at(entries: &[u8], count: usize) -> [FileSpec<'_>; 64]
     requires few { count ≤ 64 }
     requires there { 48 * count ≤ length entries.now }
@@ -297,7 +301,7 @@ fn files_at(entries: &[u8], count: usize) -> [FileSpec<'_>; 64]
 }
 
 // Rule: damaged
-/// What a block is whose table was refused: damaged where the table breaks the rules.
+/// Returns the refusal of a block whose table was refused with `refusal`: `Damaged` if the table breaks the rules.
 fn damage_of(refusal: Refusal) -> Refusal
     ensures { result ≡ damage refusal }
 {
@@ -307,7 +311,7 @@ fn damage_of(refusal: Refusal) -> Refusal
     }
 }
 
-/// The layout whose magic a block begins with, if there is one.
+/// Returns the layout with whose magic a block begins, if there is one.
 fn layout_of(block: &[u8; 4096]) -> Option<Layout>
     ensures some { IfSome result (λ layout. take 8 block.now ≡ magic_of layout) }
     ensures none { IfNone result ((layout : Layout) → take 8 block.now ≢ magic_of layout) }
@@ -318,8 +322,9 @@ fn layout_of(block: &[u8; 4096]) -> Option<Layout>
 }
 
 // Rule: notavolume
-/// The table that a super block says, in the layout whose magic it begins with. `NotAVolume` where it begins with none;
-/// `Damaged` where it breaks any other rule of the grammar. Either may be `OutOfMemory`.
+/// Returns the table in a super block, in the layout with whose magic it begins. Fails with `NotAVolume` if it begins
+/// with no layout's magic, and with `Damaged` if it breaks any other rule of the grammar. It may fail with
+/// `OutOfMemory` instead of either.
 pub fn read_super<A: Allocator + Copy>(alloc: A, block: &[u8; 4096]) -> Result<Super<A>, Refusal>
     ensures ok { IfOk result (λ v. IsSuper v block.now) }
     ensures refused { IfErr result (RefusesSuper block.now) }

@@ -1,4 +1,4 @@
-//! The commands that run no machine: those that make volumes, look at one, and copy a file out of one.
+//! The commands that run no machine: they make volumes, look at a volume, or copy a file out of one.
 #![tactic(auto)]
 
 mod looking;

@@ -1,5 +1,5 @@
-// Telling what the bytes of the volume in a file say, and printing its files. The file is only read. What is done once
-// the disk is open is written for any device, which costs the prover less than the device by its name.
+// Prints the contents and the files of the volume in a file, which is only read. Code that runs once the disk is open
+// is generic over devices, since this costs the prover less than a concrete device.
 ghost use Rattle.std.specs.Prelude.{◌≡◌, ◌≤◌, length, IfOk};
 ghost use Rattle.log_volume.specs.Super.{log_of};
 ghost use Rattle.log_recovery.specs.Reading.{IsFoundLog};
@@ -23,8 +23,8 @@ use volume_files::{
     refused_to_read,
 };
 
-/// Prints what is looked at of a volume, and answers the status: 0, and of a volume's health 0, 1 or 3. `note` gets
-/// what is to be said of a sync that failed.
+/// Prints what `look` asks for about a volume, and returns the exit status: 0, or 0, 1 or 3 for a volume's health. If a
+/// sync failed, `note` contains the message about it.
 pub fn look<'a, R: Files<File = File> + AllocGlobal, A: Allocator + Copy, W: io::Write>(
     rt: &R,
     alloc: A,
@@ -39,7 +39,7 @@ pub fn look<'a, R: Files<File = File> + AllocGlobal, A: Allocator + Copy, W: io:
     print_sight(rt.alloc(), alloc, look, disk, out)
 }
 
-// Prints what is looked at of the volume of a device, and answers the status.
+// Prints what `look` asks for about the volume of a device, and returns the exit status.
 fn print_sight<'a, D, A, W>(
     global: Global,
     alloc: A,
@@ -70,7 +70,7 @@ where
     }
 }
 
-// Prints what the bytes of the volume of a device say, with journals or with a log.
+// Prints the contents of the volume of a device, with journals or with a log.
 fn print_bytes<'a, D: Device, A: Allocator + Copy, W: io::Write>(
     global: Global,
     alloc: A,
@@ -121,7 +121,7 @@ fn print_log_found<'a, A: Allocator + Copy, W: io::Write>(
     Ok(())
 }
 
-// Prints how the volume of a device is, and answers the status.
+// Prints the health of the volume of a device, and returns the exit status.
 fn check_disk<'a, D: Device, A: Allocator + Copy, W: io::Write>(
     global: Global,
     alloc: A,
@@ -142,7 +142,7 @@ fn check_disk<'a, D: Device, A: Allocator + Copy, W: io::Write>(
     }
 }
 
-// How the volume of a device is, with journals or with a log.
+// Returns the health of the volume of a device, with journals or with a log.
 fn health_of<D: Device, A: Allocator + Copy>(alloc: A, disk: &mut D) -> Result<Health, Refusal> {
     match examine(alloc, disk) {
         Ok(health) => Ok(health),
@@ -151,7 +151,7 @@ fn health_of<D: Device, A: Allocator + Copy>(alloc: A, disk: &mut D) -> Result<H
     }
 }
 
-// Prints how a volume is that isn't damaged, and answers the status.
+// Prints the health of a volume that isn't damaged, and returns the exit status.
 fn tell_health<'a, W: io::Write>(
     global: Global,
     json: bool,

@@ -1,4 +1,4 @@
-// Making a volume, migrating one, and copying a file out of one; each prints how much was made.
+// Making a volume, migrating one, and copying a file out of one. Each prints how much it made.
 ghost use Rattle.std.specs.Prelude.{◌≡◌, ℕ, Some, IsOkAnd};
 
 use crate::print::print_count;
@@ -14,9 +14,11 @@ use volume_files::{
     ExportPlan, FileFailure, LogPlan, MigrationPlan, NewVolume, Plan, SyncNote, draw_key,
 };
 
-/// Makes what is asked for: a volume, one of another, or a copy of a file of one; and prints how many blocks or bytes
-/// that has. `note` gets what is to be said of a sync that failed. Where `err` is a terminal, it shows how much of a
-/// copy is written.
+/// Makes what is requested: a volume, a volume from another one, or a copy of one of its files. Prints the number of
+/// its blocks or bytes.
+///
+/// If a sync failed, `note` contains the message about it. If `err` is a terminal, it shows how much of a copy is
+/// written.
 pub fn make<'a, R, A, W, E>(
     rt: &R,
     alloc: A,
@@ -75,7 +77,7 @@ where
     }
 }
 
-// Makes a volume with a log, and counts its blocks.
+// Makes a volume with a log, and returns the number of its blocks.
 fn logged<'a, R, A>(rt: &R, alloc: A, asked: &Logged<'a, A>) -> Result<u64, FileFailure<'a>>
 where
     R: Files<File = File> + AllocGlobal,
@@ -90,7 +92,7 @@ where
     volume_files::format_log(rt, alloc, asked.disk, plan)
 }
 
-// How a volume with a log seals its commits. A key that isn't given is drawn.
+// Returns how a volume with a log seals its commits. A missing key is drawn at random.
 fn sealing<'a, R: Files<File = File>>(rt: &R, seal: Seal) -> Result<Sealing, FileFailure<'a>>
     ensures byte { seal ≡ Seal.Byte → IsOkAnd result (λ sealing. sealing ≡ Sealing.ByByte) }
     ensures given { (key : ℕ) → seal ≡ Seal.Digest (Some key)
@@ -106,7 +108,7 @@ fn sealing<'a, R: Files<File = File>>(rt: &R, seal: Seal) -> Result<Sealing, Fil
     }
 }
 
-// What a new volume has besides its files. A key that isn't given is drawn.
+// Returns what a new volume has besides its files. A missing key is drawn at random.
 fn new_volume<'a, R: Files<File = File>>(
     rt: &R,
     layout: NewLayout,
@@ -130,7 +132,7 @@ fn new_volume<'a, R: Files<File = File>>(
     }
 }
 
-// What is migrated, and where to.
+// Returns the plan of a migration: its source and its target.
 fn migration<'a>(asked: &Migration<'a>, volume: NewVolume) -> MigrationPlan<'a>
     ensures old { result.old ≡ asked.now.old }
     ensures new { result.new ≡ asked.now.new }

@@ -1,4 +1,4 @@
-// What is printed of a command that is done, as text or as JSON.
+// The output of a command that has finished, as text or as JSON.
 use file_rows::WriteFault;
 use inspection::write_line;
 use serde_json::{Value, json};
@@ -6,7 +6,7 @@ use std::alloc::Global;
 use std::io;
 use volume_files::FileFailure;
 
-/// Prints how much was made: the word for what was done, a count, and what is counted.
+/// Prints how much was made: a word for the work, a count, and its unit.
 pub fn print_count<'a, W: io::Write>(
     global: Global,
     json: bool,

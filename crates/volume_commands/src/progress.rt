@@ -1,10 +1,10 @@
-// How much of a new file is written, on a terminal.
+// The progress of writing a new file, on a terminal.
 use new_volume::WriteListener;
 use std::io;
 use std::io::IsTerminal;
 
-/// A line on a terminal with the part of a new file that is written, in percent. It changes at most once a percent. On
-/// anything else than a terminal nothing is written.
+/// A line on a terminal with the percentage of a new file that is written. It changes at most once for each percent. If
+/// the output isn't a terminal, nothing is written.
 #[derive(Drop)]
 pub struct Progress<'a, E: io::Write> {
     err: &'a mut E,
@@ -16,7 +16,7 @@ pub struct Progress<'a, E: io::Write> {
 }
 
 impl<'a, E: io::Write + IsTerminal> Progress<'a, E> {
-    /// A line that begins with a word for what is done, of at most 9 letters.
+    /// Returns a line that begins with `doing`, a word of at most 9 letters.
     pub fn new(err: &'a mut E, doing: &'static str) -> Self {
         let shows = err.is_terminal();
         Progress {
@@ -29,7 +29,7 @@ impl<'a, E: io::Write + IsTerminal> Progress<'a, E> {
         }
     }
 
-    /// Takes the line away, where there is one.
+    /// Removes the line, if there is one.
     pub fn clear(&mut self) {
         if self.percent > 0 {
             let _ = write!(self.err, "\r              \r");

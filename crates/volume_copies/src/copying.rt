@@ -13,7 +13,7 @@ use page_entry::Refusal;
 use std::alloc::Allocator;
 use std::io;
 
-/// Why a file of a volume wasn't copied, or not all of it.
+/// Why a file of a volume wasn't copied, or not completely.
 #[derive(Drop)]
 pub enum CopyFault {
     /// The volume has no file of this name.
@@ -22,9 +22,11 @@ pub enum CopyFault {
     Pages(ListFault),
 }
 
-/// Writes all bytes of the file of this name of a device's volume, as it recovers, to an empty file, except zeros past
-/// all that was written, and says how many there are. The volume is refused as `AnyVolume::find` refuses it. The device
-/// is only read. A listener hears of each write.
+/// Writes all bytes of a file of a device's volume, as it recovers, to an empty file. Zeros past all that was written
+/// stay holes. Returns the number of bytes, and the new file.
+///
+/// Fails with the refusal of `AnyVolume::find` if the volume is refused. The device is only read. A listener is
+/// notified of each write.
 pub fn copy_file<D, A, F, L>(
     alloc: A,
     device: &mut D,
@@ -50,7 +52,7 @@ where
     }
 }
 
-// Writes all bytes of the file of this name, and says how many there are.
+// Writes all bytes of the file of this name, and returns their number.
 fn copy_named<V, D, F, L>(
     volume: &V,
     device: &mut D,
@@ -89,7 +91,7 @@ where
     }
 }
 
-// Gives an empty file so many bytes, all 0, which stay holes where zeros are written.
+// Lengthens an empty file to `bytes` zeros. They stay holes where zeros are written.
 fn lengthened<F: EmptyFile + Drop, L: WriteListener + Drop>(
     mut out: F,
     bytes: u64,
@@ -102,7 +104,7 @@ fn lengthened<F: EmptyFile + Drop, L: WriteListener + Drop>(
     Ok(NewFile::over(out, listener))
 }
 
-// The file of this name.
+// Returns the number of the file of this name, if there is one.
 fn find<V: FoundFiles>(volume: &V, name: &str) -> Option<usize>
     requires sound { V.is_sound volume.now }
     ensures within { IfSome result (λ file. file < V.count volume.now) }

@@ -1,4 +1,4 @@
-//! The bytes of one file of a volume are copied to a new file.
+//! Copies the bytes of one file of a volume to a new file.
 #![tactic(auto)]
 
 mod copying;

@@ -1,4 +1,4 @@
-// Why a volume is refused, as far as it can be told: what was found, and what is allowed.
+// The causes why a volume is refused, if they can be determined: what was found, and what is allowed.
 ghost use Rattle.std.specs.Prelude.{◌≡◌, ◌≢◌, ◌+◌, ◌⊎◌, true, false, take, codes};
 ghost use Rattle.volume_codec.specs.Layout.{lengths_blocks, max_slots as most_slots};
 ghost use Rattle.recovery.specs.Reading.{IsOnlyRead};
@@ -12,7 +12,7 @@ use std::fmt;
 use thiserror::Error;
 use volume_codec::{FileSpec, Layout, read_super};
 
-/// A refusal, and its cause where it could be told. Its text is the refusal's word, and after it the cause.
+/// A refusal, and its cause if it could be determined. Its text is the refusal's word, followed by the cause.
 #[derive(Clone, Copy, Debug)]
 pub struct Refused<'a> {
     pub refusal: Refusal,
@@ -28,7 +28,7 @@ impl fmt::Display for Refused<'_> {
     }
 }
 
-/// What was found, and what is allowed. What it is shown as for debugging is its text.
+/// What was found, and what is allowed. Its `Debug` form is its text.
 #[derive(Clone, Copy, Error)]
 pub enum Cause<'a> {
     #[error("LAYOUT is {0}, and 1 to 6 are served")]
@@ -98,7 +98,7 @@ impl fmt::Debug for Cause<'_> {
 }
 
 impl<'a> Refused<'a> {
-    // Why no volume is made. Where its shape is refused, this is what is outside the limits.
+    // Returns why no volume is made. If the shape is refused, `shape` is what is outside the limits.
     fn to_make(refusal: Refusal, shape: Cause<'a>) -> Self {
         let cause = match refusal {
             Refusal::BadShape => Some(shape),
@@ -109,7 +109,7 @@ impl<'a> Refused<'a> {
     }
 }
 
-/// Why no volume is made of these files.
+/// Returns why no volume is made of these files.
 pub fn refused_to_format<'a>(
     refusal: Refusal,
     layout: u64,
@@ -119,7 +119,7 @@ pub fn refused_to_format<'a>(
     Refused::to_make(refusal, cause_in_files(layout, files, slots))
 }
 
-/// Why no volume with a log of so many blocks is made of these files.
+/// Returns why no volume with a log of `ring` blocks is made of these files.
 pub fn refused_to_format_log<'a>(
     refusal: Refusal,
     files: &[FileSpec<'a>],
@@ -128,7 +128,7 @@ pub fn refused_to_format_log<'a>(
     Refused::to_make(refusal, cause_in_log(files, ring))
 }
 
-// What is outside the limits of volumes with a log.
+// Returns what is outside the limits of volumes with a log.
 fn cause_in_log<'a>(files: &[FileSpec<'a>], ring: u64) -> Cause<'a> {
     if !(4..=1 << 24).contains(&ring) {
         return Cause::Blocks(ring);
@@ -136,7 +136,8 @@ fn cause_in_log<'a>(files: &[FileSpec<'a>], ring: u64) -> Cause<'a> {
     cause_in_list(true, files)
 }
 
-/// Why no volume in the layout of this number and with so many slots is made of the files of one in another layout.
+/// Returns why the files of a volume in one layout aren't migrated to the layout of this number, with this number of
+/// slots.
 pub fn refused_to_migrate<'a>(
     refusal: Refusal,
     old: Layout,
@@ -146,7 +147,7 @@ pub fn refused_to_migrate<'a>(
     Refused::to_make(refusal, cause_in_migration(old, layout, slots))
 }
 
-// What of a migration from a layout is outside the limits.
+// Returns what is outside the limits of a migration from a layout.
 fn cause_in_migration<'a>(old: Layout, layout: u64, slots: u64) -> Cause<'a> {
     match Layout::from_number(layout) {
         Some(new) if new.lengths_blocks() > 0 => {
@@ -162,8 +163,8 @@ fn cause_in_migration<'a>(old: Layout, layout: u64, slots: u64) -> Cause<'a> {
     }
 }
 
-// The fewest and the most record slots that each journal of a layout may have: a batch may have the lengths besides a
-// page.
+// Returns the smallest and the largest number of record slots of each journal in a layout. A batch may contain the
+// lengths in addition to a page.
 fn slots_of(layout: Layout) -> (u64, u64)
     ensures { result ≡ (lengths_blocks layout + 1, most_slots layout) }
 {
@@ -173,7 +174,7 @@ fn slots_of(layout: Layout) -> (u64, u64)
     )
 }
 
-// What is outside the limits where each journal of a layout is to have so many record slots.
+// Returns what is outside the limits, if each journal of a layout is to have this number of record slots.
 fn cause_in_slots<'a>(layout: Layout, slots: u64) -> Option<Cause<'a>> {
     let (least, most) = slots_of(layout);
     if (least..=most).contains(&slots) {
@@ -186,7 +187,7 @@ fn cause_in_slots<'a>(layout: Layout, slots: u64) -> Option<Cause<'a>> {
     })
 }
 
-// What is outside the limits of volumes.
+// Returns what is outside the limits of volumes.
 fn cause_in_files<'a>(layout: u64, files: &[FileSpec<'a>], slots: u64) -> Cause<'a> {
     let Some(layout) = Layout::from_number(layout) else {
         return Cause::Layout(layout);
@@ -197,7 +198,7 @@ fn cause_in_files<'a>(layout: u64, files: &[FileSpec<'a>], slots: u64) -> Cause<
     cause_in_list(layout.lengths_blocks() > 0, files)
 }
 
-// What is outside the limits of files, which may grow or not.
+// Returns what is outside the limits of files, which may grow or not.
 fn cause_in_list<'a>(grows: bool, files: &[FileSpec<'a>]) -> Cause<'a> {
     if !(1..=64).contains(&files.len()) {
         return Cause::FileCount(files.len());
@@ -216,7 +217,7 @@ fn cause_in_list<'a>(grows: bool, files: &[FileSpec<'a>]) -> Cause<'a> {
     Cause::TooManyBlocks
 }
 
-// What is outside the limits of a file's length and capacity.
+// Returns what is outside the limits of a file's length and capacity.
 fn cause_in_extent<'a>(grows: bool, file: &FileSpec<'a>) -> Option<Cause<'a>> {
     let name = file.name;
     let length = file.length;
@@ -241,7 +242,7 @@ fn is_name(name: &str) -> bool {
     (1..=32).contains(&name.len()) && name.bytes().all(|letter| (0x21..=0x7E).contains(&letter))
 }
 
-/// Why the volume of a device isn't opened.
+/// Returns why the volume of a device isn't opened. The device is only read.
 pub fn refused_to_open<'a, D: Device, A: Allocator + Copy>(
     alloc: A,
     refusal: Refusal,
@@ -255,7 +256,7 @@ pub fn refused_to_open<'a, D: Device, A: Allocator + Copy>(
     Refused { refusal, cause }
 }
 
-// What breaks the format of volumes on a device.
+// Returns what breaks the format of volumes on a device.
 fn cause_in_bytes<D: Device, A: Allocator + Copy>(
     alloc: A,
     refusal: Refusal,
@@ -274,7 +275,7 @@ fn cause_in_bytes<D: Device, A: Allocator + Copy>(
     }
 }
 
-// What else than a volume without a log a device has.
+// Returns what a device contains instead of a volume without a log.
 fn cause_of_magic<D: Device>(device: &mut D) -> Cause<'static>
     ensures { IsOnlyRead D.Device device.old device.new }
 {
@@ -306,7 +307,7 @@ pub(crate) fn begins_with_log_magic(block: &[u8; 4096]) -> bool
     false
 }
 
-/// Why the volume of a device, with journals or with a log, isn't read.
+/// Returns why the volume of a device, with journals or with a log, isn't read. The device is only read.
 pub fn refused_to_read<'a, D: Device, A: Allocator + Copy>(
     alloc: A,
     refusal: Refusal,
@@ -320,7 +321,7 @@ pub fn refused_to_read<'a, D: Device, A: Allocator + Copy>(
     Refused { refusal, cause }
 }
 
-// What breaks the format of volumes with journals or with a log on a device.
+// Returns what breaks the format of volumes with journals or with a log on a device.
 fn cause_in_any_bytes<D: Device, A: Allocator + Copy>(
     alloc: A,
     refusal: Refusal,
@@ -339,7 +340,7 @@ fn cause_in_any_bytes<D: Device, A: Allocator + Copy>(
     }
 }
 
-// What is damaged on a device of this length with this super block, of journals or of a log.
+// Returns what is damaged on a device of this length with this super block, with journals or with a log.
 fn cause_of_any_damage<A: Allocator + Copy>(
     alloc: A,
     found: u64,
@@ -352,7 +353,7 @@ fn cause_of_any_damage<A: Allocator + Copy>(
     }
 }
 
-// What is damaged on a device of this length with this super block of a volume with a log.
+// Returns what is damaged on a device of this length with this super block of a volume with a log.
 fn cause_of_log_damage<A: Allocator + Copy>(
     alloc: A,
     found: u64,
@@ -372,7 +373,7 @@ fn cause_of_log_damage<A: Allocator + Copy>(
     }
 }
 
-// What is damaged on a device of this length with this super block.
+// Returns what is damaged on a device of this length with this super block.
 fn cause_of_damage<A: Allocator + Copy>(
     alloc: A,
     found: u64,
@@ -394,7 +395,7 @@ fn cause_of_damage<A: Allocator + Copy>(
     }
 }
 
-/// The first block of a device, where it can be read.
+/// Returns the first block of a device, if it can be read.
 pub fn first_block<D: Device>(device: &mut D) -> Option<[u8; 4096]>
     ensures { IsOnlyRead D.Device device.old device.new }
 {

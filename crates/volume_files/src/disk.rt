@@ -1,4 +1,4 @@
-// The disk of a volume over its file, and printing the files of a volume.
+// The disk of a volume over its file, and the printing of a volume's files.
 ghost use Rattle.std.specs.Prelude.{◌≡◌, List, IfErr, OnOk};
 ghost use Rattle.std.specs.Io.KnownBytes.{Appends};
 ghost use Rattle.volume_codec.specs.Files.{File as VolumeFile};
@@ -28,8 +28,8 @@ use std::io::{Read, Write};
 pub type VolumeDisk<'a, R> = FileDisk<WatchedFile<File, Marker<'a, R>>>;
 
 // Rule: suspect volume
-/// Opens the file of a volume at a place, locks it and syncs it. A volume that is marked as suspect is opened only
-/// where it is trusted. `path` names it in a failure, and `note` gets what is to be said of a sync that failed.
+/// Opens the file of a volume at a place, locks it and syncs it. A volume that is marked as suspect is opened only if
+/// `trust` is set. A failure contains `path`. If a sync failed, `note` contains the message about it.
 pub fn open_disk<'a, 'b, R: Files<File = File> + AllocGlobal>(
     rt: &'b R,
     path: &'a str,
@@ -55,7 +55,7 @@ pub fn open_disk<'a, 'b, R: Files<File = File> + AllocGlobal>(
     }
 }
 
-/// Opens the file of a volume at a place to write to it. One that is trusted isn't marked as suspect any more.
+/// Opens the file of a volume at a place for writing. If `trust` is set, the volume isn't marked as suspect any more.
 pub fn open_to_write<'a, 'b, R: Files<File = File> + AllocGlobal>(
     rt: &'b R,
     path: &'a str,
@@ -65,7 +65,7 @@ pub fn open_to_write<'a, 'b, R: Files<File = File> + AllocGlobal>(
 ) -> Result<VolumeDisk<'b, R>, FileFailure<'a>> {
     let disk = open_disk(rt, path, place, Access::Write, trust, note)?;
     if trust {
-        // It could be synced, so what is read of it from here on is on the disk.
+        // It was synced, so what is read from here on is on the disk.
         SuspectFlag::of(rt, place)?
             .remove()
             .map_err(|cause| FileFailure::File { path, cause })?;
@@ -73,8 +73,7 @@ pub fn open_to_write<'a, 'b, R: Files<File = File> + AllocGlobal>(
     Ok(disk)
 }
 
-/// Prints the files of the volume of a device, as it recovers. The device is only read. `path` names the volume in a
-/// failure.
+/// Prints the files of the volume of a device, as it recovers. The device is only read. A failure contains `path`.
 pub fn dump<'a, D: Device, A: Allocator + Copy, W: Write>(
     alloc: A,
     path: &'a str,
@@ -95,7 +94,7 @@ pub fn dump<'a, D: Device, A: Allocator + Copy, W: Write>(
     }
 }
 
-/// Why the volume of a device at a path wasn't read. The device is only read.
+/// Returns why the volume of a device at a path wasn't read. The device is only read.
 pub fn not_read<'a, D: Device, A: Allocator + Copy>(
     alloc: A,
     path: &'a str,
@@ -109,7 +108,7 @@ pub fn not_read<'a, D: Device, A: Allocator + Copy>(
     not_opened(path, refused_to_read(alloc, refusal, device))
 }
 
-/// Why the files of the volume at a path weren't printed.
+/// Returns why the files of the volume at a path weren't printed.
 pub fn not_listed(path: &str, fault: ListFault) -> FileFailure<'_>
     ensures { IsOfDevice fault → IsOfVolume path.now (λ refusal. refusal ≡ Refusal.Device) result }
 {
@@ -120,7 +119,7 @@ pub fn not_listed(path: &str, fault: ListFault) -> FileFailure<'_>
     }
 }
 
-/// Why a file of the volume at a path couldn't be read.
+/// Returns why a file of the volume at a path couldn't be read.
 pub fn unreadable(path: &str, refusal: Refusal) -> FileFailure<'_>
     ensures { IsOfVolume path.now (λ told. told ≡ refusal) result }
 {
@@ -133,7 +132,7 @@ pub fn unreadable(path: &str, refusal: Refusal) -> FileFailure<'_>
     }
 }
 
-/// Why the volume at a path wasn't opened on a copy that keeps in memory what is written.
+/// Returns why the volume at a path wasn't opened on a copy that keeps its writes in memory.
 pub fn refused_on_copy<'a>(
     path: &'a str,
     was_refused_memory: bool,
@@ -148,7 +147,7 @@ pub fn refused_on_copy<'a>(
     }
 }
 
-/// Why the volume at a path wasn't opened.
+/// Returns why the volume at a path wasn't opened.
 pub fn not_opened<'a>(path: &'a str, cause: Refused<'a>) -> FileFailure<'a>
     ensures { IsOfVolume path.now (λ told. told ≡ cause.entry.refusal) result }
 {
@@ -158,7 +157,7 @@ pub fn not_opened<'a>(path: &'a str, cause: Refused<'a>) -> FileFailure<'a>
     }
 }
 
-/// Why the volume at a path wasn't opened on this copy of its disk, which keeps in memory what is written.
+/// Returns why the volume at a path wasn't opened on this copy of its disk, which keeps its writes in memory.
 pub fn not_opened_on_copy<'a, D: Device, A: Allocator + Copy>(
     alloc: A,
     path: &'a str,
@@ -172,7 +171,7 @@ pub fn not_opened_on_copy<'a, D: Device, A: Allocator + Copy>(
     refused_on_copy(path, was_refused_memory, cause)
 }
 
-/// The bytes of a file, which may be a pipe.
+/// Returns the bytes of a file, which may be a pipe.
 pub fn read_file<'a, R, A>(rt: &R, alloc: A, path: &'a str) -> Result<Vec<u8, A>, FileFailure<'a>>
 where
     R: Files<File = File>,

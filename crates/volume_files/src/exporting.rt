@@ -1,4 +1,4 @@
-// Copying a file out of a volume: whole, in a file of its own, which then takes the name that was asked for.
+// Copies a file out of a volume: to a new file, which takes the requested name once it is whole.
 ghost use Rattle.recovery.specs.Reading.{IsOnlyRead};
 
 use crate::disk::{not_read, open_disk, unreadable};
@@ -14,8 +14,7 @@ use std::fs::{File, Files, Metadata, TryLockError};
 use std::{fs, io};
 use volume_copies::{CopyFault, copy_file};
 
-/// Which file of which volume is copied, and where to: the path of the volume's file, the name of the file in the
-/// volume, and the path of the copy.
+/// An export: the path of the volume's file, the name of the file in the volume, and the path of the copy.
 #[derive(Clone, Copy)]
 pub struct ExportPlan<'a> {
     pub disk: &'a str,
@@ -23,11 +22,13 @@ pub struct ExportPlan<'a> {
     pub out: &'a str,
 }
 
-/// Copies a file of a volume, as it would be found when the volume is opened, and says how many bytes it has. The
-/// volume's file is only read. The copy is made in another file beside its
-/// place, `.new`, which takes its name once all of it is on the disk: where this fails before or is cut off, a file
-/// that had the name is as it was. A copy doesn't replace the file of the volume, one that another process has locked,
-/// or anything else than a regular file. A listener hears what is written.
+/// Copies a file of a volume as opening the volume would find it, and returns its number of bytes. The volume's file is
+/// only read.
+///
+/// The copy is made in another file beside its place, `.new`. This file takes the name once all of it is on the disk.
+/// If this fails before, or is cut off, a file that had the name is unchanged. A copy doesn't replace the file of the
+/// volume, a file that another process has locked, or anything that isn't a regular file. A listener is notified of the
+/// writes.
 pub fn export<'a, R, A, L>(
     rt: &R,
     alloc: A,
@@ -46,8 +47,7 @@ where
     copied_out(rt, alloc, plan, &mut disk, &from, listener)
 }
 
-// Copies a file of the volume of a disk, whose own file is at a place, to where it was asked for. The disk is only
-// read.
+// Copies a file of the volume of a disk to the requested path. The disk's own file is at `from`. The disk is only read.
 fn copied_out<'a, R, D, A, L>(
     rt: &R,
     alloc: A,
@@ -69,15 +69,15 @@ where
         path: plan.out,
         place: &to,
     };
-    // Both files are locked until the end.
+    // Both files stay locked until the end.
     let old = old_copy(&target, from)?;
     let (count, _file) = named_copy(&target, alloc, plan, disk, old.as_ref(), listener)?;
     target.sync_name()?;
     Ok(count)
 }
 
-// Makes the copy in another file, and gives that the name that was asked for. Where it wasn't made, or can't have the
-// name, it is taken away. Where that can't be done either, the next export finds that it is there.
+// Makes the copy in another file, and gives this file the requested name. If it wasn't made, or can't take the name, it
+// is removed. If this fails too, the next export finds that it exists.
 fn named_copy<'a, R, D, A, L>(
     target: &Target<'a, '_, R>,
     alloc: A,
@@ -112,7 +112,7 @@ where
     }
 }
 
-// The file that a copy is to replace, locked, if there is one.
+// Returns the file that a copy is to replace, locked, if there is one.
 fn old_copy<'a, R: Files<File = File> + AllocGlobal>(
     target: &Target<'a, '_, R>,
     from: &str,
@@ -126,7 +126,7 @@ fn old_copy<'a, R: Files<File = File> + AllocGlobal>(
     }
 }
 
-// Whether a copy may replace what was found: a regular file, and not that of the volume.
+// Checks that a copy may replace what was found: a regular file, and not that of the volume.
 fn judge_replaced<'a, R: Files<File = File> + AllocGlobal>(
     target: &Target<'a, '_, R>,
     from: &str,
@@ -142,7 +142,7 @@ fn judge_replaced<'a, R: Files<File = File> + AllocGlobal>(
     }
 }
 
-// The file that a copy is to replace, locked.
+// Returns the file that a copy is to replace, locked.
 fn locked_copy<'a, R: Files<File = File> + AllocGlobal>(
     target: &Target<'a, '_, R>,
 ) -> Result<File, FileFailure<'a>> {
@@ -160,7 +160,7 @@ fn locked(out: &str, file: File) -> Result<File, FileFailure<'_>> {
     }
 }
 
-// Makes the copy in a new file, with all of it on the disk, and says how many bytes it has.
+// Makes the copy in a new file, puts all of it on the disk, and returns its number of bytes.
 fn copied<'a, D: Device, A: Allocator + Copy, L: WriteListener + Drop>(
     alloc: A,
     plan: ExportPlan<'a>,
@@ -179,7 +179,7 @@ fn copied<'a, D: Device, A: Allocator + Copy, L: WriteListener + Drop>(
     Ok((count, file))
 }
 
-// Gives a new file what it has of an old one, if there is one.
+// Copies to a new file the owner and mode of an old one, if there is one.
 fn after(old: Option<&File>, file: &File) -> io::Result<()> {
     match old {
         Some(old) => take_after(file, old),
@@ -187,7 +187,7 @@ fn after(old: Option<&File>, file: &File) -> io::Result<()> {
     }
 }
 
-// Writes the bytes of the file in the volume of a disk to a file, and says how many they are.
+// Writes the bytes of the file in the volume of a disk to a file, and returns their number.
 fn written<'a, D: Device, A: Allocator + Copy, L: WriteListener + Drop>(
     alloc: A,
     plan: ExportPlan<'a>,
@@ -204,7 +204,7 @@ fn written<'a, D: Device, A: Allocator + Copy, L: WriteListener + Drop>(
     }
 }
 
-// Why the copy at a path couldn't be written.
+// Returns why the copy at a path couldn't be written.
 fn unwritten(out: &str, fault: WriteFault) -> FileFailure<'_> {
     match fault {
         WriteFault::Output(cause) => FileFailure::File { path: out, cause },
@@ -212,7 +212,7 @@ fn unwritten(out: &str, fault: WriteFault) -> FileFailure<'_> {
     }
 }
 
-// Why a file of a volume wasn't copied.
+// Returns why a file of a volume wasn't copied.
 fn not_copied<'a>(plan: ExportPlan<'a>, fault: CopyFault) -> FileFailure<'a> {
     match fault {
         CopyFault::NoFile => FileFailure::NoFile {

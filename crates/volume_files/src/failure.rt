@@ -1,17 +1,16 @@
-// Why something that was asked for of a volume's file wasn't done.
+// Why a request about a volume's file failed.
 use crate::cause::Refused;
 use std::alloc::AllocError;
 use std::{fmt, io};
 use thiserror::Error;
 
-/// Why something that was asked for of a volume's file wasn't done. Its text is one line, and what it is shown as for
-/// debugging is that text.
+/// Why a request about a volume's file failed. Its text is one line, and its `Debug` form is this text.
 #[derive(Drop, Error)]
 pub enum FileFailure<'a> {
     /// A real file couldn't be made, opened or read.
     #[error("file {path:?}: {cause}")]
     File { path: &'a str, cause: io::Error },
-    /// A file beside a volume couldn't be made, or taken away.
+    /// A file beside a volume couldn't be made or removed.
     #[error("file {path:?}: {cause}")]
     Beside { path: String, cause: io::Error },
     // Rule: file lock: The file of a volume is locked until it is closed: alone where it is written to, else beside
@@ -19,39 +18,39 @@ pub enum FileFailure<'a> {
     /// Another process has the file of the volume locked.
     #[error("disk {path:?}: in use by another process")]
     InUse { path: &'a str },
-    /// The file of the volume is of another kind.
+    /// The file of the volume isn't a regular file.
     #[error("disk {path:?}: it is {kind}, and a volume is a regular file")]
     NotRegular { path: &'a str, kind: &'a str },
     /// The file of the volume has several names, by which others may use it.
     #[error("disk {path:?}: the file has {names} names, and one that is written to may have one")]
     SeveralNames { path: &'a str, names: u64 },
-    /// Whenever the file was locked, the path named another one.
+    /// Each time the file was locked, the path named another file.
     #[error("disk {path:?}: the file is replaced again and again")]
     Replaced { path: &'a str },
-    /// The file in which a new volume is made is there already.
+    /// The file in which a new volume is made exists already.
     #[error("disk {path:?}: {new:?} is there already: if no other format is at work, remove it")]
     NewIsThere { path: &'a str, new: String },
     /// The volume has no file of this name.
     #[error("disk {path:?}: it has no file {file:?}")]
     NoFile { path: &'a str, file: &'a str },
-    /// A copy would replace something else than a regular file.
+    /// A copy would replace something that isn't a regular file.
     #[error("file {path:?}: it is {kind}, and a copy replaces a regular file alone")]
     NotReplaced { path: &'a str, kind: &'a str },
     /// A copy would replace the file of the volume.
     #[error("file {path:?}: it is the file of the volume")]
     SameFile { path: &'a str },
-    /// Another process has the file locked that a copy would replace.
+    /// A copy would replace a file that another process has locked.
     #[error("file {path:?}: in use by another process")]
     CopyInUse { path: &'a str },
-    /// The file in which a copy is made is there already.
+    /// The file in which a copy is made exists already.
     #[error("file {path:?}: {new:?} is there already: if no other export is at work, remove it")]
     CopyIsThere { path: &'a str, new: String },
     // Rule: suspect volume: A volume whose file couldn't be synced is marked, and opened again only where it is
     // trusted.
-    /// The volume is marked: a sync of its file failed.
+    /// The volume is marked, because a sync of its file failed.
     #[error("disk {path:?}: {mark:?} says that a sync of it failed, so what is read of it may not be on the disk: compare it with a copy, and give --trust or format it")]
     Suspect { path: &'a str, mark: String },
-    /// The file of the volume couldn't be synced as it was opened.
+    /// The file of the volume couldn't be synced when it was opened.
     #[error("disk {path:?}: the file can't be synced: {cause}")]
     Unsynced { path: &'a str, cause: io::Error },
     /// The volume was refused.

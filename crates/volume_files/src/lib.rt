@@ -1,4 +1,5 @@
-//! Volumes in real files: found, locked and marked, made, opened, printed, migrated, and a file of one copied out.
+//! Volumes in real files. The crate finds, locks, marks, makes, opens, prints and migrates them, and copies files out
+//! of them.
 #![tactic(auto)]
 
 mod cause;

@@ -6,7 +6,7 @@ use file_rows::{Form, WriteFault};
 use std::fmt;
 use std::io::Write;
 
-/// Up to 16 bytes of a file, and the offset of the first.
+/// Up to 16 bytes of a file, and the offset of the first of them.
 #[derive(Clone, Copy)]
 pub struct Row<'a> {
     pub at: u64,
@@ -16,7 +16,7 @@ pub struct Row<'a> {
 impl fmt::Display for Row<'_> {
     ghost output = { λ row. Some (row_text row.at row.bytes.now) };
 
-    /// The offset in 12 hexadecimal digits, and after it each byte in two, after a space.
+    /// Writes the offset in 12 hexadecimal digits, and then each byte in two digits after a space.
     fn fmt<W: fmt::Write>(&self, f: &mut fmt::Formatter<W>) -> fmt::Result {
         let at = self.at;
         write!(f, "{at:012x}")?;

@@ -1,4 +1,4 @@
-// Whether a volume with a log is on a device.
+// Whether a device contains a volume with a log.
 ghost use Rattle.std.specs.Prelude.{◌≡◌, ◌↔◌, IsTrue, IfOk, IfErr};
 ghost use Rattle.recovery.specs.Reading.{IsOnlyRead};
 ghost use Rattle.volume_files.specs.Layouts.{HasLogMagic};
@@ -8,8 +8,8 @@ use device::Device;
 use page_entry::{PAGE, Refusal};
 use recovery::reading::read;
 
-/// Whether the first block of a device begins with the magic of a layout with a log. `Device` if the block couldn't be
-/// read. The device is only read.
+/// Whether the first block of a device begins with the magic of a layout with a log. Fails with `Device` if the block
+/// couldn't be read. The device is only read.
 pub fn has_log<D: Device>(device: &mut D) -> Result<bool, Refusal>
     ensures found { D.is_honest device.old → IfOk result (λ found. IsTrue found ↔ HasLogMagic (D.seen device.old)) }
     ensures refused { IfErr result (λ refusal. refusal ≡ Refusal.Device) }

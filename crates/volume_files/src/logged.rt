@@ -1,4 +1,4 @@
-// Making a volume with a log, as `format` makes a volume with journals.
+// Makes a volume with a log, as `format` makes a volume with journals.
 ghost use Rattle.std.specs.Prelude.{IfOk, OnOk};
 ghost use Rattle.volume_codec.specs.Files.{asked_by};
 ghost use Rattle.new_volume.specs.Formatting.{IsZero};
@@ -17,8 +17,8 @@ use std::fs::{File, Files};
 use std::io::Read;
 use volume_codec::FileSpec;
 
-/// A volume with a log to be made: how it seals its commits, its files, the blocks of its log, and whether its blocks
-/// are taken on the disk at once.
+/// A volume with a log to be made: how it seals its commits, its files, the number of its log's blocks, and whether
+/// disk space for its blocks is allocated at once.
 #[derive(Clone, Copy)]
 pub struct LogPlan<'a, 'b> {
     pub sealing: Sealing,
@@ -28,7 +28,7 @@ pub struct LogPlan<'a, 'b> {
 }
 
 impl<'a> LogPlan<'a, '_> {
-    // Why no volume was made of it.
+    // Returns why no volume was made.
     fn refused(&self, path: &'a str, refusal: Refusal) -> FileFailure<'a> {
         FileFailure::Disk {
             path,
@@ -37,10 +37,10 @@ impl<'a> LogPlan<'a, '_> {
     }
 }
 
-/// Where the system gives random bytes.
+/// The source of random bytes.
 const RANDOM: &str = "/dev/urandom";
 
-/// A key for the digests of a log, drawn at random.
+/// Returns a key for the digests of a log, drawn at random.
 pub fn draw_key<'a, R: Files<File = File>>(rt: &R) -> Result<u64, FileFailure<'a>> {
     let refused = |cause| FileFailure::File {
         path: RANDOM,
@@ -54,8 +54,8 @@ pub fn draw_key<'a, R: Files<File = File>>(rt: &R) -> Result<u64, FileFailure<'a
     Ok(u64::from_be_bytes(bytes))
 }
 
-/// Makes or replaces the file at a path by the volume of a plan, and says how many blocks it has. The volume is made in
-/// another file beside it, as `format` makes one.
+/// Replaces or makes the file at a path with the volume of a plan, and returns the number of its blocks. The volume is
+/// made in another file beside it, as `format` makes one.
 pub fn format_log<'a, R: Files<File = File> + AllocGlobal, A: Allocator + Copy>(
     rt: &R,
     alloc: A,
@@ -72,14 +72,14 @@ pub fn format_log<'a, R: Files<File = File> + AllocGlobal, A: Allocator + Copy>(
         path,
         place: &place,
     };
-    // Both files are locked until the end.
+    // Both files stay locked until the end.
     let old = target.old_volume()?;
     let _file = named_volume(&target, alloc, plan, blocks, old.as_ref())?;
     target.durably_name()?;
     Ok(blocks)
 }
 
-// Makes the volume of a plan, of so many blocks, in a new file, and gives that the name of the old one.
+// Makes the volume of a plan, which has this number of blocks, in a new file, and gives this file the old one's name.
 fn named_volume<'a, R: Files<File = File> + AllocGlobal, A: Allocator + Copy>(
     target: &Target<'a, '_, R>,
     alloc: A,
@@ -95,7 +95,7 @@ fn named_volume<'a, R: Files<File = File> + AllocGlobal, A: Allocator + Copy>(
     target.named(&new, volume)
 }
 
-// Makes the volume in a new file, all of whose bytes are 0.
+// Makes the volume in a new file, in which all bytes are 0.
 fn made_in<'a, R: Files<File = File> + AllocGlobal, A: Allocator + Copy>(
     target: &Target<'a, '_, R>,
     alloc: A,
@@ -106,8 +106,8 @@ fn made_in<'a, R: Files<File = File> + AllocGlobal, A: Allocator + Copy>(
     made(alloc, target.path, plan, disk).map(FileDisk::into_file)
 }
 
-// Makes the volume on a new device, whose bytes are all 0, and hands that back where all of the volume is on it: where
-// this failed, no device comes back whose file could take a name.
+// Makes the volume on a new device, in which all bytes are 0. It returns the device only if all of the volume is on it.
+// So after a failure there is no file that could take a name.
 fn made<'a, D: Device + Drop, A: Allocator + Copy>(
     alloc: A,
     path: &'a str,
@@ -123,7 +123,7 @@ fn made<'a, D: Device + Drop, A: Allocator + Copy>(
     }
 }
 
-// Makes the volume on a device whose bytes are all 0.
+// Makes the volume on a device in which all bytes are 0.
 fn format_on<D: Device, A: Allocator + Copy>(
     alloc: A,
     plan: LogPlan<'_, '_>,

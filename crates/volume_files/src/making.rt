@@ -1,4 +1,4 @@
-// Making a volume: whole, in a file of its own, which then takes the old one's name.
+// Makes a whole volume in a new file, which then takes the old file's name.
 ghost use Rattle.std.specs.Prelude.{IfOk, OnOk};
 ghost use Rattle.volume_codec.specs.Files.{asked_by};
 ghost use Rattle.recovery.specs.Format.{HasFormatted};
@@ -15,8 +15,8 @@ use std::alloc::Allocator;
 use std::fs::{File, Files};
 use volume_codec::FileSpec;
 
-/// A volume to be made: the number of its layout, its files, the record slots of each of its journals, and whether its
-/// blocks are taken on the disk at once.
+/// A volume to be made: the number of its layout, its files, the number of record slots of each journal, and whether
+/// disk space for its blocks is allocated at once.
 #[derive(Clone, Copy)]
 pub struct Plan<'a, 'b> {
     pub layout: u64,
@@ -26,7 +26,7 @@ pub struct Plan<'a, 'b> {
 }
 
 impl<'a> Plan<'a, '_> {
-    // Why no volume was made of it.
+    // Returns why no volume was made.
     fn refused(&self, path: &'a str, refusal: Refusal) -> FileFailure<'a> {
         FileFailure::Disk {
             path,
@@ -35,9 +35,9 @@ impl<'a> Plan<'a, '_> {
     }
 }
 
-/// Makes or replaces the file at a path by the volume of a plan, and says how many blocks it has. The volume is made in
-/// another file beside it, `.new`, which takes its name once all of it is on the disk: where this fails before or is
-/// cut off, the old file is as it was.
+/// Replaces or makes the file at a path with the volume of a plan, and returns the number of its blocks. The volume is
+/// made in another file beside it, `.new`. This file takes the name once all of it is on the disk. If this fails
+/// before, or is cut off, the old file is unchanged.
 pub fn format<'a, R: Files<File = File> + AllocGlobal, A: Allocator + Copy>(
     rt: &R,
     alloc: A,
@@ -54,14 +54,14 @@ pub fn format<'a, R: Files<File = File> + AllocGlobal, A: Allocator + Copy>(
         path,
         place: &place,
     };
-    // Both files are locked until the end.
+    // Both files stay locked until the end.
     let old = target.old_volume()?;
     let _file = named_volume(&target, alloc, plan, blocks, old.as_ref())?;
     target.durably_name()?;
     Ok(blocks)
 }
 
-// Makes the volume of a plan, of so many blocks, in a new file, and gives that the name of the old one.
+// Makes the volume of a plan, which has this number of blocks, in a new file, and gives this file the old one's name.
 fn named_volume<'a, R: Files<File = File> + AllocGlobal, A: Allocator + Copy>(
     target: &Target<'a, '_, R>,
     alloc: A,
@@ -77,7 +77,7 @@ fn named_volume<'a, R: Files<File = File> + AllocGlobal, A: Allocator + Copy>(
     target.named(&new, volume)
 }
 
-// Makes the volume in a new file, all of whose bytes are 0.
+// Makes the volume in a new file, in which all bytes are 0.
 fn made_in<'a, R: Files<File = File> + AllocGlobal, A: Allocator + Copy>(
     target: &Target<'a, '_, R>,
     alloc: A,
@@ -88,8 +88,8 @@ fn made_in<'a, R: Files<File = File> + AllocGlobal, A: Allocator + Copy>(
     made(alloc, target.path, plan, disk).map(FileDisk::into_file)
 }
 
-// Makes the volume on a new device, whose bytes are all 0, and hands that back where all of the volume is on it: where
-// this failed, no device comes back whose file could take a name.
+// Makes the volume on a new device, in which all bytes are 0. It returns the device only if all of the volume is on it.
+// So after a failure there is no file that could take a name.
 fn made<'a, D: Device + Drop, A: Allocator + Copy>(
     alloc: A,
     path: &'a str,
@@ -106,7 +106,7 @@ fn made<'a, D: Device + Drop, A: Allocator + Copy>(
     }
 }
 
-// Makes the volume on a device whose bytes are all 0.
+// Makes the volume on a device in which all bytes are 0.
 fn format_on<D: Device, A: Allocator + Copy>(
     alloc: A,
     plan: Plan<'_, '_>,

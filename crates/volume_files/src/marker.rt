@@ -6,21 +6,21 @@ use device::{BlockFile, FileDisk};
 use std::fs::{File, Files};
 use std::io;
 
-/// Marks a volume as suspect as soon as it hears that a sync of its file failed.
+/// Marks a volume as suspect as soon as a sync of its file fails.
 #[derive(Drop)]
 pub struct Marker<'a, R: Files<File = File>> {
     mark: SuspectFlag<'a, R>,
-    /// Whether a sync failed, and whether the last one that did could be marked.
+    /// Whether a sync failed, and if so, whether the last failure could be marked.
     marked: Option<io::Result<()>>,
 }
 
 impl<'a, R: Files<File = File> + AllocGlobal> Marker<'a, R> {
-    /// It has heard of no failure yet.
+    /// Returns a marker that knows of no failure yet.
     pub fn new(mark: SuspectFlag<'a, R>) -> Self {
         Marker { mark, marked: None }
     }
 
-    /// The mark that it makes.
+    /// Returns its mark.
     pub fn into_mark(self) -> SuspectFlag<'a, R> {
         let Marker { mark, marked: _ } = self;
         mark
@@ -34,7 +34,7 @@ impl<R: Files<File = File> + AllocGlobal> Watcher for Marker<'_, R> {
 }
 
 impl<F: BlockFile + Drop, R: Files<File = File> + AllocGlobal> WatchedFile<F, Marker<'_, R>> {
-    /// What is to be said of the syncs that failed.
+    /// Returns the message about the syncs that failed.
     pub fn into_note(self) -> SyncNote {
         let (_file, Marker { mark, marked }) = self.into_parts();
         match marked {
@@ -44,9 +44,9 @@ impl<F: BlockFile + Drop, R: Files<File = File> + AllocGlobal> WatchedFile<F, Ma
     }
 }
 
-/// A disk that can say of which syncs of its file it heard that they failed.
+/// A disk that knows which syncs of its file failed.
 pub trait Noted {
-    /// What is to be said of them.
+    /// Returns the message about them.
     fn into_note(self) -> SyncNote;
 }
 

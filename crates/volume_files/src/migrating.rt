@@ -1,5 +1,5 @@
-// Migrating a volume: its files go into a new one whose files can grow, with journals or with a log, which is made in a
-// file of its own as `format` makes one.
+// Migrates a volume. Its files are copied to a new volume in which files can grow, with journals or with a log. The new
+// volume is made in its own file, as `format` makes one.
 ghost use Rattle.std.specs.Prelude.{◌≡◌, ◌↔◌, IsTrue, IfOk, IfErr, OnOk, length};
 ghost use Rattle.volume_codec.specs.Super.{SuperValue, IsAsked, block_count};
 ghost use Rattle.recovery.specs.Migration.{asked_of};
@@ -27,8 +27,9 @@ use std::fs;
 use std::fs::{File, Files};
 use volume_codec::Layout;
 
-/// What a new volume has besides its files: journals in the layout of this number, 3 or 4 and not below the old one's,
-/// each with these record slots, or a log of these blocks, whose commits are sealed in this way.
+/// What a new volume has besides its files: journals in the layout of this number, or a log. The layout is 3 or 4 and
+/// not below the old one's, and each journal has `slots` record slots. The log has `ring` blocks, and `sealing` seals
+/// its commits.
 #[derive(Clone, Copy)]
 pub enum NewVolume {
     Journals { layout: u64, slots: u64 },
@@ -36,7 +37,7 @@ pub enum NewVolume {
 }
 
 impl NewVolume {
-    // Why none was made of a volume in this layout.
+    // Returns why no new volume was made from a volume in this layout.
     fn refused(&self, refusal: Refusal, old: Layout) -> Refused<'static> {
         match self {
             NewVolume::Journals { layout, slots } => {
@@ -50,7 +51,7 @@ impl NewVolume {
     }
 }
 
-// What of a migration to a log of so many blocks is outside the limits, or failed.
+// Returns what is outside the limits in a migration to a log of `ring` blocks, or what failed.
 fn cause_in_log(refusal: Refusal, ring: u64) -> Option<Cause<'static>> {
     match refusal {
         Refusal::BadShape if (4..=1 << 24).contains(&ring) => Some(Cause::TooManyBlocks),
@@ -60,8 +61,8 @@ fn cause_in_log(refusal: Refusal, ring: u64) -> Option<Cause<'static>> {
     }
 }
 
-/// Which volume is migrated, and where to: the paths of the two files, what the new volume has, and whether its blocks
-/// are taken on the disk at once.
+/// A migration: the paths of the two files, what the new volume has, and whether disk space for its blocks is allocated
+/// at once.
 #[derive(Clone, Copy)]
 pub struct MigrationPlan<'a> {
     pub old: &'a str,
@@ -71,8 +72,8 @@ pub struct MigrationPlan<'a> {
 }
 
 impl<'a> MigrationPlan<'a> {
-    // Why the new volume wasn't made of one in this layout. Of a device that failed it is the new one's, if a call of
-    // that failed.
+    // Returns why the new volume wasn't made from one in this layout. If a device failed, it names the new one's path
+    // if a call to the new one failed, and otherwise the old one's.
     fn refused(&self, refusal: Refusal, old: Layout, new_failed: bool) -> FileFailure<'a> {
         let path = match refusal {
             Refusal::OutOfMemory => return FileFailure::Memory(AllocError),
@@ -86,11 +87,12 @@ impl<'a> MigrationPlan<'a> {
     }
 }
 
-/// Opens a volume, makes or replaces the file at another path by one in the plan's layout with the same files, and
-/// says how many blocks that has. The old volume is written to by its opening alone. The new one is made in another
-/// file beside its place, `.new`, which takes its name once all of it is on the disk: where this fails before or is
-/// cut off, a file that had the name is as it was. Two paths of one file are refused before anything is touched. A
-/// listener hears what is written to the new one.
+/// Opens a volume, and makes a new volume with the same files in the plan's layout. It replaces or makes the file at
+/// the other path, and returns the number of the new volume's blocks. Only the opening writes to the old volume.
+///
+/// The new volume is made in another file beside its place, `.new`. This file takes the name once all of it is on the
+/// disk. If this fails before, or is cut off, a file that had the name is unchanged. If both paths name one file, it
+/// fails before anything is changed. A listener is notified of the writes to the new volume.
 pub fn migrate<'a, R, A, L>(
     rt: &R,
     alloc: A,
@@ -116,7 +118,7 @@ where
     migrate_disk(&target, alloc, plan, disk, note, listener)
 }
 
-// Makes the new volume of the one on a disk.
+// Makes the new volume from the one on a disk.
 fn migrate_disk<'a, R, D, A, L>(
     target: &Target<'a, '_, R>,
     alloc: A,
@@ -145,7 +147,7 @@ where
     }
 }
 
-// Whether the two paths lead to two files.
+// Checks that the two paths lead to two files.
 fn judge_apart<'a, R: Files<File = File>>(
     target: &Target<'a, '_, R>,
     plan: MigrationPlan<'a>,
@@ -163,7 +165,8 @@ fn judge_apart<'a, R: Files<File = File>>(
     }
 }
 
-// Whether a volume in a layout may be migrated to the layout of this number: files may grow there, and it isn't lower.
+// Whether a volume in a layout may be migrated to the layout of this number. Files must be able to grow there, and it
+// must not be lower.
 fn may_migrate(old: Layout, number: u64) -> bool
     ensures { IsTrue result ↔ MayMigrate old number }
 {
@@ -173,8 +176,8 @@ fn may_migrate(old: Layout, number: u64) -> bool
     }
 }
 
-// The number of blocks of a new volume with journals. `BadShape` where there is none of this shape, or where the layout
-// isn't one that the volume may be migrated to.
+// Returns the number of blocks of a new volume with journals. Fails with `BadShape` if there is no such shape, or if
+// the volume may not be migrated to this layout.
 fn blocks_with_journals<D: Device, A: Allocator + Copy>(
     volume: &Volume<D, A>,
     layout: u64,
@@ -192,8 +195,8 @@ fn blocks_with_journals<D: Device, A: Allocator + Copy>(
     recovery::migrated_blocks(volume, layout, slots)
 }
 
-// The number of blocks of the new volume. `BadShape` where there is none of the plan's shape, or where its layout isn't
-// one that the volume may be migrated to.
+// Returns the number of blocks of the new volume. Fails with `BadShape` if there is no volume of the plan's shape, or
+// if the old volume may not be migrated to its layout.
 fn blocks_of<D: Device, A: Allocator + Copy>(
     new: &NewVolume,
     volume: &Volume<D, A>,
@@ -207,7 +210,7 @@ fn blocks_of<D: Device, A: Allocator + Copy>(
     }
 }
 
-// Makes the new volume, where its shape is accepted, and counts its blocks.
+// Makes the new volume, if its shape is accepted, and returns the number of its blocks.
 fn made_of<'a, R, D, A, L>(
     target: &Target<'a, '_, R>,
     alloc: A,
@@ -230,14 +233,14 @@ where
             .saturating_mul(PAGE)
             .saturating_add(lengths_of(volume)),
     );
-    // Both files are locked until the end.
+    // Both files stay locked until the end.
     let old = target.old_volume()?;
     let _file = named_copy(target, alloc, plan, blocks, old.as_ref(), volume, listener)?;
     target.durably_name()?;
     Ok(blocks)
 }
 
-// How many bytes the files of a volume have.
+// Returns the number of bytes of a volume's files.
 fn lengths_of<D: Device, A: Allocator + Copy>(volume: &Volume<D, A>) -> u64 {
     let mut bytes = 0u64;
     for &length in volume.lengths() {
@@ -246,7 +249,7 @@ fn lengths_of<D: Device, A: Allocator + Copy>(volume: &Volume<D, A>) -> u64 {
     bytes
 }
 
-// Makes the new volume, of so many blocks, in a new file, and gives that the name of the old one.
+// Makes the new volume, which has this number of blocks, in a new file, and gives this file the old one's name.
 fn named_copy<'a, R, D, A, L>(
     target: &Target<'a, '_, R>,
     alloc: A,
@@ -270,7 +273,7 @@ where
     target.named(&new, made)
 }
 
-// Makes the new volume in a new file, all of whose bytes are 0: zeros past all that was written stay holes.
+// Makes the new volume in a new file, in which all bytes are 0. Zeros past all that was written stay holes.
 fn copied_to<'a, R, D, A, L>(
     target: &Target<'a, '_, R>,
     alloc: A,
@@ -290,8 +293,8 @@ where
     Ok(made.into_file().into_parts().0)
 }
 
-// Copies the volume on to a new device, whose bytes are all 0 where it gets a log, and hands that back where all of the
-// volume is on it: where the copy failed, no device comes back whose file could take a name.
+// Copies the volume to a new device, in which all bytes are 0 if the new volume has a log. It returns the device only
+// if all of the volume is on it. So after a failure there is no file that could take a name.
 fn copied<'a, D: Device, E: Device + Drop, A: Allocator + Copy>(
     alloc: A,
     plan: MigrationPlan<'a>,

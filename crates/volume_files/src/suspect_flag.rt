@@ -5,8 +5,8 @@ use std::fs::{File, Files, OpenOptions};
 use std::io::{ErrorKind, Write};
 use std::{fs, io};
 
-/// The file beside a volume which says that a sync of the volume failed. Systems may then take pages for written that
-/// they couldn't write, so what they give of the volume may be gone when they start again.
+/// The file beside a volume which shows that a sync of the volume failed. After that, a system may treat pages as
+/// written that it couldn't write. What it returns of the volume may then be lost at its next start.
 #[derive(Drop)]
 pub struct SuspectFlag<'a, R: Files<File = File>> {
     rt: &'a R,
@@ -14,12 +14,12 @@ pub struct SuspectFlag<'a, R: Files<File = File>> {
     path: String,
 }
 
-/// What the file of a mark says.
+/// The text in the file of a mark.
 const TEXT: &[u8] =
     b"A sync of the volume beside this file failed. What the system gives of it may not be on the disk.\n";
 
 impl<'a, R: Files<File = File> + AllocGlobal> SuspectFlag<'a, R> {
-    /// The mark of the volume at a place, which may be there or not.
+    /// Returns the mark of the volume at a place. It may exist or not.
     pub fn of(rt: &'a R, place: &'a str) -> Result<Self, AllocError> {
         Ok(SuspectFlag {
             rt,
@@ -28,12 +28,12 @@ impl<'a, R: Files<File = File> + AllocGlobal> SuspectFlag<'a, R> {
         })
     }
 
-    /// The path of its file.
+    /// Returns the path of its file.
     pub fn path(&self) -> &str {
         self.path.as_str()
     }
 
-    /// The path of its file, alone.
+    /// Returns the path of its file, and drops the rest.
     pub fn into_path(self) -> String {
         let SuspectFlag {
             rt: _,
@@ -43,7 +43,7 @@ impl<'a, R: Files<File = File> + AllocGlobal> SuspectFlag<'a, R> {
         path
     }
 
-    /// Whether it is there. What can't be looked at counts as there.
+    /// Whether its file exists. If this can't be determined, it returns true.
     pub fn is_there(&self) -> bool {
         match fs::symlink_metadata(self.rt, self.path.as_str()) {
             Ok(_) => true,
@@ -51,7 +51,7 @@ impl<'a, R: Files<File = File> + AllocGlobal> SuspectFlag<'a, R> {
         }
     }
 
-    /// Makes it, and makes sure that it is on the disk.
+    /// Makes its file, and puts it on the disk.
     pub fn make(&self) -> io::Result<()> {
         let mut file = OpenOptions::new()
             .write(true)
@@ -64,7 +64,7 @@ impl<'a, R: Files<File = File> + AllocGlobal> SuspectFlag<'a, R> {
         sync_folder_of(self.rt, self.place)
     }
 
-    /// Takes it away, where it is there, and makes sure that it is gone on the disk.
+    /// Removes its file, if it exists, and puts the removal on the disk.
     pub fn remove(&self) -> io::Result<()> {
         match fs::remove_file(self.rt, self.path.as_str()) {
             Ok(()) => sync_folder_of(self.rt, self.place),

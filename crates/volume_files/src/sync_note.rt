@@ -1,19 +1,19 @@
-// What is said of a volume whose file couldn't be synced.
+// The message about a volume whose file couldn't be synced.
 use std::{fmt, io};
 
-/// What is to be said of failed syncs, after the failure that they made.
+/// The message about failed syncs, which follows the failure that they caused.
 #[derive(Drop)]
 pub enum SyncNote {
-    /// None failed.
+    /// No sync failed.
     Nothing,
-    /// One failed, and the file with this path marks the volume.
+    /// A sync failed, and the file with this path marks the volume.
     Marked(String),
     /// One failed, and the file with this path couldn't be made.
     Unmarked(String, io::Error),
 }
 
 impl SyncNote {
-    /// One failed, and the file with this path was to be made.
+    /// Returns the message about a failed sync, for which the file with this path was to be made.
     pub fn of_mark(path: String, made: io::Result<()>) -> Self {
         match made {
             Ok(()) => SyncNote::Marked(path),

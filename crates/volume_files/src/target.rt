@@ -10,7 +10,7 @@ use std::io::ErrorKind;
 use std::os::unix::fs::{FileExt, MetadataExt, PermissionsExt, fchown};
 use std::{fs, io};
 
-/// A file that is made or replaced: the path that names it in a failure, and the place where it is.
+/// A file that is made or replaced: the path for failures, and the place where it is.
 #[derive(Drop)]
 pub struct Target<'a, 'b, R> {
     pub rt: &'b R,
@@ -19,7 +19,7 @@ pub struct Target<'a, 'b, R> {
 }
 
 impl<'a, R: Files<File = File> + AllocGlobal> Target<'a, '_, R> {
-    /// That a call on it failed.
+    /// Returns the failure of a call on it.
     pub fn failed(&self, cause: io::Error) -> FileFailure<'a> {
         FileFailure::File {
             path: self.path,
@@ -27,7 +27,7 @@ impl<'a, R: Files<File = File> + AllocGlobal> Target<'a, '_, R> {
         }
     }
 
-    /// The volume that is to be replaced, locked, if there is one.
+    /// Returns the volume that is to be replaced, locked, if there is one.
     pub fn old_volume(&self) -> Result<Option<File>, FileFailure<'a>> {
         match fs::exists(self.rt, self.place) {
             Ok(there) => {
@@ -41,13 +41,13 @@ impl<'a, R: Files<File = File> + AllocGlobal> Target<'a, '_, R> {
         }
     }
 
-    /// The path of the file beside it in which it is made.
+    /// Returns the path of the file beside it in which it is made.
     pub fn new_path(&self) -> Result<String, AllocError> {
         let place = self.place;
         format!(in self.rt.alloc(); "{place}.new")
     }
 
-    /// An empty file for a volume that takes its name once it is whole, after that file's path.
+    /// Returns the path of a new empty file, and the file. It is for a volume that takes its name once it is whole.
     pub fn new_volume(&self) -> Result<(String, File), FileFailure<'a>> {
         let new = self.new_path()?;
         match new_file(self.rt, &new)? {
@@ -59,7 +59,8 @@ impl<'a, R: Files<File = File> + AllocGlobal> Target<'a, '_, R> {
         }
     }
 
-    /// A new file of so many blocks, all zeros, which is to replace an old one, if there is one.
+    /// Locks a new file, lengthens it to this number of blocks, all zeros, and returns it. It gets the owner and mode
+    /// of the old file, if there is one.
     pub fn whole<A: Allocator + Copy>(
         &self,
         alloc: A,
@@ -73,7 +74,7 @@ impl<'a, R: Files<File = File> + AllocGlobal> Target<'a, '_, R> {
         Ok(file)
     }
 
-    /// A disk over such a file.
+    /// Returns a disk over such a file.
     pub fn disk<F: BlockFile + Drop>(&self, file: F) -> Result<FileDisk<F>, FileFailure<'a>> {
         match FileDisk::over(file) {
             Ok(disk) => Ok(disk),
@@ -81,7 +82,7 @@ impl<'a, R: Files<File = File> + AllocGlobal> Target<'a, '_, R> {
         }
     }
 
-    // Locks a new file, and gives it what it has of the old one, if there is one.
+    // Locks a new file, and copies to it the old one's owner and mode, if there is an old one.
     fn prepare(&self, old: Option<&File>, file: &File) -> Result<(), FileFailure<'a>> {
         lock(self.path, file, Access::Write)?;
         match old {
@@ -90,7 +91,7 @@ impl<'a, R: Files<File = File> + AllocGlobal> Target<'a, '_, R> {
         }
     }
 
-    // Nobody else makes a volume at a place while a new file for it is there, but one may have been made before.
+    // While a new file for a place exists, no other process makes a volume there. But one may have been made before.
     fn judge_absent(&self) -> Result<(), FileFailure<'a>> {
         if fs::exists(self.rt, self.place).unwrap_or(true) {
             Err(FileFailure::InUse { path: self.path })
@@ -99,8 +100,8 @@ impl<'a, R: Files<File = File> + AllocGlobal> Target<'a, '_, R> {
         }
     }
 
-    /// Gives the new file, all of which is on the disk, the name of the old one. Where it wasn't made, or can't have
-    /// the name, it is taken away. Where that can't be done either, whoever makes the next one finds it there.
+    /// Gives the new file, all of which is on the disk, the name of the old one. If the file wasn't made, or can't take
+    /// the name, it is removed. If this fails too, the next call that makes a file for this place finds it there.
     pub fn named(
         &self,
         new: &str,
@@ -123,12 +124,12 @@ impl<'a, R: Files<File = File> + AllocGlobal> Target<'a, '_, R> {
         }
     }
 
-    /// Puts its new name on the disk.
+    /// Puts the new file's name on the disk.
     pub fn sync_name(&self) -> Result<(), FileFailure<'a>> {
         sync_folder_of(self.rt, self.place).map_err(|cause| self.failed(cause))
     }
 
-    /// Puts the name of a new volume on the disk, and takes away the mark that the old one was suspect.
+    /// Puts the name of a new volume on the disk, and removes the mark that the old one was suspect.
     pub fn durably_name(&self) -> Result<(), FileFailure<'a>> {
         self.sync_name()?;
         SuspectFlag::of(self.rt, self.place)?
@@ -137,7 +138,8 @@ impl<'a, R: Files<File = File> + AllocGlobal> Target<'a, '_, R> {
     }
 }
 
-/// An empty file for what takes another's name once it is whole. There is none where a file has this name already.
+/// Returns an empty file that takes another file's name once it is whole. Returns `None` if a file has this name
+/// already.
 pub fn new_file<'a, R: Files<File = File>>(
     rt: &R,
     new: &String,
@@ -154,7 +156,7 @@ pub fn new_file<'a, R: Files<File = File>>(
     }
 }
 
-// Whether a new file wasn't made since one of its name is there already.
+// Returns `None` if the new file wasn't made because a file of its name exists already.
 fn not_made<'a>(new: &String, cause: io::Error) -> Result<Option<File>, FileFailure<'a>> {
     match unless(ErrorKind::AlreadyExists, cause) {
         Ok(()) => Ok(None),
@@ -169,7 +171,7 @@ fn beside<'a>(new: &String, cause: io::Error) -> FileFailure<'a> {
     }
 }
 
-/// Gives a new file the mode of an old one, and its group and owner where the system allows that.
+/// Gives a new file the mode of an old one, and its group and owner if the system allows it.
 pub fn take_after(new: &File, old: &File) -> io::Result<()> {
     let was = old.metadata()?;
     unless_denied(fchown(new, None, Some(was.gid())))?;
@@ -184,7 +186,7 @@ fn unless_denied(outcome: io::Result<()>) -> io::Result<()> {
     }
 }
 
-// Gives a new file so many blocks, all zeros. They are a hole, unless they are to be taken on the disk.
+// Lengthens a new file to `blocks` blocks, all zeros. They are a hole, unless disk space for them is allocated.
 fn lengthen<'a, A: Allocator + Copy>(
     alloc: A,
     path: &'a str,
@@ -199,10 +201,10 @@ fn lengthen<'a, A: Allocator + Copy>(
         .map_err(|cause| FileFailure::File { path, cause })
 }
 
-// The most bytes that are written at once.
+// The largest number of bytes that are written at once.
 const PIECE: u64 = 1 << 20;
 
-// Writes zeros over all blocks of a new file, journals included, so that a disk without room for them fails here and
+// Writes zeros over all blocks of a new file, including its journals. So a disk without room for them fails here, and
 // not in the middle of a commit.
 fn fill<'a, A: Allocator + Copy>(
     alloc: A,

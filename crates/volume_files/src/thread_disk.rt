@@ -1,4 +1,4 @@
-// The disk of a volume that goes to threads: its failed syncs are noted, and marked when it is back.
+// The disk of a volume that threads use. Its failed syncs are noted, and marked once it comes back.
 use crate::disk::VolumeDisk;
 use crate::failure::FileFailure;
 use crate::suspect_flag::SuspectFlag;
@@ -7,11 +7,11 @@ use crate::watched_file::{WatchedFile, Watcher};
 use device::{BlockFile, FileDisk};
 use std::fs::{File, Files};
 
-/// A disk over the file of a volume, which may go to a thread.
+/// A disk over the file of a volume, which may be used by a thread.
 pub type ThreadDisk = FileDisk<WatchedFile<File, Reminder>>;
 
-/// Remembers whether a sync of a file failed. It has no handle by which files are made, so it may go to a thread, and
-/// the volume is marked by who gets it back.
+/// Remembers whether a sync of a file failed. It has no handle that makes files, so it can be used by a thread. The
+/// code that gets it back marks the volume.
 #[derive(Drop)]
 pub struct Reminder {
     failed: bool,
@@ -24,7 +24,7 @@ impl Watcher for Reminder {
 }
 
 impl<F: BlockFile + Drop> WatchedFile<F, Reminder> {
-    /// Marks the volume as suspect where a sync of its file failed, and answers what is to be said of that.
+    /// If a sync of the file failed, marks the volume as suspect. Returns the message about that.
     pub fn into_note<R>(self, mark: SuspectFlag<'_, R>) -> SyncNote
     where
         R: Files<File = File> + AllocGlobal,
@@ -39,8 +39,8 @@ impl<F: BlockFile + Drop> WatchedFile<F, Reminder> {
     }
 }
 
-/// The disk of a volume as one that may go to a thread, and the mark for when it comes back. The file is synced once
-/// more.
+/// Returns the disk of a volume as one that a thread can use, and the mark for when it comes back. The file is synced
+/// once more.
 pub fn for_threads<'a, 'b, R>(
     disk: VolumeDisk<'b, R>,
     path: &'a str,

@@ -1,4 +1,4 @@
-// The file of a volume: found by its path, opened, locked and judged.
+// The file of a volume: found by its path, opened, locked and checked.
 use crate::failure::FileFailure;
 use std::fs::{File, Files, Metadata, OpenOptions, TryLockError};
 use std::io::ErrorKind;
@@ -10,16 +10,16 @@ use std::{fs, io};
 /// What a command does with a volume.
 #[derive(Clone, Copy, Debug, PartialEq, Eq)]
 pub enum Access {
-    /// It only reads, beside others that read.
+    /// It only reads, possibly at the same time as others that read.
     Read,
-    /// It writes, and is alone.
+    /// It writes, and no other process uses the volume.
     Write,
 }
 
-/// How often a file is opened that is another when it is locked.
+/// The number of attempts to open a file if another one has its place when it is locked.
 const TRIES: u32 = 64;
 
-/// Where the file of a volume is: at this path, or, where that is a link, where the link leads to.
+/// Returns the place of a volume's file: the path, or the target of the path if it is a link.
 pub fn place<'a, R>(rt: &R, path: &'a str) -> Result<String, FileFailure<'a>>
 where
     R: Files<File = File> + AllocGlobal,
@@ -35,9 +35,9 @@ where
 }
 
 // Rule: file lock
-/// Opens the file at a place, and locks it: alone where it is written to, else beside other readers. It is a regular
-/// file, and one that is written to has no other name. Until it is dropped, no other process that asks for such a lock
-/// gets one. `path` names it in a failure.
+/// Opens the file at a place, and locks it: exclusively if it is written to, else together with other readers. It must
+/// be a regular file, and have no other name if it is written to. Until it is dropped, no other process that requests
+/// such a lock gets it. A failure contains `path`.
 pub fn open_locked<'a, R>(
     rt: &R,
     path: &'a str,
@@ -61,7 +61,7 @@ where
     Err(FileFailure::Replaced { path })
 }
 
-// Opens what the path names, if that is a regular file: opening a pipe would wait for its other end.
+// Opens the named file, if it is a regular one. Opening a pipe would wait for its other end.
 fn open<'a, R>(rt: &R, path: &'a str, place: &str, access: Access) -> Result<File, FileFailure<'a>>
 where
     R: Files<File = File>,
@@ -76,8 +76,8 @@ where
         .map_err(refused)
 }
 
-/// The same open file under a descriptor above 2: where a standard stream was closed, a file that is opened gets its
-/// number, and what is meant for the stream would land in the file.
+/// Returns the same open file under a descriptor above 2. If a standard stream was closed, a newly opened file gets its
+/// number, and data for the stream would be written to the file.
 pub fn off_streams(file: File) -> io::Result<File> {
     if file.as_raw_fd() <= 2 {
         file.try_clone()
@@ -86,7 +86,7 @@ pub fn off_streams(file: File) -> io::Result<File> {
     }
 }
 
-/// Locks an open file, alone or beside other readers, unless another process holds it.
+/// Locks an open file exclusively or together with other readers. Fails if another process holds it.
 pub fn lock<'a>(path: &'a str, file: &File, access: Access) -> Result<(), FileFailure<'a>> {
     let locked = match access {
         Access::Read => file.try_lock_shared(),
@@ -107,12 +107,12 @@ fn is_at<R: Files<File = File>>(rt: &R, place: &str, found: &Metadata) -> bool {
     }
 }
 
-// Whether these are of one file.
+// Whether both belong to the same file.
 fn is_same(one: &Metadata, other: &Metadata) -> bool {
     one.dev() == other.dev() && one.ino() == other.ino()
 }
 
-/// What is at a place, if anything is there. `path` names it in a failure.
+/// Returns what is at a place, if anything is. A failure contains `path`.
 pub fn found_at<'a, R>(
     rt: &R,
     path: &'a str,
@@ -127,7 +127,7 @@ where
     }
 }
 
-// Whether nothing is there.
+// Returns `None` if the fault is that nothing is there.
 fn not_found<'a>(path: &'a str, cause: io::Error) -> Result<Option<Metadata>, FileFailure<'a>> {
     match unless(ErrorKind::NotFound, cause) {
         Ok(()) => Ok(None),
@@ -135,7 +135,7 @@ fn not_found<'a>(path: &'a str, cause: io::Error) -> Result<Option<Metadata>, Fi
     }
 }
 
-/// This fault, unless it is of a kind.
+/// Returns this fault, unless it is of the given kind.
 pub fn unless(kind: ErrorKind, fault: io::Error) -> io::Result<()> {
     if fault.kind() == kind {
         Ok(())
@@ -144,7 +144,7 @@ pub fn unless(kind: ErrorKind, fault: io::Error) -> io::Result<()> {
     }
 }
 
-/// That two files are different ones. `path` names one of them in a failure.
+/// Checks that two files are different. A failure contains `path`, which names one of them.
 pub fn apart<'a>(path: &'a str, one: &Metadata, other: &Metadata) -> Result<(), FileFailure<'a>> {
     if is_same(one, other) {
         Err(FileFailure::SameFile { path })
@@ -169,10 +169,10 @@ fn judge_kind<'a>(path: &'a str, found: &Metadata) -> Result<(), FileFailure<'a>
     }
 }
 
-// The bits of a file's mode that say of what kind it is.
+// The bits of a file's mode that determine its kind.
 const KIND: u32 = 0o170_000;
 
-/// What a file is that isn't a regular one.
+/// Returns the kind of a file that isn't regular. Returns `None` if it is.
 pub fn other_kind(found: &Metadata) -> Option<&'static str> {
     match found.mode() & KIND {
         0o100_000 => None,
@@ -185,12 +185,12 @@ pub fn other_kind(found: &Metadata) -> Option<&'static str> {
     }
 }
 
-/// Makes sure that the names in a folder are on the disk.
+/// Puts the names in a folder on the disk.
 pub fn sync_folder_of<R: Files<File = File>>(rt: &R, place: &str) -> io::Result<()> {
     off_streams(File::open(rt, folder_of(place))?)?.sync_all()
 }
 
-// The folder of what is at a place.
+// Returns the folder of a place.
 fn folder_of(place: &str) -> &str {
     match Path::new(place).parent() {
         Some(folder) if !folder.as_str().is_empty() => folder.as_str(),

@@ -1,16 +1,16 @@
-// A file whose failed syncs are told to a watcher.
+// A file that reports its failed syncs to a watcher.
 ghost use Rattle.std.specs.Prelude.{◌≡◌};
 
 use device::BlockFile;
 use std::io;
 
-/// Who hears of each sync of a file that failed, before anybody else does.
+/// A watcher that is notified of each failed sync of a file, before anyone else is.
 pub trait Watcher {
-    /// A sync failed.
+    /// Notifies it that a sync failed.
     fn hear_failure(&mut self);
 }
 
-/// A file whose watcher hears of each sync of it that fails. Else it is the file that it is made of.
+/// A file that notifies a watcher of each failed sync. Apart from that it is the file over which it is made.
 #[derive(Drop)]
 pub struct WatchedFile<F: BlockFile, W: Watcher> {
     file: F,
@@ -18,12 +18,12 @@ pub struct WatchedFile<F: BlockFile, W: Watcher> {
 }
 
 impl<F: BlockFile, W: Watcher> WatchedFile<F, W> {
-    /// This file, no sync of which has failed yet.
+    /// Returns this file, on which no sync has failed yet.
     pub fn new(file: F, watcher: W) -> Self {
         WatchedFile { file, watcher }
     }
 
-    // Tells the watcher where a sync failed.
+    // Notifies the watcher if a sync failed.
     fn watch(&mut self, synced: &io::Result<()>)
         ensures { self.new.file ≡ self.old.file }
     {
@@ -32,7 +32,7 @@ impl<F: BlockFile, W: Watcher> WatchedFile<F, W> {
         }
     }
 
-    /// The file and its watcher.
+    /// Returns the file and its watcher.
     pub fn into_parts(self) -> (F, W) {
         let WatchedFile { file, watcher } = self;
         (file, watcher)

@@ -4,7 +4,7 @@ ghost use Rattle.xxh64.specs.Xxh64.{word_at, round, first_lanes, striped, merged
 
 use crate::primes::{PRIME_1, PRIME_2, PRIME_4};
 
-// The word at an offset, its lowest byte first.
+// Returns the word at an offset, lowest byte first.
 #[inline(always)]
 pub(crate) fn word_at(bytes: &[u8], i: usize) -> u64
     requires { i + 8 ≤ length bytes.now }
@@ -22,7 +22,7 @@ pub(crate) fn word_at(bytes: &[u8], i: usize) -> u64
     ])
 }
 
-// A lane after one more word.
+// Returns a lane after one more word.
 #[inline(always)]
 pub(crate) fn round(lane: u64, word: u64) -> u64
     ensures { result ≡ round lane word }
@@ -32,7 +32,7 @@ pub(crate) fn round(lane: u64, word: u64) -> u64
         .wrapping_mul(PRIME_1)
 }
 
-// The lanes before the first stripe.
+// Returns the lanes before the first stripe.
 pub(crate) fn first_lanes(seed: u64) -> [u64; 4]
     ensures { result ≡ first_lanes seed }
 {
@@ -44,7 +44,7 @@ pub(crate) fn first_lanes(seed: u64) -> [u64; 4]
     ]
 }
 
-// Takes one stripe.
+// Adds one stripe to the lanes.
 #[inline(always)]
 pub(crate) fn take_stripe(lanes: &mut [u64; 4], stripe: &[u8])
     requires { 32 ≤ length stripe.now }
@@ -59,7 +59,7 @@ pub(crate) fn take_stripe(lanes: &mut [u64; 4], stripe: &[u8])
     ];
 }
 
-// One more lane joins the others.
+// Merges one more lane into the accumulator.
 #[inline(always)]
 fn merge(acc: u64, lane: u64) -> u64
     ensures { result ≡ merged acc lane }
@@ -69,7 +69,7 @@ fn merge(acc: u64, lane: u64) -> u64
         .wrapping_add(PRIME_4)
 }
 
-// The lanes become one word.
+// Merges the lanes into one word.
 pub(crate) fn converge(lanes: &[u64; 4]) -> u64
     ensures { result ≡ converged lanes.now }
 {

@@ -1,11 +1,11 @@
-// What is left after the last stripe, and how the bits are mixed.
+// The bytes after the last stripe, and the final mixing of the bits.
 ghost use Rattle.std.specs.Prelude.{◌≡◌, ◌+◌, ◌*◌, ◌≤◌, length};
 ghost use Rattle.xxh64.specs.Xxh64.{half_at, with_word, with_half, with_byte, words_after, half_after, bytes_after, rest_after, mixed};
 
 use crate::lanes::{round, word_at};
 use crate::primes::{PRIME_1, PRIME_2, PRIME_3, PRIME_4, PRIME_5};
 
-// The half word at an offset, its lowest byte first.
+// Returns the half word at an offset, lowest byte first.
 fn half_at(bytes: &[u8], i: usize) -> u32
     requires { i + 4 ≤ length bytes.now }
     ensures { result ≡ half_at bytes.now i }
@@ -39,7 +39,7 @@ fn with_byte(acc: u64, byte: u8) -> u64
         .wrapping_mul(PRIME_1)
 }
 
-// After the first words.
+// Returns the accumulator after the first words.
 fn take_words(acc: u64, rest: &[u8], words: usize) -> u64
     requires { 8 * words ≤ length rest.now }
     ensures { result ≡ words_after acc rest.now words }
@@ -51,7 +51,7 @@ fn take_words(acc: u64, rest: &[u8], words: usize) -> u64
     acc
 }
 
-// After the half word behind the last word, where there is one.
+// Returns the accumulator after the half word behind the last word, if there is one.
 fn take_half(acc: u64, rest: &[u8], count: usize) -> u64
     requires { count ≤ length rest.now }
     ensures { result ≡ half_after acc rest.now count }
@@ -63,7 +63,7 @@ fn take_half(acc: u64, rest: &[u8], count: usize) -> u64
     }
 }
 
-// After some bytes from an offset on.
+// Returns the accumulator after some bytes from an offset on.
 fn take_bytes(acc: u64, rest: &[u8], from: usize, count: usize) -> u64
     requires { from + count ≤ length rest.now }
     ensures { result ≡ bytes_after acc rest.now from count }
@@ -75,7 +75,7 @@ fn take_bytes(acc: u64, rest: &[u8], from: usize, count: usize) -> u64
     acc
 }
 
-// After the first bytes of a list.
+// Returns the accumulator after the first bytes of a list.
 pub(crate) fn take_rest(acc: u64, rest: &[u8], count: usize) -> u64
     requires { count ≤ length rest.now }
     ensures { result ≡ rest_after acc rest.now count }
@@ -85,7 +85,7 @@ pub(crate) fn take_rest(acc: u64, rest: &[u8], count: usize) -> u64
     take_bytes(half, rest, count / 4 * 4, count % 4)
 }
 
-// Mixes the bits.
+// Mixes the bits of the accumulator.
 pub(crate) fn mix(acc: u64) -> u64
     ensures { result ≡ mixed acc }
 {

@@ -13,7 +13,7 @@ fn published_digests(rt: HostRuntime) {
     );
 }
 
-// The first 4,088 bytes of 3, 10, 17, .. (each 7 more, modulo 256), in pieces of 37 bytes.
+// The first 4,088 bytes of 3, 10, 17, .. (each 7 more than the one before, modulo 256), in pieces of 37 bytes.
 #[test]
 fn pieces(rt: HostRuntime) {
     let mut bytes = [0u8; 4088];

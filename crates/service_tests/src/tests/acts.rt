@@ -1,17 +1,17 @@
-// Acts of processors, and what is answered.
+// Acts of processors, and their replies.
 use machine::{Act, FewBytes, MsyncFlags, Reply, Step};
 use mappings::Rights;
 use page_entry::ProcessorNumber;
 use service::Entry;
 
-// A commit of all stores that is asked for.
+// A request to commit all stores.
 pub const MSYNC: Act = Act::Msync {
     va: 0,
     len: 0,
     flags: MsyncFlags::SYNC,
 };
 
-// The four pages of file 0, mapped to space 1.
+// Maps the four pages of file 0 in space 1.
 pub const MAP: Act = Act::Map {
     space: 1,
     va: 4096,
@@ -22,13 +22,13 @@ pub const MAP: Act = Act::Map {
     access: Rights::ReadWrite,
 };
 
-// Space 1 becomes current.
+// Makes space 1 current.
 pub const SWITCH: Act = Act::Switch {
     space: 1,
     keep: false,
 };
 
-// The entry of an act of a processor.
+// Returns the entry of a processor's act.
 pub fn entry(p: ProcessorNumber, act: Act, reply: Reply) -> Entry {
     Entry {
         step: Step { p, act },
@@ -36,7 +36,7 @@ pub fn entry(p: ProcessorNumber, act: Act, reply: Reply) -> Entry {
     }
 }
 
-// The reply to a load that reads this byte.
+// Returns the reply to a load that reads this byte.
 pub fn loaded(byte: u8) -> Option<Reply> {
     Some(Reply::Bytes(FewBytes::new(&[byte])?))
 }

@@ -1,4 +1,4 @@
-// What each call answers where memory is ample, a trace that is full, and `Cpu` values that are missing.
+// The reply to each call with ample memory, full traces, and missing `Cpu` values.
 ghost use Rattle.machine.specs.Fresh.{IsFresh};
 
 use super::acts::{MSYNC, entry};
@@ -12,7 +12,7 @@ use std::sync::Wait;
 
 const FULL: Reply = Reply::Refused(Refusal::TraceFull);
 
-// Whether a machine is shared with its trace, which has room for two steps.
+// Whether a machine is shared with a trace of at most two entries.
 pub fn is_shared<D: Device + Drop>(alloc: Global, machine: Machine<D, Global>) -> bool
     requires { IsFresh machine.state }
 {
@@ -22,7 +22,7 @@ pub fn is_shared<D: Device + Drop>(alloc: Global, machine: Machine<D, Global>) -
     }
 }
 
-// Whether the steps of a trace that may have two entries are entered, and the next is not.
+// Whether the first two steps are made, and the next is refused because the trace is full.
 fn enters_two<D: Device>(shared: &mut Shared<D, Global>) -> bool {
     shared.progress() == 0
         && !shared.is_full()
@@ -35,7 +35,7 @@ fn enters_two<D: Device>(shared: &mut Shared<D, Global>) -> bool {
         && has_made_two(shared)
 }
 
-// Whether a machine with its trace has made the first two steps of it.
+// Whether a machine and its trace have made exactly the two steps of `enters_two`.
 fn has_made_two<D: Device>(shared: &Shared<D, Global>) -> bool {
     shared.progress() == 2
         && shared.look(0) == Ok((ProcState::Active, 2))
@@ -49,7 +49,7 @@ fn has_made_two<D: Device>(shared: &Shared<D, Global>) -> bool {
             .as_slice()
 }
 
-// Whether a processor looks so, was called so often, and sees the horizon so.
+// Whether a processor has this state and progress, this number of calls, and sees this horizon.
 fn is_at<D: Device, L: Origin<D>, R: Wait>(
     rt: &R,
     cpu: &mut Cpu<D, Global, L>,
@@ -60,7 +60,7 @@ fn is_at<D: Device, L: Origin<D>, R: Wait>(
     cpu.look(rt) == look && cpu.calls() == calls && cpu.horizon(rt) == horizon
 }
 
-// Whether two processors are as after the three calls of `fills`.
+// Whether two processors are as expected after the three calls of `fills`.
 fn have_made_three<D: Device, L: Origin<D>, R: Wait>(
     rt: &R,
     first: &mut Cpu<D, Global, L>,
@@ -73,8 +73,8 @@ fn have_made_three<D: Device, L: Origin<D>, R: Wait>(
         && second.answered() == [(Act::Idle, Reply::Idled)].as_slice()
 }
 
-// Whether three calls are answered as they are by a machine, and no other is entered: the second of two processors
-// sleeps, which a wait of the first one sees, and the first one then makes a mark of no stores.
+// Whether three calls get a machine's replies, and a fourth is refused. The second of two processors sleeps, and a wait
+// of the first one sees this. The first one then makes a mark with no store before it.
 pub fn fills<D: Device, L: Origin<D>, R: Wait>(rt: &R, cpus: &mut [Cpu<D, Global, L>]) -> bool {
     let [first, second] = cpus else {
         return false;
@@ -95,7 +95,7 @@ pub fn fills<D: Device, L: Origin<D>, R: Wait>(rt: &R, cpus: &mut [Cpu<D, Global
         && have_made_three(rt, first, second)
 }
 
-// Whether a trace has these three entries, and its machine is as after these, with no space made.
+// Whether a trace has these three entries. Its machine must be as after them, with no space made.
 pub fn is_of_three<D: Device>(machine: &mut Machine<D, Global>, trace: &[Entry]) -> bool {
     trace
         == [
@@ -112,7 +112,7 @@ pub fn is_of_three<D: Device>(machine: &mut Machine<D, Global>, trace: &[Entry])
         }) == Reply::Space(1)
 }
 
-// Whether the first of two processors is called once, and the second not at all.
+// Whether the first of two processors is called once, and the second is never called.
 pub fn calls_once<D: Device, L: Origin<D>, R: Wait>(
     rt: &R,
     cpus: &mut [Cpu<D, Global, L>],
@@ -123,7 +123,7 @@ pub fn calls_once<D: Device, L: Origin<D>, R: Wait>(
     second.calls() == 0 && first.call(rt, Act::Create) == Reply::Space(1)
 }
 
-// Whether a trace has this entry, and its machine is as after it.
+// Whether a trace has this one entry, and its machine is as after it.
 pub fn is_of_one<D: Device>(machine: &Machine<D, Global>, trace: &[Entry]) -> bool {
     trace == [entry(0, Act::Create, Reply::Space(1))].as_slice()
         && machine.state(1) == Ok(ProcState::Active)

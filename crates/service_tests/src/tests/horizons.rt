@@ -7,7 +7,7 @@ use std::alloc::Global;
 use std::sync::Wait;
 use std::thread::{Threads, join};
 
-// Raises stalled to a mark and committed to the one before, and reads both.
+// Raises the last mark made to `mark` and the last committed mark to `mark - 1`, and returns what is then read.
 fn raise_and_read<R: Wait>(rt: &R, horizon: &Horizon, mut seen: Seen, mark: u64) -> (u64, u64)
     requires { (seen.cell ≡ horizon.now) × (0 < mark) }
 {
@@ -37,7 +37,7 @@ fn raise_by_two<R: Threads + Wait + Sync>(
     )
 }
 
-// Whether two threads read what they may.
+// Whether both threads read numbers that are allowed.
 fn is_raised_by_two<R: Threads + Wait + Sync>(rt: &R, horizon: &Horizon, seen: &mut Seen) -> bool
     requires { seen.old.cell ≡ horizon.now }
     ensures { seen.new ≡ seen.old }

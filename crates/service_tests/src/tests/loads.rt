@@ -1,5 +1,4 @@
-// Loads by TLB hits, so many of a machine by itself and so many of a processor of a service, whose instructions
-// `bench/calls` counts.
+// Loads that hit the TLB, of a machine itself and of a processor of a service. `bench/calls` counts their instructions.
 use super::acts::{MAP, SWITCH, loaded};
 use super::trials::{Calls, Trial, holds};
 use device::Device;
@@ -8,7 +7,7 @@ use service::{Cpu, Origin};
 use std::alloc::Global;
 use std::sync::Wait;
 
-// A page that is filled into the TLB by the first load of it.
+// The acts that map a page, after which the first load of it fills the TLB.
 const PREPARED: [Act; 5] = [
     Act::Create,
     MAP,
@@ -22,7 +21,7 @@ const PREPARED: [Act; 5] = [
 
 const LOAD: Act = Act::Load { va: 4096, count: 1 };
 
-// Whether each of so many loads of a machine reads zero.
+// Whether each of `count` loads of a machine reads zero.
 pub fn are_entered<D: Device + Drop>(mut machine: Machine<D, Global>, count: u64) -> bool {
     for act in &PREPARED {
         machine.enter(&Step { p: 0, act: *act });
@@ -33,7 +32,7 @@ pub fn are_entered<D: Device + Drop>(mut machine: Machine<D, Global>, count: u64
     }
 }
 
-// Whether each of so many loads of a machine reads this.
+// Whether each of `count` loads of a machine gets this reply.
 fn reads<D: Device>(machine: &mut Machine<D, Global>, count: u64, wanted: &Reply) -> bool {
     let step = Step { p: 0, act: LOAD };
     for _ in 0..count {
@@ -44,7 +43,7 @@ fn reads<D: Device>(machine: &mut Machine<D, Global>, count: u64, wanted: &Reply
     true
 }
 
-// Whether each of so many loads of the only processor reads zero.
+// Whether each of `count` loads of the only processor reads zero.
 pub fn are_called<D: Device, L: Origin<D>, R: Wait>(
     rt: &R,
     cpus: &mut [Cpu<D, Global, L>],
@@ -59,7 +58,7 @@ pub fn are_called<D: Device, L: Origin<D>, R: Wait>(
     is_called(rt, cpu, count, &zero)
 }
 
-// Whether each of so many loads of a processor reads this.
+// Whether each of `count` loads of a processor gets this reply.
 fn is_called<D: Device, L: Origin<D>, R: Wait>(
     rt: &R,
     cpu: &mut Cpu<D, Global, L>,

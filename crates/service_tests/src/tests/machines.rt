@@ -11,7 +11,7 @@ const SPECS: [FileSpec; 1] = [FileSpec {
     capacity: 16_384,
 }];
 
-// A disk with a volume of four pages of zeros; without memory there is none.
+// Returns a disk with a volume of four zero pages, or `None` without memory.
 pub fn formatted(alloc: Global) -> Option<MemDisk<Global>> {
     let mut disk = MemDisk::new(alloc, 45_056).ok()?;
     if format_as(alloc, &mut disk, 1, &SPECS, 4).is_ok() {
@@ -21,8 +21,8 @@ pub fn formatted(alloc: Global) -> Option<MemDisk<Global>> {
     }
 }
 
-// A shape with so many processors with TLBs of 2 entries, 4 frames and 2 copy frames. So pages are brought in and taken
-// out often.
+// Returns a shape with this number of processors, TLBs of 2 entries, 4 frames and 2 copy frames. With this shape pages
+// often enter and leave memory.
 pub fn shape(cpus: u64) -> Shape {
     Shape {
         cpus,

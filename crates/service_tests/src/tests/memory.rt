@@ -1,4 +1,4 @@
-// What `Service::start` answers where memory is refused, by an allocator that counts and refuses.
+// Tests `Service::start` with an allocator that counts requests and refuses some.
 ghost use Rattle.std.specs.Prelude.{◌≡◌, ◌+◌, ◌*◌, length, Some};
 ghost use Rattle.machine.specs.Fresh.{IsFresh};
 ghost use Rattle.service.specs.Serving.{IsCapacity};
@@ -17,11 +17,11 @@ use std::sync::ledger::Blank;
 
 type Counting = CountingAllocator<Global>;
 
-// The requests for memory of a start with two processors: for the trace, the `Cpu` values, what they share, what each
-// is given, and the lists of answers of both.
+// The number of memory requests of a start with two processors. They are for the trace, the `Cpu` values, their shared
+// data, each one's own data, and both lists of replies.
 const REQUESTS: u64 = 6;
 
-// A start that is refused: its request of this number, where there is none of 0, or its capacity.
+// A start that fails. The memory request of this number is refused, if it isn't 0. Otherwise the capacity is refused.
 #[derive(Clone, Copy)]
 struct Start {
     request: u64,
@@ -37,7 +37,7 @@ fn make_a_step<D: Device, A: Allocator + Copy, L: Origin<D>, R: Wait>(
     cpus.len() == 2 && cpus[1].call(rt, Act::Create) == Reply::Space(1) && cpus[0].calls() == 0
 }
 
-// Whether a start is refused, with nothing more held, and one where memory is ample succeeds then.
+// Whether a start fails without leaking memory, and a second start with ample memory succeeds.
 fn starts_again<D: Device + Drop, A: Allocator + Copy, L: Origin<D>, R: Wait>(
     rt: &R,
     alloc: A,
@@ -76,7 +76,7 @@ fn starts_again<D: Device + Drop, A: Allocator + Copy, L: Origin<D>, R: Wait>(
     }
 }
 
-// The service's name stands for this machine.
+// The service's name refers to this machine.
 fn named<D: Device + Drop, A: Allocator + Copy, R: Wait>(
     rt: &R,
     alloc: A,
@@ -108,7 +108,7 @@ fn booted<D: Device + Drop, A: Allocator + Copy, R: Wait>(
     }
 }
 
-// Whether such a start of a service of a fresh machine is refused, one succeeds then, and nothing is held in the end.
+// Whether this start of a service fails on a fresh machine, another succeeds then, and no memory is leaked.
 fn is_refused<R: Wait>(rt: &R, counts: &Counting, global: Global, refused: &Start) -> bool
     requires { IsCapacity refused.now.capacity → refused.now.capacity ≡ 5 }
 {
@@ -118,7 +118,7 @@ fn is_refused<R: Wait>(rt: &R, counts: &Counting, global: Global, refused: &Star
     booted(rt, counts, counts, global, &mut disk, refused) && counts.held() == 0
 }
 
-// Whether each request is refused in turn.
+// Whether the start fails for each memory request that is refused in turn.
 fn is_each_refused<R: Wait>(rt: &R, counts: &Counting, global: Global) -> bool {
     for request in 1..=REQUESTS {
         let refused = Start {

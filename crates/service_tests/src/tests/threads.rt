@@ -1,4 +1,4 @@
-// Threads that run at once, each with a processor of one service: all of them store to the same pages and commit.
+// Concurrent threads, each with a processor of one service. All of them store to the same pages and commit.
 use super::acts::{MAP, MSYNC, SWITCH};
 use super::trials::{Calls, Trial, holds};
 use device::Device;
@@ -10,18 +10,18 @@ use std::sync::Wait;
 use std::sync::atomic::{AtomicBool, Ordering};
 use std::thread::{Threads, for_each_mut};
 
-// Processors, each with a thread.
+// The number of processors, each with its own thread.
 pub const THREADS: u64 = 4;
 
-// Commits that each of them makes.
+// The number of commits that each thread makes.
 const ROUNDS: u64 = 40;
 
-// The most calls for one act, and the most turns of one wait.
+// The largest number of calls for one act. `TURNS` is the largest number of turns of one wait.
 const CALLS: u64 = 2_000;
 
 const TURNS: u64 = 100_000_000;
 
-// What a processor in this state does if it wants to do an act.
+// Returns the act that a processor in this state makes next, if it wants to make `act`.
 fn next(state: ProcState, act: &Act) -> Act {
     match state {
         ProcState::Interrupted => Act::Ack,
@@ -32,13 +32,13 @@ fn next(state: ProcState, act: &Act) -> Act {
 
 // What a processor does after a reply to an act.
 enum Turn {
-    // Nothing more: the act is answered.
+    // Nothing more: this reply is final.
     Answered,
-    // It does the act again.
+    // It makes the act again.
     Again,
-    // It waits before that.
+    // It waits, then makes the act again.
     Wait,
-    // It makes a step of the write-outs before that.
+    // It makes a write-out step, then makes the act again.
     Flush,
 }
 
@@ -51,8 +51,8 @@ fn turn_after(reply: &Reply) -> Turn {
     }
 }
 
-// The answer to an act, for which a processor stalls, waits and flushes as often as it has to. There is none where
-// nothing is done by others.
+// Returns the final reply to an act. The processor stalls, waits and flushes as often as needed. Returns `None` if the
+// other processors make no progress.
 fn answer_to<D: Device, L: Origin<D>, R: Wait>(
     rt: &R,
     cpu: &mut Cpu<D, Global, L>,
@@ -77,7 +77,7 @@ fn answer_to<D: Device, L: Origin<D>, R: Wait>(
     None
 }
 
-// Whether a store to an address is made, whose faults are served.
+// Whether a store to an address succeeds, once its faults are served.
 fn stores<D: Device, L: Origin<D>, R: Wait>(
     rt: &R,
     cpu: &mut Cpu<D, Global, L>,
@@ -96,7 +96,7 @@ fn stores<D: Device, L: Origin<D>, R: Wait>(
     false
 }
 
-// Whether the horizon is as a processor saw it before, or has risen; what it sees now is noted.
+// Whether the horizon is as this processor last saw it, or has risen. Updates what it last saw.
 fn has_risen<D: Device, L: Origin<D>, R: Wait>(
     rt: &R,
     cpu: &mut Cpu<D, Global, L>,
@@ -108,7 +108,7 @@ fn has_risen<D: Device, L: Origin<D>, R: Wait>(
     before.0 <= after.0 && before.1 <= after.1 && after.1 <= after.0
 }
 
-// Whether a commit is made: a mark, and steps of the write-outs until it is durable.
+// Whether a commit succeeds: a mark, and write-out steps until the mark is durable.
 fn commits<D: Device, L: Origin<D>, R: Wait>(rt: &R, cpu: &mut Cpu<D, Global, L>) -> bool {
     if !matches!(answer_to(rt, cpu, &MSYNC), Some(Reply::Begun)) {
         return false;
@@ -137,7 +137,7 @@ fn becomes_durable<D: Device, L: Origin<D>, R: Wait>(
     false
 }
 
-// Whether a processor stores a byte to each page, and sees the horizon rise.
+// Whether a processor stores a byte to each page, and then sees the horizon unchanged or risen.
 fn stores_to_all<D: Device, L: Origin<D>, R: Wait>(
     rt: &R,
     cpu: &mut Cpu<D, Global, L>,
@@ -156,8 +156,7 @@ fn stores_to_all<D: Device, L: Origin<D>, R: Wait>(
     true
 }
 
-// Whether a thread does its work with its processor: stores to all pages, and commits; and at the end the processor
-// sleeps.
+// Whether a thread does its work: it stores to all pages and commits in each round. At the end its processor sleeps.
 fn works<D: Device, L: Origin<D>, R: Wait>(rt: &R, cpu: &mut Cpu<D, Global, L>) -> bool {
     let mut seen = (0, 0);
     for round in 0..ROUNDS {
@@ -168,7 +167,7 @@ fn works<D: Device, L: Origin<D>, R: Wait>(rt: &R, cpu: &mut Cpu<D, Global, L>) 
     matches!(answer_to(rt, cpu, &Act::Idle), Some(Reply::Idled))
 }
 
-// Whether there is one space, which becomes current in all processors.
+// Whether one space is created, and becomes current in all processors.
 fn are_prepared<D: Device, L: Origin<D>, R: Wait>(rt: &R, cpus: &mut [Cpu<D, Global, L>]) -> bool {
     let [first, ..] = cpus else {
         return false;
@@ -184,7 +183,7 @@ fn are_prepared<D: Device, L: Origin<D>, R: Wait>(rt: &R, cpus: &mut [Cpu<D, Glo
     true
 }
 
-// Whether all processors see the horizon so, one after the other.
+// Whether all processors, one after the other, see this horizon.
 fn see<D: Device, L: Origin<D>, R: Wait>(
     rt: &R,
     cpus: &mut [Cpu<D, Global, L>],
@@ -198,7 +197,7 @@ fn see<D: Device, L: Origin<D>, R: Wait>(
     true
 }
 
-// Whether each of these processors does its work, in a thread of its own.
+// Whether each of these processors does its work in its own thread.
 fn all_work<D: Device + Send + Drop, L: Origin<D> + Send + Sync, R: Threads + Wait + Sync>(
     rt: &R,
     cpus: &mut [Cpu<D, Global, L>],
@@ -217,10 +216,10 @@ fn all_work<D: Device + Send + Drop, L: Origin<D> + Send + Sync, R: Threads + Wa
     !has_failed.load(Ordering::SeqCst)
 }
 
-// The horizon in the end, where all marks are made and durable.
+// The horizon at the end, when all marks are made and durable.
 const LAST: (u64, u64) = (THREADS * ROUNDS, THREADS * ROUNDS);
 
-// Whether the threads of a service do their work, and all their processors see its last mark in the end.
+// Whether the threads of a service do their work, and all processors then see the service's last mark.
 pub fn run<D: Device + Send + Drop, L: Origin<D> + Send + Sync, R: Threads + Wait + Sync>(
     rt: &R,
     cpus: &mut [Cpu<D, Global, L>],
@@ -231,8 +230,8 @@ pub fn run<D: Device + Send + Drop, L: Origin<D> + Send + Sync, R: Threads + Wai
         && see(rt, cpus, LAST)
 }
 
-// The numbers of the last mark of a trace and of the last that is committed, which a mark with no store before it is at
-// once.
+// Returns the number of the last mark in a trace, and the number of the last committed mark. A mark with no store
+// before it is committed at once.
 fn numbers_of(trace: &[Entry]) -> (u64, u64) {
     let mut stalled = 0;
     let mut committed = 0;
@@ -254,7 +253,7 @@ fn numbers_of(trace: &[Entry]) -> (u64, u64) {
     (stalled, committed)
 }
 
-// Whether all marks are in a trace, and the last of them is committed, as was seen.
+// Whether a trace contains all marks, and the last of them is committed, as the processors saw.
 pub fn is_whole(trace: &[Entry]) -> bool {
     numbers_of(trace) == LAST
 }

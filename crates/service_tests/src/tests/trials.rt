@@ -1,4 +1,4 @@
-// What is tried with a machine, and with a service of it. Contracts know the disk as any device, which costs the least.
+// Trials of a machine, and of a service over it. Contracts treat the disk as any device, because this costs the least.
 ghost use Rattle.std.specs.Prelude.{◌≡◌, ◌+◌, ◌*◌, length, Some};
 ghost use Rattle.machine.specs.Fresh.{IsFresh};
 
@@ -15,25 +15,25 @@ use std::sync::Wait;
 use std::sync::ledger::Blank;
 use std::thread::Threads;
 
-// What a machine is tried with.
+// How a machine is tried.
 pub enum Trial {
-    // Two steps, which fill the trace beside it.
+    // Two steps through `Shared`, which fill its trace.
     Shared,
-    // So many loads of it by itself.
+    // This number of loads, made on the machine itself.
     Loads(u64),
-    // Calls of the processors of a service of it.
+    // Calls to the processors of a service over it.
     Served(Calls),
 }
 
-// What the processors of a service are called for.
+// The calls to the processors of a service.
 pub enum Calls {
-    // So many loads of one processor. This service isn't gathered, so that the loads alone are counted.
+    // This number of loads by one processor. This service isn't gathered, so that only the loads are counted.
     Loads(u64),
-    // One call of the first of two.
+    // One call to the first of two processors.
     One,
-    // Three calls of two, which fill the trace.
+    // Three calls to two processors, which fill the trace.
     Three,
-    // Calls of four threads that run at once.
+    // Calls by four concurrent threads.
     OfThreads,
 }
 
@@ -56,7 +56,7 @@ impl Calls {
         }
     }
 
-    // The most entries of the trace.
+    // Returns the largest number of entries of the trace.
     fn capacity(&self) -> u64 {
         match self {
             Calls::Loads(_) => 3_010,
@@ -65,7 +65,7 @@ impl Calls {
         }
     }
 
-    // Whether the processors of a service that has just started are answered as they should be.
+    // Whether the processors of a service that has just started return the expected replies.
     fn are_answered<D: Device + Send + Drop, L: Origin<D> + Send + Sync, R: Threads + Wait + Sync>(
         &self,
         rt: &R,
@@ -79,7 +79,7 @@ impl Calls {
         }
     }
 
-    // Whether the machine and the trace are as they should be after these calls.
+    // Whether the machine and the trace are as expected after these calls.
     fn are_kept<D: Device>(&self, machine: &mut Machine<D, Global>, trace: &[Entry]) -> bool {
         match self {
             Calls::Loads(_) => true,
@@ -90,8 +90,8 @@ impl Calls {
     }
 }
 
-// Whether a trial comes out as it should, with the disk then as that of a machine booted anew on an equal disk, which
-// has answered the steps of the trace in the same way.
+// Whether a trial succeeds. For a gathered service, another machine is booted on an equal disk, and answers the steps
+// of the trace in the same way. Both disks must then have equal bytes.
 pub fn holds<R: Threads + Wait + Sync>(rt: &R, alloc: Global, trial: &Trial) -> bool {
     let (Some(mut disk), Some(mut equal)) = (formatted(alloc), formatted(alloc)) else {
         return false;
@@ -138,7 +138,7 @@ fn holds_of<D: Device + Send + Drop, R: Threads + Wait + Sync>(
         Trial::Shared => calls::is_shared(alloc, machine),
         Trial::Loads(count) => loads::are_entered(machine, *count),
         Trial::Served(calls) => {
-            // The service's name stands for this machine.
+            // The service's name refers to this machine.
             let blank = Blank::new(2 * u64::from(machine.processors()) + 1);
             served::<D, Brand, R>(rt, alloc, machine, calls.capacity(), blank, again, calls)
         }
@@ -184,8 +184,8 @@ fn answered<D: Device + Send + Drop, L: Origin<D> + Send + Sync, R: Threads + Wa
     }
 }
 
-// A service that is gathered without the last of its processors refuses, and hands back what it was given, so that it
-// can be gathered with all of them. The machine and the trace are then as they should be.
+// Whether a service can be gathered with all processors after a first attempt without the last one. This attempt must
+// fail, and return everything that it was passed. The machine and the trace must then be as expected.
 fn gathered<D: Device + Drop, L: Origin<D>, R: Wait>(
     rt: &R,
     service: Service<D, Global, L>,
@@ -209,7 +209,7 @@ fn gathered<D: Device + Drop, L: Origin<D>, R: Wait>(
     is_refused && replays(again, trace) && calls.are_kept(&mut machine, trace)
 }
 
-// Whether a machine answers the steps of a trace as they were answered.
+// Whether a machine gives the replies of a trace to the steps of that trace.
 fn replays<D: Device>(machine: &mut Machine<D, Global>, trace: &[Entry]) -> bool {
     for entry in trace {
         if machine.step(&entry.step) != entry.reply {

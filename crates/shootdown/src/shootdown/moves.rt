@@ -1,4 +1,4 @@
-// Processors that idle, wake and switch to other spaces, and spaces that go.
+// Processors that idle, wake and switch to other spaces, and the removal of spaces.
 ghost use Rattle.std.specs.Prelude.{◌≡◌, true, false, is_some, None, Some, IsTrue, IfOk, OnOk, IfErr};
 ghost use Rattle.std.specs.FinMap as maps;
 ghost use Rattle.spaces.specs.Spaces.{Spaces as AddressSpaces};
@@ -15,8 +15,8 @@ use spaces::Spaces;
 use std::alloc::Allocator;
 
 impl<A: Allocator + Copy> Shootdown<A> {
-    /// An active processor idles, also while another holds the lock. `Einval` where there is none with this number,
-    /// `Stalled` where it neither is active nor was interrupted, `Locked` where it was interrupted.
+    /// Makes an active processor idle, even while another one holds the lock. Fails with `Einval` if there is no
+    /// processor of this number. Fails with `Locked` if it was interrupted, and with `Stalled` in any other state.
     pub fn idle(&mut self, p: ProcessorNumber) -> Result<(), Refusal>
         ensures idled { IdleAnswers self.old p result self.new }
     {
@@ -30,8 +30,11 @@ impl<A: Allocator + Copy> Shootdown<A> {
         }
     }
 
-    /// An idle processor carries out its queue and goes on, and true is answered; `Locked` while the lock is held. In
-    /// any other state nothing happens. `Einval` where there is no processor with this number.
+    /// Wakes an idle processor: it carries out its queue, becomes active, and the call returns true. In any other state
+    /// nothing happens, and the call returns false.
+    ///
+    /// Fails with `Einval` if there is no processor of this number, and with `Locked` if it is idle while the lock is
+    /// held.
     pub fn wake(&mut self, p: ProcessorNumber) -> Result<bool, Refusal>
         ensures woken { GoesOn is_idle self.old p result self.new }
     {
@@ -41,7 +44,7 @@ impl<A: Allocator + Copy> Shootdown<A> {
         }
     }
 
-    // A processor that waits goes on while the lock is free, and true is answered.
+    // Lets a waiting processor go on and returns true, if the lock is free.
     pub(super) fn go_on(&mut self, p: ProcessorNumber) -> Result<bool, Refusal>
         requires { IsTrue (is_there self.old p) }
         ensures ok { IfOk result
@@ -56,9 +59,9 @@ impl<A: Allocator + Copy> Shootdown<A> {
         Ok(true)
     }
 
-    /// A processor carries out its queue and switches to another space, whose cached entries it keeps or drops.
-    /// `Einval` where there is no processor with this number, `Stalled`, `Locked`, and `Einval` where there is no such
-    /// space, in this order.
+    /// Lets a processor carry out its queue and switch to another space, whose cached entries it keeps or drops.
+    ///
+    /// Fails as `admit_free`, or else with `Einval` if there is no such space.
     pub fn switch(
         &mut self,
         p: ProcessorNumber,
@@ -78,8 +81,8 @@ impl<A: Allocator + Copy> Shootdown<A> {
         Ok(())
     }
 
-    /// Whether a space may be destroyed: `Einval` for space 0 and where there is none, `Busy` while it is some
-    /// processor's current one.
+    /// Checks whether a space may be destroyed. Fails with `Einval` if it is space 0 or doesn't exist, and with `Busy`
+    /// while it is some processor's current one.
     pub fn may_destroy(&self, spaces: &Spaces<A>, pcid: Pcid) -> Result<(), Refusal>
         ensures ok { OnOk result (destroy_refusal self.now spaces.now.map pcid ≡ None) }
         ensures err { IfErr result (λ why. destroy_refusal self.now spaces.now.map pcid ≡ Some why) }
@@ -93,7 +96,7 @@ impl<A: Allocator + Copy> Shootdown<A> {
         Ok(())
     }
 
-    /// A space goes: whoever may cache entries of its PCID is notified to drop them, so that the PCID may be given out
+    /// Notifies each processor that may cache entries of a removed space to drop them. Afterwards the PCID can be used
     /// again.
     pub fn forget(&mut self, pcid: Pcid)
         requires { is_current self.old pcid ≡ false }

@@ -1,4 +1,4 @@
-// What processors are notified of when mappings change.
+// The invalidations that are queued for processors when mappings change.
 ghost use Rattle.std.specs.Prelude.{◌≡◌, ◌+◌, ◌≤◌, ◌^◌, map, if◌then◌else◌};
 ghost use Rattle.spaces.specs.Changes.{touches};
 ghost use Rattle.shootdown.specs.Processors.{notified, notified_all};
@@ -14,11 +14,11 @@ use pcid_tlb::Invpcid;
 use spaces::{Change, Spaces};
 use std::alloc::Allocator;
 
-// Processors are notified of up to so many pages one by one, and more by their PCID.
+// The largest number of pages that are invalidated one by one. For more pages the whole PCID is invalidated.
 const FEW_PAGES: u64 = 4;
 
-// Processor p begins a change: every other active processor is interrupted whose space it touches, and all are notified
-// of what it invalidates.
+// Begins a change by processor p. It interrupts each other active processor whose space the change touches, and
+// notifies all processors of the change's invalidations.
 pub(super) fn begin_change<A: Allocator + Copy>(
     processors: &mut [Processor<A>],
     p: ProcessorNumber,
@@ -32,7 +32,7 @@ pub(super) fn begin_change<A: Allocator + Copy>(
     notify_of_change(processors, spaces, change);
 }
 
-// Notifies every processor of an invalidation, if it may cache what that drops.
+// Notifies every processor of an invalidation, if it may cache entries that this drops.
 pub(super) fn notify_all<A: Allocator + Copy>(processors: &mut [Processor<A>], action: Invpcid)
     ensures { processors.new ≡ map (λ x. notified x action) processors.old }
 {
@@ -41,7 +41,7 @@ pub(super) fn notify_all<A: Allocator + Copy>(processors: &mut [Processor<A>], a
     }
 }
 
-// Notifies them of all that a change invalidates, one invalidation after the other.
+// Notifies the processors of all invalidations of a change, one after the other.
 fn notify_of_change<A: Allocator + Copy>(
     processors: &mut [Processor<A>],
     spaces: &Spaces<A>,
@@ -61,7 +61,7 @@ fn notify_of_change<A: Allocator + Copy>(
     }
 }
 
-// Notifies them of the pages of a range.
+// Notifies the processors of the pages of a range.
 fn notify_of_range<A: Allocator + Copy>(
     processors: &mut [Processor<A>],
     pcid: Pcid,
@@ -79,7 +79,7 @@ fn notify_of_range<A: Allocator + Copy>(
     }
 }
 
-// Notifies them of each present entry of a page of a file.
+// Notifies the processors of each present entry of a page of a file.
 fn notify_of_entries<A: Allocator + Copy>(
     processors: &mut [Processor<A>],
     spaces: &Spaces<A>,
@@ -92,7 +92,7 @@ fn notify_of_entries<A: Allocator + Copy>(
     }
 }
 
-// Processor p initiates a change, and every other active processor is interrupted whose space it touches.
+// Makes processor p initiate a change, and interrupts each other active processor whose space the change touches.
 fn interrupt<A: Allocator + Copy>(
     processors: &mut [Processor<A>],
     p: ProcessorNumber,
@@ -107,7 +107,7 @@ fn interrupt<A: Allocator + Copy>(
     }
 }
 
-// The state of a processor when a change begins, which it initiates or doesn't.
+// Returns the state of a processor when a change begins that it initiates or doesn't.
 fn state_begun<A: Allocator + Copy>(
     initiates: bool,
     spaces: &Spaces<A>,

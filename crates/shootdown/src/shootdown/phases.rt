@@ -14,9 +14,9 @@ use spaces::{Change, Spaces};
 use std::alloc::Allocator;
 
 impl<A: Allocator + Copy> Shootdown<A> {
-    /// The first phase: processor p, which was admitted while the lock was free, takes it for a change. Whoever may
-    /// cache what the change affects is notified to drop it, and the other active processors are interrupted whose
-    /// spaces it touches. It takes no memory.
+    /// The first phase: processor p, admitted while the lock was free, takes the lock for a change. Each processor that
+    /// may cache affected entries is notified to drop them. The other active processors are interrupted if the change
+    /// touches their space. The call allocates no memory.
     pub fn begin(&mut self, p: ProcessorNumber, spaces: &Spaces<A>, change: Change)
         requires free { not_free self.old p ≡ None }
         requires pages { HasUserPages change }
@@ -26,8 +26,8 @@ impl<A: Allocator + Copy> Shootdown<A> {
         self.lock = Some(Lock { holder: p, change });
     }
 
-    /// The second phase: an interrupted processor stalls, and true is answered; in any other state nothing happens.
-    /// `Einval` where there is none with this number.
+    /// The second phase: an interrupted processor stalls, and the call returns true. In any other state nothing
+    /// happens, and the call returns false. Fails with `Einval` if there is no processor of this number.
     pub fn ack(&mut self, p: ProcessorNumber) -> Result<bool, Refusal>
         ensures acked { Acks self.old p result self.new }
     {
@@ -40,13 +40,15 @@ impl<A: Allocator + Copy> Shootdown<A> {
         }
     }
 
-    /// The third phase: hands the change out to the lock's holder once nobody is interrupted, so that it may be made;
-    /// the lock stays held until `finish`. None while the lock is free. `NotYet` with the number of processors that are
-    /// interrupted, `Locked` to others than the holder, `Einval` where there is no processor with this number.
+    /// The third phase: returns the change to the lock's holder once no processor is interrupted, so that it can be
+    /// made. The lock stays held until `finish`. Returns `None` while the lock is free.
+    ///
+    /// Fails with `Einval` if there is no processor of this number, and with `Locked` if it isn't the holder. Fails
+    /// with `NotYet` and the number of interrupted processors if there are any.
     pub fn change(&self, p: ProcessorNumber) -> Result<Option<Change>, Refusal>
         ensures handed_out { HandsOut self.now p result }
 
-        // Where the processors and the tables cohere, nobody uses what the change affects.
+        // If the processors and the tables cohere, no processor uses an entry that the change affects.
         ensures unused { IfOk result (λ change. IfSome change (λ change.
             (spaces : AddressSpaces) → Coheres spaces self.now → IsUnused spaces change self.now)) }
     {
@@ -63,8 +65,8 @@ impl<A: Allocator + Copy> Shootdown<A> {
         }
     }
 
-    /// The end of the third phase, after the change was made: the initiator carries out its own queue and goes on, and
-    /// the lock is free.
+    /// The end of the third phase, after the change was made. The initiator carries out its own queue and becomes
+    /// active, and the lock becomes free.
     pub fn finish(&mut self, p: ProcessorNumber)
         requires held { holder_of self.old ≡ Some p }
         requires quiet { interrupted self.old ≡ 0 }
@@ -74,8 +76,11 @@ impl<A: Allocator + Copy> Shootdown<A> {
         self.lock = None;
     }
 
-    /// The fourth phase: a stalled processor carries out its queue and goes on, and true is answered; `Locked` while
-    /// the lock is held. In any other state nothing happens. `Einval` where there is no processor with this number.
+    /// The fourth phase: a stalled processor carries out its queue and becomes active, and the call returns true. In
+    /// any other state nothing happens, and the call returns false.
+    ///
+    /// Fails with `Einval` if there is no processor of this number, and with `Locked` if it is stalled while the lock
+    /// is held.
     pub fn resume(&mut self, p: ProcessorNumber) -> Result<bool, Refusal>
         ensures resumed { GoesOn is_stalled self.old p result self.new }
     {

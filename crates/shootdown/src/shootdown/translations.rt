@@ -1,4 +1,4 @@
-// What single processors cache.
+// The cached entries of single processors.
 ghost use Rattle.std.specs.Prelude.{◌≡◌, length, nat_lt, IsTrue};
 ghost use Rattle.pcid_tlb.specs.Tlb.{cached, filled, evicted, without_page};
 ghost use Rattle.shootdown.specs.Shootdown.{current, tlb_of, with_tlb, is_there};
@@ -11,7 +11,7 @@ use pcid_tlb::CachedEntry;
 use std::alloc::Allocator;
 
 impl<A: Allocator + Copy> Shootdown<A> {
-    /// The entry that a processor caches of a page of its current space, if there is one.
+    /// Returns the entry that a processor caches of a page of its current space, if there is one.
     pub fn cached(&self, p: ProcessorNumber, page: PageNumber) -> Option<CachedEntry>
         requires { IsTrue (is_there self.now p) }
         ensures { result ≡ cached (tlb_of self.now p) (current self.now p) page }
@@ -37,7 +37,8 @@ impl<A: Allocator + Copy> Shootdown<A> {
         self.processors[p as usize].drop_page(page);
     }
 
-    /// Drops the entry in a slot of a processor's TLB, counted from 0, the oldest; false where there is no such slot.
+    /// Drops the entry in a slot of a processor's TLB, counted from 0, the oldest. Returns false if there is no such
+    /// slot.
     pub fn evict(&mut self, p: ProcessorNumber, slot: usize) -> bool
         requires { IsTrue (is_there self.old p) }
         ensures evicted { result ≡ nat_lt slot (length (tlb_of self.old p).entries) }
