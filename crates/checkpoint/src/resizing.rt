@@ -1,5 +1,5 @@
-// The parts of a change of a file's length: pages past the end leave memory, the last one is cut, and pages of zeros
-// come.
+// The parts of a change of a file's length. Pages past the end leave memory, the last page is cut, and a growth adds
+// pages of zeros.
 ghost use Rattle.std.specs.Prelude.{◌≡◌, ◌+◌, ◌-◌, ◌*◌, ◌<◌, ◌≤◌, ◌^◌, ℕ, true, false, IsSome, is_none, count_by, length, slice_set};
 ghost use Rattle.page_entry.specs.declared.numbers.FilePage.{FilePage};
 ghost use Rattle.frames.specs.Frames.{frame_at, without_frame, zero_page, HasNoneFrom};
@@ -12,14 +12,11 @@ ghost use Rattle.checkpoint.specs.inside.Notes.{noted_in};
 ghost use Rattle.checkpoint.specs.inside.Resized.{BeginBefore, DropsPast, CutsPage, CutsFile, AddsPages, NotesPages};
 
 use frames::Frames;
-use page_entry::{FileNumber, FilePage, FrameNumber};
+use page_entry::{FileNumber, FilePage, FrameNumber, PAGE};
 use spaces::Spaces;
 use std::alloc::Allocator;
 
-// Bytes of a page.
-const PAGE: u64 = 4096;
-
-// How many pages so many bytes take.
+// Returns the number of pages that `length` bytes take.
 fn pages_in(length: u64) -> u64
     requires { length ≤ 2 ^ 44 }
     ensures { result ≡ pages length }
@@ -27,7 +24,7 @@ fn pages_in(length: u64) -> u64
     (length + 4095) / PAGE
 }
 
-// Takes away the entries of the page in a frame in use and makes the frame free; it is noted no more.
+// Clears the entries of the page in a frame in use, and frees the frame. The frame is no longer noted.
 fn drop_page<A: Allocator + Copy>(
     notes: &mut [bool],
     spaces: &mut Spaces<A>,
@@ -48,8 +45,8 @@ fn drop_page<A: Allocator + Copy>(
     notes[frame as usize] = false;
 }
 
-/// Takes away the entries of every page of a file that begins at or past its end, and makes the frames of these pages
-/// free; they are noted no more.
+/// Clears the entries of every page of a file that begins at or past `end`, and frees the frames of these pages. The
+/// frames are no longer noted.
 pub(crate) fn drop_past<A: Allocator + Copy>(
     notes: &mut [bool],
     spaces: &mut Spaces<A>,
@@ -79,7 +76,7 @@ pub(crate) fn drop_past<A: Allocator + Copy>(
     }
 }
 
-// Makes the bytes of a page zeros from one on, if the page is in memory.
+// Sets the bytes of a page to zero from byte `at` on, if the page is in memory.
 fn cut_page<A: Allocator + Copy>(frames: &mut Frames<A>, page: FilePage, at: usize)
     requires { at < 4096 }
     ensures { CutsPage page at frames.old frames.new }
@@ -90,7 +87,7 @@ fn cut_page<A: Allocator + Copy>(frames: &mut Frames<A>, page: FilePage, at: usi
     }
 }
 
-/// Makes the bytes of a file zeros from this one on, in memory. No page begins there or past it.
+/// Sets the bytes of a file in memory to zero from byte `end` on. No page in memory begins at or past `end`.
 pub(crate) fn cut_file<A: Allocator + Copy>(frames: &mut Frames<A>, file: FileNumber, end: u64)
     requires small { end ≤ 2 ^ 44 }
     requires before { BeginBefore frames.old file end }
@@ -107,7 +104,8 @@ pub(crate) fn cut_file<A: Allocator + Copy>(frames: &mut Frames<A>, file: FileNu
     }
 }
 
-/// Gives free frames of zeros to the pages of a file from one on, up to another. None of them is in memory.
+/// Takes a free frame of zeros for each page of a file from `first` up to but not including `end`. None of these pages
+/// is in memory before.
 pub(crate) fn add_pages<A: Allocator + Copy>(
     frames: &mut Frames<A>,
     file: FileNumber,
@@ -130,7 +128,7 @@ pub(crate) fn add_pages<A: Allocator + Copy>(
     }
 }
 
-/// Notes the frames of the pages of a file from one on, up to another.
+/// Notes the frames of the pages of a file from `first` up to but not including `end`.
 pub(crate) fn note_pages<A: Allocator + Copy>(
     notes: &mut [bool],
     frames: &Frames<A>,
@@ -153,7 +151,7 @@ pub(crate) fn note_pages<A: Allocator + Copy>(
     }
 }
 
-/// The length of a file becomes another. What that does to pages is said of the notes alone: the frozen pages stay.
+/// Changes the length of a file, as `Checkpoint::resize` does. It changes only the notes: the frozen pages stay.
 pub(crate) fn resize_pages<A: Allocator + Copy>(
     notes: &mut [bool],
     spaces: &mut Spaces<A>,

@@ -1,14 +1,14 @@
-// Why the volume of a device has no machine of a shape.
+// Why no machine of a shape can run on the volume of a device.
 use crate::failure::Failure;
 use device::Device;
-use machine::Shape;
+use machine::{MAX_COPIES, MAX_CPUS, MAX_TLB, Shape};
 use page_entry::Refusal;
 use std::alloc::Allocator;
 use thiserror::Error;
 use volume_codec::read_super;
 use volume_files::{FileFailure, Refused, first_block, refused_to_open};
 
-/// What of a shape was found, and what is allowed.
+/// A part of a shape that is outside its limits, with the values that are allowed.
 #[derive(Clone, Copy, Debug, Error)]
 pub enum ShapeCause {
     #[error("cpus is {0}, and 1 to 16 are served")]
@@ -28,14 +28,14 @@ pub enum ShapeCause {
 /// Why no machine was booted over the volume of a device.
 #[derive(Clone, Copy, Debug)]
 pub enum NotBooted<'a> {
-    /// The volume isn't opened.
+    /// The volume can't be opened.
     Disk(Refused<'a>),
-    /// The volume serves no machine of the shape.
+    /// No machine of this shape can run on the volume.
     Shape(ShapeCause),
 }
 
 impl<'a> NotBooted<'a> {
-    /// Says so of the volume in a file.
+    /// Returns this cause as the failure of a command on the volume in the file `path`.
     pub fn of_file(self, path: &'a str) -> Failure<'a> {
         match self {
             NotBooted::Disk(cause) => Failure::File(FileFailure::Disk { path, cause }),
@@ -44,7 +44,7 @@ impl<'a> NotBooted<'a> {
     }
 }
 
-/// Why the volume of a device isn't opened, or has no machine of this shape.
+/// Returns why no machine of this shape was booted over the volume of a device. `refusal` is the reply to the boot.
 pub fn refused_to_run<'a, D: Device, A: Allocator + Copy>(
     alloc: A,
     refusal: Refusal,
@@ -71,19 +71,19 @@ fn refused_shape<'a, D: Device, A: Allocator + Copy>(
     }
 }
 
-// What is outside the limits of machines over the volume of a device.
+// The part of a shape that is outside the limits of machines on this volume.
 fn cause_in_shape<D: Device, A: Allocator + Copy>(
     alloc: A,
     device: &mut D,
     shape: Shape,
 ) -> Option<ShapeCause> {
-    if !(1..=16).contains(&shape.cpus) {
+    if !(1..=MAX_CPUS).contains(&shape.cpus) {
         return Some(ShapeCause::Cpus(shape.cpus));
     }
-    if !(1..=64).contains(&shape.tlb) {
+    if !(1..=MAX_TLB).contains(&shape.tlb) {
         return Some(ShapeCause::Tlb(shape.tlb));
     }
-    if shape.copies > 64 {
+    if shape.copies > MAX_COPIES {
         return Some(ShapeCause::Copies(shape.copies));
     }
     let table = read_super(alloc, &first_block(device)?).ok()?;

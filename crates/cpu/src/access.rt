@@ -9,27 +9,24 @@ ghost use Rattle.cpu.specs.Keeping.{OnlyUses, IsDirtyAt};
 
 use crate::translation::translate;
 use frames::Frames;
-use page_entry::{PAGE, ProcessorNumber, Refusal};
+use page_entry::{ADDRESS_END, PAGE, ProcessorNumber, Refusal};
 use shootdown::Shootdown;
 use spaces::Spaces;
 use std::alloc::Allocator;
 
-// One more than the greatest user address: 2^47 (Intel SDM volume 3, canonical addresses).
-pub(crate) const END: u64 = 1 << 47;
-
-// The place in its page of an access of 1 to 8 bytes inside one page, below 2^47.
+// Returns the offset in its page of an access. The access must have 1 to 8 bytes inside one page below 2^47.
 fn place_in_page(va: u64, count: usize) -> Result<usize, Refusal>
     ensures { MatchResult result (λ at. IsAccess va count × (at ≡ va % 4096))
         (λ why. (why ≡ Einval) × (IsAccess va count → ⊥)) }
 {
     let at = (va % PAGE) as usize;
-    if count == 0 || count > 8 || va >= END || at + count > 4096 {
+    if count == 0 || count > 8 || va >= ADDRESS_END || at + count > 4096 {
         return Err(Refusal::Einval);
     }
     Ok(at)
 }
 
-// The place in its page of an access by a processor that goes on with loads and stores.
+// Returns the offset in its page of an access by a processor that may load and store now.
 fn admit<A: Allocator + Copy>(
     shootdown: &Shootdown<A>,
     p: ProcessorNumber,
@@ -46,13 +43,19 @@ fn admit<A: Allocator + Copy>(
     place_in_page(va, count)
 }
 
-/// Reads `count` bytes, 1 to 8 inside one page below 2^47, from an address of a processor's current space: through the
-/// entry that it caches of the page, or else by a walk of the page table, which notes the entry as accessed and caches
-/// it.
+/// Reads `count` bytes from an address of a processor's current space. They are 1 to 8 bytes inside one page below
+/// 2^47.
 ///
-/// `Einval` where there is no processor with this number, `Stalled` where it is neither active nor interrupted,
-/// `Einval` for another address or count, and `Fault` with the error code of the page fault where nothing is cached and
-/// the page has no entry, in this order. A fault drops what the processor caches of the page.
+/// If the processor caches an entry of the page, the load goes through it. Otherwise the processor walks the page
+/// table, marks the entry as accessed, and caches it.
+///
+/// Fails with the first of these that applies:
+///
+/// - `Einval` if there is no processor with this number.
+/// - `Stalled` if the processor is neither active nor interrupted.
+/// - `Einval` for another address or count.
+/// - `Fault` with the error code of the page fault, if nothing is cached and the page has no entry. The processor then
+///   drops what it caches of the page.
 pub fn load<'f, A: Allocator + Copy>(
     shootdown: &mut Shootdown<A>,
     spaces: &mut Spaces<A>,
@@ -78,14 +81,18 @@ pub fn load<'f, A: Allocator + Copy>(
     Ok(&frames.bytes(frame)[at..at + count])
 }
 
-/// Writes bytes, 1 to 8 inside one page below 2^47, to an address of a processor's current space: through the entry
-/// that it caches of the page, where that is writable and dirty, or else by a walk of the page table, which notes the
-/// entry as accessed and dirty and caches it.
+/// Writes bytes to an address of a processor's current space. They are 1 to 8 bytes inside one page below 2^47.
 ///
-/// `Einval` where there is no processor with this number, `Stalled` where it is neither active nor interrupted,
-/// `Einval` for another address or number of bytes, and `Fault` with the error code of the page fault where nothing
-/// that serves is cached and the page has no entry or one that isn't writable, in this order. A fault drops what the
-/// processor caches of the page.
+/// If the processor caches an entry of the page that is writable and dirty, the store goes through it. Otherwise the
+/// processor walks the page table, marks the entry as accessed and dirty, and caches it.
+///
+/// Fails with the first of these that applies:
+///
+/// - `Einval` if there is no processor with this number.
+/// - `Stalled` if the processor is neither active nor interrupted.
+/// - `Einval` for another address or number of bytes.
+/// - `Fault` with the error code of the page fault, if no cached entry serves the store, and the page has no writable
+///   entry. The processor then drops what it caches of the page.
 pub fn store<A: Allocator + Copy>(
     shootdown: &mut Shootdown<A>,
     spaces: &mut Spaces<A>,

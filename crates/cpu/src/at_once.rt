@@ -5,14 +5,13 @@ ghost use Rattle.spaces.specs.Spaces.{Spaces};
 ghost use Rattle.cpu.specs.Access.{hardware, IsReachable};
 ghost use Rattle.cpu.specs.AtOnce.{frame_cached, count_at_once, stored_at_once, loaded_at_once};
 
-use crate::access::END;
 use crate::translation::served;
 use frames::Frames;
-use page_entry::{FrameNumber, PAGE, ProcessorNumber};
+use page_entry::{ADDRESS_END, FrameNumber, PAGE, ProcessorNumber};
 use shootdown::Shootdown;
 use std::alloc::Allocator;
 
-// The frame that accesses of a processor at an address reach through a cached entry.
+// Returns the frame that a processor's accesses at an address reach through a cached entry.
 fn frame_cached<A: Allocator + Copy>(
     shootdown: &Shootdown<A>,
     p: ProcessorNumber,
@@ -21,15 +20,15 @@ fn frame_cached<A: Allocator + Copy>(
 ) -> Option<FrameNumber>
     ensures frame { result ≡ frame_cached shootdown.now p va write }
 {
-    if shootdown.admit(p).is_err() || va >= END {
+    if shootdown.admit(p).is_err() || va >= ADDRESS_END {
         return None;
     }
     served(shootdown.cached(p, va / PAGE), write)
 }
 
-/// Reads up to `count` bytes from an address of a processor's current space, up to the end of its page, where the
-/// processor has cached an entry of the page: they are what loads of up to eight bytes each would answer one after the
-/// other, and nothing changes. Without such an entry, no byte.
+/// Returns up to `count` bytes from an address of a processor's current space, up to the end of its page. They are the
+/// bytes that successive loads of up to eight bytes would return, and nothing changes. Returns no byte if the processor
+/// caches no entry of the page.
 pub fn load_run<'f, A: Allocator + Copy>(
     shootdown: &Shootdown<A>,
     frames: &'f Frames<A>,
@@ -49,9 +48,9 @@ pub fn load_run<'f, A: Allocator + Copy>(
     &frames.bytes(frame)[at..at + count]
 }
 
-/// Writes bytes to an address of a processor's current space, up to the end of its page, where the processor has cached
-/// an entry of the page that is writable and dirty, as stores of up to eight bytes each would one after the other.
-/// Answers how many were written: without such an entry, none.
+/// Writes bytes to an address of a processor's current space, up to the end of its page. Returns the number of bytes
+/// that were written. The effect is that of successive stores of up to eight bytes. Writes nothing if the processor
+/// caches no entry of the page that is writable and dirty.
 pub fn store_run<A: Allocator + Copy>(
     shootdown: &Shootdown<A>,
     frames: &mut Frames<A>,

@@ -18,16 +18,16 @@ use std::alloc::Allocator;
 use std::marker::Model;
 
 /// A volume inside the user's process: a pager over a disk that makes no call itself. The host supplies the blocks that
-/// are wanted, and makes the calls that wait, in their order.
+/// are wanted, and makes the waiting calls in order.
 ///
-/// As long as the host supplies each block as it is on its device, the pager is over a disk that made each call at
-/// once, with all that holds of such a pager (`has_served`).
+/// The host has to supply each block as it is on its device. Then the pager behaves as over a disk that makes each call
+/// at once. All that holds of such a pager then holds of this one (`has_served`).
 #[derive(Drop)]
 pub struct Embedded<A: Allocator + Copy> {
     pub(crate) pager: Pager<DeferredDisk<A>, A>,
     // The mark of the last commit.
     pub(crate) committed: Option<u32>,
-    // How many device calls were recorded when it was reported.
+    // The number of device calls that were recorded when that commit was reported.
     pub(crate) due: u64,
     // The mark of the last commit whose device calls the host has made.
     pub(crate) acknowledged: Option<u32>,
@@ -48,13 +48,16 @@ impl<A: Allocator + Copy> Model for Embedded<A> {
     ghost invariant = { λ e. ServesWell e.pager e.committed e.due e.acknowledged };
 }
 
-/// Opens the volume of a disk, as `Pager::open` does: a commit takes so many pages of files at most, or as many as its
-/// journals have room for. A refusal hands the disk back.
+/// Opens the volume of a disk, as `Pager::open` does. A commit takes at most `most` pages of files, or fewer if the
+/// journals have room for fewer. On failure, returns the disk with one of these causes:
 ///
-/// `Wanted` where a block was lacking: the host supplies it, and opens again. Of a closed journal the gate alone is
-/// wanted. The first block is judged and then the opening is tried before it is made, so no call is recorded where a
-/// block is wanted, or on a disk that has no volume with journals: it stays as it was. `NotAVolume`, `Damaged` as
-/// `recovery::open`, and `OutOfMemory` where memory was refused.
+/// - `Wanted` if a block is missing. The host supplies it, and opens again. Of a closed journal, only the gate is
+///   wanted.
+/// - `NotAVolume` or `Damaged`, as `recovery::open` does.
+/// - `OutOfMemory` if memory can't be allocated.
+///
+/// The first block is judged, and then the opening is tried, before it is made. So no call is recorded if a block is
+/// missing. A disk that has no volume with journals stays as it was.
 pub fn open<A: Allocator + Copy>(
     alloc: A,
     disk: DeferredDisk<A>,
@@ -83,37 +86,28 @@ pub fn open<A: Allocator + Copy>(
 }
 
 impl<A: Allocator + Copy> Embedded<A> {
-    /// The pager, as it is.
+    /// Returns the pager.
     pub fn pager(&self) -> &Pager<DeferredDisk<A>, A>
         ensures { result.now ≡ self.now.pager }
     {
         &self.pager
     }
 
-    /// The mark that is acknowledged: that of the last commit of which the host has made the device calls that were
-    /// recorded when it was reported. Later calls may wait. Only `commit` and `carried_out` change it.
+    /// Returns the acknowledged mark. It is the mark of the last commit of which the host has made the device calls
+    /// that were recorded when it was reported. Later calls may still wait. Only `commit` and `carried_out` change it.
     pub fn acknowledged(&self) -> Option<u32>
         ensures { result ≡ self.now.acknowledged }
     {
         self.acknowledged
     }
 
-    /// Of every embedded volume, as long as the host supplied each block as it was: calls led to its pager from a
-    /// volume at rest that had the files to which a disk recovered that was opened. The mark of the last commit was
-    /// acknowledged in their history, and needs as many device calls as were recorded then; so was the mark that is
-    /// acknowledged, whose device calls the host has made.
+    /// States what holds of every embedded volume, as long as the host supplied each block as it was. Calls led to its
+    /// pager from a volume at rest. That volume had the files to which the opened disk recovered. The mark of the last
+    /// commit was acknowledged in the history of these calls, and needs the device calls that were recorded then. The
+    /// acknowledged mark was acknowledged in that history as well, and the host has made its device calls.
     pub fn has_served(&self)
         ensures { ServesWell self.now.pager self.now.committed self.now.due self.now.acknowledged }
     {
         let _pager = &self.pager;
-    }
-
-    /// The disk, as it is. What was not committed is lost. What was committed is found by the next opening once the
-    /// calls that wait were made.
-    pub fn into_disk(self) -> DeferredDisk<A>
-        ensures { result ≡ self.pager.device }
-    {
-        let Embedded { pager, .. } = self;
-        pager.into_device()
     }
 }

@@ -1,4 +1,4 @@
-// What a fault leads to, and serving it.
+// The place of a fault, and how it is served.
 ghost use Rattle.std.specs.Prelude.{◌≡◌, ◌+◌, ◌≤◌, true, false, length, is_err, Some, IsSome, IfOk, IfErr, OnErr};
 ghost use Rattle.std.specs.List.{All};
 ghost use Rattle.spaces.specs.Spaces.{entry_at, place_at, with_entry};
@@ -14,15 +14,12 @@ use checkpoint::Checkpoint;
 use device::Device;
 use frames::Frames;
 use mappings::Place;
-use page_entry::{Entry, FrameNumber, PAGE, Pcid, Refusal};
+use page_entry::{ADDRESS_END, Entry, FrameNumber, PAGE, Pcid, Refusal};
 use spaces::Spaces;
 use std::alloc::Allocator;
 
-/// The end of the user addresses, 2^47 (Intel SDM volume 3, canonical addresses).
-const END: u64 = 1 << 47;
-
-/// The place that a fault at an address of a space leads to: `Einval` past the user addresses, `SegvMapErr` where
-/// nothing is mapped, `SegvAccErr` for a store without the right to write.
+/// Returns the place of a fault at an address of a space. Fails with `Einval` past the user addresses, with
+/// `SegvMapErr` if nothing is mapped there, and with `SegvAccErr` for a store without the right to write.
 pub fn place<A: Allocator + Copy>(
     spaces: &Spaces<A>,
     pcid: Pcid,
@@ -31,7 +28,7 @@ pub fn place<A: Allocator + Copy>(
 ) -> Result<Place, Refusal>
     ensures { result ≡ place_of_fault spaces.now.map pcid va write }
 {
-    if va >= END {
+    if va >= ADDRESS_END {
         return Err(Refusal::Einval);
     }
     let Some(place) = spaces.place(pcid, va / PAGE) else {
@@ -43,7 +40,7 @@ pub fn place<A: Allocator + Copy>(
     Ok(place)
 }
 
-// The entry that serves a fault: one that allows the access stays as it is.
+// Returns the entry that serves a fault. An entry that already allows the access is unchanged.
 fn fixed_entry(entry: Entry, frame: FrameNumber, can_write: bool, write: bool) -> Entry
     ensures { result ≡ Some (entry_fixed entry frame can_write write) }
 {
@@ -59,7 +56,7 @@ fn fixed_entry(entry: Entry, frame: FrameNumber, can_write: bool, write: bool) -
     entry.with_writable(can_write)
 }
 
-// Whether the entry of a page may be writable: its mapping allows it, and the page that it maps isn't held.
+// Whether the entry of a page may be writable: its mapping allows writing, and the mapped page isn't held.
 fn can_write<A: Allocator + Copy>(
     frames: &Frames<A>,
     checkpoint: &Checkpoint<A>,
@@ -70,7 +67,7 @@ fn can_write<A: Allocator + Copy>(
     place.rights.may_write() && !checkpoint.is_held(frames, page_at(place))
 }
 
-// Makes the entry of the page that serves a fault.
+// Sets the entry of the page so that it serves the fault.
 fn map_page<A: Allocator + Copy>(
     spaces: &mut Spaces<A>,
     fault: PageFault,
@@ -91,13 +88,18 @@ fn map_page<A: Allocator + Copy>(
     );
 }
 
-/// Serves a fault at a page that is mapped: the page comes into memory, by one read of its home block where it isn't
-/// there, and gets an entry that allows the access. It takes no memory.
+/// Serves a fault at a mapped page. If the page isn't in memory, one read of its home block brings it there. Its entry
+/// then allows the access. The call allocates no memory.
 ///
-/// `SegvAccErr` if a store goes to a place that doesn't allow writing; `BusAdrErr` if the page begins past the file's
-/// end; `Held` if a store goes to a held page and no copy frame is free; `NoFrame` if the page isn't in memory and no
-/// frame is free; `Device` if it isn't in memory and the machine is broken, or the read fails. After a refusal spaces
-/// and frames are as before.
+/// Fails with:
+///
+/// * `SegvAccErr` if a store goes to a place that doesn't allow writing.
+/// * `BusAdrErr` if the page begins at or past the file's end.
+/// * `Held` if a store goes to a held page and no copy frame is free.
+/// * `NoFrame` if the page isn't in memory and no frame is free.
+/// * `Device` if the page isn't in memory and the machine is broken, or the read fails.
+///
+/// After a failure the spaces and frames are unchanged.
 pub fn fix<D: Device, A: Allocator + Copy>(
     spaces: &mut Spaces<A>,
     frames: &mut Frames<A>,
@@ -116,7 +118,7 @@ pub fn fix<D: Device, A: Allocator + Copy>(
     ensures unchanged { OnErr result ((spaces.new ≡ spaces.old) × (frames.new ≡ frames.old)) }
     ensures prepared { spaces.new.prepared ≡ spaces.old.prepared }
 
-    // Nothing but one read is asked of the device, and that only where the page isn't in memory.
+    // The device is asked for at most one read, and only if the page isn't in memory.
     ensures untouched { reads_home frames.old checkpoint.now fault ≡ false → device.new ≡ device.old }
     ensures device { reads_home frames.old checkpoint.now fault ≡ true
         → ReadsOnce D.seen D.may_leave D.is_honest D.moment D.left_since D.calls_made D.faults_met

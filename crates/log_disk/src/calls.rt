@@ -9,18 +9,16 @@ ghost use Rattle.log_disk.specs.inside.Keeping.{AreMoments, ReadsOn, WritesOn, w
 
 use crate::parts::DiskParts;
 use device::{Device, DeviceFault, raise};
+use page_entry::PAGE;
 use std::alloc::Allocator;
 
-// How many bytes a block has.
-const BLOCK: u64 = 4096;
-
-// What opens a gate, and what closes it.
+// The byte that opens a gate, and the byte that closes it.
 const OPEN: u8 = 0xA7;
 
 const CLOSED: u8 = 0;
 
 impl<D: Device, A: Allocator + Copy> DiskParts<D, A> {
-    // The bytes of the disk end within so many blocks.
+    // States the length of the disk: that of its table's blocks, which are fewer than 2^32.
     pub(crate) fn is_long(&self)
         ensures long { length (seen_of self.now.memory) ≡ 4096 * block_count self.now.table }
         ensures small { block_count self.now.table < 2 ^ 32 }
@@ -28,14 +26,14 @@ impl<D: Device, A: Allocator + Copy> DiskParts<D, A> {
         let _ = &self.alloc;
     }
 
-    // The moments of the disk and of the device are in order.
+    // States that the moments of the disk and of the device are in order.
     pub(crate) fn is_timed(&self)
         ensures { AreMoments (moment_of self.now.memory) (D.moment self.now.device) self.now.moments }
     {
         let _ = &self.alloc;
     }
 
-    // The byte of a gate, if the block is one.
+    // Returns the byte of a gate, if the block is one.
     fn gate_byte(&self, block: u32) -> Option<u8>
         ensures { IfSome result (λ byte. slice_index (seen_of self.now.memory) (4096 * block) ≡ byte) }
     {
@@ -59,21 +57,21 @@ impl<D: Device, A: Allocator + Copy> DiskParts<D, A> {
             (buffer.new ≡ slice_range (seen_of self.old.memory) at (at + length buffer.old)) }
     {
         self.is_long();
-        if at % BLOCK != 0 {
+        if at % PAGE != 0 {
             return Err(DeviceFault);
         }
         if buffer.len() == 1 {
-            let Some(byte) = self.gate_byte((at / BLOCK) as u32) else {
+            let Some(byte) = self.gate_byte((at / PAGE) as u32) else {
                 return Err(DeviceFault);
             };
             buffer[0] = byte;
             return Ok(());
         }
-        if buffer.len() != BLOCK as usize {
+        if buffer.len() != PAGE as usize {
             return Err(DeviceFault);
         }
         let mut bytes = [0; 4096];
-        match self.read_block((at / BLOCK) as u32, &mut bytes) {
+        match self.read_block((at / PAGE) as u32, &mut bytes) {
             Ok(()) => {}
             Err(fault) => return Err(fault),
         }
@@ -106,21 +104,21 @@ impl<D: Device, A: Allocator + Copy> DiskParts<D, A> {
         ensures { (IsErr result × (self.new ≡ self.old)) ⊎ WritesOn D.Device self.old (write at bytes.now) self.new }
     {
         self.is_long();
-        if at % BLOCK != 0 {
+        if at % PAGE != 0 {
             return Err(DeviceFault);
         }
         if bytes.len() == 1 {
-            return self.turn_gate((at / BLOCK) as u32, at, bytes);
+            return self.turn_gate((at / PAGE) as u32, at, bytes);
         }
-        if bytes.len() != BLOCK as usize {
+        if bytes.len() != PAGE as usize {
             return Err(DeviceFault);
         }
         let mut block = [0; 4096];
         block.copy_from_slice(bytes);
-        self.write_block((at / BLOCK) as u32, at, &block)
+        self.write_block((at / PAGE) as u32, at, &block)
     }
 
-    // Counts a call, and passes its outcome on.
+    // Counts a call, and returns its outcome.
     pub(crate) fn count(&mut self, outcome: Result<(), DeviceFault>) -> Result<(), DeviceFault>
         ensures same { result ≡ outcome }
         ensures counted { self.new ≡ with_counts self.old (raised self.old.memory.calls)

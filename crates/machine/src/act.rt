@@ -1,4 +1,4 @@
-// What a processor does in one step, and what it is answered.
+// The acts of processors and the replies to them.
 ghost use Rattle.std.specs.Prelude.{◌≡◌, ◌↔◌, IsTrue};
 ghost use Rattle.machine.specs.Accesses.{access_of};
 ghost use Rattle.machine.specs.Outcomes.{outcome_of};
@@ -9,16 +9,26 @@ use mappings::Rights;
 use page_entry::{FileNumber, PageIndex, Pcid, ProcessorNumber, Refusal};
 use std::fmt;
 
+/// The greatest number of processors of a machine.
+pub const MAX_CPUS: u64 = 16;
+
+/// The greatest number of entries in a processor's TLB.
+pub const MAX_TLB: u64 = 64;
+
+/// The greatest number of copy frames of a machine.
+pub const MAX_COPIES: u64 = 64;
+
 /// The size of a machine.
 #[derive(Clone, Copy)]
 pub struct Shape {
-    /// Processors, 1 to 16.
+    /// The number of processors, 1 to [`MAX_CPUS`].
     pub cpus: u64,
-    /// Entries of each processor's TLB, 1 to 64.
+    /// The number of entries in each processor's TLB, 1 to [`MAX_TLB`].
     pub tlb: u64,
-    /// Frames for pages of files, 1 to the greatest number that the volume's layout and slots allow.
+    /// The number of frames for pages of files: 1 to the limit of the volume's layout and slots.
     pub frames: u64,
-    /// Copy frames, 0 to 64, for pages that are stored to before their records are written.
+    /// The number of copy frames, 0 to [`MAX_COPIES`]. A copy frame holds a page that a program stores to before its
+    /// record is written.
     pub copies: u64,
 }
 
@@ -35,11 +45,11 @@ pub enum Act {
         va: u64,
         bytes: FewBytes,
     },
-    /// The TLB is filled with a page of the current space, which hardware may do at any time.
+    /// Fills the TLB with a page of the current space, which hardware may do at any time.
     Fill {
         page: u64,
     },
-    /// The TLB drops the entry in a slot, which hardware may do at any time.
+    /// Drops the entry in a slot of the TLB, which hardware may do at any time.
     Evict {
         slot: u8,
     },
@@ -48,7 +58,7 @@ pub enum Act {
         space: Pcid,
         keep: bool,
     },
-    /// Goes to sleep: no shootdown has to wait for it.
+    /// Goes to sleep. Shootdowns don't wait for a sleeping processor.
     Idle,
     /// Ends its sleep, once no change is under way.
     Wake,
@@ -59,11 +69,11 @@ pub enum Act {
     },
     /// Makes a space.
     Create,
-    /// Takes a space away.
+    /// Destroys a space.
     Destroy {
         space: Pcid,
     },
-    /// Maps `len` bytes from `va` on to a file from `offset` on (POSIX.1-2024, `mmap` with `MAP_SHARED`).
+    /// Maps `len` bytes from `va` on to a file's bytes from `offset` on (POSIX.1-2024, `mmap` with `MAP_SHARED`).
     Map {
         space: Pcid,
         va: u64,
@@ -79,20 +89,20 @@ pub enum Act {
         va: u64,
         len: u64,
     },
-    /// Begins to give `len` bytes from `va` on these rights (POSIX.1-2024, `mprotect`).
+    /// Begins to set the rights of `len` bytes from `va` on (POSIX.1-2024, `mprotect`).
     Protect {
         space: Pcid,
         va: u64,
         len: u64,
         prot: Rights,
     },
-    /// Begins to take a page of a file out of memory.
+    /// Begins to remove a page of a file from memory.
     Reclaim {
         file: FileNumber,
         page: PageIndex,
     },
-    /// Begins to give a file this length in bytes, up to its capacity (POSIX.1-2024, `ftruncate`). Only volumes of
-    /// layouts 3 and 4 have room for lengths that change.
+    /// Begins to set the length of a file in bytes, up to its capacity (POSIX.1-2024, `ftruncate`). Only volumes of
+    /// layouts 3 and 4 can store lengths that change.
     SetLength {
         file: FileNumber,
         length: u64,
@@ -107,34 +117,34 @@ pub enum Act {
     Ack,
     /// Makes the change that the processor began.
     Change,
-    /// Goes on after a stall, once no change is under way.
+    /// Continues after a stall, once no change is under way.
     Resume,
-    /// Does the next step of the write-outs.
+    /// Makes the next step of the write-outs.
     Flush,
 }
 
-/// What an act is to the memory that it names by an address.
+/// How an act uses the memory at the address that it names.
 #[derive(Clone, Copy)]
 pub enum Access {
-    /// It reads from this address on.
+    /// The act reads from this address on.
     Load(u64),
-    /// It writes from this address on.
+    /// The act writes from this address on.
     Store(u64),
-    /// It changes a TLB as hardware may at any time.
+    /// The act changes a TLB, as hardware may at any time.
     Translation,
-    /// Something else.
+    /// The act does something else.
     Other,
 }
 
 impl Act {
-    /// Whether it is the other act: the same kind, with the same values.
+    /// Whether both acts have the same kind and the same values.
     pub fn is_same(&self, other: &Act) -> bool
         ensures { IsTrue result ↔ (self.now ≡ other.now) }
     {
         *self == *other
     }
 
-    /// What it is to the memory that it names by an address.
+    /// Returns how the act uses the memory at the address that it names.
     pub fn access(&self) -> Access
         ensures { result ≡ access_of self.now }
     {
@@ -162,14 +172,14 @@ impl Act {
     }
 }
 
-/// An act, and the processor that does it.
+/// An act, and the processor that makes it.
 #[derive(Clone, Copy, PartialEq, Eq)]
 pub struct Step {
     pub p: ProcessorNumber,
     pub act: Act,
 }
 
-/// What a step is answered.
+/// The reply to a step.
 #[derive(Clone, Copy, PartialEq, Eq)]
 pub enum Reply {
     /// The bytes that a load read.
@@ -184,7 +194,7 @@ pub enum Reply {
     Switched,
     /// The processor sleeps.
     Idled,
-    /// The processor sleeps no longer.
+    /// The processor is awake.
     Woken,
     /// The fault was served.
     Fixed,
@@ -194,17 +204,17 @@ pub enum Reply {
     Destroyed,
     /// The range was mapped.
     Mapped,
-    /// The change was begun, and takes place at `Change`.
+    /// The change was begun. It takes place at `Change`.
     Begun,
-    /// Nothing was mapped in the range, so there is nothing to unmap; or the file has the length already.
+    /// Nothing was mapped in the range, so there is nothing to unmap. Or the file has this length already.
     Fine,
-    /// The range isn't mapped any more.
+    /// The range is no longer mapped.
     Unmapped,
-    /// The range has the rights that were asked for.
+    /// The range has the requested rights.
     Protected,
-    /// The file has the length that was asked for; bytes past the smaller of the old and the new one are zeros.
+    /// The file has the requested length. Bytes past the smaller of the old and the new length are zeros.
     Resized,
-    /// The page isn't in memory any more.
+    /// The page is no longer in memory.
     Reclaimed,
     /// The page couldn't leave memory.
     Kept,
@@ -212,7 +222,7 @@ pub enum Reply {
     Marked(u32),
     /// The processor stalls until the change is made.
     Acked,
-    /// The processor goes on.
+    /// The processor continues.
     Resumed,
     /// A step of a write-out was made, and more follow.
     Going,
@@ -226,10 +236,10 @@ pub enum Reply {
     Refused(Refusal),
 }
 
-/// What a reply says of stores and of marks.
+/// What a reply means for stores and marks.
 #[derive(Clone, Copy)]
 pub enum Outcome {
-    /// Something was stored, or a length set, that no mark holds yet.
+    /// Something was stored, or a length was set, that belongs to no mark yet.
     Unmarked,
     /// All stores so far belong to the mark of this number.
     Marked(u32),
@@ -244,7 +254,7 @@ pub enum Outcome {
 }
 
 impl Reply {
-    /// Whether it is the other reply: the same kind, with the same values.
+    /// Whether both replies have the same kind and the same values.
     pub fn is_same(&self, other: &Reply) -> bool
         ensures { IsTrue result ↔ (self.now ≡ other.now) }
     {
@@ -278,7 +288,7 @@ impl Reply {
         }
     }
 
-    /// What it says of stores and of marks.
+    /// Returns what the reply means for stores and marks.
     pub fn outcome(&self) -> Outcome
         ensures { result ≡ outcome_of self.now }
     {
@@ -311,7 +321,8 @@ impl Reply {
         }
     }
 
-    /// What it says of stores and lengths that no mark holds yet: that there are some, that there are none, or nothing.
+    /// Returns whether there are stores or lengths that belong to no mark yet, or `None` if the reply doesn't determine
+    /// it.
     pub fn decides(&self) -> Option<bool>
         ensures { result ≡ decides self.now }
     {
@@ -322,7 +333,8 @@ impl Reply {
         }
     }
 
-    /// Whether there are stores or lengths that no mark holds yet, where before this reply there were some, or none.
+    /// Whether there are stores or lengths that belong to no mark yet, after this reply. `before` is the answer before
+    /// it.
     pub fn leaves_unmarked(&self, before: bool) -> bool
         ensures { result ≡ unmarked_by before self.now }
     {
@@ -336,7 +348,7 @@ impl fmt::Display for Reply {
 
     ghost output = { λ reply. Some (reply_text reply) };
 
-    /// The reply's word in lower case, and after it its bytes or number in decimal, each after one space.
+    /// Writes the reply's word in lower case, then its bytes or number in decimal, each after one space.
     fn fmt<W: fmt::Write>(&self, f: &mut fmt::Formatter<W>) -> fmt::Result {
         match self {
             Reply::Bytes(bytes) => write!(f, "bytes{}", Numbers(bytes.as_slice())),

@@ -1,4 +1,4 @@
-// Changes that are begun: they take place once nobody uses what they affect.
+// Begins changes, which take place once nobody uses what they affect.
 ghost use Rattle.std.specs.Prelude.{ℕ, List, ◌≡◌, ◌<◌, ◌≤◌, ◌-◌, ◌^◌, ◌||◌, nat_le, length as count, None, Some, IfOk, IfErr};
 ghost use Rattle.journal.specs.WriteOuts.{is_busy};
 ghost use Rattle.machine.specs.State.{capacity_of};
@@ -13,22 +13,20 @@ use crate::paging::{pages_for, pages_in_file};
 use crate::{MsyncFlags, Reply};
 use device::Device;
 use mappings::Rights;
-use page_entry::{FileNumber, FilePage, PAGE, Pcid, ProcessorNumber, Refusal};
+use page_entry::{ADDRESS_END, FileNumber, FilePage, PAGE, Pcid, ProcessorNumber, Refusal};
 use spaces::Change;
 use std::alloc::Allocator;
 
-// The end of the user addresses, 2^47 (Intel SDM volume 3, canonical addresses).
-const END: u64 = 1 << 47;
-
-// Whether a commit may be asked for so: by flags of `msync`, from a page's begin, and not past 2^47 (POSIX.1-2024).
+// Whether a commit may be requested with these arguments: flags of `msync`, an address that begins a page, and no bytes
+// past 2^47 (POSIX.1-2024).
 fn is_msync(va: u64, len: u64, flags: MsyncFlags) -> bool
     ensures { result ≡ is_msync va len flags }
 {
-    flags.are_of_msync() && va % PAGE == 0 && va <= END && len <= END - va
+    flags.are_of_msync() && va % PAGE == 0 && va <= ADDRESS_END && len <= ADDRESS_END - va
 }
 
 impl<D: Device, A: Allocator + Copy> Layers<D, A> {
-    // An unmap is begun, if a page of the range is mapped.
+    // Begins an unmap, if a page of the range is mapped.
     pub(crate) fn unmap(
         &mut self,
         p: ProcessorNumber,
@@ -51,7 +49,7 @@ impl<D: Device, A: Allocator + Copy> Layers<D, A> {
         Ok(Reply::Begun)
     }
 
-    // A change of rights is begun.
+    // Begins a change of rights.
     pub(crate) fn protect(
         &mut self,
         p: ProcessorNumber,
@@ -76,7 +74,7 @@ impl<D: Device, A: Allocator + Copy> Layers<D, A> {
         Ok(Reply::Begun)
     }
 
-    // It is begun to take a page of a file out of memory, if it is there.
+    // Begins to remove a page of a file from memory, if it is there.
     pub(crate) fn reclaim(&mut self, p: ProcessorNumber, page: FilePage) -> Result<Reply, Refusal>
         ensures rules { (disk : List ℕ)
             → Answers (state_in self.old) disk p (Reclaim page.file page.page) (reply_to result) (state_in self.new) }
@@ -97,7 +95,7 @@ impl<D: Device, A: Allocator + Copy> Layers<D, A> {
         Ok(Reply::Begun)
     }
 
-    // Whether a file may have this length at all.
+    // Whether the volume allows this length for a file.
     fn admit_length(&self, file: FileNumber, length: u64) -> Result<(), Refusal>
         ensures ok { IfOk result (λ fine. length_refusal (state_in self.now) file length ≡ None) }
         ensures err { IfErr result (λ why. length_refusal (state_in self.now) file length ≡ Some why) }
@@ -115,7 +113,7 @@ impl<D: Device, A: Allocator + Copy> Layers<D, A> {
     }
 
     // Rule: notresident
-    // Whether a file is to grow from inside a page that isn't in memory.
+    // Whether the file is to grow from inside a page that isn't in memory.
     fn lacks_last_page(&self, file: FileNumber, length: u64) -> bool
         requires sound { IsSound (state_in self.now) }
         requires there { file < count self.now.table.files }
@@ -132,7 +130,7 @@ impl<D: Device, A: Allocator + Copy> Layers<D, A> {
         self.frames.find(FilePage { file, page }).is_none()
     }
 
-    // Whether fewer frames are free than a file's growth adds pages.
+    // Whether there are fewer free frames than pages that the file's growth adds.
     fn lacks_frames(&self, file: FileNumber, length: u64) -> bool
         requires sound { IsSound (state_in self.now) }
         requires there { file < count self.now.table.files }
@@ -143,7 +141,7 @@ impl<D: Device, A: Allocator + Copy> Layers<D, A> {
         u64::from(self.frames.free_count()) < pages_for(length).saturating_sub(old)
     }
 
-    // Whether a file's length may become another.
+    // Whether the change of a file's length may begin now.
     fn admit_resize(&self, file: FileNumber, length: u64) -> Result<(), Refusal>
         requires sound { IsSound (state_in self.now) }
         requires there { file < count self.now.table.files }
@@ -166,7 +164,7 @@ impl<D: Device, A: Allocator + Copy> Layers<D, A> {
         Ok(())
     }
 
-    // A change of a file's length is begun, if it is another than it has.
+    // Begins a change of a file's length, if the new length differs.
     pub(crate) fn set_length(
         &mut self,
         p: ProcessorNumber,
@@ -190,14 +188,14 @@ impl<D: Device, A: Allocator + Copy> Layers<D, A> {
     }
 
     // Rule: busy
-    // Whether no further commit may begin: no journal is free for it, or the marks' numbers are used up.
+    // Whether no further commit may begin, because no journal is free for it, or the numbers of marks are used up.
     fn is_busy(&self) -> bool
         ensures { result ≡ (is_busy self.now.write_outs || nat_le (2 ^ 32 - 1) self.now.marks) }
     {
         self.write_outs.is_busy() || self.marks == u32::MAX
     }
 
-    // A commit of all stores is begun.
+    // Begins a commit of all stores.
     pub(crate) fn msync(
         &mut self,
         p: ProcessorNumber,

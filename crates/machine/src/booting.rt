@@ -1,9 +1,9 @@
-// How a machine is made.
+// Makes machines.
 ghost use Rattle.std.specs.Prelude.{◌≡◌, ◌↔◌, ◌<◌, ◌≤◌, IsTrue, IfOk};
 ghost use Rattle.machine.specs.Fresh.{IsShape};
 ghost use Rattle.machine.specs.inside.Booting.{IsFit, IsRoom};
 
-use crate::Shape;
+use crate::{MAX_COPIES, MAX_CPUS, MAX_TLB, Shape};
 use checkpoint::Checkpoint;
 use device::Device;
 use frames::Frames;
@@ -15,21 +15,21 @@ use std::alloc::{AllocError, Allocator};
 use volume_codec::Super;
 
 impl Shape {
-    // Whether a machine over a volume with this table can have it.
+    // Whether a machine over a volume with this table can have this shape.
     pub(crate) fn fits<A: Allocator + Copy>(self, table: &Super<A>) -> bool
         ensures { IsTrue result ↔ IsShape table.now self }
     {
         1 <= self.cpus
-            && self.cpus <= 16
+            && self.cpus <= MAX_CPUS
             && 1 <= self.tlb
-            && self.tlb <= 64
+            && self.tlb <= MAX_TLB
             && 1 <= self.frames
             && self.frames <= u64::from(table.geometry().max_frames())
-            && self.copies <= 64
+            && self.copies <= MAX_COPIES
     }
 }
 
-// The length of each file of a volume.
+// Returns the length of each file of a volume.
 fn lengths_of<D: Device, A: Allocator + Copy>(
     alloc: A,
     volume: &Volume<D, A>,
@@ -56,7 +56,7 @@ pub(crate) struct Room<A: Allocator + Copy> {
 }
 
 impl<A: Allocator + Copy> Room<A> {
-    /// Room for a machine of this shape over a volume.
+    /// Takes the memory for a machine of this shape over a volume.
     pub(crate) fn new<D: Device>(
         alloc: A,
         volume: &Volume<D, A>,

@@ -1,4 +1,4 @@
-//! Processors with TLBs over address spaces, frames and a volume: one step, one reply.
+//! A machine: processors with TLBs over address spaces, frames and a volume. Each step has one reply.
 #![tactic(auto)]
 
 mod access;
@@ -22,7 +22,7 @@ mod running;
 mod stepping;
 mod switching;
 
-pub use act::{Access, Act, Outcome, Reply, Shape, Step};
+pub use act::{Access, Act, MAX_COPIES, MAX_CPUS, MAX_TLB, Outcome, Reply, Shape, Step};
 pub use few_bytes::FewBytes;
 pub use laws::{
     calls_of_steps, counts_of_a_write_out, faults_are_served, runs_keep_the_laws, steps_after_steps,

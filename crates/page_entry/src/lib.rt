@@ -1,4 +1,4 @@
-//! Page entries as the processor reads them, the numbers that the crates share, and the refusals of every call.
+//! Page entries as the processor reads them, the numbers that the crates share, and the refusals of all calls.
 #![tactic(auto)]
 
 mod entry;
@@ -7,6 +7,7 @@ mod refusal;
 
 pub use entry::{Entry, EntryFlags};
 pub use numbers::{
-    FileNumber, FilePage, FrameNumber, PAGE, PageIndex, PageNumber, Pcid, ProcessorNumber,
+    ADDRESS_END, FileNumber, FilePage, FrameNumber, PAGE, PCIDS, PageIndex, PageNumber, Pcid,
+    ProcessorNumber,
 };
 pub use refusal::Refusal;

@@ -7,27 +7,24 @@ ghost use Rattle.shootdown.specs.Shootdown.{is_interrupted};
 ghost use Rattle.shootdown.specs.inside.Flags.{flags_of};
 
 use crate::ProcState;
-use page_entry::{PageNumber, Pcid};
+use page_entry::{PCIDS, PageNumber, Pcid};
 use page_table::{first_set, mark};
 use pcid_tlb::{CachedEntry, Invpcid, Tlb};
 use std::alloc::{AllocError, Allocator};
 use std::marker::Model;
 
-// How many invalidations a queue holds.
+// The number of invalidations that a queue can hold.
 const QUEUE: usize = 8;
 
-// How many PCIDs there are (Intel SDM volume 3, "Process-Context Identifiers").
-const PCIDS: u64 = 4096;
-
-/// A processor. It takes its memory when it is made.
+/// A processor. Only `new` allocates memory.
 #[derive(Drop)]
 pub(crate) struct Processor<A: Allocator + Copy> {
     state: ProcState,
     space: Pcid,
     tlb: Tlb<A>,
-    // What it still has to invalidate, in order.
+    // The invalidations that it still has to carry out, in order.
     queue: Vec<Invpcid, A>,
-    // A bit for each PCID: whether it may cache entries of it.
+    // One bit for each PCID: whether the processor may cache entries of it.
     may_cache: [u64; 64],
 }
 
@@ -58,7 +55,7 @@ impl<A: Allocator + Copy> Model for Processor<A> {
 }
 
 impl<A: Allocator + Copy> Processor<A> {
-    // A processor at boot, whose TLB has room for so many entries, at least 1.
+    // Returns a processor as at boot, whose TLB has room for `tlb` entries, at least 1.
     pub(crate) fn new(alloc: A, tlb: usize) -> Result<Self, AllocError>
         requires { 0 < tlb }
         ensures { IfOk result (λ p. p ≡ fresh_processor tlb) }
@@ -72,7 +69,7 @@ impl<A: Allocator + Copy> Processor<A> {
         })
     }
 
-    // What it is doing.
+    // Returns its state.
     pub(crate) fn state(&self) -> ProcState
         ensures state { result ≡ self.now.state }
         ensures kept { IsProcessor self.now }
@@ -80,7 +77,7 @@ impl<A: Allocator + Copy> Processor<A> {
         self.state
     }
 
-    // How many entries its TLB can cache.
+    // Returns the number of entries that its TLB can cache.
     pub(crate) fn tlb_size(&self) -> usize
         ensures { result ≡ self.now.tlb.capacity }
     {
@@ -106,7 +103,7 @@ impl<A: Allocator + Copy> Processor<A> {
         self.state == ProcState::Interrupted
     }
 
-    // The PCID of its current space.
+    // Returns the PCID of its current space.
     pub(crate) fn space(&self) -> Pcid
         ensures space { result ≡ self.now.space }
         ensures kept { IsProcessor self.now }
@@ -121,7 +118,7 @@ impl<A: Allocator + Copy> Processor<A> {
         has_flag(&self.may_cache, pcid)
     }
 
-    // Whether it may cache what an invalidation drops.
+    // Whether it may cache entries that an invalidation drops.
     fn is_concerned(&self, action: Invpcid) -> bool
         ensures { result ≡ is_concerned self.now action }
     {
@@ -134,8 +131,8 @@ impl<A: Allocator + Copy> Processor<A> {
     }
 
     // Rule: full queue
-    // Notifies it of an invalidation, if it may cache what that drops. In a full queue the invalidation of everything
-    // takes the place of all.
+    // Notifies it of an invalidation, if it may cache entries that this drops. If the queue is full, one invalidation
+    // of everything replaces all of it.
     pub(crate) fn notify(&mut self, action: Invpcid)
         ensures { self.new ≡ notified self.old action }
     {
@@ -151,7 +148,7 @@ impl<A: Allocator + Copy> Processor<A> {
     }
 
     // Rule: stale entry
-    // Carries out the queue.
+    // Carries out the queue's invalidations.
     pub(crate) fn drain(&mut self)
         ensures { self.new ≡ drained self.old }
     {
@@ -159,7 +156,7 @@ impl<A: Allocator + Copy> Processor<A> {
         self.queue.clear();
     }
 
-    // Carries out the queue, and goes on.
+    // Carries out the queue's invalidations, and becomes active.
     pub(crate) fn wake(&mut self)
         ensures { self.new ≡ woken self.old }
     {
@@ -167,7 +164,7 @@ impl<A: Allocator + Copy> Processor<A> {
         self.state = ProcState::Active;
     }
 
-    // Loads another PCID, whose entries it keeps or drops.
+    // Loads another PCID, and keeps or drops its cached entries.
     pub(crate) fn load(&mut self, pcid: Pcid, keep: bool)
         requires { pcid < pcids }
         ensures { self.new ≡ loaded self.old pcid keep }
@@ -177,14 +174,14 @@ impl<A: Allocator + Copy> Processor<A> {
         mark(&mut self.may_cache, pcid as u64, true);
     }
 
-    // Gives it another state.
+    // Sets its state.
     pub(crate) fn set_state(&mut self, state: ProcState)
         ensures { self.new ≡ record self.old { state = state } }
     {
         self.state = state;
     }
 
-    // The cached entry of a page of its current space, if there is one.
+    // Returns the cached entry of a page of its current space, if there is one.
     pub(crate) fn cached(&self, page: PageNumber) -> Option<CachedEntry>
         ensures { result ≡ cached self.now.tlb self.now.space page }
     {
@@ -206,7 +203,7 @@ impl<A: Allocator + Copy> Processor<A> {
         self.tlb.invlpg(self.space, page);
     }
 
-    // Drops the cached entry in a slot, counted from the oldest; false where there is no such slot.
+    // Drops the cached entry in a slot, counted from the oldest. Returns false if there is no such slot.
     pub(crate) fn evict(&mut self, slot: usize) -> bool
         ensures evicted { result ≡ nat_lt slot (length self.old.tlb.entries) }
         ensures rest { self.new ≡ record self.old { tlb = evicted self.old.tlb slot } }
@@ -215,7 +212,7 @@ impl<A: Allocator + Copy> Processor<A> {
     }
 }
 
-// The flags of a processor that may cache entries of PCID 0 alone.
+// Returns the flags of a processor that may cache entries of PCID 0 only.
 fn first_flags() -> [u64; 64]
     ensures { flags_of result ≡ first_flags }
 {
@@ -224,7 +221,7 @@ fn first_flags() -> [u64; 64]
     flags
 }
 
-// Whether the flags are those of a processor that may cache entries of PCID 0 alone.
+// Whether the flags are those of a processor that may cache entries of PCID 0 only.
 fn are_first_flags(flags: &[u64; 64]) -> bool
     ensures { IsTrue result ↔ (flags_of flags.now ≡ first_flags) }
 {
@@ -238,8 +235,8 @@ fn has_flag(flags: &[u64; 64], pcid: Pcid) -> bool
     (pcid as u64) < PCIDS && (flags[(pcid / 64) as usize] >> (pcid % 64)) & 1 == 1
 }
 
-// Carries out invalidations, in order, with PCID `space` current: what one drops is cached no more, and of a PCID that
-// one drops whole nothing may be cached, unless it is the current one.
+// Carries out invalidations in order, with PCID `space` current, and drops the entries that they name. It clears the
+// flag of each PCID whose entries are all dropped, unless this PCID is current.
 fn carry_out<A: Allocator + Copy>(
     queue: &[Invpcid],
     tlb: &mut Tlb<A>,
@@ -256,7 +253,7 @@ fn carry_out<A: Allocator + Copy>(
     }
 }
 
-// Notes that nothing is cached any more of a PCID that an invalidation drops whole, unless it is the current one.
+// Clears the flag of each PCID whose entries an invalidation drops all, unless this PCID is current.
 fn forget(may_cache: &mut [u64; 64], action: Invpcid, space: Pcid)
     ensures { flags_of may_cache.new
         ≡ flags_kept (λ pcid. pcid == space || not (drops_pcid action pcid)) 0 (flags_of may_cache.old) }
@@ -272,7 +269,7 @@ fn forget(may_cache: &mut [u64; 64], action: Invpcid, space: Pcid)
     }
 }
 
-// Clears all flags but that of one PCID. It goes over the words, not over the flags.
+// Clears all flags except that of one PCID. It works on whole words, not on single flags.
 fn clear_others(flags: &mut [u64; 64], pcid: Pcid)
     ensures { flags_of flags.new ≡ flags_kept (λ other. other == pcid) 0 (flags_of flags.old) }
 {

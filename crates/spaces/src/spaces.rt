@@ -20,8 +20,8 @@ use page_table::{DirtyPages, first_set, mark};
 use std::alloc::{AllocError, Allocator, Global};
 use std::marker::Model;
 
-/// How many PCIDs there are (Intel SDM volume 3, "Process-Context Identifiers").
-const PCIDS: usize = 4096;
+// The number of places for spaces.
+const PCIDS: usize = page_entry::PCIDS as usize;
 
 /// All pages of user addresses, which are below 2^47 (Intel SDM volume 3, canonical addresses).
 pub const ALL_PAGES: PageRange = PageRange {
@@ -29,17 +29,18 @@ pub const ALL_PAGES: PageRange = PageRange {
     count: 1 << 35,
 };
 
-/// The address spaces that there are. Space 0 is always there and maps nothing. Only `new`, `create`, `map` and
-/// `prepare` take memory.
+/// The existing address spaces. Space 0 always exists and maps nothing. Only `new`, `create`, `map` and `prepare`
+/// allocate memory.
 #[derive(Drop)]
 pub struct Spaces<A: Allocator + Copy = Global> {
-    // By PCID, as many as the highest PCID that was ever in use needs.
+    // The spaces by PCID, up to the highest PCID that was ever in use.
     slots: Vec<Option<Space<A>>, A>,
-    // A bit for each PCID: whether its space may have a present entry.
+    // One bit for each PCID: whether its space may have a present entry.
     in_use: [u64; 64],
-    // A bit for each PCID below the number of slots: whether there is no space of it.
+    // One bit for each PCID below the number of slots: whether no space has it.
     freed: [u64; 64],
-    // The pages of a space that one `protect` may give these rights without memory, or without any an `unmap` may take.
+    // The pages of a space to which one `protect` can give these rights without memory. Without rights, one `unmap` can
+    // unmap them.
     prepared: Option<(Pcid, PageRange, Option<Rights>)>,
 }
 
@@ -57,7 +58,7 @@ impl<A: Allocator + Copy> Model for Spaces<A> {
         × AreFreed s.slots.items s.freed };
 }
 
-// The first slot without a space, or one past the last.
+// Returns the first slot without a space, or the number of slots if all have one.
 fn first_free<A: Allocator + Copy>(slots: &[Option<Space<A>>], freed: &[u64; 64]) -> usize
     requires few { length slots.now ≤ 4096 }
     requires freed { AreFreed slots.now freed.now }
@@ -70,7 +71,7 @@ fn first_free<A: Allocator + Copy>(slots: &[Option<Space<A>>], freed: &[u64; 64]
 }
 
 impl<A: Allocator + Copy> Spaces<A> {
-    /// Space 0 alone. Fails where memory is refused.
+    /// Returns space 0 alone. Fails if memory is refused.
     pub fn new(alloc: A) -> Result<Self, AllocError>
         ensures { IfOk result (λ spaces. spaces ≡ record { map = first_spaces; prepared = None }) }
     {
@@ -85,7 +86,7 @@ impl<A: Allocator + Copy> Spaces<A> {
         })
     }
 
-    // The space with this PCID, if there is one.
+    // Returns the space with this PCID, if there is one.
     fn space(&self, pcid: Pcid) -> Option<&Space<A>>
         ensures found { IfSome result (λ space. IsFound self.now.map pcid space.now) }
         ensures missing { IfNone result (IsMissing self.now.map pcid) }
@@ -106,7 +107,7 @@ impl<A: Allocator + Copy> Spaces<A> {
         self.space(pcid).is_some()
     }
 
-    /// What the page maps, if it is mapped.
+    /// Returns the place that a page maps, if it is mapped.
     pub fn place(&self, pcid: Pcid, page: PageNumber) -> Option<Place>
         ensures { result ≡ place_at self.now.map pcid page }
     {
@@ -116,7 +117,7 @@ impl<A: Allocator + Copy> Spaces<A> {
         }
     }
 
-    /// The page's entry.
+    /// Returns the entry of a page.
     pub fn entry(&self, pcid: Pcid, page: PageNumber) -> Entry
         ensures entry { result ≡ entry_at self.now.map pcid page }
         ensures sound { AreSpaces self.now.map }
@@ -127,7 +128,7 @@ impl<A: Allocator + Copy> Spaces<A> {
         }
     }
 
-    /// The PCIDs of which there are spaces, in rising order.
+    /// Returns the PCIDs of all spaces, in ascending order.
     pub fn pcids(&self) -> Pcids<'_, A>
         ensures { result ≡ maps.keys self.now.map }
     {
@@ -137,7 +138,7 @@ impl<A: Allocator + Copy> Spaces<A> {
         }
     }
 
-    /// The pages of the range whose entries are dirty, in rising order.
+    /// Returns the pages of a range whose entries are dirty, in ascending order.
     pub fn dirty_pages(&self, pcid: Pcid, range: PageRange) -> DirtyPages<'_>
         requires there { has_space self.now.map pcid ≡ true }
         requires fits { range.first + range.count < 2 ^ 64 }
@@ -151,7 +152,7 @@ impl<A: Allocator + Copy> Spaces<A> {
             .dirty_pages(range.first..range.first + range.count)
     }
 
-    /// The pages of all spaces that map this page of a file by a present entry, by PCID and then by page.
+    /// Returns the pages of all spaces that map this page of a file by a present entry, by PCID and then by page.
     pub fn entries_of(&self, page: FilePage) -> EntriesOf<'_, A>
         ensures { result ≡ entries_of self.now.map page }
     {
@@ -167,10 +168,13 @@ impl<A: Allocator + Copy> Spaces<A> {
         }
     }
 
-    /// The pages of the `len` bytes from `va` on of a space, which may be unmapped.
+    /// Returns the pages of the `len` bytes from `va` on in a space, so that they can be unmapped.
     ///
-    /// `Einval` if there is no such space or it is space 0, `va` isn't a multiple of 4,096, `len` is 0, or the pages
-    /// aren't within bytes 4,096 to 2^47.
+    /// Fails with `Einval` if:
+    /// - there is no such space, or it is space 0
+    /// - `va` isn't a multiple of 4,096
+    /// - `len` is 0
+    /// - the pages aren't within bytes 4,096 to 2^47
     pub fn judge_range(&self, pcid: Pcid, va: u64, len: u64) -> Result<PageRange, Refusal>
         ensures { result ≡ judged_range self.now.map pcid va len }
     {
@@ -181,11 +185,13 @@ impl<A: Allocator + Copy> Spaces<A> {
         }
     }
 
-    /// The pages of the `len` bytes from `va` on of a space, which are to be mapped from `offset` bytes into a file on,
-    /// and the file page of the first.
+    /// Returns the pages of the `len` bytes from `va` on in a space, and the file page of the first of them. They are
+    /// to be mapped to a file from byte `offset` on.
     ///
-    /// `Einval` as in `judge_range`, or if `offset` isn't a multiple of 4,096, the pages are more than 65,536, or a
-    /// file page is beyond 2^32 - 1.
+    /// Fails with `Einval` as `judge_range`, or if:
+    /// - `offset` isn't a multiple of 4,096
+    /// - there are more than 65,536 pages
+    /// - a file page is beyond 2^32 - 1
     pub fn judge_mapping(
         &self,
         pcid: Pcid,
@@ -202,10 +208,10 @@ impl<A: Allocator + Copy> Spaces<A> {
         }
     }
 
-    /// The pages of the `len` bytes from `va` on of a space, whose mappings may be given the rights.
+    /// Returns the pages of the `len` bytes from `va` on in a space, if their mappings may get the rights.
     ///
-    /// `Einval` as in `judge_range`; `Enomem` if a page isn't mapped; `Eacces` if writing is asked and a mapping's file
-    /// was opened for reading alone.
+    /// Fails with `Einval` as `judge_range`, and with `Enomem` if a page isn't mapped. Fails with `Eacces` if the
+    /// rights include writing and a mapping's file was opened read-only.
     pub fn judge_protection(
         &self,
         pcid: Pcid,
@@ -232,7 +238,7 @@ impl<A: Allocator + Copy> Spaces<A> {
         }
     }
 
-    /// Whether each page of the `len` bytes from `va` on is mapped; of no bytes it is so.
+    /// Whether each page of the `len` bytes from `va` on is mapped. Returns true if `len` is 0.
     pub fn maps_each(&self, pcid: Pcid, va: u64, len: u64) -> bool
         ensures { result ≡ maps_each self.now.map pcid va len }
     {
@@ -246,7 +252,7 @@ impl<A: Allocator + Copy> Spaces<A> {
         }
     }
 
-    /// Whether the processors that are in a space are stopped before the change is made.
+    /// Whether processors in this space are stopped before the change is made.
     pub fn touches(&self, change: &Change, pcid: Pcid) -> bool
         ensures { result ≡ touches self.now.map change.now pcid }
     {
@@ -273,9 +279,9 @@ impl<A: Allocator + Copy> Spaces<A> {
     }
 
     // Rule: lowest free PCID
-    /// Makes a space that maps nothing, of the lowest PCID from 1 on that is free. After an error nothing has changed.
+    /// Creates a space that maps nothing, with the lowest free PCID from 1 on. On failure nothing changes.
     ///
-    /// `Enomem` if no PCID is free, `OutOfMemory` if memory is refused.
+    /// Fails with `Enomem` if no PCID is free, and with `OutOfMemory` if memory is refused.
     pub fn create(&mut self) -> Result<Pcid, Refusal>
         ensures lowest { IfOk result (λ pcid. IsLowestFree self.old.map pcid) }
         ensures created { IfOk result (λ pcid. self.new
@@ -301,7 +307,7 @@ impl<A: Allocator + Copy> Spaces<A> {
         Ok(free as Pcid)
     }
 
-    /// Removes a space other than space 0, with its mappings and its entries.
+    /// Removes a space other than space 0, with its mappings and entries.
     pub fn remove(&mut self, pcid: Pcid)
         requires { is_user_space self.old.map pcid ≡ true }
         ensures { self.new ≡ record { map = maps.remove self.old.map pcid; prepared = None } }
@@ -311,7 +317,7 @@ impl<A: Allocator + Copy> Spaces<A> {
         self.prepared = None;
     }
 
-    /// Sets the entry of a page that is mapped.
+    /// Sets the entry of a mapped page.
     pub fn set_entry(&mut self, pcid: Pcid, page: PageNumber, entry: Entry)
         requires { IsSome (place_at self.old.map pcid page) }
         ensures { self.new ≡ record self.old { map = with_entry self.old.map pcid page entry } }
@@ -323,11 +329,11 @@ impl<A: Allocator + Copy> Spaces<A> {
         mark(&mut self.in_use, pcid as u64, true);
     }
 
-    /// Maps the pages of the range to the pages of a file from the place on, one after the other. After an error
-    /// nothing has changed.
+    /// Maps the pages of the range to consecutive pages of a file, beginning at the place. On failure nothing changes.
     ///
-    /// `Einval` if the range may not be mapped from that file page on; `Eacces` if writing is asked with read-only
-    /// access; `Overlap` if a page of the range is mapped already; `OutOfMemory` if memory is refused.
+    /// Fails with `Einval` if the range may not be mapped from that file page on. Fails with `Eacces` if writing is
+    /// requested with read-only access, with `Overlap` if a page of the range is mapped already, and with `OutOfMemory`
+    /// if memory is refused.
     pub fn map(&mut self, pcid: Pcid, range: PageRange, place: Place) -> Result<(), Refusal>
         requires { is_user_space self.old.map pcid ≡ true }
         ensures mapped { OnOk result (self.new
@@ -345,12 +351,12 @@ impl<A: Allocator + Copy> Spaces<A> {
         Ok(())
     }
 
-    /// Reserves the memory that one later `protect` of the pages of a range with the rights needs, or without any an
-    /// `unmap` of them.
+    /// Reserves the memory that one later `protect` of the pages of a range with these rights needs. Without rights, it
+    /// reserves the memory for one `unmap` of them. On failure nothing changes.
     ///
-    /// `OutOfMemory` if a mapping has to be split and memory is refused: for an `unmap` one that has the range, the
-    /// page before it and the page after it; for a `protect` one with other rights that has pages on both sides of an
-    /// end of the range. Then nothing has changed.
+    /// Fails with `OutOfMemory` if a mapping must be split and memory is refused. An `unmap` splits a mapping that
+    /// contains the range and the pages on both sides of it. A `protect` splits a mapping with other rights that has
+    /// pages on both sides of an end of the range.
     pub fn prepare(
         &mut self,
         pcid: Pcid,
@@ -372,7 +378,7 @@ impl<A: Allocator + Copy> Spaces<A> {
         Ok(())
     }
 
-    /// Unmaps the pages of the range, which was prepared, with their entries.
+    /// Unmaps the pages of the range, with their entries. `prepare` must have been called for it.
     pub fn unmap(&mut self, pcid: Pcid, range: PageRange)
         requires { self.old.prepared ≡ Some (pcid, range, None) }
         ensures { self.new ≡ record { map = without_mapping self.old.map pcid range; prepared = None } }
@@ -385,7 +391,7 @@ impl<A: Allocator + Copy> Spaces<A> {
     }
 
     /// Gives the rights to the pages of the range, which was prepared for them. Without the right to write, their
-    /// entries lose it.
+    /// entries lose this right.
     pub fn protect(&mut self, pcid: Pcid, range: PageRange, rights: Rights)
         requires prepared { self.old.prepared ≡ Some (pcid, range, Some rights) }
         requires allowed { protect_refusal (space_at self.old.map pcid).places range rights ≡ None }
@@ -399,8 +405,8 @@ impl<A: Allocator + Copy> Spaces<A> {
         self.prepared = None;
     }
 
-    /// Takes the right to write and the dirty bit from every entry of a noted frame, in every space: one whose number
-    /// is below the length of `noted`, with true at its place.
+    /// Removes the right to write and the dirty bit from every entry of a noted frame, in every space. A frame is noted
+    /// if `noted` is true at the frame's number, and its length is above this number.
     pub fn protect_frames(&mut self, noted: &[bool])
         ensures entries { EditsEntries (λ pcid page entry. protected_where (is_marked noted.now) entry)
             self.old.map self.new.map }
@@ -409,7 +415,7 @@ impl<A: Allocator + Copy> Spaces<A> {
         protect_slots(&mut self.slots, &mut self.in_use, noted);
     }
 
-    /// Notes the frame of each dirty entry, in every space.
+    /// Notes the frame of each dirty entry, in every space: sets `notes` to true at the frame's number.
     pub fn note_dirty(&self, notes: &mut [bool])
         requires { (pcid page : ℕ) (entry : Mapped) → entry_at self.now.map pcid page ≡ Some entry
             → entry.frame < length notes.old }
@@ -421,7 +427,7 @@ impl<A: Allocator + Copy> Spaces<A> {
         note_slots(&self.slots, &self.in_use, notes);
     }
 
-    /// Takes away every entry of a page that maps this page of a file, in every space.
+    /// Removes every entry of a page that maps this page of a file, in every space.
     pub fn clear_entries_of(&mut self, page: FilePage)
         ensures entries { EditsEntries (without_entries_of page self.old.map) self.old.map self.new.map }
         ensures same { self.new.prepared ≡ self.old.prepared }
@@ -430,8 +436,8 @@ impl<A: Allocator + Copy> Spaces<A> {
     }
 }
 
-// Takes the right to write and the dirty bit from every entry of a noted frame. It goes over the spaces in use alone;
-// one that turns out to have no entry is in use no more.
+// Removes the right to write and the dirty bit from every entry of a noted frame. It visits only the spaces in use. A
+// space without an entry is marked as not in use.
 fn protect_slots<A: Allocator + Copy>(
     slots: &mut [Option<Space<A>>],
     in_use: &mut [u64; 64],
@@ -450,7 +456,7 @@ fn protect_slots<A: Allocator + Copy>(
     }
 }
 
-// The same in the slot of a PCID, if there is one; false only where it then has no entry.
+// Does the same in the slot of a PCID, if there is one. Returns false only if the slot then has no entry.
 fn protect_at<A: Allocator + Copy>(
     slots: &mut [Option<Space<A>>],
     pcid: usize,
@@ -479,7 +485,7 @@ fn protect_slot<A: Allocator + Copy>(slot: &mut Option<Space<A>>, noted: &[bool]
     }
 }
 
-// Notes the frame of each dirty entry. It goes over the spaces in use alone.
+// Notes the frame of each dirty entry. It visits only the spaces in use.
 fn note_slots<A: Allocator + Copy>(
     slots: &[Option<Space<A>>],
     in_use: &[u64; 64],
@@ -497,7 +503,7 @@ fn note_slots<A: Allocator + Copy>(
     }
 }
 
-// The same in the slot of a PCID, if there is one.
+// Does the same in the slot of a PCID, if there is one.
 fn note_at<A: Allocator + Copy>(slots: &[Option<Space<A>>], pcid: usize, notes: &mut [bool])
     requires { AreBelow slots.now (length notes.old) }
     ensures { NotesSlot (slot_at slots.now pcid) notes.old notes.new }
@@ -517,7 +523,7 @@ fn note_slot<A: Allocator + Copy>(slot: &Option<Space<A>>, notes: &mut [bool])
     }
 }
 
-// Takes away every entry of a page that maps this page of a file.
+// Removes every entry of a page that maps this page of a file.
 fn clear_slots<A: Allocator + Copy>(slots: &mut [Option<Space<A>>], page: FilePage)
     ensures { slots.new ≡ map (option_map (edited (λ s. without_entries s.places page s.entries))) slots.old }
 {
